@@ -1,7 +1,6 @@
 -- One item more that lies ahead.
-use Rattle.std.proofs.Common.{◌≡◌, ◌≢◌, ℕ, ◌<◌, ◌≤◌, List, [], ◌∷◌, ◌++◌, map, take, drop, Option, None, Some, IfSome, Result, Ok, Err, MatchResult, refl, sym, ap, subst, ◌∙◌, arith, length-append}
+use Rattle.std.proofs.Common.{◌≡◌, ◌≢◌, ℕ, ◌<◌, ◌≤◌, List, [], ◌∷◌, ◌++◌, map, take, drop, Option, None, Some, IfSome, refl, sym, ap, subst, ◌∙◌, arith, length-append}
 use Rattle.std.specs.Prelude.{slice_get}
-use Rattle.std.specs.Result.{result_ok}
 use Rattle.std.proofs.lemmas.List.{append_assoc, map-append}
 use Rattle.std.proofs.lemmas.List.Elements.{filter_map-append}
 use Rattle.vcd_model.specs.Input.{Input}
@@ -18,14 +17,13 @@ use Rattle.vcd_text.specs.Feed.{HasGiven, HasReadTo}
 use Rattle.vcd_text.specs.declared.device.Source.{Ghosts}
 use Rattle.vcd_text.specs.declared.feed.Feed.{Feed}
 use Rattle.vcd_view.specs.declared.look_up.Found.{Found}
-use Rattle.vcd_body.specs.declared.fault.BodyFault.{BodyFault}
 use Rattle.vcd_body.specs.declared.item.Form.{Form}
 use Rattle.vcd_body.specs.declared.item.Form.TheVariants as form
 use Rattle.vcd_body.specs.declared.item.Item.{Item}
 use Rattle.vcd_body.specs.declared.item.Item.TheVariants as item
 use Rattle.vcd_body.specs.declared.item.Regs.{Regs}
 use Rattle.vcd_body.specs.Items.{AreRegsAfter, model_form, regs_after}
-use Rattle.vcd_body.specs.Reads.{GaveItems, Passes, Refuses}
+use Rattle.vcd_body.specs.Reads.{GaveItems, Passes}
 use Rattle.vcd_body.specs.Given.{IsItem}
 use Rattle.vcd_body.specs.Ahead.{GaveAhead, GaveLast, HasBits, PassBoth}
 use Rattle.vcd_body.specs.Binary.{binary_digits}
@@ -56,11 +54,6 @@ items_each (x ∷ items) = ap (λ l. x ∷ l) (items_each items)
 
 some_is : {A : Type 0} {x y : A} → Some x ≡ Some y → x ≡ y
 some_is e = cc
-
--- what is so of a call that gave this
-pub at_ok : {A E : Type 0} (P : A → Type 0) (Q : E → Type 0) (r : Result A E) (x : A) → Some x ≡ result_ok r → MatchResult r P Q → P x
-at_ok P Q (Ok y) x e h = subst P (some_is (sym e)) h
-at_ok P Q (Err y) x e h = cc
 
 -- what is so of a code that was found, if one was
 pub found_all : (found : Option Found) {P : Found → Type 0} → ((f : Found) → found ≡ Some f → P f) → IfSome found P
@@ -157,11 +150,9 @@ module _ (codes : List IdCode) (limit lines : ℕ) (bytes : List ℕ) (before it
 
   module _ (n : ℕ) (r : Regs) (g : GaveAhead codes limit lines bytes n before items) (k : AreRegsAfter (before ++ items) r) where
     -- a digit with its code
-    pub scalar_taken : (n' : ℕ) (f : Found) (line : ℕ) (token text : List ℕ) (found : Result Found BodyFault) → n < n' → Passed limit lines bytes n' (g.tokens ++ record { bytes = token; line = line } ∷ []) → text ≡ take 1 token → Some f ≡ result_ok found
-        → ((earlier : List BodyPhrase) → MatchResult found (λ x. IsScalar earlier token x.place) (Refuses codes earlier token)) → TakesOne n' r (item.Change f.place form.Scalar) text
-    scalar_taken n' f line token text found less p is ok m =
-        let place = f.place in
-        let h : (earlier : List BodyPhrase) → IsScalar earlier token place = λ earlier. at_ok (λ (x : Found). IsScalar earlier token x.place) (Refuses codes earlier token) found f ok (m earlier) in
+    pub scalar_taken : (n' place line : ℕ) (token text : List ℕ) → n < n' → Passed limit lines bytes n' (g.tokens ++ record { bytes = token; line = line } ∷ []) → text ≡ take 1 token
+        → ((earlier : List BodyPhrase) → IsScalar earlier token place) → TakesOne n' r (item.Change place form.Scalar) text
+    scalar_taken n' place line token text less p is h =
         let c = (h []).0 in
         let x : Change = record { code = c; form = ChangeForm.Scalar; text = text } in
         let same : (o : IdCode) → slice_get codes place ≡ Some o → o ≡ c = λ o e. some_is (sym e ∙ (h []).1) in (

@@ -3,7 +3,7 @@ use Rattle.std.proofs.Common.{◌≡◌, ◌≢◌, ℕ, zero, suc, ◌+◌, ◌
 use Rattle.std.specs.Prelude.{slice_range}
 use Rattle.std.specs.Char.{to_ascii_lowercase}
 use Rattle.std.specs.Str.{str_to_ascii_lowercase}
-use Rattle.std.proofs.lemmas.List.{drop-append-le, drop-drop, drop-map, drop-take, length-append, length-drop, length-map, length-replicate, take-take}
+use Rattle.std.proofs.lemmas.List.{drop-append-le, drop-drop, drop-map, drop-take, length-append, length-drop, length-map, length-replicate}
 use Rattle.std.proofs.Math.Seq.{drop-append_seam, take-append_seam, take-length}
 use Rattle.vcd_model.specs.Values.{extend, extension, short}
 use Rattle.vcd_model.proofs.ShortLemmas.{short_is_shortest}
@@ -147,14 +147,3 @@ front_there bytes from to k code_at front code within inside ends some e =
     let split : middle ++ last ≡ slice_range bytes (from + 1 + k) to = subst (λ n. middle ++ slice_range bytes (code_at - 1) n ≡ slice_range bytes (from + 1 + k) n) all (slice_range-append bytes (from + 1 + k) (code_at - 1) (length code + 2) (omega arith)) in
     let both = length-append first middle in
     (room, same_front (first ++ middle) front last line (omega arith) (append_assoc first middle last ∙ ap (λ l. first ++ l) split ∙ e))
-
--- a first byte, and the others without so many
-pub copied_there : (bytes : List ℕ) (from end k : ℕ) → from + 1 + k ≤ end → take 1 (slice_range bytes from end) ++ drop (1 + k) (slice_range bytes from end) ≡ bytes_without bytes from end k
-copied_there bytes from end k within =
-    let n = end - (from + 1 + k) in
-    let one : 1 ≡ from + 1 - from = omega arith in
-    let all : end - from ≡ 1 + k + n = omega arith in
-    let on : from + (1 + k) ≡ from + 1 + k = omega arith in
-    let front : take 1 (slice_range bytes from end) ≡ slice_range bytes from (from + 1) = take-take 1 (end - from) (drop from bytes) (omega arith) ∙ ap (λ m. take m (drop from bytes)) one in
-    let back : drop (1 + k) (slice_range bytes from end) ≡ slice_range bytes (from + 1 + k) end = ap (λ m. drop (1 + k) (take m (drop from bytes))) all ∙ drop-take (1 + k) n (drop from bytes) ∙ ap (take n) (drop-drop (1 + k) from bytes) ∙ ap (λ m. take n (drop m bytes)) on in
-    ap₂ (λ (a b : List ℕ). a ++ b) front back

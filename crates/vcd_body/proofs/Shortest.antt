@@ -1,12 +1,12 @@
 -- The shortest digits of a value are those from which no digit can be left out on the left.
-use Rattle.std.proofs.Common.{◌≡◌, ◌≢◌, ◌⊎◌, inl, inr, ℕ, zero, suc, ◌+◌, ◌-◌, max, ◌≤◌, ◌<◌, Bool, true, false, cond, ◌==◌, List, [], ◌∷◌, ◌++◌, length, replicate, take, drop, get_or, refl, sym, ap, subst, ◌∙◌, arith}
+use Rattle.std.proofs.Common.{◌≡◌, ◌≢◌, ◌⊎◌, inl, inr, ℕ, zero, suc, ◌+◌, ◌-◌, ◌/◌, ◌%◌, ◌^◌, max, ◌≤◌, ◌<◌, Bool, true, false, cond, ◌==◌, List, [], ◌∷◌, ◌++◌, length, replicate, take, drop, get_or, refl, sym, ap, subst, ◌∙◌, arith}
 use Rattle.std.specs.Char.{to_ascii_lowercase}
 use Rattle.std.specs.Str.{str_to_ascii_lowercase}
 use Rattle.std.proofs.lemmas.Bool.{cases_lt, eqb-true}
 use Rattle.std.proofs.lemmas.List.{get_or-take, length-append, length-drop, length-map, length-replicate, length-take-le}
 use Rattle.std.proofs.Math.Seq.{take-length}
 use Rattle.vcd_model.specs.Values.{extend, extension, short}
-use Rattle.vcd_body.specs.Binary.{bit_of}
+use Rattle.vcd_body.specs.Binary.{binary_digits, bit_of}
 use Rattle.vcd_model.proofs.ShortLemmas.{short_is_shortest}
 
 -- one digit, or more of which the first is not what the others are extended by
@@ -170,6 +170,17 @@ two_lower d e = elim (one_of_two d e) [
   | inl h ↦ ap to_ascii_lowercase h ∙ sym h
   | inr h ↦ ap to_ascii_lowercase h ∙ sym h
 ]
+
+-- those of a number are
+pub number_two : (l n : ℕ) → AreTwo (binary_digits l n)
+number_two zero n k less = absurd (omega arith)
+number_two (suc l) n zero less = of_bit (n / 2 ^ l % 2) (omega arith)
+  where
+    of_bit : (m : ℕ) → m < 2 → 48 + m ≡ 48 + bit_of (48 + m)
+    of_bit zero few = refl
+    of_bit (suc zero) few = refl
+    of_bit (suc (suc m)) few = absurd (omega arith)
+number_two (suc l) n (suc k) less = number_two l n k (omega arith)
 
 lower_two : (l : List ℕ) → AreTwo l → str_to_ascii_lowercase l ≡ l
 lower_two [] two = refl

@@ -9,10 +9,10 @@ use Rattle.vcd_model.specs.BodyChecks.{body_fault}
 use Rattle.vcd_model.specs.BodyReading.{body_grammar}
 use Rattle.vcd_model.specs.Reading.{Placed, phrases_of}
 use Rattle.vcd_model.specs.SoFar.{IsSoFar}
-use Rattle.vcd_text.specs.Ahead.{bytes_of, longest_of}
+use Rattle.vcd_text.specs.Ahead.{ahead_of, bytes_of, lines_of, longest_of}
 use Rattle.vcd_text.specs.Passed.{Passed}
 use Rattle.vcd_text.specs.declared.ahead.Ahead.{Ahead}
-use Rattle.vcd_text.specs.Feed.{HasReadTo}
+use Rattle.vcd_text.specs.Feed.{HasReadTo, limit_of}
 use Rattle.vcd_text.specs.declared.device.Source.{Ghosts}
 use Rattle.vcd_text.specs.declared.feed.Feed.{Feed}
 use Rattle.vcd_view.specs.declared.view.Code.{Code}
@@ -24,6 +24,7 @@ use Rattle.vcd_body.specs.declared.item.Item.{Item}
 use Rattle.vcd_body.specs.declared.item.Item.TheVariants.{Time, Change}
 use Rattle.vcd_body.specs.declared.item.Regs.{Regs}
 use Rattle.vcd_body.specs.Binary.{binary_digits}
+use Rattle.vcd_body.specs.Items.{AreRegsAfter}
 use Rattle.vcd_body.specs.Reads.{GaveItems}
 
 -- a time mark, with no text, or a change
@@ -76,3 +77,13 @@ pub record GaveLast {X : Type 0} {g : Ghosts X} (codes : List IdCode) (i : Input
   pub line : ℕ
   pub last : gave.placed ≡ before ++ record { phrase = BodyPhrase.Gives x; line = line } ∷ []
   pub near : HasReadTo i (front ++ gave.given) f
+
+-- Whatever items were given before, those that the next n bytes are were given after them.
+abbrev pub GivesAhead : {X : Type 0} {g : Ghosts X} → ℕ → (old new : Feed X g) → Type 0
+GivesAhead n old new = (codes : List IdCode) (i : Input) (front : List Token) (before items : List BodyItem) (first last : Regs) → GaveItems codes i front before old first → GaveAhead codes (limit_of old) (lines_of old) (ahead_of old) n before items → AreRegsAfter (before ++ items) last
+    → GaveItems codes i front (before ++ items) new last
+
+-- With the last of them no more than a chunk was read past it.
+abbrev pub GivesToLast : {X : Type 0} {g : Ghosts X} → ℕ → (old new : Feed X g) → Type 0
+GivesToLast n old new = (codes : List IdCode) (i : Input) (front : List Token) (before items : List BodyItem) (x : BodyItem) (first last : Regs) → GaveItems codes i front before old first → GaveAhead codes (limit_of old) (lines_of old) (ahead_of old) n before (items ++ x ∷ []) → AreRegsAfter (before ++ (items ++ x ∷ [])) last
+    → GaveLast codes i front (before ++ items) x new last

@@ -14,9 +14,9 @@ use Rattle.vcd_text.specs.declared.feed.Feed.{Feed}
 use Rattle.vcd_view.specs.Views.{IsViewOf}
 use Rattle.vcd_view.specs.declared.look_up.Found.{Found}
 use Rattle.vcd_view.specs.declared.view.HeadView.{HeadView}
-use Rattle.vcd_body.specs.Given.{GivesPhrase, IsGoodText}
+use Rattle.vcd_body.specs.Given.{GivesItem, GivesPhrase, IsGoodText}
 use Rattle.vcd_body.specs.Items.{AreRegsAfter}
-use Rattle.vcd_body.specs.Reads.{AsksForCode, Begun, FailsAfter, GaveItems, Looks, OpensPhrase, Passes, PassesScalar, Reads, ReadsAll, ReadsChange, ReadsPhrase, Refuses}
+use Rattle.vcd_body.specs.Reads.{AsksForCode, Begun, Fails, FailsAfter, GaveItems, Looks, OpensPhrase, Passes, Reads, ReadsAll, ReadsChange, ReadsPhrase, Refuses}
 use Rattle.vcd_body.specs.declared.fault.BodyFault.{BodyFault}
 use Rattle.vcd_body.specs.declared.item.Form.{Form}
 use Rattle.vcd_body.specs.declared.item.Item.{Item}
@@ -26,9 +26,9 @@ use Rattle.vcd_body.specs.declared.item.Regs.{Regs}
 abbrev pub ReadsMark : List ℕ → Regs → Result ℕ BodyFault → Type 0
 ReadsMark token r result = (codes : List IdCode) (earlier : List BodyPhrase) → AreRegsAfter (items_of earlier) r → MatchResult result (λ time. Passes codes earlier token (BodyItem.Time time) × (time_after (items_of earlier) ≤ time)) (Refuses codes earlier token)
 
--- a digit's code is found
-abbrev pub ReadsScalar : HeadView → List ℕ → Result Found BodyFault → Type 0
-ReadsScalar v token result = (h : Header) (earlier : List BodyPhrase) → IsViewOf v h → MatchResult result (λ found. PassesScalar h.codes earlier token found.place) (Refuses h.codes earlier token)
+-- the token has this fault, in each header that the view shows
+abbrev pub RefusesIn : HeadView → List ℕ → BodyFault → Type 0
+RefusesIn v token fault = (h : Header) (earlier : List BodyPhrase) → IsViewOf v h → Refuses h.codes earlier token fault
 
 -- a token opens a phrase, or has a fault
 abbrev pub OpensOrRefuses : {A : Type 0} → List ℕ → Result A BodyFault → Type 0
@@ -70,3 +70,8 @@ ReadsCommand old new r r' result = (codes : List IdCode) (i : Input) (front : Li
 -- one phrase more, or the end
 abbrev pub ReadsOne : {X : Type 0} {g : Ghosts X} → HeadView → (old new : Feed X g) → (r r' : Regs) → Result (Option Item) BodyFault → Type 0
 ReadsOne v old new r r' result = (h : Header) (i : Input) (front : List Token) (items : List BodyItem) → IsViewOf v h → GaveItems h.codes i front items old r → GivesPhrase h.codes i front items new r' result
+
+-- one item more, after the items given so far; at the end they are all of the body's, and it has no
+-- fault. A fault is the body's, after exactly these items
+abbrev pub ReadsItem : {X : Type 0} {g : Ghosts X} → HeadView → (old new : Feed X g) → (r r' : Regs) → Result Item BodyFault → Type 0
+ReadsItem v old new r r' result = (h : Header) (i : Input) (front : List Token) (items : List BodyItem) → IsViewOf v h → GaveItems h.codes i front items old r → MatchResult result (GivesItem h.codes i front items new r') (λ fault. Fails h.codes i front items fault new)

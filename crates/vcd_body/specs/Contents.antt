@@ -11,7 +11,7 @@ use Rattle.vcd_body.specs.Given.{IsText}
 use Rattle.vcd_body.specs.Items.{model_form}
 use Rattle.vcd_body.specs.Kept.{Held, Kept, unset, value_at_size, with_number, with_text}
 use Rattle.vcd_body.specs.Values.{form_in, text_in as text_of_value}
-use Rattle.vcd_body.specs.Stored.{AreLaidOut, ChangesAt, kept_in, share_of, start_of}
+use Rattle.vcd_body.specs.Stored.{AreLaidOut, ChangesAt, kept_in, room_of, share_of, start_of}
 use Rattle.vcd_body.specs.declared.bits.Bits.{Bits}
 use Rattle.vcd_body.specs.declared.item.Form.{Form}
 use Rattle.vcd_body.specs.declared.item.Form.TheVariants as form
@@ -88,6 +88,10 @@ shown_as (Held.Text text) = shown.Real
 -- a new table: each code is unset, and has its share of n bytes
 abbrev pub new_at : List Code → ℕ → ℕ → Option Kept
 new_at codes n code = option_map (λ (c : Code). unset (start_of codes n (code + 1) - start_of codes n code)) (slice_get codes code)
+
+-- where the bytes of values suffice for all of these codes, each has its whole share, and is unset
+abbrev pub GivesShares : List Code → ℕ → Table → Type 0
+GivesShares codes n t = room_of codes ≤ n → (code : ℕ) (c : Code) → slice_get codes code ≡ Some c → kept_at t code ≡ Some (unset (share_of c.size))
 
 -- ---- over a header
 

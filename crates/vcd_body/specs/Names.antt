@@ -20,21 +20,21 @@ pub use Rattle.vcd_model.specs.Reading.{Placed, phrases_of}
 pub use Rattle.vcd_model.specs.Sample.{shown}
 pub use Rattle.vcd_model.specs.Tokens.{Token}
 pub use Rattle.vcd_model.specs.Values.{Value, extend, extension, short, value_with}
-pub use Rattle.vcd_text.specs.Advances.{Advances, CallEnd}
+pub use Rattle.vcd_text.specs.Advances.{Advances, CallEnd, GoesFurther}
 pub use Rattle.vcd_text.specs.Ahead.{ahead_of, bytes_of, lines_of, longest_of, passed_of}
 pub use Rattle.vcd_text.specs.Device.{Counts, Puts, PutsTo, PutsWhere, Takes}
 pub use Rattle.vcd_text.specs.Feed.{limit_of, seen, source_of, token_of, value_of}
-pub use Rattle.vcd_text.specs.Passed.{Passed}
+pub use Rattle.vcd_text.specs.Passed.{IsRun, Passed}
 pub use Rattle.vcd_view.specs.Finds.{IsSized}
 pub use Rattle.vcd_view.specs.Views.{IsViewOf}
 pub use Rattle.vcd_view.specs.declared.view.Code.{Code}
 pub use Rattle.vcd_view.specs.declared.view.HeadView.{HeadView}
-pub use Rattle.vcd_body.specs.Ahead.{HasBits, IsSizedItem}
+pub use Rattle.vcd_body.specs.Ahead.{GivesAhead, GivesToLast, HasBits, IsSizedItem}
 pub use Rattle.vcd_body.specs.Answer.{stop_of_body}
 pub use Rattle.vcd_body.specs.Binary.{binary_digits, bit_of, is_proper}
-pub use Rattle.vcd_body.specs.Calls.{HasGoodValue, OpensOrRefuses, ReadsCode, ReadsCommand, ReadsComment, ReadsInner, ReadsMark, ReadsOne, ReadsRest, ReadsScalar, ReadsToken}
+pub use Rattle.vcd_body.specs.Calls.{HasGoodValue, OpensOrRefuses, ReadsCode, ReadsCommand, ReadsComment, ReadsInner, ReadsItem, ReadsMark, ReadsOne, ReadsRest, ReadsToken, RefusesIn}
 pub use Rattle.vcd_body.specs.Changes.{AreBitsAt, IsBinaryAt, IsDigitAt, IsLowerAt, IsNeedless, bit_in, extended, id_line, line_under}
-pub use Rattle.vcd_body.specs.Contents.{ChangesCode, GivesText, GivesValue, IsLaidOut, KeepsTable, SetsCode, SetsNumber, bytes_in, codes_in, codes_shown, counts_at, held_at, is_chosen, kept_at, line_of, new_at, shown_as, value_in}
+pub use Rattle.vcd_body.specs.Contents.{ChangesCode, GivesShares, GivesText, GivesValue, IsLaidOut, KeepsTable, SetsCode, SetsNumber, bytes_in, codes_in, codes_shown, counts_at, held_at, is_chosen, kept_at, line_of, new_at, shown_as, value_in}
 pub use Rattle.vcd_body.specs.Counters.{count_of, counts_of}
 pub use Rattle.vcd_body.specs.Fault.{call_end, fault_number}
 pub use Rattle.vcd_body.specs.Given.{AreRegsPast, GivesItem, GivesPhrase, IsGoodChange, IsGoodPhrase, IsGoodText, IsItem, text_of}
@@ -48,6 +48,7 @@ pub use Rattle.vcd_body.specs.Reads.{AsksForCode, Begun, Fails, FailsAfter, Gave
 pub use Rattle.vcd_body.specs.Spelled.{HasChange, HasMark, HasPlaces, HasSpelled, Names, StandsAt, bytes_without}
 pub use Rattle.vcd_body.specs.Steps.{ChangesRoomy, LeavesNumber, LeavesTurn, StepsTo, TellsStep, TurnsTo}
 pub use Rattle.vcd_body.specs.Stored.{AreLaidOut, ChangesAt, ChangesSlot, IsHeldAs, IsUnset, LeavesStep, SlotsKeepLaid, end_at, held_from, held_line, least_bytes, len_of, one_digit, room_of, set_whole, share_from, share_of, some_by, start_of, state_in, used, whole}
+pub use Rattle.vcd_body.specs.Taken.{HasTime, IsChangeBy, IsFound, IsFoundScalar, LeavesRegs, Opens, OpensVector, TakesItem, TakesOpened, TakesOpenedMark}
 pub use Rattle.vcd_body.specs.Values.{by_text, form_in, text_in, with_value, with_value_change}
 pub use Rattle.vcd_body.specs.Words.{Begins, IsScalar, StandsFor, command_is, mark_time}
 pub use Rattle.vcd_body.specs.declared.item.Form.{Form}

@@ -1,11 +1,12 @@
 -- What is taken ahead: a token where a phrase begins, and then the whole item.
-use Rattle.std.specs.Prelude.{◌≡◌, ℕ, ◌+◌, ◌-◌, ◌^◌, ◌<◌, ◌≤◌, true, List, [], ◌∷◌, ◌++◌, IfSome, drop, length, slice_range}
+use Rattle.std.specs.Prelude.{◌≡◌, ℕ, ◌-◌, ◌^◌, ◌<◌, ◌≤◌, true, List, [], ◌∷◌, ◌++◌, IfSome, MatchOption, Option, drop, length, take}
+use Rattle.vcd_model.specs.BodyPhrases.{BodyPhrase}
 use Rattle.vcd_model.specs.Bytes.{decimal_value, is_decimal}
 use Rattle.vcd_model.specs.Header.{Header}
 use Rattle.vcd_model.specs.Items.{BodyItem}
 use Rattle.vcd_model.specs.Tokens.{Token}
-use Rattle.vcd_text.specs.Ahead.{bytes_of, longest_of, passed_of, start_of}
-use Rattle.vcd_text.specs.Passed.{AreWhite, Passed, line_ahead}
+use Rattle.vcd_text.specs.Ahead.{TakesToken, bytes_of, longest_of, passed_of}
+use Rattle.vcd_text.specs.Passed.{Passed}
 use Rattle.vcd_text.specs.declared.ahead.Ahead.{Ahead}
 use Rattle.vcd_view.specs.Views.{IsViewOf}
 use Rattle.vcd_view.specs.declared.view.HeadView.{HeadView}
@@ -15,39 +16,27 @@ use Rattle.vcd_body.specs.Ahead.{GaveAhead, GivesBoth, HasBits, IsPlain, IsSized
 use Rattle.vcd_body.specs.Binary.{binary_digits}
 use Rattle.vcd_body.specs.Given.{HasGoodText, IsGoodText, IsItem}
 use Rattle.vcd_body.specs.Items.{AreRegsAfter, model_form, regs_after}
+use Rattle.vcd_body.specs.Reads.{PassesScalar}
 use Rattle.vcd_body.specs.Spelled.{HasSpelled, Names}
 use Rattle.vcd_body.specs.Words.{Begins}
 use Rattle.vcd_body.specs.declared.ahead.Opening.{Opening}
 use Rattle.vcd_body.specs.declared.ahead.Plain.{Plain}
 use Rattle.vcd_body.specs.declared.ahead.VectorTokens.{VectorTokens}
 use Rattle.vcd_body.specs.declared.item.Form.{Form}
+use Rattle.vcd_body.specs.declared.item.Form.TheVariants as form
+use Rattle.vcd_body.specs.declared.item.Item.TheVariants.{Change}
 use Rattle.vcd_body.specs.declared.item.Regs.{Regs}
 use Rattle.vcd_body.specs.declared.words.First.TheVariants as first
 
 -- a token was taken, from one place ahead to another, and this is what it begins
 pub record Opens (a a' : Ahead) (o : Opening) : Type 0 where
-  pub gives : (lines : ℕ) (ts : List Token) → Passed (longest_of a) lines (bytes_of a) (passed_of a) ts → Passed (longest_of a) lines (bytes_of a) (passed_of a') (ts ++ record { bytes = o.token.now; line = line_ahead lines (bytes_of a) (start_of a' o.token.now) } ∷ [])
+  pub token : TakesToken a a' o.token.now
   pub begins : Begins o.token.now o.first
-  pub some : 0 < length o.token.now
-  pub place : o.token.now ≡ slice_range (bytes_of a) (start_of a' o.token.now) (passed_of a' - 1)
   pub at : o.at ≡ passed_of a' - 1 - length o.token.now
-  pub before : AreWhite (bytes_of a) (passed_of a) (start_of a' o.token.now)
-  pub further : passed_of a + length o.token.now + 1 ≤ passed_of a'
-  pub within : passed_of a' ≤ length (bytes_of a)
-  pub same : (bytes_of a' ≡ bytes_of a) × (longest_of a' ≡ longest_of a)
 
 -- a mark's digits spell this time
 abbrev pub HasTime : Opening → ℕ → Type 0
 HasTime o time = (is_decimal (drop 1 o.token.now) ≡ true) × (decimal_value (drop 1 o.token.now) ≡ time) × (time < 2 ^ 64)
-
--- the token after it was taken
-pub record TakesToken (a a' : Ahead) (token : List ℕ) : Type 0 where
-  pub gives : (lines : ℕ) (ts : List Token) → Passed (longest_of a) lines (bytes_of a) (passed_of a) ts → Passed (longest_of a) lines (bytes_of a) (passed_of a') (ts ++ record { bytes = token; line = line_ahead lines (bytes_of a) (start_of a' token) } ∷ [])
-  pub place : token ≡ slice_range (bytes_of a) (start_of a' token) (passed_of a' - 1)
-  pub before : AreWhite (bytes_of a) (passed_of a) (start_of a' token)
-  pub further : passed_of a + length token + 1 ≤ passed_of a'
-  pub within : passed_of a' ≤ length (bytes_of a)
-  pub same : (bytes_of a' ≡ bytes_of a) × (longest_of a' ≡ longest_of a)
 
 -- the tokens of a vector's change were taken, where they begin, and what is known of the digits
 pub record OpensVector (a a' : Ahead) (t : VectorTokens) : Type 0 where
@@ -58,6 +47,13 @@ pub record OpensVector (a a' : Ahead) (t : VectorTokens) : Type 0 where
   pub at : t.at ≡ passed_of middle - 1 - length t.token.now
   pub code_at : t.code_at ≡ passed_of a' - 1 - length t.code.now
   pub bits : IfSome t.bits (λ b. drop 1 t.token.now ≡ binary_digits b.len b.number)
+
+-- the code behind a digit was found: the token is the change of this code, which may have the digit
+pub record IsFoundScalar (v : HeadView) (token : List ℕ) (found : Found) : Type 0 where
+  pub code : (h : Header) (earlier : List BodyPhrase) → IsViewOf v h → PassesScalar h.codes earlier token found.place
+  pub sound : IsGoodText v.codes.now found.place form.Scalar (take 1 token)
+  pub names : Names v found.place (drop 1 token)
+  pub sized : IsSized v.codes.now found
 
 -- the code that a token names was found, behind that of a change's text in this form: the two are a
 -- phrase, and the code may have the text
@@ -83,3 +79,20 @@ pub record TakesItem (v : HeadView) (a a' : Ahead) (r : Regs) (p : Plain) : Type
   pub further : passed_of a < passed_of a'
   pub within : passed_of a' ≤ length (bytes_of a')
   pub same : (bytes_of a' ≡ bytes_of a) × (longest_of a' ≡ longest_of a)
+
+-- an item is a change by this form
+abbrev pub IsChangeBy : Form → Plain → Type 0
+IsChangeBy form p = (place : ℕ) × (p.item ≡ Change place form)
+
+-- wherever its first token was taken from, up to the first of these places, the item was taken from
+-- there up to the second, whatever the registers before it are
+abbrev pub TakesOpened : HeadView → (middle to : Ahead) → Opening → Plain → Type 0
+TakesOpened v middle to o p = (a : Ahead) (r : Regs) → Opens a middle o → TakesItem v a to r p
+
+-- a time mark was taken, wherever its token was taken from, whatever the view is of
+abbrev pub TakesOpenedMark : Ahead → Regs → Opening → Plain → Type 0
+TakesOpenedMark to r o p = (a : Ahead) (v : HeadView) → Opens a to o → TakesItem v a to r p
+
+-- the registers are those after the item that was taken; with none they stay
+abbrev pub LeavesRegs : Regs → Regs → Option Plain → Type 0
+LeavesRegs old new o = MatchOption o (new ≡ old) (λ p. new ≡ regs_after old p.item)

@@ -1,18 +1,9 @@
 // Items whose tokens are whole ahead in the chunk: most cost no change of the feed.
-ghost use Rattle.std.specs.Prelude.{◌≡◌, ◌⊎◌, ℕ, ◌+◌, ◌<◌, ◌≤◌, ◌^◌, List, [], ◌∷◌, ◌++◌, drop, take, length, slice_range, true, is_some, None, Some, IfSome, MatchOption};
-ghost use Rattle.vcd_body.specs.Names.{Advances, BodyItem, BodyPhrase, CallEnd, HeadView, Header, IdCode, Input, IsSized, IsViewOf, Passed, Token, ahead_of, bytes_of, limit_of, lines_of, longest_of, passed_of, seen, source_of};
-ghost use Rattle.vcd_text.specs.Passed.{IsRun};
+ghost use Rattle.std.specs.Prelude.{◌≡◌, ◌⊎◌, ℕ, ◌+◌, ◌^◌, ◌<◌, ◌≤◌, List, [], drop, length, slice_range, true, is_some, None, Some, IfSome};
+ghost use Rattle.vcd_body.specs.Names.{Advances, Begins, CallEnd, GivesAhead, GivesToLast, HasMark, HasTime, IsChangeBy, IsFound, IsFoundScalar, IsRun, IsScalar, LeavesRegs, Opens, OpensVector, Passed, TakesItem, TakesOpened, TakesOpenedMark, Token, ahead_of, binary_digits, bytes_of, limit_of, lines_of, longest_of, passed_of, seen, source_of};
 ghost use Rattle.vcd_body.specs.declared.item.Form.TheVariants as form;
 ghost use Rattle.vcd_body.specs.declared.item.Item.TheVariants as item;
 ghost use Rattle.vcd_body.specs.declared.words.First.TheVariants as first;
-ghost use Rattle.vcd_body.specs.Items.{AreRegsAfter, regs_after};
-ghost use Rattle.vcd_body.specs.Binary.{binary_digits};
-ghost use Rattle.vcd_body.specs.Words.{Begins, IsScalar};
-ghost use Rattle.vcd_body.specs.Reads.{GaveItems, PassesScalar};
-ghost use Rattle.vcd_body.specs.Given.{HasGoodText, IsGoodText, IsItem};
-ghost use Rattle.vcd_body.specs.Ahead.{GaveAhead, GaveLast, HasBits, IsPlain, IsSizedItem, LooksOver};
-ghost use Rattle.vcd_body.specs.Spelled.{HasMark, HasSpelled, Names};
-ghost use Rattle.vcd_body.specs.Taken.{HasTime, IsFound, Opens, OpensVector, TakesItem};
 
 use crate::bits::Bits;
 use crate::item::{Form, Item, Regs};
@@ -42,8 +33,6 @@ pub struct Plain<'a> {
 }
 
 impl Plain<'_> {
-    ghost use Rattle.std.specs.Prelude.{◌≡◌, ◌<◌, IfSome, None};
-
     /// Returns the size in bits of a change's code; none of an event, where the look-up did not
     /// give it, and of a time mark.
     #[inline(always)]
@@ -228,10 +217,8 @@ pub fn scalar_ahead<'a>(
 ) -> Option<Plain<'a>>
     requires opens { (a : Ahead) × Opens a ahead opening }
     requires first { (opening.first ≡ first.Bit) ⊎ (opening.first ≡ first.Scalar) }
-    ensures takes { IfSome result (λ plain. (a : Ahead) (r : Regs)
-        → Opens a ahead.entry opening.entry → TakesItem view.entry a ahead.entry r plain) }
-    ensures form { IfSome result
-        (λ plain. (place : ℕ) × (plain.item ≡ item.Change place form.Scalar)) }
+    ensures takes { IfSome result (TakesOpened view.entry ahead.entry ahead.entry opening.entry) }
+    ensures form { IfSome result (IsChangeBy form.Scalar) }
 {
     let token = opening.token;
     let found = scalar_code(token, view).ok()?;
@@ -244,12 +231,7 @@ pub fn scalar_ahead<'a>(
 #[inline(always)]
 fn short_code(token: &[u8], view: HeadView<'_>) -> Option<Found>
     requires begins { IsScalar token.now }
-    ensures code { (h : Header) (earlier : List BodyPhrase) → IsViewOf view.entry h
-        → IfSome result (λ found. PassesScalar h.codes earlier token.now found.place) }
-    ensures sound { IfSome result
-        (λ found. IsGoodText view.entry.codes.now found.place form.Scalar (take 1 token.now)) }
-    ensures names { IfSome result (λ found. Names view.entry found.place (drop 1 token.now)) }
-    ensures sized { IfSome result (IsSized view.entry.codes.now) }
+    ensures { IfSome result (IsFoundScalar view.entry token.now) }
 {
     let code = after_first(token);
     if code.is_empty() {
@@ -267,8 +249,7 @@ fn short_code(token: &[u8], view: HeadView<'_>) -> Option<Found>
 pub fn short_ahead<'a>(ahead: &mut Ahead<'a>, view: HeadView<'_>) -> Option<Plain<'a>>
     ensures takes { IfSome result
         (λ plain. (r : Regs) → TakesItem view.entry ahead.old ahead.new r plain) }
-    ensures form { IfSome result
-        (λ plain. (place : ℕ) × (plain.item ≡ item.Change place form.Scalar)) }
+    ensures form { IfSome result (IsChangeBy form.Scalar) }
     ensures stays { result ≡ None → ahead.new ≡ ahead.old }
 {
     let mut next = *ahead;
@@ -353,8 +334,7 @@ pub fn vector_ahead<'a>(
     requires bits { bits ≡ tokens.bits }
     ensures takes { IfSome result (λ plain. (a : Ahead) (r : Regs)
         → OpensVector a ahead.entry tokens.entry → TakesItem view.entry a ahead.entry r plain) }
-    ensures form { IfSome result
-        (λ plain. (place : ℕ) × (plain.item ≡ item.Change place form.Vector)) }
+    ensures form { IfSome result (IsChangeBy form.Vector) }
 {
     let found = vector_code(tokens.token, tokens.code, view, bits)?;
     let digits = after_first(tokens.token);
@@ -378,10 +358,8 @@ pub fn real_ahead<'a>(
 ) -> Option<Plain<'a>>
     requires opens { (a : Ahead) × Opens a ahead.old opening }
     requires first { opening.first ≡ first.Real }
-    ensures takes { IfSome result (λ plain. (a : Ahead) (r : Regs) → Opens a ahead.old opening.entry
-        → TakesItem view.entry a ahead.new r plain) }
-    ensures form { IfSome result
-        (λ plain. (place : ℕ) × (plain.item ≡ item.Change place form.RealText)) }
+    ensures takes { IfSome result (TakesOpened view.entry ahead.old ahead.new opening.entry) }
+    ensures form { IfSome result (IsChangeBy form.RealText) }
 {
     let token = opening.token;
     let code = ahead.next()?;
@@ -418,8 +396,7 @@ pub fn mark_ahead<'a>(
     requires opens { (a : Ahead) × Opens a ahead opening }
     requires first { opening.first ≡ first.Mark }
     requires time { HasTime opening time }
-    ensures takes { IfSome result (λ plain. (a : Ahead) (v : HeadView)
-        → Opens a ahead.entry opening.entry → TakesItem v a ahead.entry regs.old plain) }
+    ensures takes { IfSome result (TakesOpenedMark ahead.entry regs.old opening.entry) }
     ensures time { IfSome result (λ plain. plain.item ≡ item.Time time) }
 
     // Its digits are those of the bytes that were passed with it.
@@ -427,8 +404,7 @@ pub fn mark_ahead<'a>(
         → HasMark (bytes_of a) (passed_of a) (passed_of ahead.entry) plain.at time) }
     ensures none { result ≡ None
         → (is_some regs.old.section ≡ true) ⊎ (time < regs.old.time) }
-    ensures regs { MatchOption result (regs.new ≡ regs.old)
-        (λ plain. regs.new ≡ regs_after regs.old plain.item) }
+    ensures regs { LeavesRegs regs.old regs.new result }
 {
     match regs.take_mark_by(time, !opening.near) {
         Ok(()) => Some(mark_of(time, opening.at + 1)),
@@ -444,42 +420,10 @@ pub fn item_ahead<'a>(
     view: HeadView<'_>,
     regs: &mut Regs,
 ) -> Option<Plain<'a>>
-    // It comes after the items given before and those taken ahead so far.
-    ensures gives { (h : Header) (limit lines : ℕ) (bytes : List ℕ) (before items : List BodyItem)
-        → IsViewOf view.entry h → LooksOver limit bytes ahead.old
-        → AreRegsAfter (before ++ items) regs.old
-        → GaveAhead h.codes limit lines bytes (passed_of ahead.old) before items
-        → IfSome result (λ plain. (x : BodyItem) × IsItem h.codes plain.text.now plain.item x
-        × GaveAhead h.codes limit lines bytes (passed_of ahead.new) before (items ++ x ∷ [])
-        × AreRegsAfter (before ++ (items ++ x ∷ [])) regs.new) }
-
-    // Whatever the view is of, whole tokens were passed.
-    ensures passes { (limit lines : ℕ) (bytes : List ℕ) (ts : List Token)
-        → LooksOver limit bytes ahead.old
-        → Passed limit lines bytes (passed_of ahead.old) ts
-        → (more : List Token) × Passed limit lines bytes (passed_of ahead.new) (ts ++ more) }
-    ensures sound { IfSome result
-        (λ plain. HasGoodText view.entry.codes.now plain.text.now plain.item) }
-    ensures plain { IfSome result (λ plain. IsPlain plain.text.now plain.item) }
-
-    ensures sized { IfSome result
-        (λ plain. IsSizedItem view.entry.codes.now plain.item plain.most) }
-
-    // The text of a vector may be given as a number too.
-    ensures bits { IfSome result (λ plain. HasBits plain.item plain.text.now plain.bits) }
-
-    // It is spelled by the bytes that were passed with it: the text of a change and its code, or
-    // the digits of a mark.
-    ensures spelled { IfSome result (λ plain. HasSpelled view.entry (bytes_of ahead.old)
-        (passed_of ahead.old) (passed_of ahead.new) plain.at plain.code_at plain.text.now
-        plain.item) }
-    ensures regs { MatchOption result (regs.new ≡ regs.old)
-        (λ plain. regs.new ≡ regs_after regs.old plain.item) }
+    ensures takes { IfSome result (TakesItem view.entry ahead.old ahead.new regs.old) }
+    ensures regs { LeavesRegs regs.old regs.new result }
     ensures stays { result ≡ None → ahead.new ≡ ahead.old }
-    ensures further { IfSome result (λ _. passed_of ahead.old < passed_of ahead.new) }
     ensures within { passed_of ahead.new ≤ length (bytes_of ahead.new) }
-    ensures same { (bytes_of ahead.new ≡ bytes_of ahead.old)
-        × (longest_of ahead.new ≡ longest_of ahead.old) }
 {
     let mut next = *ahead;
     let opening = opening_ahead(&mut next)?;
@@ -504,22 +448,8 @@ pub fn item_ahead<'a>(
 pub fn pass_items<S: Source>(feed: &mut Feed<'_, '_, '_, '_, S>, bytes: usize)
     requires { (ts : List Token) × Passed (limit_of feed.old) (lines_of feed.old)
         (ahead_of feed.old) bytes ts }
-    ensures gives { (codes : List IdCode) (i : Input) (front : List Token)
-        (before items : List BodyItem) (first last : Regs)
-        → GaveItems codes i front before feed.old first
-        → GaveAhead codes (limit_of feed.old) (lines_of feed.old) (ahead_of feed.old) bytes
-        before items
-        → AreRegsAfter (before ++ items) last
-        → GaveItems codes i front (before ++ items) feed.new last }
-
-    // With the last of them no more than a chunk was read past it.
-    ensures ends { (codes : List IdCode) (i : Input) (front : List Token)
-        (before items : List BodyItem) (x : BodyItem) (first last : Regs)
-        → GaveItems codes i front before feed.old first
-        → GaveAhead codes (limit_of feed.old) (lines_of feed.old) (ahead_of feed.old) bytes
-        before (items ++ x ∷ [])
-        → AreRegsAfter (before ++ (items ++ x ∷ [])) last
-        → GaveLast codes i front (before ++ items) x feed.new last }
+    ensures gives { GivesAhead bytes feed.old feed.new }
+    ensures ends { GivesToLast bytes feed.old feed.new }
     ensures advances { Advances S.failures feed.old feed.new CallEnd.GoesOn }
     ensures bounded { seen feed.new < 2 ^ 63 }
     ensures looked { seen feed.new ≡ seen feed.old + bytes }

@@ -64,15 +64,16 @@ pub(crate) fn shortest(digits: &[u8]) -> &[u8]
     rest
 }
 
-// Returns whether a byte is a capital letter.
-pub(crate) fn has_capital(bytes: &[u8]) -> bool
+// Returns whether some byte may be a capital letter: these have bit 5 clear, and digits of a value
+// in lower case have it set.
+pub(crate) fn may_have_capital(bytes: &[u8]) -> bool
     ensures { result ≡ false → str_to_ascii_lowercase bytes.now ≡ bytes.now }
 {
-    let mut found = false;
+    let mut all = 0x20;
     for byte in bytes {
-        found |= byte.is_ascii_uppercase();
+        all &= *byte;
     }
-    found
+    all == 0
 }
 
 // Puts the bytes in lower case at the front.
@@ -108,7 +109,7 @@ fn put_lower<W: Sink>(w: &mut W, bytes: &[u8]) -> Result<(), WriteFailed>
     requires { (W.device w.old).failures < 2 ^ 64 - 1 }
     ensures { Puts (W.device w.old) (W.device w.new) (str_to_ascii_lowercase bytes.now) result }
 {
-    if has_capital(bytes) {
+    if may_have_capital(bytes) {
         return put_lowered(w, bytes);
     }
     put(w, bytes)

@@ -4,7 +4,7 @@ ghost use Rattle.vcd_body.specs.Names.{AreBitsAt, BodyItem, HasBits, HasChange, 
 
 use crate::ahead::Plain;
 use crate::bits::Bits;
-use crate::change::{extension_of, has_capital, needed, shortest};
+use crate::change::{extension_of, may_have_capital, shortest};
 use crate::item::{Form, Item};
 use crate::words::{are_binary_at, other_32};
 use std::simd::prelude::*;
@@ -36,7 +36,7 @@ fn are_lower_at(bytes: &[u8], at: usize, n: usize) -> bool
 fn are_all_lower(digits: &[u8]) -> bool
     ensures { result ≡ true → str_to_ascii_lowercase digits.now ≡ digits.now }
 {
-    !has_capital(digits)
+    !may_have_capital(digits)
 }
 
 /// Returns whether the digits, which begin at a place of these bytes, are in lower case. Most are
@@ -104,22 +104,21 @@ fn has_one_blank(
     (behind + 1 == code_at) & (bytes[from] == first) & (bytes[behind] == b' ')
 }
 
-/// Returns how many digits on the left the shortest ones leave out, where the number of all of them
-/// is known: none of them is looked at.
+/// Returns a mask: bit k is set where byte `at + k` is not `0`.
 #[inline(always)]
-fn left_out_known(digits: &[u8], bits: Bits) -> usize
-    ensures few { result ≤ length digits.now }
-    ensures shortest { digits.now ≡ binary_digits bits.len bits.number → (size : ℕ)
-        → drop result digits.now ≡ short (extended digits.now size) }
+fn others_32(bytes: &[u8], at: usize) -> u64
+    requires { at + 32 ≤ length bytes.now }
+    ensures zero { (k : ℕ) → k < 32 → bit_at result k ≡ 0 → slice_index bytes.now (at + k) ≡ 48 }
+    ensures other { (k : ℕ) → k < 32 → bit_at result k ≡ 1 → slice_index bytes.now (at + k) ≢ 48 }
 {
-    digits.len().saturating_sub(needed(bits))
+    let v = u8x32::from_slice(&bytes[at..]);
+    v.simd_ne(u8x32::splat(b'0')).to_bitmask()
 }
 
 /// Returns a mask: bit k is set where byte `at + k` is not `0`.
 #[inline(always)]
 fn others_64(bytes: &[u8], at: usize) -> u64
     requires { at + 64 ≤ length bytes.now }
-    ensures fits { result < 2 ^ 64 }
     ensures zero { (k : ℕ) → k < 64 → bit_at result k ≡ 0 → slice_index bytes.now (at + k) ≡ 48 }
     ensures other { (k : ℕ) → k < 64 → bit_at result k ≡ 1 → slice_index bytes.now (at + k) ≢ 48 }
 {
@@ -127,22 +126,34 @@ fn others_64(bytes: &[u8], at: usize) -> u64
     v.simd_ne(u8x64::splat(b'0')).to_bitmask()
 }
 
-/// Returns how many zeros lead so many bytes from a place on, without the last of these. Those
-/// after them are looked at too.
+/// Returns how many of the lowest n bits of a mask are not set before the first one that is, or
+/// before the last of them.
 #[inline(always)]
-fn zeros_at(bytes: &[u8], at: usize, n: usize) -> usize
-    requires room { at + 64 ≤ length bytes.now }
+fn clear_bits(mask: u64, n: usize) -> usize
     requires some { 1 ≤ n }
     requires few { n ≤ 64 }
     ensures less { result < n }
-    ensures zeros { (k : ℕ) → k < result → slice_index bytes.now (at + k) ≡ 48 }
-    ensures first { result + 1 < n → slice_index bytes.now (at + result) ≢ 48 }
+    ensures clear { (k : ℕ) → k < result → bit_at mask k ≡ 0 }
+    ensures set { result + 1 < n → bit_at mask result ≡ 1 }
 {
-    let others = others_64(bytes, at);
-    if others == 0 {
+    if mask == 0 {
         return n - 1;
     }
-    (others.trailing_zeros() as usize).min(n - 1)
+    (mask.trailing_zeros() as usize).min(n - 1)
+}
+
+/// Returns how many digits on the left the shortest ones leave out, where all of them are known to
+/// be `0` and `1`: the zeros that lead. None where they are many.
+#[inline(always)]
+fn left_out_known(bytes: &[u8], at: usize, digits: &[u8]) -> Option<usize>
+    requires { StandsAt bytes.now at digits.now }
+    ensures { IfSome result (λ k. (b : Bits) → LeavesShortest digits.now (Some b) k) }
+{
+    let n = digits.len();
+    if n == 0 || n > 32 || bytes.len() - at < 32 {
+        return None;
+    }
+    Some(clear_bits(others_32(bytes, at), n))
 }
 
 /// Returns a mask: bit k is set where byte `at + k` is neither `0` nor `1`.
@@ -177,7 +188,7 @@ fn needless(bytes: &[u8], at: usize, digits: &[u8]) -> Option<usize>
 {
     let n = digits.len();
     if 32 < n && n <= 64 && bytes.len() - at >= 64 && are_many_binary_at(bytes, at, n) {
-        return Some(zeros_at(bytes, at, n));
+        return Some(clear_bits(others_64(bytes, at), n));
     }
     needless_slowly(bytes, at, digits)
 }
@@ -207,20 +218,22 @@ fn left_out_of_64(bytes: &[u8], at: usize, digits: &[u8]) -> Option<usize>
     ensures { IfSome result (IsNeedless digits.now) }
 {
     if digits.len() == 64 && others_than_bits_64(bytes, at) == 0 {
-        return Some(zeros_at(bytes, at, 64));
+        return Some(clear_bits(others_64(bytes, at), 64));
     }
     None
 }
 
 /// Returns how many digits on the left the shortest ones leave out, or `None` where these are not
-/// in lower case. The number of the digits may be known. Most values need all of their digits.
+/// in lower case. That the digits are `0` and `1` may be known, by their number. Most values need
+/// all of their digits.
+// The number itself is not asked for, so that it is not made where the change is not written.
 #[inline(always)]
 fn left_out_of(bytes: &[u8], at: usize, digits: &[u8], bits: Option<Bits>) -> Option<usize>
     requires { StandsAt bytes.now at digits.now }
     ensures { IfSome result (LeavesShortest digits.now bits) }
 {
-    if let Some(bits) = bits {
-        return Some(left_out_known(digits, bits));
+    if let Some(_bits) = bits {
+        return left_out_known(bytes, at, digits);
     }
     if let Some(zeros) = left_out_of_64(bytes, at, digits) {
         return Some(zeros);

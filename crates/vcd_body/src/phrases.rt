@@ -1,6 +1,6 @@
 // The phrases of a body, by what they begin with.
 ghost use Rattle.std.specs.Prelude.{◌≡◌, ◌≢◌, true, ◌-◌, ◌^◌, ◌<◌, ◌≤◌, length, take, drop, Some, None, slice_get, OnOk, IfOk, IfErr, ◌||◌, nat_le};
-ghost use Rattle.vcd_body.specs.Names.{Advances, AreRegsWith, Begins, ChangeForm, Code, First, Form, HasGoodValue, IsGoodText, IsScalar, IsSized, Item, MayBe, Names, OpensOrRefuses, ReadsCode, ReadsComment, ReadsMark, ReadsRest, ReadsScalar, call_end, is_value_digit, list_all, mark_time, seen, source_of, token_of, value_of};
+ghost use Rattle.vcd_body.specs.Names.{Advances, AreRegsWith, Begins, ChangeForm, Code, First, Form, GoesFurther, HasGoodValue, IsFoundScalar, IsScalar, IsSized, Item, MayBe, OpensOrRefuses, ReadsCode, ReadsComment, ReadsMark, ReadsRest, RefusesIn, call_end, is_value_digit, list_all, mark_time, seen, source_of, token_of, value_of};
 
 use crate::bits::Bits;
 use crate::fault::BodyFault;
@@ -37,11 +37,8 @@ pub(crate) fn read_mark(token: &[u8], regs: &mut Regs) -> Result<u64, BodyFault>
 #[inline(always)]
 pub(crate) fn scalar_code(token: &[u8], view: HeadView<'_>) -> Result<Found, BodyFault>
     requires begins { IsScalar token.now }
-    ensures code { ReadsScalar view.entry token.now result }
-    ensures sound { IfOk result
-        (λ found. IsGoodText view.entry.codes.now found.place Form.Scalar (take 1 token.now)) }
-    ensures names { IfOk result (λ found. Names view.entry found.place (drop 1 token.now)) }
-    ensures sized { IfOk result (IsSized view.entry.codes.now) }
+    ensures finds { IfOk result (IsFoundScalar view.entry token.now) }
+    ensures refuses { IfErr result (RefusesIn view.entry token.now) }
     ensures own { IfErr result (λ fault. fault ≢ BodyFault.ReadFailed) }
 {
     let code = after_first(token);
@@ -96,9 +93,7 @@ pub(crate) fn real_text(token: &[u8]) -> Result<&[u8], BodyFault>
 pub(crate) fn skip_comment<S: Source>(feed: &mut Feed<'_, '_, '_, '_, S>) -> Result<(), BodyFault>
     requires { S.failures (source_of feed.old) < 2 ^ 64 - 1 }
     ensures reads { ReadsComment feed.old feed.new result }
-    ensures advances { Advances S.failures feed.old feed.new (call_end result) }
-    ensures progress { OnOk result (seen feed.old < seen feed.new) }
-    ensures bounded { seen feed.new < 2 ^ 63 }
+    ensures goes { GoesFurther S.failures feed.old feed.new (call_end result) result }
 {
     'tokens: loop {
         next_inner(feed)?;
@@ -118,9 +113,7 @@ fn read_code<S: Source>(
     ensures reads { ReadsCode view.entry feed.old feed.new result }
     ensures value { value_of feed.new ≡ (token_of feed.old).bytes }
     ensures sized { IfOk result (IsSized view.entry.codes.now) }
-    ensures advances { Advances S.failures feed.old feed.new (call_end result) }
-    ensures progress { OnOk result (seen feed.old < seen feed.new) }
-    ensures bounded { seen feed.new < 2 ^ 63 }
+    ensures goes { GoesFurther S.failures feed.old feed.new (call_end result) result }
 {
     feed.keep();
     next_inner(feed)?;

@@ -1,6 +1,6 @@
 // The items of a body, one after the other.
-ghost use Rattle.std.specs.Prelude.{◌≡◌, ◌≢◌, ◌-◌, ◌^◌, ◌<◌, ◌≤◌, List, OnOk, IfOk, Some, MatchResult};
-ghost use Rattle.vcd_body.specs.Names.{Advances, AreRegsPast, AreRegsWith, Begins, BodyItem, Code, Fails, GaveItems, GivesItem, Header, Input, IsGoodChange, IsGoodPhrase, IsViewOf, ReadsCommand, ReadsOne, Token, call_end, seen, source_of, text_of, token_of};
+ghost use Rattle.std.specs.Prelude.{◌≡◌, ◌≢◌, ◌-◌, ◌^◌, ◌<◌, ◌≤◌, List, OnOk, IfOk, Some};
+ghost use Rattle.vcd_body.specs.Names.{Advances, AreRegsPast, AreRegsWith, Begins, Code, IsGoodChange, IsGoodPhrase, ReadsCommand, ReadsItem, ReadsOne, call_end, seen, source_of, text_of, token_of};
 
 use crate::fault::BodyFault;
 use crate::item::{Form, Item, Regs};
@@ -102,10 +102,7 @@ pub fn next_item<S: Source>(
 
     // After the items given so far comes this one; at the end they are all of the body's, and it
     // has no fault. A fault is the body's, after exactly these items.
-    ensures reads { (h : Header) (i : Input) (front : List Token) (items : List BodyItem)
-        → IsViewOf view.entry h → GaveItems h.codes i front items feed.old regs.old
-        → MatchResult result (GivesItem h.codes i front items feed.new regs.new)
-        (λ fault. Fails h.codes i front items fault feed.new) }
+    ensures reads { ReadsItem view.entry feed.old feed.new regs.old regs.new result }
 
     // A change is of one of the view's codes, and its text is one that this code may have.
     ensures sound { IfOk result (IsGoodChange view.entry.codes.now feed.new) }

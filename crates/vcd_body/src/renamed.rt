@@ -1,6 +1,6 @@
 // Lines that end with the new code of a number.
-ghost use Rattle.std.specs.Prelude.{◌≡◌, ◌≢◌, ℕ, ◌+◌, ◌-◌, ◌%◌, ◌^◌, ◌<◌, ◌≤◌, ◌++◌, ◌∷◌, [], List, false, true, drop, length, take, IfSome};
-ghost use Rattle.vcd_body.specs.Names.{Puts, PutsTo, binary_digits, line_under, new_code, HasChange, HasPlaces};
+ghost use Rattle.std.specs.Prelude.{◌≡◌, ◌≢◌, ℕ, ◌+◌, ◌-◌, ◌%◌, ◌^◌, ◌<◌, ◌≤◌, ◌++◌, ◌∷◌, [], List, false, true, length, IfSome};
+ghost use Rattle.vcd_body.specs.Names.{Puts, PutsTo, binary_digits, bytes_without, line_under, new_code, HasChange, HasPlaces};
 
 use crate::ahead::Plain;
 use crate::bits::Bits;
@@ -9,7 +9,7 @@ use crate::id::Id;
 use crate::item::Form;
 use crate::lines::{is_lower, left_out_of_front};
 use crate::put_line::{is_bit, put_line};
-use vcd_text::{Sink, WriteFailed, put};
+use vcd_text::{Sink, WriteFailed, put, put_front};
 use vcd_view::NewCode;
 
 /// Returns the first byte of the code of a number.
@@ -77,13 +77,12 @@ pub(crate) fn put_code_line<W: Sink>(first: u8, number: u64, w: &mut W) -> Resul
     }
     let low = digit_of(number);
     let rest = number / 94;
-    let middle = digit_of(rest);
     if rest < 94 {
-        return put_two(first, low, middle, w);
+        return put_two(first, low, rest as u8 + 33, w);
     }
     let high = rest / 94;
     if high < 94 {
-        return put_three(first, low, middle, digit_of(high), w);
+        return put_three(first, low, digit_of(rest), high as u8 + 33, w);
     }
     put_any_code(first, number, w)
 }
@@ -108,37 +107,48 @@ pub fn put_renamed_bits<W: Sink>(
     put_line(size, event, form, text, bits, Id::Number(number), w)
 }
 
-/// Writes bytes without so many after the first one.
+/// Writes the bytes from `from` up to `end`, without so many after the first one. Those after them
+/// are looked at too.
 #[inline(always)]
-fn put_front<W: Sink>(bytes: &[u8], left_out: usize, w: &mut W) -> Result<(), WriteFailed>
+fn put_without<W: Sink>(
+    bytes: &[u8],
+    from: usize,
+    end: usize,
+    left_out: usize,
+    w: &mut W,
+) -> Result<(), WriteFailed>
     requires failures { (W.device w.old).failures < 2 ^ 64 - 1 }
-    requires few { 1 + left_out ≤ length bytes.now }
-    ensures { Puts (W.device w.old) (W.device w.new)
-        (take 1 bytes.now ++ drop (1 + left_out) bytes.now) result }
+    requires few { from + 1 + left_out ≤ end }
+    requires within { end ≤ length bytes.now }
+    ensures { PutsTo W.device w.old w.new (bytes_without bytes.now from end left_out) result }
 {
     if left_out == 0 {
-        return put(w, bytes);
+        return put_front(w, &bytes[from..], end - from);
     }
-    put(w, &bytes[..1])?;
-    put(w, &bytes[1 + left_out..])
+    put(w, &bytes[from..from + 1])?;
+    let behind = from + 1 + left_out;
+    put_front(w, &bytes[behind..], end - behind)
 }
 
-/// Writes bytes without so many after the first one, a blank, the code of a number and a line feed.
+/// Writes the bytes from `from` up to `end`, without so many after the first one, a blank, the code
+/// of a number and a line feed.
 // Not inlined: two arms of a loop call it.
 #[inline(never)]
 fn put_copied<W: Sink>(
     bytes: &[u8],
+    from: usize,
+    end: usize,
     left_out: usize,
     number: u64,
     w: &mut W,
 ) -> Result<(), WriteFailed>
     requires failures { (W.device w.old).failures < 2 ^ 64 - 1 }
-    requires few { 1 + left_out ≤ length bytes.now }
+    requires few { from + 1 + left_out ≤ end }
+    requires within { end ≤ length bytes.now }
     ensures { Puts (W.device w.old) (W.device w.new)
-        ((take 1 bytes.now ++ drop (1 + left_out) bytes.now)
-        ++ (32 ∷ new_code number ++ 10 ∷ [])) result }
+        (bytes_without bytes.now from end left_out ++ (32 ∷ new_code number ++ 10 ∷ [])) result }
 {
-    put_front(bytes, left_out, w)?;
+    put_without(bytes, from, end, left_out, w)?;
     put_code_line(b' ', number, w)
 }
 
@@ -188,7 +198,7 @@ pub fn put_renamed_ahead<W: Sink>(
         return put_code_line(bytes[plain.at], number, w);
     }
     match left_out_of_front(plain, form, bytes, from, to) {
-        Some(k) => put_copied(&bytes[from..plain.code_at - 1], k, number, w),
+        Some(k) => put_copied(bytes, from, plain.code_at - 1, k, number, w),
         None => put_renamed_text(size, form, plain.text, number, w),
     }
 }

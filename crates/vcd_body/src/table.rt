@@ -1,6 +1,6 @@
 //! The current values of the codes of a header, in lent slices.
-ghost use Rattle.std.specs.Prelude.{◌≡◌, ℕ, ◌<◌, ◌≤◌, length, Some, false, slice_get};
-ghost use Rattle.vcd_body.specs.Names.{ChangesCode, ChangesRoomy, Code, GivesText, GivesValue, IsLaidOut, IsStep, KeepsTable, SetsCode, SetsNumber, as_chosen, by_text, bytes_in, codes_in, codes_shown, counts_at, digit_in, held_at, is_chosen, kept_at, model_form, new_at, one_more, real_text, room_of, share_of, shown_as, unset, value_at_size, value_in, value_with, with_change, with_number_change, with_step, with_text, with_value, with_value_change};
+ghost use Rattle.std.specs.Prelude.{◌≡◌, ℕ, ◌<◌, ◌≤◌, length, false};
+ghost use Rattle.vcd_body.specs.Names.{ChangesCode, ChangesRoomy, GivesShares, GivesText, GivesValue, IsLaidOut, IsStep, KeepsTable, SetsCode, SetsNumber, as_chosen, by_text, bytes_in, codes_in, codes_shown, counts_at, digit_in, held_at, is_chosen, kept_at, model_form, new_at, one_more, real_text, shown_as, value_at_size, value_in, value_with, with_change, with_number_change, with_step, with_text, with_value, with_value_change};
 
 use crate::bits::{Bits, put_digits};
 use crate::compare::value_differs;
@@ -41,9 +41,7 @@ impl<'a> Table<'a> {
         ensures bytes { bytes_in result ≤ length values.old }
         ensures kept { (code : ℕ) → kept_at result code
             ≡ new_at view.entry.codes.now (length values.old) code }
-        ensures room { room_of view.entry.codes.now ≤ length values.old → (code : ℕ) (c : Code)
-            → slice_get view.entry.codes.now code ≡ Some c
-            → kept_at result code ≡ Some (unset (share_of c.size)) }
+        ensures room { GivesShares view.entry.codes.now (length values.old) result }
     {
         let slots = &mut slots[..view.codes.len()];
         let shares = &mut shares[..view.codes.len()];
@@ -80,7 +78,11 @@ impl<'a> Table<'a> {
     {
         match value {
             Value::Digits(text) => match text {
-                [digit] => set_how(self.slots, code, number_of_digit(*digit)),
+                // The number comes first: else the slots are kept over the call for a rare digit.
+                [digit] => {
+                    let how = number_of_digit(*digit);
+                    set_how(self.slots, code, how);
+                }
                 _ => self.set_text(code, Form::Vector, text),
             },
             Value::Real(text) => self.set_text(code, Form::RealText, text),

@@ -25,10 +25,11 @@ use Rattle.vcd_body.specs.declared.item.Item.TheVariants.{Change}
 use Rattle.vcd_body.specs.declared.item.Regs.{Regs}
 use Rattle.vcd_engine.specs.Ahead.{GaveOneAhead, StandsAhead}
 use Rattle.vcd_engine.specs.Engine.{Keeps, request_in}
-use Rattle.vcd_engine.specs.Next.{TakesMore, TakesNext, Walk}
-use Rattle.vcd_engine.specs.Pieces.{GrowsBut, PutsOn, held_in}
+use Rattle.vcd_engine.specs.Next.{HasFound, HasLine, TakesMore, TakesNext, Walk}
+use Rattle.vcd_engine.specs.Pieces.{GrowsBut, LiesBetween, PutsOn, held_in}
 use Rattle.vcd_engine.specs.Quiet.{TakesQuietly}
 use Rattle.vcd_engine.specs.declared.machine.Machine.{Machine}
+use Rattle.vcd_engine.specs.declared.pieces.InPlace.{InPlace}
 use Rattle.vcd_engine.specs.declared.pieces.Pieces.{Pieces}
 use Rattle.vcd_engine.proofs.AheadLemmas.{few_ahead, stands_on}
 use Rattle.vcd_engine.proofs.PieceLemmas.{but_failed, but_on, none_on}
@@ -51,6 +52,15 @@ pub goes_on_change : (t : Request) (codes : List IdCode) (text : List ℕ) (item
 goes_on_change t codes text item place form x e is =
     let read = subst (λ (i : Item). IsItem codes text i x) e is in
     subst (λ (y : BodyItem). ends_early t y ≡ false) (sym read.2) (change_goes_on t _)
+
+-- a change was found there
+pub found_there : (v : HeadView) (w : Walk) (a : Ahead) (p : Plain) (c : InPlace) (place : ℕ) (form : Form) → TakesItem v w.ahead a w.regs p → p.item ≡ Change place form → HasLine w → c.plain ≡ p → LiesBetween w.ahead a w.line c → HasFound v w a c
+found_there v w a p c place form item change line is there = record {
+  item = subst (λ (q : Plain). TakesItem v w.ahead a w.regs q) (sym is) item;
+  change = (place, form, subst (λ (q : Plain). q.item ≡ Change place form) (sym is) change);
+  place = there;
+  line = line;
+}
 
 -- whole tokens were passed
 pub next_passes : (limit lines : ℕ) (bytes : List ℕ) (v : HeadView) (a a' : Ahead) (r : Regs) (p : Plain) → TakesItem v a a' r p → LooksOver limit bytes a → (ts before : List Token) → Passed limit lines bytes (passed_of a) (ts ++ before) → (more : List Token) × Passed limit lines bytes (passed_of a') (ts ++ more)

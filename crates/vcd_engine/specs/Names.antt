@@ -1,6 +1,6 @@
 -- What the clauses of this crate speak of, under one path: of the crates below, and what several of
 -- its modules share.
-pub use Rattle.std.specs.List.{AllByRecursion}
+pub use Rattle.std.specs.List.{AllByRecursion, position_or_len}
 pub use Rattle.std.specs.List.Sorted.{IsStrictlyIncreasing}
 pub use Rattle.vcd_model.specs.BodyPhrases.{section_keyword}
 pub use Rattle.vcd_model.specs.Bound.{AreWindows, FitsInput, no_room, RoomSize, WindowSize}
@@ -50,12 +50,12 @@ pub use Rattle.vcd_engine.specs.Engine.{AtClose, AtItem, CanRun, ClosesOver, Cou
 pub use Rattle.vcd_engine.specs.ItemText.{HasWritten, LastTells, PutsEntry, times_with}
 pub use Rattle.vcd_engine.specs.Leads.{AnySampled, HaveNoLine, IsSelectedAt, LeadOn, rows_on}
 pub use Rattle.vcd_engine.specs.Pick.{ArePicked, flags_in, is_kept, names_in, SamePick}
-pub use Rattle.vcd_engine.specs.Pieces.{gathered_in, held_in, IsInPlace, IsLine, IsPart, PutsBehind, PutsOn, PutsPieces}
+pub use Rattle.vcd_engine.specs.Pieces.{gathered_in, held_in, IsInPlace, IsLine, IsPart, LiesBetween, PutsBehind, PutsOn, PutsPieces}
 pub use Rattle.vcd_engine.specs.Report.{declares_variable, named_line, opens_scope}
 pub use Rattle.vcd_engine.specs.Room.{AnyRoom, AreWithinBound, BeginsAs, HasRoomFor, IsWithin, IsWithinEachBound, KeepsBound, marks_for, room_in, room_of, room_of_begun, room_size, SameHold, SameTask, slots_for, values_for, view_in}
 pub use Rattle.vcd_engine.specs.Rows.{AtRow}
-pub use Rattle.vcd_engine.specs.Run.{CountsOn, EndsAsAsked, Finishes, MayRun, RunsTask, SameWindows}
-pub use Rattle.vcd_engine.specs.Sample.{AreSampled, asked_in, is_due, SameSample}
+pub use Rattle.vcd_engine.specs.Run.{CountsOn, EndsAsAsked, Finishes, MayRun, RunsTask, RunsWhole, SameWindows}
+pub use Rattle.vcd_engine.specs.Sample.{AreSampled, asked_in, is_due, lent_to as lent_to_sample, SameSample}
 pub use Rattle.vcd_engine.specs.Selection.{AreSelected, ChoosesMore, IsFirstUnmatched, IsUnmatched}
 pub use Rattle.vcd_engine.specs.Step.{MayStep, Steps, StepsAhead, StepsOn, StepsOver}
 pub use Rattle.vcd_engine.specs.Values.{AreHeld, HasValues}

@@ -1,11 +1,12 @@
 -- One item that a command takes ahead.
-use Rattle.std.specs.Prelude.{◌≡◌, ℕ, ◌<◌, ◌^◌, false, List, [], ◌∷◌, ◌++◌, length, Result, IfOk}
+use Rattle.std.specs.Prelude.{◌≡◌, ℕ, ◌<◌, ◌^◌, false, List, [], ◌∷◌, ◌++◌, length, Option, MatchOption, Result, Ok, IfOk}
 use Rattle.vcd_model.specs.Header.{Header}
 use Rattle.vcd_model.specs.Items.{BodyItem}
 use Rattle.vcd_model.specs.Outcome.{Request, ends_early, open_text}
 use Rattle.vcd_text.specs.Ahead.{bytes_of, passed_of}
 use Rattle.vcd_text.specs.Device.{Counts, Device}
 use Rattle.vcd_text.specs.declared.ahead.Ahead.{Ahead}
+use Rattle.vcd_text.specs.declared.device.WriteFailed.{WriteFailed}
 use Rattle.vcd_view.specs.Views.{IsViewOf}
 use Rattle.vcd_view.specs.declared.view.HeadView.{HeadView}
 use Rattle.vcd_body.specs.Device.{DueBy}
@@ -17,7 +18,7 @@ use Rattle.vcd_body.specs.declared.item.Form.{Form}
 use Rattle.vcd_body.specs.declared.item.Item.TheVariants.{Change}
 use Rattle.vcd_body.specs.declared.item.Regs.{Regs}
 use Rattle.vcd_engine.specs.Engine.{Keeps, request_in}
-use Rattle.vcd_engine.specs.Pieces.{IsLine, IsPart, PutsOn, held_in}
+use Rattle.vcd_engine.specs.Pieces.{IsLine, IsPart, LiesBetween, PutsOn, held_in}
 use Rattle.vcd_engine.specs.Quiet.{TakesQuietly}
 use Rattle.vcd_engine.specs.Room.{SameTask}
 use Rattle.vcd_engine.specs.declared.machine.Machine.{Machine}
@@ -39,9 +40,10 @@ abbrev pub HasLine : Walk → Type 0
 HasLine w = IsLine (bytes_of w.ahead) w.line (passed_of w.ahead) w.regs.time
 
 -- the next item is a change, and lies there up to this place
-pub record HasFound (v : HeadView) (w : Walk) (a : Ahead) (p : Plain) : Type 0 where
-  pub item : TakesItem v w.ahead a w.regs p
-  pub change : (place : ℕ) × (form : Form) × (p.item ≡ Change place form)
+pub record HasFound (v : HeadView) (w : Walk) (a : Ahead) (c : InPlace) : Type 0 where
+  pub item : TakesItem v w.ahead a w.regs c.plain
+  pub change : (place : ℕ) × (form : Form) × (c.plain.item ≡ Change place form)
+  pub place : LiesBetween w.ahead a w.line c
   pub line : HasLine w
 
 -- a mark with which nothing is due was taken
@@ -70,3 +72,15 @@ pub record TakesNext {A E : Type 0} (v : HeadView) (w w' : Walk) (p p' : Pieces)
   pub counts : Counts out out' result
   pub part : IfOk result (λ _. IsPart (bytes_of w.ahead) p')
   pub same : SameTask m m'
+
+-- so, where there is a result; else nothing has changed
+abbrev pub MayTakeNext : {C A E : Type 0} → HeadView → Walk → Walk → Pieces → Pieces → Device → Device → (C → Machine) → C → C → Option (Result A E) → Type 0
+MayTakeNext v w w' p p' out out' machine c c' result = MatchOption result
+    ((c' ≡ c) × (w'.regs ≡ w.regs) × (w'.ahead ≡ w.ahead) × (p' ≡ p) × (out' ≡ out) × (w'.line ≡ w.line))
+    (TakesNext v w w' p p' out out' (machine c) (machine c'))
+
+-- a mark with which nothing is due was taken ahead, where there is a result; else nothing has changed
+abbrev pub MayTakeMark : {C : Type 0} → Walk → Walk → (C → Machine) → C → C → Option Unit → Type 0
+MayTakeMark w w' machine c c' result = MatchOption result
+    ((c' ≡ c) × (w'.regs ≡ w.regs) × (w'.ahead ≡ w.ahead) × (w'.line ≡ w.line))
+    (λ _. (v : HeadView) (p : Pieces) (out : Device) → IsPart (bytes_of w.ahead) p → TakesNext {A = Unit} {E = WriteFailed} v w w' p p out out (machine c) (machine c') (Ok tt))

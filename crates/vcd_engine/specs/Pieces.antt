@@ -1,7 +1,9 @@
 -- Text that is due, and of which the last pieces are not yet written.
 use Rattle.std.specs.Prelude.{◌≡◌, ℕ, ◌<◌, ◌≤◌, List, ◌++◌, length, take, slice_range, Result, Ok, Err, IfOk}
 use Rattle.vcd_model.specs.ItemText.{time_line}
+use Rattle.vcd_text.specs.Ahead.{bytes_of, passed_of}
 use Rattle.vcd_text.specs.Device.{Counts, Device, Writes, WritesSome}
+use Rattle.vcd_text.specs.declared.ahead.Ahead.{Ahead}
 use Rattle.vcd_view.specs.declared.view.HeadView.{HeadView}
 use Rattle.vcd_body.specs.Given.{HasGoodText}
 use Rattle.vcd_body.specs.Ahead.{HasBits, IsSizedItem}
@@ -20,6 +22,13 @@ pub record IsInPlace (v : HeadView) (l : InPlace) : Type 0 where
   pub sized : IsSizedItem v.codes.now l.plain.item l.plain.most
   pub bits : HasBits l.plain.item l.plain.text.now l.plain.bits
   pub spelled : HasSpelled v l.bytes.now l.from l.to l.plain.at l.plain.code_at l.plain.text.now l.plain.item
+
+-- a change lies from one place ahead up to another, and the line of its time from this one on
+pub record LiesBetween (a a' : Ahead) (begin : ℕ) (l : InPlace) : Type 0 where
+  pub bytes : l.bytes.now ≡ bytes_of a'
+  pub from : l.from ≡ passed_of a
+  pub to : l.to ≡ passed_of a'
+  pub line : l.line ≡ begin
 
 -- from one place of these bytes up to another the line of this time stands, or nothing
 abbrev pub IsLine : List ℕ → ℕ → ℕ → ℕ → Type 0

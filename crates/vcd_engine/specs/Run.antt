@@ -97,3 +97,8 @@ pub record RunsTask {X : Type 0} {g : Ghosts X} (failures : X → ℕ) (task : R
   pub gives : Does task v old new out out' result
   pub devices : CountsBoth failures old new out out' result
   pub windows : SameWindows old new
+
+-- so it does, and where it is done the body was read to its end
+pub record RunsWhole {X : Type 0} {g : Ghosts X} (failures : X → ℕ) (task : Request) (v : HeadView) (old new : Feed X g) (out out' : Device) (result : Result Done Stop) : Type 0 where
+  pub runs : RunsTask failures task v old new out out' result
+  pub answer : IfOk result (λ done. done ≡ Whole)

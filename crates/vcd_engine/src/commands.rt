@@ -1,6 +1,6 @@
 //! The commands over items: each is its task.
-ghost use Rattle.std.specs.Prelude.{◌≡◌, ◌≢◌, ◌≤◌, [], IfOk, map, string_bytes};
-ghost use Rattle.vcd_engine.specs.Names.{HasRoomFor, IsStrictlyIncreasing, MayRun, no_room, Request, room_size, RunsTask, Whole};
+ghost use Rattle.std.specs.Prelude.{◌≢◌, ◌≤◌, [], map, string_bytes};
+ghost use Rattle.vcd_engine.specs.Names.{HasRoomFor, IsStrictlyIncreasing, MayRun, no_room, Request, room_size, RunsTask, RunsWhole};
 
 use crate::engine::run_task;
 use crate::task::{Room, Task};
@@ -15,9 +15,8 @@ pub fn check<S: Source, W: Sink>(
     out: &mut W,
 ) -> Result<Done, Stop>
     requires run { MayRun S.failures feed.old view no_room (W.device out.old) }
-    ensures runs { RunsTask S.failures Request.Check view.entry
+    ensures runs { RunsWhole S.failures Request.Check view.entry
         feed.old feed.new (W.device out.old) (W.device out.new) result }
-    ensures answer { IfOk result (λ done. done ≡ Whole) }
 {
     let mut room = Room {
         values: &mut [],
@@ -41,9 +40,8 @@ pub fn pick<S: Source, W: Sink>(
 ) -> Result<Done, Stop>
     requires run { MayRun S.failures feed.old view (room_size room.old) (W.device out.old) }
     requires room { HasRoomFor (Task.Pick names) view room.old }
-    ensures runs { RunsTask S.failures (Request.Pick (map string_bytes names.now)) view.entry
+    ensures runs { RunsWhole S.failures (Request.Pick (map string_bytes names.now)) view.entry
         feed.old feed.new (W.device out.old) (W.device out.new) result }
-    ensures answer { IfOk result (λ done. done ≡ Whole) }
 {
     run_task(Task::Pick(names), view, feed, room, out)
 }
@@ -60,9 +58,8 @@ pub fn edges<S: Source, W: Sink>(
 ) -> Result<Done, Stop>
     requires run { MayRun S.failures feed.old view (room_size room.old) (W.device out.old) }
     requires room { HasRoomFor (Task.Edges names) view room.old }
-    ensures runs { RunsTask S.failures (Request.Edges (map string_bytes names.now)) view.entry
+    ensures runs { RunsWhole S.failures (Request.Edges (map string_bytes names.now)) view.entry
         feed.old feed.new (W.device out.old) (W.device out.new) result }
-    ensures answer { IfOk result (λ done. done ≡ Whole) }
 {
     run_task(Task::Edges(names), view, feed, room, out)
 }

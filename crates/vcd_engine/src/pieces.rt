@@ -1,11 +1,11 @@
 //! Text that is due and is in the chunk already: pieces of it that follow each other are one, and
 //! short ones are written together.
 ghost use Rattle.std.specs.Prelude.{◌≡◌, ℕ, ◌+◌, ◌-◌, ◌^◌, ◌<◌, ◌≤◌, List, [], ◌++◌, length, take, slice_range, IfErr, IfOk};
-ghost use Rattle.vcd_engine.specs.Names.{bytes_without, Counts, gathered_in, HasMark, held_in, IsLine, IsPart, Puts, PutsBehind, PutsOn, time_line};
+ghost use Rattle.vcd_engine.specs.Names.{bytes_without, Counts, gathered_in, HasMark, held_in, IsLine, IsPart, LiesBetween, Puts, PutsBehind, PutsOn, time_line};
 
 use crate::gathered::{GATHERED, Gathered};
 use vcd_body::{Plain, is_mark_line, put_time};
-use vcd_text::{Sink, WriteFailed, put};
+use vcd_text::{Ahead, Sink, WriteFailed, put};
 
 /// A change ahead: it has the bytes from `from` up to `to`. `line` is where the line of its time
 /// begins, if that comes just before it; else it is `from`.
@@ -16,6 +16,24 @@ pub(crate) struct InPlace<'a> {
     pub(crate) from: usize,
     pub(crate) to: usize,
     pub(crate) line: usize,
+}
+
+impl<'a> InPlace<'a> {
+    /// Returns the change that lies from one place ahead up to another. The line of its time begins
+    /// at `line`, if that comes just before it.
+    #[inline(always)]
+    pub(crate) fn of(plain: Plain<'a>, from: Ahead<'a>, to: Ahead<'a>, line: usize) -> InPlace<'a>
+        ensures plain { result.plain ≡ plain.entry }
+        ensures place { LiesBetween from.entry to.entry line result }
+    {
+        InPlace {
+            plain,
+            bytes: to.bytes(),
+            from: from.passed(),
+            to: to.passed(),
+            line,
+        }
+    }
 }
 
 /// Returns where the line of a time begins that ends at `to`, for a mark that is from `from` up to

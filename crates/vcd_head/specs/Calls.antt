@@ -8,7 +8,7 @@ use Rattle.vcd_model.specs.HeaderReading.{header_grammar}
 use Rattle.vcd_model.specs.Reading.{Placed}
 use Rattle.vcd_model.specs.SoFar.{IsSoFar}
 use Rattle.vcd_model.specs.Tokens.{Token}
-use Rattle.vcd_text.specs.Advances.{Advances}
+use Rattle.vcd_text.specs.Advances.{Advances, GoesFurther}
 use Rattle.vcd_text.specs.Feed.{HasGiven}
 use Rattle.vcd_text.specs.declared.device.Source.{Ghosts}
 use Rattle.vcd_text.specs.declared.feed.Feed.{Feed}
@@ -23,6 +23,10 @@ use Rattle.vcd_head.specs.declared.fault.HeadFault.{HeadFault}
 -- the feed has moved on as far as the call says that ended so
 abbrev pub MovesOn : {X A : Type 0} {g : Ghosts X} → (X → ℕ) → (old new : Feed X g) → Result A HeadFault → Type 0
 MovesOn failures old new r = Advances failures old new (call_end r)
+
+-- so, and by a byte or more where it succeeds
+abbrev pub MovesFurther : {X A : Type 0} {g : Ghosts X} → (X → ℕ) → (old new : Feed X g) → Result A HeadFault → Type 0
+MovesFurther failures old new r = GoesFurther failures old new (call_end r) r
 
 -- the result is this, or the header's fault
 abbrev pub OrFails : {X A : Type 0} {g : Ghosts X} → ℕ → Input → Feed X g → (A → Type 0) → Result A HeadFault → Type 0

@@ -17,7 +17,7 @@ pub use Rattle.vcd_model.specs.Scales.{exponent_of, scale_text}
 pub use Rattle.vcd_model.specs.Selection.{first_unmatched, is_selected, marked_places, selects_path}
 pub use Rattle.vcd_model.specs.Ticks.{moment_ticks, ticks}
 pub use Rattle.vcd_text.specs.Advances.{CallEnd}
-pub use Rattle.vcd_text.specs.Ahead.{bytes_of, passed_of, start_of}
+pub use Rattle.vcd_text.specs.Ahead.{TakesToken, bytes_of}
 pub use Rattle.vcd_text.specs.Device.{Counts, Puts, PutsTo, PutsWhere, TakenBy, Takes}
 pub use Rattle.vcd_text.specs.Feed.{seen, source_of, token_of}
 pub use Rattle.vcd_view.specs.Entries.{KeepsRight, are_right, is_right, text_in}
@@ -29,7 +29,7 @@ pub use Rattle.vcd_view.specs.Views.{AreHeld, IsIndex, IsSize, IsViewOf, Views, 
 pub use Rattle.vcd_view.specs.declared.view.Code.{Code}
 pub use Rattle.vcd_view.specs.declared.view.Scale.{Scale}
 pub use Rattle.vcd_head.specs.Ahead.{DraftsAhead, DraftsNext, EndsBefore, Gives, GivesToken, GoesOnWithin, IsReference, IsScope, IsUpscope, IsVariable, LooksOn, MovesAhead, PassesOn, PassesTokens, TakesNext}
-pub use Rattle.vcd_head.specs.Calls.{MovesOn, OrFails, ReadsAhead, ReadsAny, ReadsEnd, ReadsNext, ReadsOne, ReadsOther, ReadsPhrase, ReadsReference, ReadsRest, ReadsText, ReadsToEnd, ReadsWord}
+pub use Rattle.vcd_head.specs.Calls.{MovesFurther, MovesOn, OrFails, ReadsAhead, ReadsAny, ReadsEnd, ReadsNext, ReadsOne, ReadsOther, ReadsPhrase, ReadsReference, ReadsRest, ReadsText, ReadsToEnd, ReadsWord}
 pub use Rattle.vcd_head.specs.Codes.{HasNone, is_of}
 pub use Rattle.vcd_head.specs.Declares.{DeclaresVariable, IsBarred, MayStart, Takes as TakesPhrase}
 pub use Rattle.vcd_head.specs.Draft.{IsDraftOf, IsNew, goes_on}

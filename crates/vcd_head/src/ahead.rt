@@ -1,7 +1,7 @@
 // Variables and scopes whose phrases are whole ahead in the chunk: their tokens cost no change of
 // the feed.
-ghost use Rattle.std.specs.Prelude.{◌≡◌, ◌+◌, ◌-◌, ◌≤◌, ◌∷◌, ◌++◌, length, slice_range, IfSome, IfErr};
-ghost use Rattle.vcd_head.specs.Names.{DraftsAhead, DraftsNext, EndsBefore, Gives, GivesToken, GoesOnWithin, IsReference, IsScope, IsUpscope, IsVariable, LooksOn, MovesAhead, MovesOn, PassesOn, PassesTokens, ReadsAhead, TakesNext, bytes_of, passed_of, start_of};
+ghost use Rattle.std.specs.Prelude.{◌≡◌, ◌+◌, ◌-◌, ◌≤◌, ◌∷◌, ◌++◌, length, IfSome, IfErr};
+ghost use Rattle.vcd_head.specs.Names.{DraftsAhead, DraftsNext, EndsBefore, Gives, GivesToken, GoesOnWithin, IsReference, IsScope, IsUpscope, IsVariable, LooksOn, MovesAhead, MovesOn, PassesOn, PassesTokens, ReadsAhead, TakesNext, TakesToken, bytes_of};
 
 use crate::ahead_scopes::{scope_ahead, upscope_ahead};
 use crate::declarations::{
@@ -18,10 +18,7 @@ use vcd_view::Kind;
 #[inline(always)]
 pub(crate) fn token_ahead<'a>(ahead: &mut Ahead<'a>) -> Option<&'a [u8]>
     ensures one { IfSome result (λ token. GivesToken ahead.old ahead.new token.now) }
-    ensures place { IfSome result (λ token. token.now ≡ slice_range (bytes_of ahead.old)
-        (start_of ahead.new token.now) (passed_of ahead.new - 1)) }
-    ensures longer { IfSome result (λ token.
-        passed_of ahead.old + length token.now + 1 ≤ passed_of ahead.new) }
+    ensures takes { IfSome result (λ token. TakesToken ahead.old ahead.new token.now) }
     ensures moves { MovesAhead ahead.old ahead.new result }
 {
     ahead.next()

@@ -1,6 +1,6 @@
 // Tokens of a header, one after the other.
-ghost use Rattle.std.specs.Prelude.{◌≡◌, ◌-◌, ◌^◌, ◌<◌, IfOk, OnOk};
-ghost use Rattle.vcd_head.specs.Names.{MovesOn, ReadsNext, ReadsOne, ReadsWord, is_end, seen, source_of, token_of};
+ghost use Rattle.std.specs.Prelude.{◌≡◌, ◌-◌, ◌^◌, ◌<◌, IfOk};
+ghost use Rattle.vcd_head.specs.Names.{MovesFurther, MovesOn, ReadsNext, ReadsOne, ReadsWord, is_end, source_of, token_of};
 
 use crate::fault::HeadFault;
 use crate::words;
@@ -13,9 +13,7 @@ use vcd_text::{Feed, Halt, Next, Source};
 pub(crate) fn next_token<S: Source>(feed: &mut Feed<'_, '_, '_, '_, S>) -> Result<(), HeadFault>
     requires { S.failures (source_of feed.old) < 2 ^ 64 - 1 }
     ensures reads { ReadsNext feed.old feed.new result }
-    ensures advances { MovesOn S.failures feed.old feed.new result }
-    ensures progress { OnOk result (seen feed.old < seen feed.new) }
-    ensures bounded { seen feed.new < 2 ^ 63 }
+    ensures goes { MovesFurther S.failures feed.old feed.new result }
 {
     match feed.next() {
         Ok(Next::Token) => Ok(()),
@@ -32,9 +30,7 @@ pub(crate) fn next_ends<S: Source>(feed: &mut Feed<'_, '_, '_, '_, S>) -> Result
     requires { S.failures (source_of feed.old) < 2 ^ 64 - 1 }
     ensures reads { ReadsOne feed.old feed.new result }
     ensures end { IfOk result (λ ends. ends ≡ is_end (token_of feed.new).bytes) }
-    ensures advances { MovesOn S.failures feed.old feed.new result }
-    ensures progress { OnOk result (seen feed.old < seen feed.new) }
-    ensures bounded { seen feed.new < 2 ^ 63 }
+    ensures goes { MovesFurther S.failures feed.old feed.new result }
 {
     next_token(feed)?;
     Ok(words::is_end(feed.token()))

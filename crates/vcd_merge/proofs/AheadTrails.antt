@@ -1,5 +1,5 @@
 -- Items of one input of a merge that lie ahead in its feed's chunk, taken one after the other.
-use Rattle.std.proofs.Common.{◌≡◌, ℕ, ◌+◌, ◌*◌, ◌^◌, ◌<◌, ◌≤◌, Bool, true, false, List, [], ◌∷◌, ◌++◌, length, Option, Result, Ok, Err, refl, sym, ap, subst, ◌∙◌, mul_comm, append_assoc, arith}
+use Rattle.std.proofs.Common.{◌≡◌, ℕ, ◌+◌, ◌*◌, ◌^◌, ◌<◌, ◌≤◌, Bool, true, false, List, [], ◌∷◌, ◌++◌, length, Option, Result, Ok, Err, refl, sym, ap, subst, ◌∙◌, mul_comm, append_assoc, append-nil, arith}
 use Rattle.std.specs.Prelude.{IfOk}
 use Rattle.vcd_model.specs.Declarations.{IdCode}
 use Rattle.vcd_model.specs.Header.{Header}
@@ -12,8 +12,10 @@ use Rattle.vcd_text.specs.Ahead.{bytes_of, longest_of, passed_of}
 use Rattle.vcd_text.specs.Device.{Counts, Device, Takes, Writes, WritesSome}
 use Rattle.vcd_text.specs.Passed.{Passed}
 use Rattle.vcd_text.specs.declared.ahead.Ahead.{Ahead}
+use Rattle.vcd_text.specs.declared.device.WriteFailed.{WriteFailed}
 use Rattle.vcd_text.proofs.Writes.{appends-none}
-use Rattle.vcd_view.specs.Views.{IsViewOf}
+use Rattle.vcd_view.specs.Shown.{HeadShown, parts}
+use Rattle.vcd_view.specs.Views.{IsViewOf, Views}
 use Rattle.vcd_view.specs.declared.view.HeadView.{HeadView}
 use Rattle.vcd_body.specs.Ahead.{GaveAhead, LooksOver}
 use Rattle.vcd_body.specs.Given.{IsItem}
@@ -24,7 +26,7 @@ use Rattle.vcd_body.specs.declared.item.Form.{Form}
 use Rattle.vcd_body.specs.declared.item.Item.{Item}
 use Rattle.vcd_body.specs.declared.item.Item.TheVariants.{Change, Time}
 use Rattle.vcd_body.specs.declared.item.Regs.{Regs}
-use Rattle.vcd_merge.specs.MergeAhead.{Further, IsAhead, OneAhead, PassesAhead, PutsDue, RunsAhead, StageAhead, TakesNext, track_with}
+use Rattle.vcd_merge.specs.MergeAhead.{Further, GoesAhead, IsAhead, OneAhead, PassesAhead, PutsDue, RunsAhead, StageAhead, TakesNext, track_with}
 use Rattle.vcd_merge.specs.declared.seat.Track.{Track}
 use Rattle.vcd_merge.proofs.SeatLemmas.{not_large}
 
@@ -160,3 +162,69 @@ same_next s t u r' a b =
     let e = ap (λ (q : Track). track_with q r' u.time) a in
     let regs : u.regs ≡ r' = ap (λ (q : Track). q.regs) b in
     b ∙ e ∙ ap (λ (r : Regs). track_with s r u.time) (sym regs)
+
+-- ---- whole runs
+
+-- at first none is taken
+pub goes_first : (shown : HeadShown) (before : ℕ) (s : Track) (written : Option ℕ) (a : Ahead) (out : Device) → passed_of a ≤ length (bytes_of a) → GoesAhead shown before s written a out out (record { ahead = a; track = s; written = written; ended = Ok false })
+goes_first shown before s written a out within = record {
+  runs = λ scale first lines h behind start views factor first_is few r. r;
+  passes = record { same = (refl, refl); further = omega arith; within = within; passes = λ lines ts p. ([], rw (append-nil ts) p) };
+  some = λ e. cc;
+  same = refl;
+  counts = refl;
+}
+
+module _ (shown : HeadShown) (before : ℕ) (s : Track) (written : Option ℕ) (a : Ahead) (out : Device) (b : Ahead) (u : Track) (w : Option ℕ) (mid : Device) (g : GoesAhead shown before s written a out mid (record { ahead = b; track = u; written = w; ended = Ok false })) where
+  factor_on : (scale : ℕ) → s.factor ≡ scale → u.factor ≡ scale
+  factor_on scale e = ap (λ (q : Track). q.factor) g.same ∙ e
+
+  first_on : (first : ℕ) → s.first ≡ first → u.first ≡ first
+  first_on first e = ap (λ (q : Track). q.first) g.same ∙ e
+
+  over : LooksOver (longest_of a) (bytes_of a) b
+  over = (g.passes.same.1, g.passes.same.0)
+
+  -- one item more
+  module _ (v : HeadView) (is : parts v ≡ shown) (a' : Ahead) (s' : Track) (written' : Option ℕ) (out' : Device) (result : Result (Unit {0}) WriteFailed) (n : TakesNext v b a' u s' w written' mid out' result) (counts : Counts mid out' result) where
+    abbrev Goes : Result Bool WriteFailed → Type 0
+    Goes ended = GoesAhead shown before s written a out out' (record { ahead = a'; track = s'; written = written'; ended = ended })
+
+    view_of : (h : Header) → Views shown h → IsViewOf v h
+    view_of h views = subst (λ (y : HeadShown). Views y h) (sym is) views
+
+    same_on : s' ≡ track_with s s'.regs s'.time
+    same_on = same_next s u s' (regs_after u.regs n.plain.item) g.same n.track
+
+    passes_to : PassesAhead a a'
+    passes_to = passes_on a b a' v u.regs n.plain n.item g.passes
+
+    pub goes_on : result ≡ Ok tt → s'.time < before → Goes (Ok false)
+    goes_on e early = record {
+      runs = λ scale first lines h behind start views factor first_is few r.
+          runs_on scale first h (longest_of a) lines (bytes_of a) behind few v (view_of h views) b a' u s' w written' mid out' result n counts over (factor_on scale factor) (first_on first first_is) before start (g.runs scale first lines h behind start views factor first_is few r) e early;
+      passes = passes_to;
+      some = λ e. cc;
+      same = same_on;
+      counts = subst (λ (r : Result (Unit {0}) WriteFailed). Counts mid out' r) e counts ∙ g.counts;
+    }
+
+    pub goes_out : result ≡ Ok tt → Goes (Ok true)
+    goes_out e = record {
+      runs = λ scale first lines h behind start views factor first_is few r.
+          runs_out scale first h (longest_of a) lines (bytes_of a) behind few v (view_of h views) b a' u s' w written' mid out' result n counts over (factor_on scale factor) (first_on first first_is) before start (g.runs scale first lines h behind start views factor first_is few r) e;
+      passes = passes_to;
+      some = λ _. let more = n.item.further in let further = g.passes.further in omega (arith, more, further);
+      same = same_on;
+      counts = subst (λ (r : Result (Unit {0}) WriteFailed). Counts mid out' r) e counts ∙ g.counts;
+    }
+
+    pub goes_wrong : (f : WriteFailed) → result ≡ Err f → Goes (Err f)
+    goes_wrong f e = record {
+      runs = λ scale first lines h behind start views factor first_is few r.
+          runs_failed scale first h (longest_of a) lines (bytes_of a) behind few v (view_of h views) b a' u s' w written' mid out' result n counts over (factor_on scale factor) (first_on first first_is) before start (g.runs scale first lines h behind start views factor first_is few r) f e;
+      passes = passes_to;
+      some = λ e. cc;
+      same = same_on;
+      counts = subst (λ (r : Result (Unit {0}) WriteFailed). Counts mid out' r) e counts ∙ ap (λ n. n + 1) g.counts;
+    }

@@ -1,5 +1,5 @@
 -- Items of one input of a merge that lie ahead in its feed's chunk, taken one after the other.
-use Rattle.std.specs.Prelude.{◌≡◌, ℕ, ◌+◌, ◌*◌, ◌^◌, ◌<◌, ◌≤◌, Bool, true, false, List, [], ◌∷◌, ◌++◌, length, Option, Result, Ok, Err, IfOk, MatchResult}
+use Rattle.std.specs.Prelude.{◌≡◌, ℕ, ◌+◌, ◌*◌, ◌^◌, ◌<◌, ◌≤◌, Bool, true, false, List, [], ◌∷◌, ◌++◌, length, Option, Result, Ok, Err, IfOk, MatchOption}
 use Rattle.std.specs.List.{AllByRecursion}
 use Rattle.vcd_model.specs.Header.{Header}
 use Rattle.vcd_model.specs.Declarations.{IdCode}
@@ -8,11 +8,12 @@ use Rattle.vcd_model.specs.Merge.{is_too_large}
 use Rattle.vcd_model.specs.MergeByInput.{due_with, entry_for, written_with}
 use Rattle.vcd_model.specs.Tokens.{Token}
 use Rattle.vcd_text.specs.Ahead.{bytes_of, longest_of, passed_of}
-use Rattle.vcd_text.specs.Device.{Device, Takes, Writes, WritesSome}
+use Rattle.vcd_text.specs.Device.{Counts, Device, Takes, Writes, WritesSome}
 use Rattle.vcd_text.specs.Passed.{Passed}
 use Rattle.vcd_text.specs.declared.ahead.Ahead.{Ahead}
 use Rattle.vcd_text.specs.declared.device.WriteFailed.{WriteFailed}
-use Rattle.vcd_view.specs.Views.{IsViewOf}
+use Rattle.vcd_view.specs.Shown.{HeadShown}
+use Rattle.vcd_view.specs.Views.{IsViewOf, Views}
 use Rattle.vcd_view.specs.declared.view.Code.{Code}
 use Rattle.vcd_view.specs.declared.view.HeadView.{HeadView}
 use Rattle.vcd_body.specs.Ahead.{GaveAhead}
@@ -23,6 +24,7 @@ use Rattle.vcd_body.specs.declared.ahead.Opening.{Opening}
 use Rattle.vcd_body.specs.declared.ahead.Plain.{Plain}
 use Rattle.vcd_body.specs.declared.item.Item.{Item}
 use Rattle.vcd_body.specs.declared.item.Regs.{Regs}
+use Rattle.vcd_merge.specs.declared.merging.Taken.{Taken}
 use Rattle.vcd_merge.specs.declared.seat.Seat.{Seat}
 use Rattle.vcd_merge.specs.declared.seat.Track.{Track}
 
@@ -50,6 +52,10 @@ pub record TakesNext {E : Type 0} (v : HeadView) (a a' : Ahead) (s s' : Track) (
   pub time : (scale : ℕ) → s.factor ≡ scale → s.time ≡ scale * s.regs.time → s'.time ≡ scale * s'.regs.time
   pub small : (codes : List IdCode) (text : List ℕ) (x : BodyItem) → IsItem codes text plain.item x → is_too_large s.factor x ≡ false
   pub puts : PutsDue v.codes.now plain.text.now plain.item s written written' out out' result
+
+-- the next item was taken, or none, and then nothing has changed
+abbrev pub MayTakeNext : {E : Type 0} → HeadView → Ahead → Ahead → Track → Track → Option ℕ → Option ℕ → Device → Device → Option (Result (Unit {0}) E) → Type 0
+MayTakeNext v a a' s s' written written' out out' result = MatchOption result ((s' ≡ s) × (written' ≡ written) × (a' ≡ a) × (out' ≡ out)) (λ put. TakesNext v a a' s s' written written' out out' put)
 
 -- the time mark that a token ahead is was taken, whose time is not too large: nothing is due with it
 abbrev pub TakesMark : Opening → Ahead → Track → Track → Type 0
@@ -99,16 +105,20 @@ module _ (scale first : ℕ) (h : Header) (limit lines : ℕ) (bytes : List ℕ)
     pub trail : TrailAhead before a mid
     pub ends : EndsAhead mid n r time written out result
 
--- where a run goes on, more items are taken, and it goes on after them, or a write of what is due
--- with the last of them failed; the registers and the time stay
-abbrev pub GoesOnAhead : {A E : Type 0} → HeadView → ℕ → Track → Ahead → Ahead → Option ℕ → Option ℕ → Device → Device → Result A E → Type 0
-GoesOnAhead {E = E} v before s a a' written written' out out' result = (scale first lines : ℕ) (h : Header) (behind : List BodyItem) (start : StageAhead) → IsViewOf v h → s.factor ≡ scale → s.first ≡ first → first + length h.codes < 2 ^ 64
-    → RunsAhead scale first h (longest_of a) lines (bytes_of a) behind {E = E} before start (passed_of a) s.regs s.time written out (Ok false)
-    → MatchResult result (λ _. RunsAhead scale first h (longest_of a) lines (bytes_of a) behind {E = E} before start (passed_of a') s.regs s.time written' out' (Ok false)) (λ failed. RunsAhead scale first h (longest_of a) lines (bytes_of a) behind {E = E} before start (passed_of a') s.regs s.time written' out' (Err failed))
-
 -- whole tokens of the same bytes were passed
 pub record PassesAhead (a a' : Ahead) : Type 0 where
   pub same : (bytes_of a' ≡ bytes_of a) × (longest_of a' ≡ longest_of a)
   pub further : passed_of a ≤ passed_of a'
   pub within : passed_of a' ≤ length (bytes_of a)
   pub passes : (lines : ℕ) (ts : List Token) → Passed (longest_of a) lines (bytes_of a) (passed_of a) ts → (more : List Token) × Passed (longest_of a) lines (bytes_of a) (passed_of a') (ts ++ more)
+
+-- where a run goes on, more items are taken, and it goes on after them or ends, over the same bytes
+-- and for the same input
+pub record GoesAhead (shown : HeadShown) (before : ℕ) (s : Track) (written : Option ℕ) (a : Ahead) (out out' : Device) (t : Taken) : Type 0 where
+  pub runs : (scale first lines : ℕ) (h : Header) (behind : List BodyItem) (start : StageAhead) → Views shown h → s.factor ≡ scale → s.first ≡ first → first + length h.codes < 2 ^ 64
+      → RunsAhead scale first h (longest_of a) lines (bytes_of a) behind {E = WriteFailed} before start (passed_of a) s.regs s.time written out (Ok false)
+      → RunsAhead scale first h (longest_of a) lines (bytes_of a) behind before start (passed_of t.ahead) t.track.regs t.track.time t.written out' t.ended
+  pub passes : PassesAhead a t.ahead
+  pub some : t.ended ≡ Ok true → passed_of a < passed_of t.ahead
+  pub same : t.track ≡ track_with s t.track.regs t.track.time
+  pub counts : Counts out out' t.ended

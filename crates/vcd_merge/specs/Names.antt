@@ -15,10 +15,10 @@ pub use Rattle.vcd_view.specs.Views.{IsExponent, IsViewOf, Views}
 pub use Rattle.vcd_view.specs.declared.view.Code.{Code}
 pub use Rattle.vcd_head.specs.Merged.{ShowHeaders}
 pub use Rattle.vcd_head.specs.Shown.{shown}
-pub use Rattle.vcd_body.specs.Answer.{goes_on, NamesInput, reads_failed, writes_failed}
+pub use Rattle.vcd_body.specs.Answer.{goes_on, NamesInput, reads_failed}
 pub use Rattle.vcd_body.specs.Given.{IsGoodText}
 pub use Rattle.vcd_body.specs.Taken.{Opens, TakesItem}
-pub use Rattle.vcd_merge.specs.MergeAhead.{GoesOnAhead, IsAhead, PassesAhead, PutsDue, RunsAhead, seat_with, TakesMark, TakesNext, track_with}
+pub use Rattle.vcd_merge.specs.MergeAhead.{GoesAhead, MayTakeNext, PutsDue, seat_with, TakesMark, TakesNext, track_with}
 pub use Rattle.vcd_merge.specs.MergeOrder.{greatest_time, IsNext}
 pub use Rattle.vcd_merge.specs.MergeParts.{AreParts, AreSeated, part, part_len, SameLengths, spot_at}
 pub use Rattle.vcd_merge.specs.MergeRoom.{MergeIsWithinBound, no_windows, windows_size}
@@ -28,4 +28,4 @@ pub use Rattle.vcd_merge.specs.MergeStep.{AreMarked, failures_with, Gives, Holds
 pub use Rattle.vcd_merge.specs.MergeTrail.{AheadTurns, Runs, RunTurns, stage, stage_with, Touches, TurnsAt}
 pub use Rattle.vcd_merge.specs.Order.{AllWait}
 pub use Rattle.vcd_merge.specs.Seat.{AtSeat, IsSeated, Lane, SameSeat, Spot, spot, spot_with, Turns}
-pub use Rattle.vcd_merge.specs.SeatStep.{Moved}
+pub use Rattle.vcd_merge.specs.SeatStep.{CountsWrites, Moved}

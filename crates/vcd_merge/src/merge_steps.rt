@@ -1,6 +1,6 @@
 //! `merge`: the changes of several dumps in one order of time.
 ghost use Rattle.std.specs.Prelude.{◌≡◌, ◌≢◌, ℕ, ◌+◌, ◌-◌, ◌*◌, ◌^◌, ◌<◌, ◌≤◌, Bool, true, false, ◌⊎◌, take, slice_get, List, length, All, MatchOption, MatchBool, IfErr, IfOk, Some, Option, Ok, map};
-ghost use Rattle.vcd_merge.specs.Names.{AllWait, AreBegun, AreMarked, AreParts, AreSeated, AtSeat, BodyItem, Counts, Device, Dump, failures_after, failures_with, Follows, Gives, goes_on, greatest_time, HasBegun, Header, Holds, is_going, IsNext, IsReady, Lane, last_written, left_of, merge_close, merge_open, merged_head, merged_items, MergeIsWithinBound, NamesInput, no_windows, part, part_len, Runs, SameLengths, ShowHeaders, shown, Spot, spot_at, standing, standing_of, supply, Takes, Touches, TurnsAt, Views, windows_size, Writes, writes_failed};
+ghost use Rattle.vcd_merge.specs.Names.{AllWait, AreBegun, AreMarked, AreParts, AreSeated, AtSeat, BodyItem, Counts, CountsWrites, Device, Dump, failures_after, failures_with, Follows, Gives, goes_on, greatest_time, HasBegun, Header, Holds, is_going, IsNext, IsReady, Lane, last_written, left_of, merge_close, merge_open, merged_head, merged_items, MergeIsWithinBound, NamesInput, no_windows, part, part_len, Runs, SameLengths, ShowHeaders, shown, Spot, spot_at, standing, standing_of, supply, Takes, Touches, TurnsAt, Views, windows_size, Writes};
 
 use crate::beginning::set_seats;
 use crate::merge_state::Merge;
@@ -260,8 +260,7 @@ pub fn merge_step<S: Source, W: Sink>(
         → (slice_get sources.new j ≡ slice_get sources.old j)
         × (part (part_len (length merge.old.seats.now) windows.old.tokens.now) j windows.new.values.now
         ≡ part (part_len (length merge.old.seats.now) windows.old.tokens.now) j windows.old.values.now)) }
-    ensures writes { (W.device out.new).failures
-        ≡ (W.device out.old).failures + writes_failed result }
+    ensures writes { CountsWrites (W.device out.old) (W.device out.new) result }
     ensures going { is_going merge.new ≡ goes_on result }
 {
     let mut order = order_of(merge.seats, 0);
@@ -300,8 +299,7 @@ impl<'h, 's> Merge<'h, 's> {
         ensures reads { (k : ℕ) × (k < length sources.old)
             × (map S.failures sources.new ≡ failures_with (map S.failures sources.old) k result)
             × NamesInput k result }
-        ensures writes { (W.device out.new).failures
-            ≡ (W.device out.old).failures + writes_failed result }
+        ensures writes { CountsWrites (W.device out.old) (W.device out.new) result }
         ensures over { is_going self.new ≡ false }
     {
         let mut order = order_of(self.seats, u64::MAX);

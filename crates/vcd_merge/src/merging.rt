@@ -1,6 +1,6 @@
 //! The steps of one input of a merge, over its source and its windows alone.
 ghost use Rattle.std.specs.Prelude.{◌≡◌, ◌≢◌, ℕ, ◌+◌, ◌-◌, ◌^◌, ◌<◌, ◌≤◌, ◌++◌, [], List, Option, Some, None, length, slice_get, IfOk, IfSome, MatchOption, Ok, true, false, is_some, ◌&&◌};
-ghost use Rattle.vcd_merge.specs.Names.{Advances, AheadTurns, AtSeat, BodyItem, bytes_of, CallEnd, chunk_len_of, Code, Counts, failures_after, Fits, GoesOnAhead, HasNotFailed, Header, IsAhead, IsGoodText, IsSeated, IsViewOf, Lane, limit_of, longest_of, Moved, NamesInput, Opens, parked_of, parked_seen, Passed, passed_of, PassesAhead, Puts, PutsDue, reads_failed, RunsAhead, RunTurns, SameLoans, SameSeat, seat_with, seen, shown, source_of, spot, spot_with, stage, stage_with, TakesItem, TakesMark, TakesNext, time_due, Token, track_with, Turns, Views, writes_failed};
+ghost use Rattle.vcd_merge.specs.Names.{Advances, AheadTurns, AtSeat, BodyItem, bytes_of, CallEnd, chunk_len_of, Code, Counts, CountsWrites, failures_after, Fits, GoesAhead, HasNotFailed, IsGoodText, IsSeated, Lane, limit_of, MayTakeNext, Moved, NamesInput, Opens, parked_of, parked_seen, passed_of, Puts, PutsDue, reads_failed, RunTurns, SameLoans, SameSeat, seat_with, seen, shown, source_of, spot, spot_with, stage, stage_with, TakesItem, TakesMark, time_due, Turns, Views};
 ghost use Rattle.vcd_body.specs.declared.answer.Stop.TheVariants as stop;
 ghost use Rattle.vcd_body.specs.declared.item.Item.TheVariants as item;
 ghost use Rattle.vcd_body.specs.declared.words.First.TheVariants as first;
@@ -135,11 +135,8 @@ fn take_next<W: Sink>(
     out: &mut W,
 ) -> Option<Result<(), WriteFailed>>
     requires failures { (W.device out.old).failures < 2 ^ 64 - 1 }
-    ensures next { MatchOption result
-        ((track.new ≡ track.old) × (written.new ≡ written.old) × (ahead.new ≡ ahead.old)
-        × (W.device out.new ≡ W.device out.old))
-        (λ put. TakesNext view.entry ahead.old ahead.new track.old track.new
-        written.old written.new (W.device out.old) (W.device out.new) put) }
+    ensures next { MayTakeNext view.entry ahead.old ahead.new track.old track.new
+        written.old written.new (W.device out.old) (W.device out.new) result }
     ensures counts { IfSome result (λ put. Counts (W.device out.old) (W.device out.new) put) }
 {
     let mut next = *ahead;
@@ -184,11 +181,8 @@ fn take_short<W: Sink>(
     out: &mut W,
 ) -> Option<Result<(), WriteFailed>>
     requires failures { (W.device out.old).failures < 2 ^ 64 - 1 }
-    ensures next { MatchOption result
-        ((written.new ≡ written.old) × (ahead.new ≡ ahead.old)
-        × (W.device out.new ≡ W.device out.old))
-        (λ put. TakesNext view.entry ahead.old ahead.new track.now track.now
-        written.old written.new (W.device out.old) (W.device out.new) put) }
+    ensures next { MayTakeNext view.entry ahead.old ahead.new track.now track.now
+        written.old written.new (W.device out.old) (W.device out.new) result }
     ensures counts { IfSome result (λ put. Counts (W.device out.old) (W.device out.new) put) }
 {
     let mut next = *ahead;
@@ -198,90 +192,11 @@ fn take_short<W: Sink>(
     Some(put)
 }
 
-/// How a run of short lines has ended.
-#[derive(Clone, Copy)]
-struct Shorts<'a> {
-    // After the items that were taken.
-    ahead: Ahead<'a>,
-    written: Option<u64>,
-    // Whether a write of what is due with the last of them failed.
-    put: Result<(), WriteFailed>,
-}
-
-/// Takes the changes that come next, as long as each is a `0` or a `1` with a code of one byte on a
-/// line of its own, and writes what is due with each. The time of the input is before this one.
-// It is a loop of its own, so that it has all registers, and the other loop has none less for it.
-#[inline(never)]
-fn take_shorts<'a, W: Sink>(
-    view: HeadView<'_>,
-    before: u64,
-    track: Track,
-    mut written: Option<u64>,
-    mut ahead: Ahead<'a>,
-    out: &mut W,
-) -> Shorts<'a>
-    requires failures { (W.device out.old).failures < 2 ^ 64 - 1 }
-    requires within { passed_of ahead ≤ length (bytes_of ahead) }
-    requires early { track.time < before }
-    ensures goes_on { GoesOnAhead view.entry before track ahead.entry result.ahead
-        written result.written (W.device out.old) (W.device out.new) result.put }
-    ensures passes { PassesAhead ahead.entry result.ahead }
-    ensures counts { Counts (W.device out.old) (W.device out.new) result.put }
-{
-    'items: loop {
-        let Some(put) = take_short(view, &track, &mut written, &mut ahead, out) else {
-            return Shorts {
-                ahead,
-                written,
-                put: Ok(()),
-            };
-        };
-        match put {
-            Ok(()) => {}
-            Err(failed) => {
-                return Shorts {
-                    ahead,
-                    written,
-                    put: Err(failed),
-                };
-            }
-        }
-    }
-}
-
-/// Takes the short changes that come next, where these are two or more and the time of the input is
-/// before this one. Else it takes none.
-#[inline(always)]
-fn begin_shorts<'a, W: Sink>(
-    view: HeadView<'_>,
-    before: u64,
-    track: Track,
-    written: Option<u64>,
-    ahead: Ahead<'a>,
-    out: &mut W,
-) -> Shorts<'a>
-    requires failures { (W.device out.old).failures < 2 ^ 64 - 1 }
-    requires within { passed_of ahead ≤ length (bytes_of ahead) }
-    ensures goes_on { GoesOnAhead view.entry before track ahead.entry result.ahead
-        written result.written (W.device out.old) (W.device out.new) result.put }
-    ensures passes { PassesAhead ahead.entry result.ahead }
-    ensures counts { Counts (W.device out.old) (W.device out.new) result.put }
-{
-    if track.time < before && has_run(ahead) {
-        return take_shorts(view, before, track, written, ahead, out);
-    }
-    Shorts {
-        ahead,
-        written,
-        put: Ok(()),
-    }
-}
-
 /// How the taking of items ahead has left an input.
 #[derive(Clone, Copy)]
-struct Taken {
-    /// How many bytes the items that were taken have.
-    passed: usize,
+struct Taken<'a> {
+    /// After the items that were taken.
+    ahead: Ahead<'a>,
     /// What the input has come to after these items.
     track: Track,
     written: Option<u64>,
@@ -290,21 +205,23 @@ struct Taken {
     ended: Result<bool, WriteFailed>,
 }
 
-impl Taken {
+impl<'a> Taken<'a> {
     #[inline(always)]
     fn until(
-        ahead: Ahead<'_>,
+        ahead: Ahead<'a>,
         track: Track,
         written: Option<u64>,
         ended: Result<bool, WriteFailed>,
-    ) -> Taken
-        ensures passed { result.passed ≡ passed_of ahead.entry }
-        ensures track { result.track ≡ track }
-        ensures written { result.written ≡ written }
-        ensures ended { result.ended ≡ ended }
+    ) -> Taken<'a>
+        ensures { result ≡ record {
+          ahead = ahead.entry;
+          track = track;
+          written = written;
+          ended = ended;
+        } }
     {
         Taken {
-            passed: ahead.passed(),
+            ahead,
             track,
             written,
             ended,
@@ -312,51 +229,87 @@ impl Taken {
     }
 }
 
+/// Takes the changes that come next, as long as each is a `0` or a `1` with a code of one byte on a
+/// line of its own, and writes what is due with each. The time of the input is before this one.
+// It is a loop of its own, so that it has all registers, and the other loop has none less for it.
+#[inline(never)]
+fn take_shorts<'a, W: Sink>(
+    head: &Head,
+    before: u64,
+    track: Track,
+    mut written: Option<u64>,
+    mut ahead: Ahead<'a>,
+    out: &mut W,
+) -> Taken<'a>
+    requires failures { (W.device out.old).failures < 2 ^ 64 - 1 }
+    requires within { passed_of ahead ≤ length (bytes_of ahead) }
+    requires early { track.time < before }
+    ensures { GoesAhead (shown head.now) before track written ahead.entry
+        (W.device out.old) (W.device out.new) result }
+{
+    let view = head.view();
+    'items: loop {
+        let Some(put) = take_short(view, &track, &mut written, &mut ahead, out) else {
+            return Taken::until(ahead, track, written, Ok(false));
+        };
+        match put {
+            Ok(()) => {}
+            Err(failed) => return Taken::until(ahead, track, written, Err(failed)),
+        }
+    }
+}
+
+/// Takes the short changes that come next, where these are two or more and the time of the input is
+/// before this one. Else it takes none.
+#[inline(always)]
+fn begin_shorts<'a, W: Sink>(
+    head: &Head,
+    before: u64,
+    track: Track,
+    written: Option<u64>,
+    ahead: Ahead<'a>,
+    out: &mut W,
+) -> Taken<'a>
+    requires failures { (W.device out.old).failures < 2 ^ 64 - 1 }
+    requires within { passed_of ahead ≤ length (bytes_of ahead) }
+    ensures { GoesAhead (shown head.now) before track written ahead.entry
+        (W.device out.old) (W.device out.new) result }
+{
+    if track.time < before && has_run(ahead) {
+        return take_shorts(head, before, track, written, ahead, out);
+    }
+    Taken::until(ahead, track, written, Ok(false))
+}
+
 /// Takes the items of an input ahead, one after the other, as long as its time is before this one,
 /// and writes what is due with each. A time that is too large once it is scaled is left.
 // Track, written time and place come and go by value: by reference they cost each item more. A run
 // mostly begins just after a time mark, where short lines come.
-fn items_ahead<W: Sink>(
-    view: HeadView<'_>,
+fn items_ahead<'a, W: Sink>(
+    head: &Head,
     before: u64,
-    mut track: Track,
+    track: Track,
     written: Option<u64>,
-    ahead: Ahead<'_>,
+    ahead: Ahead<'a>,
     out: &mut W,
-) -> Taken
+) -> Taken<'a>
     requires failures { (W.device out.old).failures < 2 ^ 64 - 1 }
     requires within { passed_of ahead ≤ length (bytes_of ahead) }
-    ensures gives { (scale first lines : ℕ) (h : Header) (behind : List BodyItem)
-        → IsViewOf view.entry h → track.factor ≡ scale → track.first ≡ first
-        → first + length h.codes < 2 ^ 64
-        → IsAhead scale h (longest_of ahead.entry) lines (bytes_of ahead.entry) behind
-        (passed_of ahead.entry) [] track.regs track.time
-        → RunsAhead scale first h (longest_of ahead.entry) lines (bytes_of ahead.entry) behind before
-        (record {
-          at = passed_of ahead.entry;
-          items = [];
-          regs = track.regs;
-          time = track.time;
-          written = written;
-          out = W.device out.old;
-        })
-        result.passed result.track.regs result.track.time result.written
-        (W.device out.new) result.ended }
-    ensures passes { (lines : ℕ) (ts : List Token)
-        → Passed (longest_of ahead.entry) lines (bytes_of ahead.entry) (passed_of ahead.entry) ts
-        → (more : List Token) × Passed (longest_of ahead.entry) lines (bytes_of ahead.entry)
-        result.passed (ts ++ more) }
-    ensures some { result.ended ≡ Ok true → passed_of ahead.entry < result.passed }
-    ensures same { result.track ≡ track_with track result.track.regs result.track.time }
-    ensures counts { Counts (W.device out.old) (W.device out.new) result.ended }
+    ensures { GoesAhead (shown head.now) before track written ahead.entry
+        (W.device out.old) (W.device out.new) result }
 {
-    let run = begin_shorts(view, before, track, written, ahead, out);
-    let mut ahead = run.ahead;
-    let mut written = run.written;
-    match run.put {
-        Ok(()) => {}
-        Err(failed) => return Taken::until(ahead, track, written, Err(failed)),
+    let shorts = begin_shorts(head, before, track, written, ahead, out);
+    match shorts.ended {
+        Ok(false) => {}
+        Ok(true) | Err(_) => return shorts,
     }
+    let Taken {
+        mut ahead,
+        mut track,
+        mut written,
+        ..
+    } = shorts;
+    let view = head.view();
     'items: loop {
         let Some(put) = take_next(view, &mut track, &mut written, &mut ahead, out) else {
             return Taken::until(ahead, track, written, Ok(false));
@@ -397,19 +350,14 @@ fn take_ahead<S: Source, W: Sink>(
     ensures same { seat.new ≡ seat_with seat.old seat.new.regs seat.new.time }
     ensures counts { Counts (W.device out.old) (W.device out.new) result }
 {
-    let taken = items_ahead(
-        head.view(),
-        before,
-        seat.track(),
-        *written,
-        feed.ahead(),
-        out,
-    );
+    let taken = items_ahead(head, before, seat.track(), *written, feed.ahead(), out);
+    let passed = taken.ahead.passed();
+    let ended = taken.ended;
     seat.regs = taken.track.regs;
     seat.time = taken.track.time;
     *written = taken.written;
-    pass_items(feed, taken.passed);
-    taken.ended
+    pass_items(feed, passed);
+    ended
 }
 
 /// Returns the stop at a time of an input, on this line, that is too large once it is scaled.
@@ -446,8 +394,7 @@ fn take_item<S: Source, W: Sink>(
     ensures parked { seat.new.parked ≡ seat.old.parked }
     ensures same { SameSeat seat.old seat.new }
     ensures named { NamesInput input result }
-    ensures writes { (W.device out.new).failures
-        ≡ (W.device out.old).failures + writes_failed result }
+    ensures writes { CountsWrites (W.device out.old) (W.device out.new) result }
 {
     let view = head.view();
     let item = match next_item(feed, view, &mut seat.regs) {
@@ -494,8 +441,7 @@ fn take_run<S: Source, W: Sink>(
     ensures parked { seat.new.parked ≡ seat.old.parked }
     ensures same { SameSeat seat.old seat.new }
     ensures named { NamesInput run.input result }
-    ensures writes { (W.device out.new).failures
-        ≡ (W.device out.old).failures + writes_failed result }
+    ensures writes { CountsWrites (W.device out.old) (W.device out.new) result }
 {
     'items: loop {
         if take_ahead(head, run.before, feed, seat, written, out)? {
@@ -540,8 +486,7 @@ pub(crate) fn run_of<S: Source, W: Sink>(
     ensures same { SameSeat seat.old seat.new }
     ensures reads { S.failures source.new ≡ S.failures source.old + reads_failed result }
     ensures named { NamesInput run.input result }
-    ensures writes { (W.device out.new).failures
-        ≡ (W.device out.old).failures + writes_failed result }
+    ensures writes { CountsWrites (W.device out.old) (W.device out.new) result }
     ensures progress { IfOk result
         (λ _. seat.new.finished ≡ false
         → parked_seen seat.old.parked < parked_seen seat.new.parked) }

@@ -2,6 +2,7 @@
 pub use Rattle.std.specs.Io.KnownBytes.{Keeps}
 pub use Rattle.vcd_text.specs.Watch.{failed_calls}
 pub use Rattle.vcd_words.specs.Words.{AsksFor}
+pub use Rattle.vcdkit.specs.Calls.{MayFailOnce}
 pub use Rattle.vcd_program.specs.Asked.{inputs_for}
 pub use Rattle.vcd_program.specs.Memory.{bytes_in, bytes_named, IsLeftBy, noted, OpensIn}
 pub use Rattle.vcd_program.specs.Opens.{AddsOne, called, Opens, OpensOne, StopsAmong, StopsAt, text_of}

@@ -1,10 +1,14 @@
 //! Bytes that wait, in memory that is taken once.
-ghost use Rattle.std.specs.Prelude.{◌≡◌, ◌+◌, ◌-◌, ◌<◌, ◌≤◌, ◌++◌, [], length, drop, vec_len, IfOk};
+ghost use Rattle.std.specs.Prelude.{◌≡◌, ◌+◌, ◌-◌, ◌<◌, ◌≤◌, ◌++◌, [], true, length, take, drop, vec_len, IfOk};
 
 use std::alloc::{AllocError, Global};
+use std::simd::prelude::*;
 
 /// The most bytes that wait.
 pub(crate) const ROOM: usize = 8_192;
+
+/// The most bytes that are copied by one copy of this many, whatever their number.
+const SHORT: usize = 64;
 
 /// Bytes that wait, one after the other.
 #[derive(Drop)]
@@ -47,6 +51,17 @@ fn copy(from: &[u8], to: &mut [u8])
     }
 }
 
+/// Copies the first 64 bytes to a place.
+#[inline(always)]
+fn copy_short(to: &mut [u8], place: usize, from: &[u8])
+    requires room { place + 64 ≤ length to.old }
+    requires there { 64 ≤ length from.now }
+    ensures long { length to.new ≡ length to.old }
+    ensures copied { take (place + 64) to.new ≡ take place to.old ++ take 64 from.now }
+{
+    u8x64::from_slice(from).copy_to_slice(&mut to[place..]);
+}
+
 impl Buffer {
     ghost use Rattle.vcd_program.specs.Buffer.{kept};
 
@@ -74,6 +89,29 @@ impl Buffer {
         let end = self.len + from.len();
         copy(from, &mut self.bytes[self.len..end]);
         self.len = end;
+    }
+
+    /// Returns whether n bytes may be pushed as the front of these by one copy: they are few, and
+    /// there is room for as many as it copies.
+    #[inline(always)]
+    pub(crate) fn has_room(&self, from: &[u8], n: usize) -> bool
+        ensures few { result ≡ true → n ≤ 64 }
+        ensures there { result ≡ true → 64 ≤ length from.now }
+        ensures room { result ≡ true → self.now.len + 64 ≤ 8192 }
+    {
+        n <= SHORT && from.len() >= SHORT && self.len <= ROOM - SHORT
+    }
+
+    /// Appends the first n of these bytes, by one copy of a known length.
+    #[inline(always)]
+    pub(crate) fn push_front(&mut self, from: &[u8], n: usize)
+        requires few { n ≤ 64 }
+        requires there { 64 ≤ length from.now }
+        requires room { self.old.len + 64 ≤ 8192 }
+        ensures { kept self.new ≡ kept self.old ++ take n from.now }
+    {
+        copy_short(&mut self.bytes, self.len, from);
+        self.len += n;
     }
 
     /// Removes so many bytes from the front.

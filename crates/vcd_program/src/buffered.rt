@@ -158,6 +158,15 @@ impl<D: Write + Drop> Sink for Buffered<D> {
         }
     }
 
+    #[inline(always)]
+    fn write_front(&mut self, from: &[u8], n: usize) -> Result<usize, WriteFailed> {
+        if self.buffer.has_room(from, n) {
+            self.buffer.push_front(from, n);
+            return Ok(n);
+        }
+        self.write(&from[..n])
+    }
+
     fn failures(&self) -> u64 {
         self.failures
     }

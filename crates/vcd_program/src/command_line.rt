@@ -1,6 +1,6 @@
 //! From the words of the command line to the exit status.
 ghost use Rattle.std.specs.Prelude.{◌≡◌, ◌-◌, ◌^◌, ◌<◌, ◌≤◌, ◌+◌, map, string_bytes};
-ghost use Rattle.vcd_program.specs.Names.{Answers, AsksFor, Finishes, kind_of, RunsMatches, RunsOn, RunsWords};
+ghost use Rattle.vcd_program.specs.Names.{Answers, AsksFor, Finishes, kind_of, MayFailOnce, RunsMatches, RunsOn, RunsWords};
 
 use crate::asked::inputs_of;
 use crate::host::{Host, Output};
@@ -23,8 +23,7 @@ fn run_job<H: Host, W: Sink, E: Sink, B: BuildHasher>(
     err: &mut E,
     hasher: &B,
 ) -> u8
-    requires out_failures { (W.device out.old).failures < 2 ^ 64 - 1 }
-    requires err_failures { (E.device err.old).failures < 2 ^ 64 - 1 }
+    requires sinks { MayFailOnce W.Sink E.Sink out.old err.old }
     requires chunk { job.chunk ≡ 65536 }
     requires job { AsksFor matches.now job.task job.limit }
     ensures runs { RunsMatches H.opens H.Input.Source W.Sink E.Sink matches.now
@@ -59,8 +58,7 @@ fn run_matches<H: Host, W: Sink, E: Sink, B: BuildHasher>(
     err: &mut E,
     hasher: &B,
 ) -> u8
-    requires out_failures { (W.device out.old).failures < 2 ^ 64 - 1 }
-    requires err_failures { (E.device err.old).failures < 2 ^ 64 - 1 }
+    requires sinks { MayFailOnce W.Sink E.Sink out.old err.old }
     ensures runs { RunsMatches H.opens H.Input.Source W.Sink E.Sink matches.now
         host.old host.new out.old out.new err.old err.new result }
     ensures failures { (E.device err.new).failures ≤ (E.device err.old).failures + 1 }
@@ -74,8 +72,7 @@ fn run_matches<H: Host, W: Sink, E: Sink, B: BuildHasher>(
 /// Says what a parse answered that gave no matches, help and the version on the output and all else
 /// on the error stream, and returns the exit status.
 fn answer<W: Sink, E: Sink>(alloc: Global, error: &Error, out: &mut W, err: &mut E) -> u8
-    requires out_failures { (W.device out.old).failures < 2 ^ 64 - 1 }
-    requires err_failures { (E.device err.old).failures < 2 ^ 64 - 1 }
+    requires sinks { MayFailOnce W.Sink E.Sink out.old err.old }
     ensures answers { Answers (kind_of error.now)
         (W.device out.old) (W.device out.new) (E.device err.old) (E.device err.new) result }
     ensures failures { (E.device err.new).failures ≤ (E.device err.old).failures + 1 }
@@ -106,8 +103,7 @@ fn run_words<H: Host, W: Sink, E: Sink, B: BuildHasher>(
     err: &mut E,
     hasher: &B,
 ) -> u8
-    requires out_failures { (W.device out.old).failures < 2 ^ 64 - 1 }
-    requires err_failures { (E.device err.old).failures < 2 ^ 64 - 1 }
+    requires sinks { MayFailOnce W.Sink E.Sink out.old err.old }
     ensures runs { RunsWords (map string_bytes words.now) H.opens H.Input.Source W.Sink E.Sink
         host.old host.new out.old out.new err.old err.new result }
     ensures failures { (E.device err.new).failures ≤ (E.device err.old).failures + 1 }

@@ -3,7 +3,7 @@ use std::alloc::{AllocError, Global};
 use std::io;
 use std::io::Write;
 use vcd_program::{Buffered, Output};
-use vcd_text::{Sink, put};
+use vcd_text::{Sink, put, put_front};
 
 // Notes how many bytes each write brings. It takes 3,000 of them at most where it is `narrow`, and
 // fails at the write of one number.
@@ -42,24 +42,33 @@ impl Write for Noted {
     }
 }
 
-// The blocks of texts of these lengths, where no write fails and the sink is dropped at the end.
-fn blocks_of(alloc: Global, lens: &[usize]) -> Result<Vec<usize>, AllocError> {
+// The blocks of texts of these lengths, each by itself or the front of more bytes, where no write
+// fails and the sink is dropped at the end.
+fn blocks_of(alloc: Global, lens: &[usize], fronts: bool) -> Result<Vec<usize>, AllocError> {
     let bytes = [b'x'; 9_000];
     let mut device = Noted::new(alloc, false, usize::MAX);
     {
         let mut out = Buffered::new(alloc, &mut device)?;
         for len in lens {
             if out.failures() == 0 {
-                let _ = put(&mut out, &bytes[..(*len).min(9_000)]);
+                let n = (*len).min(9_000);
+                let _ = if fronts {
+                    put_front(&mut out, &bytes, n)
+                } else {
+                    put(&mut out, &bytes[..n])
+                };
             }
         }
     }
     Ok(device.sizes)
 }
 
-// Whether the blocks of these texts are these.
+// Whether the blocks of these texts are these, however they are put.
 fn are(alloc: Global, lens: &[usize], blocks: &[usize]) -> Result<bool, AllocError> {
-    Ok(blocks_of(alloc, lens)?.as_slice() == blocks)
+    Ok(
+        blocks_of(alloc, lens, false)?.as_slice() == blocks
+            && blocks_of(alloc, lens, true)?.as_slice() == blocks,
+    )
 }
 
 // What is full is passed on with the next byte, and what has no room in the whole buffer by itself.
@@ -69,7 +78,9 @@ fn are_blocks(alloc: Global) -> Result<bool, AllocError> {
             && are(alloc, &[5_000, 5_000, 3], &[5_000, 5_003])?
             && are(alloc, &[8_192], &[8_192])?
             && are(alloc, &[3, 8_192, 4], &[3, 8_192, 4])?
-            && are(alloc, &[8_000, 192, 9_000], &[8_192, 9_000])?,
+            && are(alloc, &[8_000, 192, 9_000], &[8_192, 9_000])?
+            && are(alloc, &[8_128, 64, 1], &[8_192, 1])?
+            && are(alloc, &[8_129, 63, 64], &[8_192, 64])?,
     )
 }
 

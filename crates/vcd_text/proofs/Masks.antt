@@ -1,12 +1,16 @@
 -- A mask of lanes says which bytes are white.
-use Rattle.std.proofs.Common.{◌≡◌, ◌≢◌, ℕ, ◌+◌, ◌-◌, ◌%◌, ◌^◌, ◌<◌, ◌≤◌, nat_le, inl, inr, Bool, true, false, cond, List, [], ◌∷◌, map, length, get_or, Fits, w8, refl, sym, ap, ap₂, subst, ◌∙◌, arith}
+use Rattle.std.proofs.Common.{◌≡◌, ◌≢◌, ℕ, zero, suc, ◌+◌, ◌-◌, ◌*◌, ◌/◌, ◌%◌, ◌^◌, ◌||◌, T, eqb, ltb, ltb→lt, eqb-true, bit_and, ◌<◌, ◌≤◌, nat_le, inl, inr, Bool, true, false, cond, List, [], ◌∷◌, map, length, drop, get_or, count_by, Fits, w8, refl, sym, ap, ap₂, subst, ◌∙◌, arith}
 use Rattle.std.proofs.lemmas.Bool.{agree_below, agree_below_at, cases_lt, cases_order}
 use Rattle.std.proofs.lemmas.Bool.Decides.{nat_tests}
-use Rattle.std.proofs.lemmas.Simd.{mask_l-mod, bit_mask_l, length-chunk, get_or-chunk}
-use Rattle.std.proofs.lemmas.List.{length-map, get_or-map, get_or_past}
+use Rattle.std.proofs.lemmas.Simd.{mask_l-mod, bit_mask_l, length-chunk, get_or-chunk, length-zip2, sum-zip2, swz_l, SwzOk, SwzOk-from_Each1, length-swz_l, get_or-swz_l}
+use Rattle.std.proofs.lemmas.List.{length-map, get_or-map, get_or_past, ext_get_or}
 use Rattle.std.specs.Int.{bit_at}
 use Rattle.std.proofs.lemmas.Nat.Bits.{bit_at-zero}
-use lib.Lanes.{chunk, mask_l, top, Each1}
+use lib.Lanes.{chunk, mask_l, sel_l, sum_l, top, zip2, Each1}
+use lib.ListN.{replicate}
+use mir.Val.{zeroes}
+use native.Mathlib.Nat.{pow-suc, mul_comm, zero-div, div-one, div-div-eq-div-mul}
+use Rattle.std.proofs.lemmas.List.Sums.{sum_by-cons}
 use Rattle.vcd_model.specs.Bytes.{is_white_space}
 use Rattle.vcd_text.specs.Masks.{TellsWhite, Marks}
 use Rattle.vcd_text.specs.declared.ahead.White.{White}
@@ -132,3 +136,87 @@ tells-none chunk at next mask front t e j le lt = elim (cases_lt j next) [
   | inr late ↦ (let back : next + (j - next) ≡ j = omega arith in
       subst (λ i. is_white_space (get_or chunk i 0) ≡ false) back (t.other (j - next) (omega arith) (no_bits mask (j - next) e)))
 ]
+
+-- lanes of 1 where p holds, and 0 elsewhere
+abbrev pub ones : (ℕ → Bool) → List ℕ → List ℕ
+ones p v = map (λ x. cond (p x) 1 0) v
+
+pub ones-sel : (p : ℕ → Bool) (v : List ℕ) (n : ℕ) → length v ≡ n → sel_l {A = ℕ} (map p v) (replicate n 1) (replicate n 0) ≡ ones p v
+ones-sel p [] n e = refl
+ones-sel p (x ∷ xs) zero e = absurd (omega arith)
+ones-sel p (x ∷ xs) (suc n) e = ap (λ l. cond (p x) 1 0 ∷ l) (ones-sel p xs n (omega arith))
+
+-- they add up to how often it does
+pub sum-ones : (p : ℕ → Bool) (v : List ℕ) → sum_l (ones p v) ≡ count_by p v
+sum-ones p [] = omega arith
+sum-ones p (x ∷ xs) = ap (λ s. cond (p x) 1 0 + s) (sum-ones p xs) ∙ sym (sum_by-cons (λ y. cond (p y) 1 0) x xs)
+
+-- the lanes of three vectors, added
+pub sum-three : (n : ℕ) (a b c : List ℕ) → length a ≡ n → length b ≡ n → length c ≡ n → sum_l (zip2 (λ x y. x + y) (zip2 (λ x y. x + y) a b) c) ≡ sum_l a + sum_l b + sum_l c
+sum-three n a b c p q r =
+    sum-zip2 (zip2 (λ x y. x + y) a b) c (length-zip2 (λ x y. x + y) a b (p ∙ sym q) ∙ p ∙ sym r) ∙ ap (λ s. s + sum_l c) (sum-zip2 a b (p ∙ sym q))
+
+-- ---- a table of white bytes, by the lowest four bits of a byte
+
+-- the place in the table; the highest bit is kept, with which nothing is found
+abbrev pub place_of : ℕ → ℕ
+place_of x = bit_and x 143
+
+abbrev pub found : List ℕ → ℕ → ℕ
+found table x = cond (zeroes 16 w8 (place_of x)) 0 (get_or table (place_of x) 0)
+
+none_or_near : (x : ℕ) → x < 256 → T (zeroes 16 w8 (place_of x) || ltb (place_of x) 16)
+none_or_near x lt = subst T (sym (agree_below_at (λ y. zeroes 16 w8 (place_of y) || ltb (place_of y) 16) (λ _. true) 256 x refl lt)) tt
+
+places_near : (v : List ℕ) → Each1 (Fits w8) v → Each1 (λ j. T (zeroes 16 w8 j || ltb j 16)) (map place_of v)
+places_near [] fits = tt
+places_near (x ∷ xs) fits = (none_or_near x fits.0.fits, places_near xs fits.1)
+
+pub places_ok : (v : List ℕ) → length v ≡ 64 → Each1 (Fits w8) v → SwzOk w8 16 64 0 (map place_of v)
+places_ok v long fits = SwzOk-from_Each1 w8 16 4 64 0 (map place_of v) refl (omega (arith, length-map v place_of, long)) (places_near v fits)
+
+-- each block of 16 of a table is its first one
+abbrev pub repeats : List ℕ → Bool
+repeats table = agree_below (λ i. agree_below (λ j. eqb (get_or table (16 * ((0 + i) / 16) + j) 0) (get_or table j 0)) (λ _. true) 16) (λ _. true) 64
+
+row : (table : List ℕ) → repeats table ≡ true → (i j : ℕ) → i < 64 → j < 16 → get_or table (16 * ((0 + i) / 16) + j) 0 ≡ get_or table j 0
+row table all i j lt small =
+    let inner = agree_below_at (λ i. agree_below (λ j. eqb (get_or table (16 * ((0 + i) / 16) + j) 0) (get_or table j 0)) (λ _. true) 16) (λ _. true) 64 i all lt in
+    eqb-true _ _ (agree_below_at (λ j. eqb (get_or table (16 * ((0 + i) / 16) + j) 0) (get_or table j 0)) (λ _. true) 16 j inner small)
+
+fits_at : (v : List ℕ) (i : ℕ) → Each1 (Fits w8) v → get_or v i 0 < 256
+fits_at [] i h = omega arith
+fits_at (x ∷ xs) zero h = h.0.fits
+fits_at (x ∷ xs) (suc i) h = fits_at xs i h.1
+
+one_found : (table : List ℕ) → repeats table ≡ true → (i x : ℕ) → i < 64 → x < 256
+    → cond (zeroes 16 w8 (place_of x)) 0 (get_or table (16 * ((0 + i) / 16) + place_of x) 0) ≡ found table x
+one_found table all i x lt small = go (zeroes 16 w8 (place_of x)) refl
+  where
+    go : (z : Bool) → zeroes 16 w8 (place_of x) ≡ z → cond z 0 (get_or table (16 * ((0 + i) / 16) + place_of x) 0) ≡ cond z 0 (get_or table (place_of x) 0)
+    go true e = refl
+    go false e = row table all i (place_of x) lt (ltb→lt (place_of x) 16 (subst (λ z. T (z || ltb (place_of x) 16)) e (none_or_near x small)))
+
+pub all_found : (table v : List ℕ) → repeats table ≡ true → length v ≡ 64 → Each1 (Fits w8) v → swz_l w8 16 table 0 (map place_of v) ≡ map (found table) v
+all_found table v all long fits =
+    ext_get_or 0 _ _ (length-swz_l w8 16 table 0 (map place_of v) ∙ length-map v place_of ∙ sym (length-map v (found table))) (λ i h.
+    let lt : i < 64 = omega (arith, length-swz_l w8 16 table 0 (map place_of v), length-map v place_of, long) in
+    let within : i < length v = omega (arith, long) in
+    let is : get_or (map place_of v) i 0 ≡ place_of (get_or v i 0) = get_or-map place_of v i 0 0 within in
+    get_or-swz_l w8 16 table 0 (map place_of v) i (omega (arith, length-map v place_of))
+    ∙ ap (λ j. cond (zeroes 16 w8 j) 0 (get_or table (16 * ((0 + i) / 16) + j) 0)) is
+    ∙ one_found table all i (get_or v i 0) lt (fits_at v i fits)
+    ∙ sym (get_or-map (found table) v i 0 0 within))
+
+half : (b : Bool) (n : ℕ) → (cond b 1 0 + 2 * n) / 2 ≡ n
+half true n = omega arith
+half false n = omega arith
+
+-- the mask of the lanes after the first k
+pub mask-shifted : (ms : List Bool) (k : ℕ) → mask_l ms / 2 ^ k ≡ mask_l (drop k ms)
+mask-shifted [] zero = zero-div (2 ^ 0)
+mask-shifted [] (suc k) = zero-div (2 ^ suc k)
+mask-shifted (m ∷ ms) zero = div-one (mask_l (m ∷ ms))
+mask-shifted (m ∷ ms) (suc k) =
+    ap (λ n. mask_l (m ∷ ms) / n) (pow-suc 2 k ∙ mul_comm (2 ^ k) 2) ∙ sym (div-div-eq-div-mul (mask_l (m ∷ ms)) 2 (2 ^ k)) ∙ ap (λ n. n / 2 ^ k) (half m (mask_l ms))
+    ∙ mask-shifted ms k

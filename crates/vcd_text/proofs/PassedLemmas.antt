@@ -151,7 +151,7 @@ module _ (limit : ℕ) (text : List ℕ) (p q lines : ℕ) (order : p ≤ q) (fi
 
 -- ---- the registers
 
-line_feeds_in-few : (bytes : List ℕ) → line_feeds_in bytes ≤ length bytes
+pub line_feeds_in-few : (bytes : List ℕ) → line_feeds_in bytes ≤ length bytes
 line_feeds_in-few bytes = count_by-le-length (λ b. b == 10) bytes
 
 pub ahead_fits : (phase : Phase) (chunk : List ℕ) (p : Parked) (limit n : ℕ) → Fits p (length chunk) limit → n ≤ length (ahead_in phase chunk p) → p.at + n ≤ p.stop

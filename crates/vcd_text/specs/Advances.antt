@@ -1,5 +1,5 @@
 -- What a call that reads tokens leaves of a feed, whatever the tokens are.
-use Rattle.std.specs.Prelude.{◌≡◌, ◌≢◌, ℕ, ◌+◌, ◌≤◌, Some, Err}
+use Rattle.std.specs.Prelude.{◌≡◌, ◌≢◌, ℕ, ◌+◌, ◌^◌, ◌<◌, ◌≤◌, OnOk, Result, Some, Err}
 use Rattle.vcd_text.specs.Feed.{SameLoans, limit_of, chunk_len_of, answer_of, seen, source_of}
 use Rattle.vcd_text.specs.declared.device.Source.{Ghosts}
 use Rattle.vcd_text.specs.declared.feed.Feed.{Feed}
@@ -25,3 +25,10 @@ pub record Advances {X : Type 0} {g : Ghosts X} (failures : X → ℕ) (old new 
   pub goes : end ≡ GoesOn → HasNotFailed old → HasNotFailed new
   pub failed : end ≡ Fails → HasNotFailed old → failures (source_of new) ≡ failures (source_of old) + 1
   pub same : end ≢ Fails → failures (source_of new) ≡ failures (source_of old)
+
+-- So it advances, by a byte or more where the call succeeds, and not beyond the bytes that an input
+-- may have.
+pub record GoesFurther {X A E : Type 0} {g : Ghosts X} (failures : X → ℕ) (old new : Feed X g) (end : CallEnd) (result : Result A E) : Type 0 where
+  pub advances : Advances failures old new end
+  pub progress : OnOk result (seen old < seen new)
+  pub bounded : seen new < 2 ^ 63

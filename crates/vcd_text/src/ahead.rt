@@ -1,10 +1,7 @@
 //! A look ahead over the bytes of a chunk, in a caller's loop: most tokens cost no change of the
 //! feed.
-ghost use Rattle.std.specs.Prelude.{◌≡◌, ◌≢◌, ℕ, ◌+◌, ◌-◌, ◌^◌, ◌<◌, ◌≤◌, true, false, length, slice_index, IfSome, None};
-ghost use Rattle.std.specs.Int.{bit_at};
-ghost use Rattle.vcd_model.specs.Bytes.{is_white_space};
-ghost use Rattle.vcd_text.specs.Masks.{Marks};
-ghost use Rattle.vcd_text.specs.Passed.{AreWhite};
+ghost use Rattle.std.specs.Prelude.{◌≡◌, ◌≢◌, ℕ, ◌+◌, ◌^◌, ◌<◌, ◌≤◌, true, false, List, length, slice_index, IfSome, None};
+ghost use Rattle.vcd_text.specs.Names.{AreWhite, IsRun, Marks, bit_at, is_white_space};
 
 use crate::scan::{is_white_space, low_16, lowest, white_64, without};
 
@@ -18,9 +15,6 @@ pub(crate) struct White {
 }
 
 impl White {
-    ghost use Rattle.std.specs.Prelude.{◌≡◌, ℕ, List};
-    ghost use Rattle.vcd_text.specs.Masks.{Marks};
-
     /// Returns white space of which nothing is known yet.
     #[inline(always)]
     pub(crate) fn unknown() -> Self
@@ -57,10 +51,7 @@ pub struct Ahead<'a> {
 }
 
 impl<'a> Ahead<'a> {
-    ghost use Rattle.std.specs.Prelude.{List, [], ◌∷◌, ◌++◌, None, IfSome, slice_range};
-    ghost use Rattle.vcd_model.specs.Tokens.{Token};
-    ghost use Rattle.vcd_text.specs.Passed.{IsRun, Passed, line_ahead};
-    ghost use Rattle.vcd_text.specs.Ahead.{bytes_of, longest_of, passed_of, start_of};
+    ghost use Rattle.vcd_text.specs.Ahead.{IsNearEnd, TakesToken, bytes_of, longest_of, passed_of, start_of};
 
     /// Returns the look-ahead over these bytes, at their first one.
     #[inline(always)]
@@ -99,35 +90,10 @@ impl<'a> Ahead<'a> {
     /// is not whole, `Feed::next` goes on. Near the end of the bytes none is given either.
     #[inline(always)]
     pub fn next(&mut self) -> Option<&'a [u8]>
-        ensures gives { IfSome result (λ token. (lines : ℕ) (ts : List Token)
-            → Passed (longest_of self.old) lines (bytes_of self.old) (passed_of self.old) ts
-            → Passed (longest_of self.old) lines (bytes_of self.old) (passed_of self.new) (ts ++ (record {
-              bytes = token.now;
-              line = line_ahead lines (bytes_of self.old) (start_of self.new token.now);
-            }) ∷ [])) }
-        ensures some { IfSome result (λ token. 0 < length token.now) }
-        ensures short { IfSome result (λ token. length token.now ≤ longest_of self.old) }
-        ensures place { IfSome result (λ token. token.now
-            ≡ slice_range (bytes_of self.old) (start_of self.new token.now) (passed_of self.new - 1)) }
-
-        // It is a whole run of other bytes, and before it there are only white bytes, or none.
-        ensures run { IfSome result (λ token. IsRun (longest_of self.old) (bytes_of self.old)
-            (start_of self.new token.now) (length token.now)) }
-        ensures before { IfSome result (λ token.
-            AreWhite (bytes_of self.old) (passed_of self.old) (start_of self.new token.now)) }
-        ensures further { IfSome result
-            (λ token. passed_of self.old + length token.now + 1 ≤ passed_of self.new) }
+        ensures takes { IfSome result (λ token. TakesToken self.old self.new token.now) }
         ensures within { passed_of self.new ≤ length (bytes_of self.old) }
         ensures none { result ≡ None → self.new ≡ self.old }
-
-        // None is given only where no token follows the white bytes, or fewer than 64 bytes are
-        // left from its end on.
-        ensures needed { result ≡ None → (start n : ℕ)
-            → AreWhite (bytes_of self.old) (passed_of self.old) start
-            → IsRun (longest_of self.old) (bytes_of self.old) start n
-            → length (bytes_of self.old) < start + n + 64 }
-        ensures same { (bytes_of self.new ≡ bytes_of self.old)
-            × (longest_of self.new ≡ longest_of self.old) }
+        ensures needed { result ≡ None → IsNearEnd self.old }
     {
         let white = white_ahead(self.bytes, self.white)?;
         if !stands_at(white, self.at) {
@@ -146,26 +112,9 @@ impl<'a> Ahead<'a> {
     /// has seen: it is for a run of such tokens.
     #[inline(always)]
     pub fn next_short(&mut self) -> Option<&'a [u8]>
-        ensures gives { IfSome result (λ token. (lines : ℕ) (ts : List Token)
-            → Passed (longest_of self.old) lines (bytes_of self.old) (passed_of self.old) ts
-            → Passed (longest_of self.old) lines (bytes_of self.old) (passed_of self.new) (ts ++ (record {
-              bytes = token.now;
-              line = line_ahead lines (bytes_of self.old) (start_of self.new token.now);
-            }) ∷ [])) }
-        ensures some { IfSome result (λ token. 0 < length token.now) }
-        ensures short { IfSome result (λ token. length token.now ≤ longest_of self.old) }
-        ensures place { IfSome result (λ token. token.now
-            ≡ slice_range (bytes_of self.old) (start_of self.new token.now) (passed_of self.new - 1)) }
-        ensures run { IfSome result (λ token. IsRun (longest_of self.old) (bytes_of self.old)
-            (start_of self.new token.now) (length token.now)) }
-        ensures before { IfSome result (λ token.
-            AreWhite (bytes_of self.old) (passed_of self.old) (start_of self.new token.now)) }
-        ensures further { IfSome result
-            (λ token. passed_of self.old + length token.now + 1 ≤ passed_of self.new) }
+        ensures takes { IfSome result (λ token. TakesToken self.old self.new token.now) }
         ensures within { passed_of self.new ≤ length (bytes_of self.old) }
         ensures none { result ≡ None → self.new ≡ self.old }
-        ensures same { (bytes_of self.new ≡ bytes_of self.old)
-            × (longest_of self.new ≡ longest_of self.old) }
     {
         let at = self.at;
         if !has_short(self.bytes, at) {
@@ -179,27 +128,10 @@ impl<'a> Ahead<'a> {
     /// it has seen: it is for a run of lines.
     #[inline(always)]
     pub fn next_near(&mut self) -> Option<&'a [u8]>
-        ensures gives { IfSome result (λ token. (lines : ℕ) (ts : List Token)
-            → Passed (longest_of self.old) lines (bytes_of self.old) (passed_of self.old) ts
-            → Passed (longest_of self.old) lines (bytes_of self.old) (passed_of self.new) (ts ++ (record {
-              bytes = token.now;
-              line = line_ahead lines (bytes_of self.old) (start_of self.new token.now);
-            }) ∷ [])) }
-        ensures some { IfSome result (λ token. 0 < length token.now) }
-        ensures short { IfSome result (λ token. length token.now ≤ longest_of self.old) }
-        ensures place { IfSome result (λ token. token.now
-            ≡ slice_range (bytes_of self.old) (start_of self.new token.now) (passed_of self.new - 1)) }
-        ensures run { IfSome result (λ token. IsRun (longest_of self.old) (bytes_of self.old)
-            (start_of self.new token.now) (length token.now)) }
-        ensures before { IfSome result (λ token.
-            AreWhite (bytes_of self.old) (passed_of self.old) (start_of self.new token.now)) }
-        ensures further { IfSome result
-            (λ token. passed_of self.old + length token.now + 1 ≤ passed_of self.new) }
+        ensures takes { IfSome result (λ token. TakesToken self.old self.new token.now) }
         ensures within { passed_of self.new ≤ length (bytes_of self.old) }
         ensures start { IfSome result (λ token. start_of self.new token.now ≡ passed_of self.old) }
         ensures none { result ≡ None → self.new ≡ self.old }
-        ensures same { (bytes_of self.new ≡ bytes_of self.old)
-            × (longest_of self.new ≡ longest_of self.old) }
     {
         let at = self.at;
         if self.bytes.len() - at < 16 {
@@ -251,31 +183,11 @@ impl<'a> Ahead<'a> {
         requires marks { Marks (bytes_of self.old) start (length (bytes_of self.old)) white }
         requires some { white.bits ≢ 0 }
         requires token { (k : ℕ) → bit_at white.bits k ≡ 1 → start + 64 < white.next + k }
-        ensures gives { IfSome result (λ token. (lines : ℕ) (ts : List Token)
-            → Passed (longest_of self.old) lines (bytes_of self.old) (passed_of self.old) ts
-            → Passed (longest_of self.old) lines (bytes_of self.old) (passed_of self.new) (ts ++ (record {
-              bytes = token.now;
-              line = line_ahead lines (bytes_of self.old) (start_of self.new token.now);
-            }) ∷ [])) }
-        ensures some { IfSome result (λ token. 0 < length token.now) }
-        ensures short { IfSome result (λ token. length token.now ≤ longest_of self.old) }
-        ensures place { IfSome result (λ token. token.now
-            ≡ slice_range (bytes_of self.old) (start_of self.new token.now) (passed_of self.new - 1)) }
-        ensures run { IfSome result (λ token. IsRun (longest_of self.old) (bytes_of self.old)
-            (start_of self.new token.now) (length token.now)) }
-        ensures before { IfSome result (λ token.
-            AreWhite (bytes_of self.old) (passed_of self.old) (start_of self.new token.now)) }
-        ensures further { IfSome result
-            (λ token. passed_of self.old + length token.now + 1 ≤ passed_of self.new) }
+        ensures takes { IfSome result (λ token. TakesToken self.old self.new token.now) }
         ensures within { passed_of self.new ≤ length (bytes_of self.old) }
         ensures start { IfSome result (λ token. start_of self.new token.now ≡ start) }
         ensures none { result ≡ None → self.new ≡ self.old }
-        ensures needed { result ≡ None → (at n : ℕ)
-            → AreWhite (bytes_of self.old) (passed_of self.old) at
-            → IsRun (longest_of self.old) (bytes_of self.old) at n
-            → length (bytes_of self.old) < at + n + 64 }
-        ensures same { (bytes_of self.new ≡ bytes_of self.old)
-            × (longest_of self.new ≡ longest_of self.old) }
+        ensures needed { result ≡ None → IsNearEnd self.old }
     {
         let bit = lowest(white.bits);
         let end = white.next + bit - 64;

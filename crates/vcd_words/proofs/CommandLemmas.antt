@@ -1,18 +1,15 @@
 -- How the calls that build an argument or a command change what a parse reads of it.
-use Rattle.std.proofs.Common.{◌≡◌, ◌∙◌, ℕ, Bool, true, false, Option, Some, ap, ap₂}
+use Rattle.std.proofs.Common.{◌≡◌, ◌∙◌, ℕ, Bool, true, Option, Some, ap, ap₂}
 use Rattle.std.specs.Borrow.{Bor}
 use Rattle.clap.specs.Simple.{app_of_fields}
-use Rattle.clap.specs.Words.{AddsArg, App, Rule, Text, app_of, is_broken, rule_of, with_rule}
+use Rattle.clap.specs.Words.{AddsArg, App, Rule, Text, rule_of, with_rule}
 use Rattle.clap.specs.declared.builder.arg.Arg.{Arg}
 use Rattle.clap.specs.declared.builder.texts.Texts.TheVariants.{One}
 use Rattle.clap.specs.declared.builder.command.Command.{Command, out-Command}
 use Rattle.clap.specs.declared.builder.range.ValueRange.{ValueRange}
+use Rattle.vcd_words.specs.Words.{IsLocal, IsWhole}
 
 -- ---- arguments
-
--- an argument of this rule, which is not global
-abbrev pub IsLocal : Arg → Rule → Type 0
-IsLocal a r = (rule_of a ≡ r) × (a.global ≡ false)
 
 module _ (old new : Arg) (r : Rule) (before : IsLocal old r) where
   -- `-s`
@@ -40,10 +37,6 @@ module _ (old new : Arg) (r : Rule) (before : IsLocal old r) where
   with_help text e = (ap rule_of e ∙ before.0, ap (λ (a : Arg). a.global) e ∙ before.1)
 
 -- ---- commands
-
--- a whole command with these arguments and commands
-abbrev pub IsWhole : Command → App → Type 0
-IsWhole c app = (app_of c ≡ app) × (is_broken c ≡ false)
 
 module _ (old new : Command) (app : App) (before : IsWhole old app) where
   -- texts of its help, which no parse reads

@@ -1,8 +1,11 @@
 -- The times of a sample in ticks.
-use Rattle.std.specs.Prelude.{◌≡◌, ℕ, ℤ, Bool, false, List, [], ◌∷◌, map, Option, is_some, Result, Ok, is_ok}
+use Rattle.std.specs.Prelude.{◌≡◌, ℕ, ℤ, Bool, false, List, [], ◌∷◌, map, Option, is_some, Result, Ok, Err, MatchResult, is_ok}
 use Rattle.std.specs.List.{list_any, list_all}
+use Rattle.vcd_model.specs.Header.{Header}
 use Rattle.vcd_model.specs.Job as model
 use Rattle.vcd_model.specs.Ticks.{Moment, moment_ticks}
+use Rattle.vcd_view.specs.Views.{IsViewOf}
+use Rattle.vcd_view.specs.declared.view.HeadView.{HeadView}
 use Rattle.vcd_words.specs.declared.refusal.Refusal.{Refusal}
 use Rattle.vcd_words.specs.Refusal.{model_refusal}
 
@@ -27,3 +30,8 @@ AreTicks all numbers = all ≡ map (λ k. Ok k) numbers
 -- some has none, and this is why the times are refused
 abbrev pub AreRefused : List (Result ℕ ℕ) → Refusal → Type 0
 AreRefused all why = (list_all is_ok all ≡ false) × (model.first_refusal all ≡ model_refusal why)
+
+-- over any header that the view shows a run asks for the same with these words as before, or is
+-- refused for this reason
+abbrev pub KeepsRequest : {A : Type 0} → HeadView → (old new : model.Want) → Result A Refusal → Type 0
+KeepsRequest v old new result = (h : Header) → IsViewOf v h → MatchResult result (λ _. model.request_of h.scale new ≡ model.request_of h.scale old) (λ why. model.request_of h.scale old ≡ Err (model_refusal why))

@@ -1,15 +1,18 @@
 -- The words of the command line: how they are read, and what they ask for.
-use Rattle.std.specs.Prelude.{◌≡◌, ℕ, Bool, true, false, cond, List, [], map, codes, Option, Some, None, option_map, option_and_then, unwrap_or, Result, Ok, Err}
+use Rattle.std.specs.Prelude.{◌≡◌, ℕ, Bool, true, false, cond, List, [], map, codes, Option, Some, None, option_map, option_and_then, unwrap_or, Result, Ok, Err, IfErr, IfOk}
 use Rattle.std.specs.Borrow.{Bor}
 use Rattle.std.specs.Str.{bytes_eq}
 use Rattle.clap.specs.Lexer.{usize_max}
-use Rattle.clap.specs.Words.{App, Rule, Text, all_of, first_of, new_app, new_rule, subcommand_name_of, subcommand_rows_of, with_rule, with_subcommand}
+use Rattle.clap.specs.Words.{App, Rule, Text, all_of, app_of, first_of, is_broken, new_app, new_rule, rule_of, subcommand_name_of, subcommand_rows_of, with_rule, with_subcommand}
+use Rattle.clap.specs.declared.builder.arg.Arg.{Arg}
+use Rattle.clap.specs.declared.builder.command.Command.{Command}
 use Rattle.clap.specs.declared.parser.matches.ArgMatches.{ArgMatches}
 use Rattle.clap.specs.declared.error.kind.ErrorKind.{ErrorKind}
 use Rattle.clap.specs.declared.error.kind.ErrorKind.TheVariants as kind
 use Rattle.vcd_model.specs.Bytes.{is_empty}
+use Rattle.vcd_model.specs.Job as model_job
 use Rattle.vcd_model.specs.Words as model
-use Rattle.vcd_words.specs.Job.{model_want}
+use Rattle.vcd_words.specs.Job.{is_asked, model_want}
 use Rattle.vcd_words.specs.declared.job.Want.{Want}
 use Rattle.vcd_words.specs.declared.words.Words.{Words}
 use Rattle.vcd_words.specs.declared.words.Words.TheVariants as words
@@ -17,6 +20,14 @@ use Rattle.vcd_words.specs.declared.job.UseFault.{UseFault}
 use Rattle.vcd_words.specs.declared.job.UseFault.TheVariants.{BadWords, BadLimit, BadTime, FromAboveTo, NotRising, TooManyFiles, OutOfMemory}
 
 -- ---- how words are read
+
+-- an argument of this rule, which is not global
+abbrev pub IsLocal : Arg → Rule → Type 0
+IsLocal a r = (rule_of a ≡ r) × (a.global ≡ false)
+
+-- a whole command with these arguments and commands
+abbrev pub IsWhole : Command → App → Type 0
+IsWhole c app = (app_of c ≡ app) × (is_broken c ≡ false)
 
 -- `-i FILE`
 abbrev pub input_rule : Rule
@@ -177,3 +188,10 @@ IsFaultIn {X} OutOfMemory asked = ⊥
 abbrev pub IsFaultOf : {X : Type 0} → UseFault → Result X model.UseFault → Type 0
 IsFaultOf {X} OutOfMemory asked = (x : X) × (asked ≡ Ok x)
 IsFaultOf {X} fault asked = IsFaultIn fault asked
+
+-- the words ask for this, which words can ask for, or have this fault; memory may run out where
+-- they have none
+pub record GivesWant (wanted : Result model_job.Want model.UseFault) (result : Result Want UseFault) : Type 0 where
+  pub want : IfOk result (λ want. wanted ≡ Ok (model_want want))
+  pub asked : IfOk result (λ want. is_asked want ≡ true)
+  pub fault : IfErr result (λ fault. IsFaultOf fault wanted)

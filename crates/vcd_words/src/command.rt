@@ -1,6 +1,6 @@
 //! The command line: which words it takes, and the exit status where it takes none.
-ghost use Rattle.std.specs.Prelude.{◌≡◌, IfOk, false};
-ghost use Rattle.vcd_words.specs.Names.{app_of, cut_app, is_broken, kind_of, limit_rule, merge_app, named_app, new_app, one_input_app, parse_status_of, program_app, rule_of, sample_app, time_rule};
+ghost use Rattle.std.specs.Prelude.{◌≡◌, IfOk};
+ghost use Rattle.vcd_words.specs.Names.{cut_app, IsLocal, IsWhole, kind_of, limit_rule, merge_app, named_app, new_app, one_input_app, parse_status_of, program_app, sample_app, time_rule};
 
 use crate::help;
 use crate::help::Help;
@@ -10,8 +10,7 @@ use std::alloc::{AllocError, Global};
 
 /// Returns the option `--token-limit`.
 fn token_limit<'a>(alloc: Global) -> Arg<'a>
-    ensures rule { rule_of result ≡ limit_rule }
-    ensures local { result.global ≡ false }
+    ensures { IsLocal result limit_rule }
 {
     Arg::new(alloc, "token-limit")
         .long("token-limit")
@@ -21,8 +20,7 @@ fn token_limit<'a>(alloc: Global) -> Arg<'a>
 
 /// Returns a command of this name with its help, and no options yet.
 fn new_command<'a>(alloc: Global, name: &'a str, help: Help<'a>) -> Command<'a>
-    ensures words { app_of result ≡ new_app name.entry.now }
-    ensures whole { is_broken result ≡ false }
+    ensures { IsWhole result (new_app name.entry.now) }
 {
     Command::new(alloc, name)
         .about(help.about)
@@ -32,8 +30,7 @@ fn new_command<'a>(alloc: Global, name: &'a str, help: Help<'a>) -> Command<'a>
 
 /// Returns a command over one input, with its options.
 fn one_input<'a>(alloc: Global, name: &'a str, help: Help<'a>) -> Result<Command<'a>, AllocError>
-    ensures words { IfOk result (λ c. app_of c ≡ one_input_app name.entry.now) }
-    ensures whole { IfOk result (λ c. is_broken c ≡ false) }
+    ensures { IfOk result (λ command. IsWhole command (one_input_app name.entry.now)) }
 {
     let input = Arg::new(alloc, "input")
         .short('i')
@@ -52,8 +49,7 @@ fn named<'a>(
     help: Help<'a>,
     required: bool,
 ) -> Result<Command<'a>, AllocError>
-    ensures words { IfOk result (λ c. app_of c ≡ named_app name.entry.now required) }
-    ensures whole { IfOk result (λ c. is_broken c ≡ false) }
+    ensures { IfOk result (λ command. IsWhole command (named_app name.entry.now required)) }
 {
     let names = Arg::new(alloc, "names")
         .value_name("NAME")
@@ -65,8 +61,7 @@ fn named<'a>(
 
 /// Returns an option for times, without which the parse fails.
 fn time<'a>(alloc: Global, name: &'a str, value_name: &'a str, help: &'a str) -> Arg<'a>
-    ensures rule { rule_of result ≡ time_rule name.entry.now }
-    ensures local { result.global ≡ false }
+    ensures { IsLocal result (time_rule name.entry.now) }
 {
     Arg::new(alloc, name)
         .long(name)
@@ -77,8 +72,7 @@ fn time<'a>(alloc: Global, name: &'a str, value_name: &'a str, help: &'a str) ->
 
 /// Returns the command `cut`, with its options and both of its times.
 fn cut<'a>(alloc: Global) -> Result<Command<'a>, AllocError>
-    ensures words { IfOk result (λ c. app_of c ≡ cut_app) }
-    ensures whole { IfOk result (λ c. is_broken c ≡ false) }
+    ensures { IfOk result (λ command. IsWhole command cut_app) }
 {
     let from = time(
         alloc,
@@ -92,8 +86,7 @@ fn cut<'a>(alloc: Global) -> Result<Command<'a>, AllocError>
 
 /// Returns the command `sample`, with its options, its times and names of variables.
 fn sample<'a>(alloc: Global) -> Result<Command<'a>, AllocError>
-    ensures words { IfOk result (λ c. app_of c ≡ sample_app) }
-    ensures whole { IfOk result (λ c. is_broken c ≡ false) }
+    ensures { IfOk result (λ command. IsWhole command sample_app) }
 {
     let at = time(
         alloc,
@@ -106,8 +99,7 @@ fn sample<'a>(alloc: Global) -> Result<Command<'a>, AllocError>
 
 /// Returns the command `merge`, with its files.
 fn merge<'a>(alloc: Global) -> Result<Command<'a>, AllocError>
-    ensures words { IfOk result (λ c. app_of c ≡ merge_app) }
-    ensures whole { IfOk result (λ c. is_broken c ≡ false) }
+    ensures { IfOk result (λ command. IsWhole command merge_app) }
 {
     let files = Arg::new(alloc, "files")
         .value_name("FILE")
@@ -121,8 +113,7 @@ fn merge<'a>(alloc: Global) -> Result<Command<'a>, AllocError>
 
 /// Returns the command `vcdkit` with its commands.
 pub fn command_of<'a>(alloc: Global) -> Result<Command<'a>, AllocError>
-    ensures words { IfOk result (λ c. app_of c ≡ program_app) }
-    ensures whole { IfOk result (λ c. is_broken c ≡ false) }
+    ensures { IfOk result (λ command. IsWhole command program_app) }
 {
     let check = one_input(alloc, "check", help::CHECK)?;
     let program = new_command(alloc, "vcdkit", help::PROGRAM)

@@ -1,6 +1,6 @@
 //! A job: what is done, and how its input is read; and why there is none.
-ghost use Rattle.std.specs.Prelude.{◌≡◌, ◌≤◌, IfErr, IfOk, MatchResult, OnOk, Some, None, true, cond, map, string_bytes};
-ghost use Rattle.vcd_words.specs.Names.{AsksFor, decimal_value, HasTicks, Header, is_asked, is_limit, is_merge, IsFaultIn, IsFaultOf, IsViewOf, job_asked, limit_of, model_refusal, model_want, names_asked, request_of, text_of, UseFault};
+ghost use Rattle.std.specs.Prelude.{◌≡◌, ◌≤◌, IfErr, IfOk, OnOk, Some, None, true, cond, map, string_bytes};
+ghost use Rattle.vcd_words.specs.Names.{AsksFor, decimal_value, HasTicks, is_asked, is_limit, is_merge, IsFaultIn, IsFaultOf, job_asked, KeepsRequest, limit_of, model_want, names_asked, text_of, UseFault};
 
 use crate::moment_word::number_of;
 use crate::refusal::Refusal;
@@ -39,9 +39,7 @@ impl Want {
     /// said.
     pub fn write_ticks(&mut self, view: HeadView<'_>) -> Result<(), Refusal>
         requires { is_asked self.old ≡ true }
-        ensures same { (h : Header) → IsViewOf view.entry h → MatchResult result
-            (λ _. request_of h.scale (model_want self.new) ≡ request_of h.scale (model_want self.old))
-            (λ why. request_of h.scale (model_want self.old) ≡ Err (model_refusal why)) }
+        ensures same { KeepsRequest view.entry (model_want self.old) (model_want self.new) result }
         ensures ticks { OnOk result (HasTicks self.new) }
         ensures asked { is_asked self.new ≡ true }
         ensures names { names_asked self.new ≡ names_asked self.old }

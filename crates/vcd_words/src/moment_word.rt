@@ -1,7 +1,7 @@
 //! Words that are numbers and times: the times after `--from` and `--to`, and those between the
 //! commas of `--at`.
 ghost use Rattle.std.specs.Prelude.{◌≡◌, ◌∷◌, ◌++◌, [], ℕ, List, None, OnOk, true, Some, IfErr, IfOk, cond, filter_map, length, map, option_map};
-ghost use Rattle.vcd_words.specs.Names.{asked, cut_in, decimal_value, is_ascii_digit, is_asked, is_number, IsFaultIn, IsFaultOf, IsOrderOf, model_want, ModelMoment, moment_of, parts, sample_of, some_names, take_while, time_of, times_of, Want as ModelWant};
+ghost use Rattle.vcd_words.specs.Names.{asked, cut_in, decimal_value, GivesWant, is_ascii_digit, is_asked, is_number, IsFaultIn, IsOrderOf, model_want, ModelMoment, moment_of, parts, sample_of, some_names, take_while, time_of, times_of, Want as ModelWant};
 
 use crate::job::{UseFault, Want};
 use crate::words::copied_some;
@@ -147,11 +147,7 @@ pub(crate) fn sample_of<'a>(
     at: &'a str,
     names: Option<&[&str]>,
 ) -> Result<Want, UseFault<'a>>
-    ensures want { IfOk result (λ want. sample_of (some_names names.entry)
-        (times_of (parts at.entry.now)) ≡ Ok (model_want want)) }
-    ensures asked { IfOk result (λ want. is_asked want ≡ true) }
-    ensures fault { IfErr result (λ fault. IsFaultOf fault
-        (sample_of (some_names names.entry) (times_of (parts at.entry.now)))) }
+    ensures { GivesWant (sample_of (some_names names.entry) (times_of (parts at.entry.now))) result }
 {
     check_times(at)?;
     let numbers = numbers_in(alloc, at)?;

@@ -1,6 +1,6 @@
 // The times of a sample in ticks: over their numbers, so that no memory is taken.
 ghost use Rattle.std.specs.Prelude.{◌≡◌, ◌||◌, ℕ, List, true, false, length, MatchResult, OnOk};
-ghost use Rattle.vcd_words.specs.Names.{all_ticks, AreRefused, AreTicks, do_rise, has_units, Header, IsViewOf, model_refusal, request_of, times_with, Want};
+ghost use Rattle.vcd_words.specs.Names.{all_ticks, AreRefused, AreTicks, do_rise, has_units, Header, IsViewOf, KeepsRequest, times_with, Want};
 
 use crate::refusal::Refusal;
 use vcd_head::{Moment, ticks};
@@ -48,11 +48,9 @@ pub(crate) fn write_times(
 ) -> Result<(), Refusal>
     requires paired { length units.old.items ≡ length numbers.old.items }
     requires order { (has_units units.old.items || do_rise numbers.old.items) ≡ true }
-    ensures same { (h : Header) (names : List (List ℕ)) → IsViewOf view.entry h → MatchResult result
-        (λ _. request_of h.scale (Want.Sample (times_with numbers.new.items units.new.items) names)
-        ≡ request_of h.scale (Want.Sample (times_with numbers.old.items units.old.items) names))
-        (λ why. request_of h.scale (Want.Sample (times_with numbers.old.items units.old.items) names)
-        ≡ Err (model_refusal why)) }
+    ensures same { (names : List (List ℕ)) → KeepsRequest view.entry
+        (Want.Sample (times_with numbers.old.items units.old.items) names)
+        (Want.Sample (times_with numbers.new.items units.new.items) names) result }
     ensures no_units { OnOk result (has_units units.new.items ≡ false) }
     ensures paired { length units.new.items ≡ length numbers.new.items }
     ensures many { length numbers.new.items ≡ length numbers.old.items }

@@ -1,6 +1,6 @@
 //! What the words of the command line ask for, borrowed from their matches.
-ghost use Rattle.std.specs.Prelude.{◌≡◌, IfErr, IfOk, true, codes, map, option_map, string_bytes};
-ghost use Rattle.vcd_words.specs.Names.{command_named, command_used, complete, files_asked, input_asked, is_asked, IsFaultOf, merge_command, model_want, some_names, some_of, texts_of, values_after, want_of, word_after, words_command};
+ghost use Rattle.std.specs.Prelude.{◌≡◌, IfOk, codes, map, option_map, string_bytes};
+ghost use Rattle.vcd_words.specs.Names.{command_named, command_used, complete, files_asked, GivesWant, input_asked, merge_command, some_names, some_of, texts_of, values_after, want_of, word_after, words_command};
 
 use crate::job::{UseFault, Want};
 use crate::moment_word::{cut_of, sample_of};
@@ -114,9 +114,7 @@ pub(crate) fn copied_some(alloc: Global, names: Option<&[&str]>) -> Result<Vec<S
 
 /// Returns a merge of these files, where they are not too many.
 fn merge_of<'a>(files: &[&str]) -> Result<Want, UseFault<'a>>
-    ensures want { IfOk result (λ want. want_of (merge_command files.now) ≡ Ok (model_want want)) }
-    ensures asked { IfOk result (λ want. is_asked want ≡ true) }
-    ensures fault { IfErr result (λ fault. IsFaultOf fault (want_of (merge_command files.now))) }
+    ensures { GivesWant (want_of (merge_command files.now)) result }
 {
     if files.len() > MOST_FILES {
         return Err(UseFault::TooManyFiles);
@@ -126,9 +124,7 @@ fn merge_of<'a>(files: &[&str]) -> Result<Want, UseFault<'a>>
 
 /// Returns what these words ask for, or the first fault of them. Their names are copied.
 pub fn want_of<'a>(alloc: Global, words: Words<'_, 'a>) -> Result<Want, UseFault<'a>>
-    ensures want { IfOk result (λ want. want_of (words_command words.entry) ≡ Ok (model_want want)) }
-    ensures asked { IfOk result (λ want. is_asked want ≡ true) }
-    ensures fault { IfErr result (λ fault. IsFaultOf fault (want_of (words_command words.entry))) }
+    ensures { GivesWant (want_of (words_command words.entry)) result }
 {
     Ok(match words {
         Words::Check => Want::Check,

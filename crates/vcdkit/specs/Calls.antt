@@ -1,5 +1,5 @@
 -- What the calls of a run promise, by what readers and writers tell of themselves.
-use Rattle.std.specs.Prelude.{◌≡◌, ℕ, ◌+◌, ◌≤◌, true, List, [], length, map, Option, Some, Result}
+use Rattle.std.specs.Prelude.{◌≡◌, ℕ, ◌+◌, ◌-◌, ◌^◌, ◌<◌, ◌≤◌, true, All, List, [], length, map, Option, Some, Result}
 use Rattle.vcd_model.specs.Header.{Header}
 use Rattle.vcd_model.specs.Input.{Input}
 use Rattle.vcd_model.specs.Job.{Want as ModelWant, request_of}
@@ -49,7 +49,19 @@ abbrev pub JobEnds : {X W : Type 0} → Ghosts X → Sinks W → Job → (old ne
 JobEnds g w job old new out out' result = (texts names : List (List ℕ)) → map g.rest old ≡ map (λ text. Some text) texts → length names ≡ length old
     → EndsAll (model_want job.task) (names_asked job.task) job.limit job.chunk names texts (supplies g old) (supplies g new) (w.device out) (w.device out') result
 
+-- There are readers, at most as many as a merge may have, and none failed too often for one failure
+-- more to be counted.
+pub record AreReaders {X : Type 0} (failures : X → ℕ) (readers : List X) : Type 0 where
+  pub some : 0 < length readers
+  pub few : length readers ≤ 64
+  pub low : All (λ r. failures r < 2 ^ 64 - 1) readers
+
 -- ---- a run and its message
+
+-- one failed write more of each sink can be counted
+pub record MayFailOnce {W E : Type 0} (w : Sinks W) (e : Sinks E) (out : W) (err : E) : Type 0 where
+  pub out_low : (w.device out).failures < 2 ^ 64 - 1
+  pub err_low : (e.device err).failures < 2 ^ 64 - 1
 
 -- at most one write of each sink failed
 abbrev pub FailOnce : {W E : Type 0} → Sinks W → Sinks E → (out out' : W) → (err err' : E) → Type 0

@@ -1,5 +1,5 @@
 -- What is said on the error stream of each end, and the exit status.
-use Rattle.std.specs.Prelude.{◌⊎◌, ℕ, List, [], ◌++◌, codes, decimal, Option, Some, None}
+use Rattle.std.specs.Prelude.{◌≡◌, ◌⊎◌, ℕ, List, [], ◌++◌, codes, decimal, Option, Some, None}
 use Rattle.vcd_model.specs.Outcome.{Outcome, name_at, program_line, fault_text}
 use Rattle.vcd_model.specs.Job.{refusal_outcome}
 use Rattle.vcd_model.specs.Words as model
@@ -21,6 +21,11 @@ Shows old new line = Writes old new line ⊎ WritesSome old new line
 -- so, by what the stream tells of itself
 abbrev pub ShowsOn : {E : Type 0} → (E → Device) → E → E → List ℕ → Type 0
 ShowsOn device old new line = Shows (device old) (device new) line
+
+-- this line was shown, and this is the exit status that is wanted
+pub record Reports {E : Type 0} (device : E → Device) (old new : E) (message : List ℕ) (wanted answer : ℕ) : Type 0 where
+  pub line : ShowsOn device old new message
+  pub status : answer ≡ wanted
 
 -- ---- a run
 

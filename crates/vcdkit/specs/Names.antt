@@ -4,6 +4,7 @@ pub use Rattle.vcd_model.specs.Job.{request_of, Want as ModelWant}
 pub use Rattle.vcd_model.specs.Laws.{IsValid}
 pub use Rattle.vcd_model.specs.Outcome.{name_at, program_line}
 pub use Rattle.vcd_text.specs.Advances.{HasNotFailed}
+pub use Rattle.vcd_text.specs.Calls.{MayLend}
 pub use Rattle.vcd_text.specs.Device.{failures_after, Puts, PutsTo, Takes}
 pub use Rattle.vcd_text.specs.Feed.{chunk_len_of, limit_of, SameLoans, source_of}
 pub use Rattle.vcd_view.specs.Views.{IsViewOf}
@@ -15,9 +16,9 @@ pub use Rattle.vcd_engine.specs.Engine.{request_of as request_of_task}
 pub use Rattle.vcd_engine.specs.Room.{AnyRoom, AreWithinBound, KeepsBound, room_size}
 pub use Rattle.vcd_engine.specs.Run.{Does}
 pub use Rattle.vcd_merge.specs.MergeParts.{SameLengths}
-pub use Rattle.vcdkit.specs.Calls.{EndsSo, FailOnce, InputEnds, JobEnds, Merges, RunsJob, WantEnds}
+pub use Rattle.vcdkit.specs.Calls.{AreReaders, EndsSo, FailOnce, InputEnds, JobEnds, MayFailOnce, Merges, RunsJob, WantEnds}
 pub use Rattle.vcdkit.specs.Failure.{CountsAt, CountsReadsOf, CountsWrites, end_of, failure_of, head_failure, merge_end, stop_failure, writes_failed}
 pub use Rattle.vcdkit.specs.Inputs.{AddsBegun, BeginsAmong, BeginsBy, HasParts, IsNewIn, IsNewOver, OpensAll, OpensInput, SameParts}
-pub use Rattle.vcdkit.specs.Message.{failure_message, failure_status, refusal_message, refusal_status, Shows, ShowsOn, stop_message, stop_status, unopened_outcome, use_outcome}
+pub use Rattle.vcdkit.specs.Message.{failure_message, failure_status, refusal_message, refusal_status, Reports, Shows, stop_message, stop_status, unopened_outcome, use_outcome}
 pub use Rattle.vcdkit.specs.Tasks.{cut_request, IsEnough, request_for, task_request}
 pub use Rattle.vcdkit.specs.declared.failure.Failure.TheVariants.{OutOfMemory, Refused}

@@ -1,6 +1,6 @@
 //! The inputs of a job: the memory of their windows, and their headers.
 ghost use Rattle.std.specs.Prelude.{◌≡◌, ◌≢◌, ◌*◌, ◌-◌, ◌^◌, ◌<◌, ◌≤◌, ℕ, All, IfOk, OnOk, length, vec_len};
-ghost use Rattle.vcdkit.specs.Names.{AddsBegun, BeginsAmong, BeginsBy, chunk_len_of, CountsAt, CountsReadsOf, failure_of, HasNotFailed, HasParts, IsNewIn, IsNewOver, limit_of, OpensAll, OpensInput, SameLengths, SameLoans, SameParts, source_of, writes_failed};
+ghost use Rattle.vcdkit.specs.Names.{AddsBegun, BeginsAmong, BeginsBy, chunk_len_of, CountsAt, CountsReadsOf, failure_of, HasNotFailed, HasParts, IsNewIn, IsNewOver, limit_of, MayLend, OpensAll, OpensInput, SameLengths, SameLoans, SameParts, source_of, writes_failed};
 
 use crate::failure::Failure;
 use std::alloc::{AllocError, Global};
@@ -91,9 +91,7 @@ fn begin<S: Source, B: BuildHasher>(
     value: &mut [u8],
 ) -> Result<Begun, Failure>
     requires failures { S.failures reader.old < 2 ^ 64 - 1 }
-    requires chunk_some { 0 < length chunk.old }
-    requires token_some { 0 < length token.old }
-    requires same_limit { length value.old ≡ length token.old }
+    requires lend { MayLend chunk.old token.old value.old }
     ensures begins { BeginsBy S.Source reading.now.most input (length token.old) (length chunk.old)
         reader.old reader.new chunk.new token.new result }
     ensures reads { CountsAt S.failures input reader.old reader.new result }

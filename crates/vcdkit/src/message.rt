@@ -1,7 +1,7 @@
 //! The lines on the error stream, and the exit statuses. A line begins with the program's name;
 //! where a write of it fails, a prefix of it was written.
 ghost use Rattle.std.specs.Prelude.{◌≡◌, ◌-◌, ◌^◌, ◌<◌, ◌++◌, [], codes, decimal, map, string_bytes};
-ghost use Rattle.vcdkit.specs.Names.{failure_message, failure_status, failures_after, name_at, OutOfMemory, program_line, Puts, PutsTo, refusal_message, refusal_status, Shows, ShowsOn, stop_message, stop_status, Takes, unopened_outcome, use_outcome, Write};
+ghost use Rattle.vcdkit.specs.Names.{failure_message, failure_status, failures_after, name_at, OutOfMemory, program_line, Puts, PutsTo, refusal_message, refusal_status, Reports, stop_message, stop_status, Takes, unopened_outcome, use_outcome, Write};
 
 use crate::failure::Failure;
 use vcd_body::Stop;
@@ -47,8 +47,7 @@ fn put_fault<E: Sink>(err: &mut E, name: &str, line: u64, text: &str) -> Result<
 /// Says `vcdkit: TEXT`, and returns the status. A fault of the stream is passed over.
 fn say<E: Sink>(err: &mut E, text: &str, status: u8) -> u8
     requires { (E.device err.old).failures < 2 ^ 64 - 1 }
-    ensures line { Shows (E.device err.old) (E.device err.new) (program_line text.now) }
-    ensures status { result ≡ status }
+    ensures { Reports E.device err.old err.new (program_line text.now) status result }
 {
     let _ = put_line(err, text);
     status
@@ -58,8 +57,8 @@ fn say<E: Sink>(err: &mut E, text: &str, status: u8) -> u8
 /// passed over.
 fn say_both<E: Sink>(err: &mut E, first: &str, second: &str, status: u8) -> u8
     requires { (E.device err.old).failures < 2 ^ 64 - 1 }
-    ensures line { ShowsOn E.device err.old err.new (program_line (first.now ++ second.now)) }
-    ensures status { result ≡ status }
+    ensures { Reports E.device err.old err.new
+        (program_line (first.now ++ second.now)) status result }
 {
     let _ = put_both(err, first, second);
     status
@@ -79,9 +78,8 @@ fn name_of(names: &[String], place: usize) -> &str
 /// exit status.
 fn report_stop<E: Sink>(stop: Stop, names: &[String], asked: &[String], err: &mut E) -> u8
     requires { (E.device err.old).failures < 2 ^ 64 - 1 }
-    ensures line { Shows (E.device err.old) (E.device err.new)
-        (stop_message (map string_bytes names.now) (map string_bytes asked.now) stop) }
-    ensures status { result ≡ stop_status stop }
+    ensures { Reports E.device err.old err.new (stop_message (map string_bytes names.now)
+        (map string_bytes asked.now) stop) (stop_status stop) result }
 {
     match stop {
         Stop::Dump { input, line, fault } => {
@@ -98,9 +96,8 @@ fn report_stop<E: Sink>(stop: Stop, names: &[String], asked: &[String], err: &mu
 /// returns the exit status.
 fn report_refusal<E: Sink>(refusal: Refusal, names: &[String], err: &mut E) -> u8
     requires { (E.device err.old).failures < 2 ^ 64 - 1 }
-    ensures line { Shows (E.device err.old) (E.device err.new)
-        (refusal_message (map string_bytes names.now) refusal) }
-    ensures status { result ≡ refusal_status refusal }
+    ensures { Reports E.device err.old err.new
+        (refusal_message (map string_bytes names.now) refusal) (refusal_status refusal) result }
 {
     match refusal {
         Refusal::NoTimescale => say_both(err, name_of(names, 0), ": no timescale", 1),
@@ -119,9 +116,8 @@ pub(crate) fn report<E: Sink>(
     err: &mut E,
 ) -> u8
     requires { (E.device err.old).failures < 2 ^ 64 - 1 }
-    ensures line { Shows (E.device err.old) (E.device err.new)
-        (failure_message (map string_bytes names.now) (map string_bytes asked.now) failure) }
-    ensures status { result ≡ failure_status failure }
+    ensures { Reports E.device err.old err.new (failure_message (map string_bytes names.now)
+        (map string_bytes asked.now) failure) (failure_status failure) result }
 {
     match failure {
         Failure::Stopped(stop) => report_stop(stop, names, asked, err),
@@ -134,8 +130,7 @@ pub(crate) fn report<E: Sink>(
 /// passed over.
 pub fn write_fault<E: Sink>(err: &mut E) -> u8
     requires { (E.device err.old).failures < 2 ^ 64 - 1 }
-    ensures line { ShowsOn E.device err.old err.new (stop_message [] [] Write) }
-    ensures status { result ≡ stop_status Write }
+    ensures { Reports E.device err.old err.new (stop_message [] [] Write) (stop_status Write) result }
 {
     report_stop(Stop::Write, &[], &[], err)
 }
@@ -143,8 +138,8 @@ pub fn write_fault<E: Sink>(err: &mut E) -> u8
 /// Says why there is no job, and returns the exit status. A fault of the stream is passed over.
 pub fn use_fault<E: Sink>(fault: UseFault<'_>, err: &mut E) -> u8
     requires { (E.device err.old).failures < 2 ^ 64 - 1 }
-    ensures line { ShowsOn E.device err.old err.new (use_outcome fault.entry).message }
-    ensures status { result ≡ (use_outcome fault.entry).status }
+    ensures { Reports E.device err.old err.new
+        (use_outcome fault.entry).message (use_outcome fault.entry).status result }
 {
     match fault {
         UseFault::BadWords => say(err, "bad words", 2),
@@ -161,8 +156,8 @@ pub fn use_fault<E: Sink>(fault: UseFault<'_>, err: &mut E) -> u8
 /// stream is passed over.
 pub fn open_fault<E: Sink>(name: &str, err: &mut E) -> u8
     requires { (E.device err.old).failures < 2 ^ 64 - 1 }
-    ensures line { ShowsOn E.device err.old err.new (unopened_outcome name.now).message }
-    ensures status { result ≡ (unopened_outcome name.now).status }
+    ensures { Reports E.device err.old err.new
+        (unopened_outcome name.now).message (unopened_outcome name.now).status result }
 {
     say_both(err, name, ": cannot be opened", 3)
 }

@@ -1,6 +1,6 @@
 //! A job, from its readers to its output, its message and its status.
-ghost use Rattle.std.specs.Prelude.{◌≡◌, ◌+◌, ◌-◌, ◌^◌, ◌<◌, ◌≤◌, map, length, All, string_bytes, true, false, IfSome};
-ghost use Rattle.vcdkit.specs.Names.{AreWithinBound, chunk_len_of, CountsAt, CountsReadsOf, CountsWrites, Does, end_of, EndsSo, FailOnce, failure_of, HasNotFailed, InputEnds, is_asked, is_merge, IsEnough, IsValid, JobEnds, limit_of, merge_end, Merges, names_asked, reads_failed, request_for, request_of_task, room_size, RunsJob, SameLoans, source_of, stop_writes, WantEnds, writes_failed};
+ghost use Rattle.std.specs.Prelude.{◌≡◌, ◌+◌, ◌-◌, ◌^◌, ◌<◌, ◌≤◌, map, length, string_bytes, true, false, IfSome};
+ghost use Rattle.vcdkit.specs.Names.{AreReaders, AreWithinBound, chunk_len_of, CountsAt, CountsReadsOf, CountsWrites, Does, end_of, EndsSo, FailOnce, failure_of, HasNotFailed, InputEnds, is_asked, is_merge, IsEnough, IsValid, JobEnds, limit_of, MayFailOnce, merge_end, Merges, names_asked, reads_failed, request_for, request_of_task, room_size, RunsJob, SameLoans, source_of, stop_writes, WantEnds, writes_failed};
 
 use crate::failure::Failure;
 use crate::inputs::{MOST_DECLARATIONS, Reading, open_input, open_inputs, windows_for};
@@ -143,9 +143,7 @@ fn run_merge<S: Source, W: Sink, B: BuildHasher>(
     out: &mut W,
     hasher: &B,
 ) -> Result<Done, Failure>
-    requires some { 0 < length readers.old }
-    requires few { length readers.old ≤ 64 }
-    requires reader_failures { All (λ r. S.failures r < 2 ^ 64 - 1) readers.old }
+    requires readers { AreReaders S.failures readers.old }
     requires out_failures { (W.device out.old).failures < 2 ^ 64 - 1 }
     ensures ends { Merges S.Source W.Sink job.now readers.old readers.new out.old out.new result }
     ensures reads { CountsReadsOf S.failures readers.old readers.new (failure_of result) }
@@ -169,10 +167,8 @@ fn run_readers<S: Source, W: Sink, B: BuildHasher>(
     out: &mut W,
     hasher: &B,
 ) -> Result<Done, Failure>
-    requires some { 0 < length readers.old }
-    requires few { length readers.old ≤ 64 }
+    requires readers { AreReaders S.failures readers.old }
     requires alone { is_merge job.old.task ≡ false → length readers.old ≡ 1 }
-    requires reader_failures { All (λ r. S.failures r < 2 ^ 64 - 1) readers.old }
     requires out_failures { (W.device out.old).failures < 2 ^ 64 - 1 }
     ensures ends { JobEnds S.Source W.Sink job.old readers.old readers.new out.old out.new result }
     ensures reads { CountsReadsOf S.failures readers.old readers.new (failure_of result) }
@@ -207,12 +203,9 @@ pub fn run_with_hasher<S: Source, W: Sink, E: Sink, B: BuildHasher>(
     hasher: &B,
 ) -> u8
     requires names { length names.now ≡ length readers.old }
-    requires some { 0 < length readers.old }
-    requires few { length readers.old ≤ 64 }
+    requires readers { AreReaders S.failures readers.old }
     requires alone { is_merge job.task ≡ false → length readers.old ≡ 1 }
-    requires reader_failures { All (λ r. S.failures r < 2 ^ 64 - 1) readers.old }
-    requires out_failures { (W.device out.old).failures < 2 ^ 64 - 1 }
-    requires err_failures { (E.device err.old).failures < 2 ^ 64 - 1 }
+    requires sinks { MayFailOnce W.Sink E.Sink out.old err.old }
     ensures failures { FailOnce W.Sink E.Sink out.old out.new err.old err.new }
 
     // It ends done or failed, over any readers and writers: for a failed read only where one of the
@@ -251,12 +244,9 @@ pub fn run<S: Source, W: Sink, E: Sink>(
     err: &mut E,
 ) -> u8
     requires names { length names.now ≡ length readers.old }
-    requires some { 0 < length readers.old }
-    requires few { length readers.old ≤ 64 }
+    requires readers { AreReaders S.failures readers.old }
     requires alone { is_merge job.task ≡ false → length readers.old ≡ 1 }
-    requires reader_failures { All (λ r. S.failures r < 2 ^ 64 - 1) readers.old }
-    requires out_failures { (W.device out.old).failures < 2 ^ 64 - 1 }
-    requires err_failures { (E.device err.old).failures < 2 ^ 64 - 1 }
+    requires sinks { MayFailOnce W.Sink E.Sink out.old err.old }
     ensures failures { FailOnce W.Sink E.Sink out.old out.new err.old err.new }
 
     // It ends done or failed, over any readers and writers: for a failed read only where one of the

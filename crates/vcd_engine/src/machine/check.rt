@@ -82,11 +82,6 @@ impl Command<Keeping> for Check {
     ghost is_left = { λ _ _. false };
 
     #[inline(always)]
-    fn has_runs(&self) -> bool {
-        true
-    }
-
-    #[inline(always)]
     fn leaves(&self, _time: u64) -> bool {
         false
     }

@@ -214,11 +214,6 @@ impl<'r> Command<Keeping> for Cut<'r> {
     ghost is_left = { λ command time. nat_le command.from time };
 
     #[inline(always)]
-    fn has_runs(&self) -> bool {
-        true
-    }
-
-    #[inline(always)]
     fn leaves(&self, time: u64) -> bool {
         self.from <= time
     }
@@ -250,11 +245,6 @@ impl<'r> Command<Copying> for Cut<'r> {
     ghost is_ready = { λ command. command.started };
 
     ghost is_left = { λ command time. nat_lt command.to time };
-
-    #[inline(always)]
-    fn has_runs(&self) -> bool {
-        true
-    }
 
     #[inline(always)]
     fn leaves(&self, time: u64) -> bool {

@@ -1,6 +1,6 @@
 //! `edges`: how often the values of the selected variables change, rise and fall.
 ghost use Rattle.std.specs.Prelude.{◌≡◌, ◌-◌, ◌^◌, ◌<◌, ◌∷◌, ◌++◌, [], List, Some, length, map, slice_get, string_bytes, true, false, IfOk, MatchResult};
-ghost use Rattle.vcd_engine.specs.Names.{AreEdges, AtItem, BodyItem, change_to, ClosesOver, Counts, Device, edges_close, HasGoodText, HasRoomFor, Header, IdCode, IsGoodText, IsUnmatched, IsViewOf, IsWithin, leaves_open, names_counted, Request, room_in_edges, room_size, SameEdges, Starts};
+ghost use Rattle.vcd_engine.specs.Names.{AreEdges, AtItem, BodyItem, change_to, ClosesOver, Counts, Device, edges_close, HasGoodText, HasRoomFor, Header, HeadView, IdCode, IsGoodText, IsUnmatched, IsViewOf, IsWithin, leaves_open, names_counted, Request, room_in_edges, room_size, SameEdges, Starts};
 ghost use Rattle.vcd_engine.specs.declared.task.Task.TheVariants as task;
 
 use crate::machine::walk::{Command, Keeping};
@@ -10,7 +10,7 @@ use crate::task::Room;
 use vcd_body::{Form, Item, Regs, Stop, Table};
 use vcd_head::select;
 use vcd_text::{Sink, WriteFailed};
-use vcd_view::HeadView;
+use vcd_view::{Code, HeadView, code_in};
 
 /// The names that were asked for, the flags of the variables that they select, and the values and
 /// counters of all codes.
@@ -60,21 +60,22 @@ impl<'n, 'r> Edges<'n, 'r> {
         let Item::Change { code, form } = item else {
             return;
         };
-        self.take_at(view, regs.section.is_some(), code, form, text);
+        self.take_at(view.codes, regs.section.is_some(), code, form, text);
     }
 
-    /// Counts a change of the code at a place, inside a section or not.
+    /// Counts a change of the code at a place among these, inside a section or not.
+    // It takes no view, which would be copied for each item, also where this is not called.
     #[cold]
     #[inline(never)]
-    fn take_at(&mut self, view: HeadView<'_>, inside: bool, code: usize, form: Form, text: &[u8])
-        requires sound { IsGoodText view.codes.now code form text.now }
-        ensures takes { (h : Header) (items : List BodyItem) (c : IdCode) → IsViewOf view.entry h
-            → slice_get h.codes code ≡ Some c → inside ≡ leaves_open items
-            → length items < 2 ^ 63 → AreEdges self.old h items
+    fn take_at(&mut self, codes: &[Code], inside: bool, code: usize, form: Form, text: &[u8])
+        requires sound { IsGoodText codes.now code form text.now }
+        ensures takes { (view : HeadView) (h : Header) (items : List BodyItem) (c : IdCode)
+            → view.codes.now ≡ codes.now → IsViewOf view h → slice_get h.codes code ≡ Some c
+            → inside ≡ leaves_open items → length items < 2 ^ 63 → AreEdges self.old h items
             → AreEdges self.new h (items ++ change_to c form text.now ∷ []) }
         ensures same { SameEdges self.old self.new }
     {
-        let Some(declared) = view.code_at(code) else {
+        let Some(declared) = code_in(codes, code) else {
             return;
         };
         if declared.event {
@@ -106,11 +107,6 @@ impl<'n, 'r> Command<Keeping> for Edges<'n, 'r> {
     ghost is_left = { λ _ _. false };
 
     #[inline(always)]
-    fn has_runs(&self) -> bool {
-        false
-    }
-
-    #[inline(always)]
     fn leaves(&self, _time: u64) -> bool {
         false
     }
@@ -132,7 +128,7 @@ impl<'n, 'r> Command<Keeping> for Edges<'n, 'r> {
             return Ok(());
         };
         if plain.most == 0 {
-            self.take_at(view, regs.section.is_some(), code, form, plain.text);
+            self.take_at(view.codes, regs.section.is_some(), code, form, plain.text);
             return Ok(());
         }
         take_value(

@@ -120,11 +120,6 @@ impl<'n, 'r> Command<Copying> for Pick<'n, 'r> {
     ghost is_left = { λ _ _. false };
 
     #[inline(always)]
-    fn has_runs(&self) -> bool {
-        true
-    }
-
-    #[inline(always)]
     fn leaves(&self, _time: u64) -> bool {
         false
     }

@@ -1,9 +1,6 @@
 //! `sample`: the values of selected variables at some times.
 ghost use Rattle.std.specs.Prelude.{◌≡◌, ◌≢◌, ◌-◌, ◌^◌, ◌<◌, ◌+◌, ◌∷◌, ◌++◌, [], List, nat_le, None, true, IfOk, MatchResult, map, string_bytes};
-ghost use Rattle.std.specs.List.{position_or_len};
-ghost use Rattle.std.specs.List.Sorted.{IsStrictlyIncreasing};
-ghost use Rattle.vcd_engine.specs.Names.{AreSampled, asked_in, BodyItem, close_text, ClosesOver, Counts, first_unmatched, HasGoodText, HasRoomFor, Header, is_due, IsFirstUnmatched, IsItem, IsUnmatched, IsViewOf, IsWithin, Request, room_size, SameSample, TakesOne, TakesTime};
-ghost use Rattle.vcd_engine.specs.Sample.{lent_to};
+ghost use Rattle.vcd_engine.specs.Names.{AreSampled, asked_in, BodyItem, close_text, ClosesOver, Counts, first_unmatched, HasGoodText, HasRoomFor, Header, is_due, IsFirstUnmatched, IsItem, IsStrictlyIncreasing, IsUnmatched, IsViewOf, IsWithin, lent_to_sample, position_or_len, Request, room_size, SameSample, TakesOne, TakesTime};
 ghost use Rattle.vcd_engine.specs.declared.task.Task.TheVariants as task;
 
 use crate::leads::lead_on;
@@ -57,7 +54,7 @@ impl<'n, 'r> Sample<'n, 'r> {
             (IsFirstUnmatched (map string_bytes names.now) h) }
         ensures asked { MatchResult result (λ s. asked_in s
             ≡ Request.Sample times.now (map string_bytes names.now)) IsUnmatched }
-        ensures room { IfOk result (λ s. IsWithin (lent_to s) (room_size room.entry)) }
+        ensures room { IfOk result (λ s. IsWithin (lent_to_sample s) (room_size room.entry)) }
     {
         let marks = room.marks;
         let marks = &mut marks[..view.rows.len()];
@@ -139,11 +136,6 @@ impl<'n, 'r> Command<Keeping> for Sample<'n, 'r> {
     ghost is_ready = { λ _. true };
 
     ghost is_left = { λ command time. is_due command.rest.now time };
-
-    #[inline(always)]
-    fn has_runs(&self) -> bool {
-        true
-    }
 
     #[inline(always)]
     fn leaves(&self, time: u64) -> bool {

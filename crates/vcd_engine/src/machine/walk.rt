@@ -7,10 +7,10 @@ ghost use Rattle.vcd_body.specs.Taken.{Opens};
 ghost use Rattle.vcd_body.specs.declared.item.Regs.{Regs};
 ghost use Rattle.vcd_body.specs.declared.words.First.TheVariants as first;
 ghost use Rattle.vcd_engine.specs.Ahead.{RunsOver};
-ghost use Rattle.vcd_engine.specs.Next.{HasFound, HasLine, TakesChange, TakesMark, TakesNext, walk_at};
+ghost use Rattle.vcd_engine.specs.Next.{HasFound, HasLine, MayTakeMark, MayTakeNext, TakesChange, TakesMark, TakesNext, Walk, walk_at};
 ghost use Rattle.vcd_engine.specs.Pieces.{IsInPlace, IsLine, IsPart};
 ghost use Rattle.vcd_engine.specs.Room.{SameTask};
-ghost use Rattle.vcd_engine.specs.Walks.{HasWalked};
+ghost use Rattle.vcd_engine.specs.Walks.{CanWalk, WalksOn};
 ghost use Rattle.vcd_engine.specs.declared.machine.Machine.{Machine};
 ghost use Rattle.vcd_engine.specs.declared.pieces.Pieces.{Pieces};
 ghost use Rattle.vcd_view.specs.declared.view.HeadView.{HeadView};
@@ -18,8 +18,8 @@ ghost use Rattle.vcd_view.specs.declared.view.HeadView.{HeadView};
 use crate::gathered::Gathered;
 use crate::pieces::{InPlace, Pieces, line_of_mark};
 use vcd_body::{
-    First, Opening, Plain, Regs, has_run, mark_ahead, near_mark, opening_ahead, real_ahead,
-    scalar_ahead, short_ahead, time_ahead, vector_ahead, vector_tokens_ahead,
+    First, Opening, Regs, has_run, mark_ahead, near_mark, opening_ahead, real_ahead, scalar_ahead,
+    short_ahead, time_ahead, vector_ahead, vector_tokens_ahead,
 };
 use vcd_text::{Ahead, Sink, WriteFailed};
 use vcd_view::HeadView;
@@ -69,9 +69,6 @@ pub(crate) trait Command<L> {
     // Whether the loop leaves a time mark with this time.
     ghost is_left: { Self → ℕ → Bool };
 
-    /// Returns whether a run of changes by `0` or `1` is worth a loop of its own.
-    fn has_runs(&self) -> bool;
-
     /// Returns whether a time mark with this time is left to `Machine::take`, since it ends the
     /// run, or something is due with it.
     fn leaves(&self, time: u64) -> bool
@@ -108,38 +105,27 @@ pub(crate) trait Command<L> {
         ensures same { SameTask (machine self.old) (machine self.new) };
 }
 
-/// Takes a change that was found ahead, from one place up to another. The line of its time may come
-/// just before it; no such line comes just before the next item.
+/// Takes a change that was found ahead. No line of a time comes just before the next item.
 #[inline(always)]
-fn take_found<'a, L, C: Command<L>, W: Sink>(
+fn take_found<L, C: Command<L>, W: Sink>(
     command: &mut C,
     view: HeadView<'_>,
     regs: Regs,
-    plain: Plain<'_>,
-    ahead: Ahead<'a>,
-    next: Ahead<'a>,
-    line: &mut usize,
+    change: InPlace<'_>,
     pieces: &mut Pieces<'_>,
     out: &mut W,
 ) -> Result<(), WriteFailed>
     requires failures { (W.device out.old).failures < 2 ^ 64 - 1 }
     requires ready { C.is_ready command.old ≡ true }
-    requires found { HasFound view (walk_at ahead regs line.old) next plain }
-    requires part { IsPart (bytes_of ahead) pieces.old }
-    ensures next { TakesNext view.entry (walk_at ahead.entry regs line.old)
-        (walk_at next.entry regs line.new) pieces.old pieces.new
+    requires found { (w : Walk) × (a : Ahead) × (w.regs ≡ regs) × HasFound view w a change
+        × IsPart (bytes_of w.ahead) pieces.old }
+    ensures next { (w : Walk) (a : Ahead) (line : ℕ) → w.regs ≡ regs
+        → HasFound view.entry w a change.entry → line ≡ passed_of a
+        → TakesNext view.entry w (walk_at a regs line) pieces.old pieces.new
         (W.device out.old) (W.device out.new)
         (C.machine command.old) (C.machine command.new) result }
     ensures ready { C.is_ready command.new ≡ true }
 {
-    let change = InPlace {
-        plain,
-        bytes: next.bytes(),
-        from: ahead.passed(),
-        to: next.passed(),
-        line: *line,
-    };
-    *line = change.to;
     command.take_change(view, regs, change, pieces, out)
 }
 
@@ -153,18 +139,12 @@ fn take_mark<'a, L, C: Command<L>>(
     ahead: &mut Ahead<'a>,
     next: Ahead<'a>,
     line: &mut usize,
-) -> Option<Result<(), WriteFailed>>
+) -> Option<()>
     requires ready { C.is_ready command.old ≡ true }
     requires opens { Opens ahead.old next opening }
     requires first { opening.first ≡ first.Mark }
-    ensures next { MatchOption result
-        ((command.new ≡ command.old) × (regs.new ≡ regs.old) × (ahead.new ≡ ahead.old)
-        × (line.new ≡ line.old))
-        (λ taken. (v : HeadView) (pieces : Pieces) (out : Device) → IsPart (bytes_of ahead.old) pieces
-        → TakesNext v (walk_at ahead.old regs.old line.old)
-        (walk_at ahead.new regs.new line.new) pieces pieces out out
-        (C.machine command.old) (C.machine command.new) taken) }
-    ensures done { IfSome result (λ taken. IfErr taken (λ _. ⊥)) }
+    ensures next { MayTakeMark (walk_at ahead.old regs.old line.old)
+        (walk_at ahead.new regs.new line.new) C.machine command.old command.new result }
     ensures ready { C.is_ready command.new ≡ true }
 {
     let time = time_ahead(opening)?;
@@ -175,12 +155,11 @@ fn take_mark<'a, L, C: Command<L>>(
     *line = line_of_mark(next.bytes(), ahead.passed(), next.passed(), mark.at);
     *ahead = next;
     command.take_mark(time);
-    Some(Ok(()))
+    Some(())
 }
 
 /// Takes the next item that lies ahead. None where it takes none, and then nothing has changed.
-// What begins the item, and whether its digits are known to be 0 and 1, is asked once: what is done
-// with it follows in each arm.
+// What begins the item is asked once: what is done with it follows in each arm.
 #[inline(always)]
 fn take_next<L, C: Command<L>, W: Sink>(
     command: &mut C,
@@ -195,46 +174,37 @@ fn take_next<L, C: Command<L>, W: Sink>(
     requires ready { C.is_ready command.old ≡ true }
     requires line { HasLine (walk_at ahead.old regs.old line.old) }
     requires part { IsPart (bytes_of ahead.old) pieces.old }
-    ensures next { MatchOption result
-        ((command.new ≡ command.old) × (regs.new ≡ regs.old) × (ahead.new ≡ ahead.old)
-        × (pieces.new ≡ pieces.old) × (W.device out.new ≡ W.device out.old)
-        × (line.new ≡ line.old))
-        (TakesNext view.entry (walk_at ahead.old regs.old line.old)
+    ensures next { MayTakeNext view.entry (walk_at ahead.old regs.old line.old)
         (walk_at ahead.new regs.new line.new) pieces.old pieces.new
-        (W.device out.old) (W.device out.new) (C.machine command.old) (C.machine command.new)) }
+        (W.device out.old) (W.device out.new) C.machine command.old command.new result }
     ensures ready { C.is_ready command.new ≡ true }
 {
     let mut next = *ahead;
     let opening = opening_ahead(&mut next)?;
     let taken = match opening.first {
-        First::Bit => {
+        First::Bit | First::Scalar => {
             let plain = scalar_ahead(opening, next, view)?;
-            take_found(command, view, *regs, plain, *ahead, next, line, pieces, out)
-        }
-        First::Scalar => {
-            let plain = scalar_ahead(opening, next, view)?;
-            take_found(command, view, *regs, plain, *ahead, next, line, pieces, out)
+            let change = InPlace::of(plain, *ahead, next, *line);
+            take_found(command, view, *regs, change, pieces, out)
         }
         First::Vector => {
             let tokens = vector_tokens_ahead(opening, &mut next)?;
-            match tokens.bits {
-                Some(bits) => {
-                    let plain = vector_ahead(tokens, Some(bits), next, view)?;
-                    take_found(command, view, *regs, plain, *ahead, next, line, pieces, out)
-                }
-                None => {
-                    let plain = vector_ahead(tokens, None, next, view)?;
-                    take_found(command, view, *regs, plain, *ahead, next, line, pieces, out)
-                }
-            }
+            let plain = vector_ahead(tokens, tokens.bits, next, view)?;
+            let change = InPlace::of(plain, *ahead, next, *line);
+            take_found(command, view, *regs, change, pieces, out)
         }
-        First::Mark => return take_mark(command, opening, regs, ahead, next, line),
+        First::Mark => {
+            take_mark(command, opening, regs, ahead, next, line)?;
+            return Some(Ok(()));
+        }
         First::Real => {
             let plain = real_ahead(opening, &mut next, view)?;
-            take_found(command, view, *regs, plain, *ahead, next, line, pieces, out)
+            let change = InPlace::of(plain, *ahead, next, *line);
+            take_found(command, view, *regs, change, pieces, out)
         }
         First::Other => return None,
     };
+    *line = next.passed();
     *ahead = next;
     Some(taken)
 }
@@ -255,18 +225,16 @@ fn take_short<L, C: Command<L>, W: Sink>(
     requires ready { C.is_ready command.old ≡ true }
     requires line { HasLine (walk_at ahead.old regs line.old) }
     requires part { IsPart (bytes_of ahead.old) pieces.old }
-    ensures next { MatchOption result
-        ((command.new ≡ command.old) × (ahead.new ≡ ahead.old)
-        × (pieces.new ≡ pieces.old) × (W.device out.new ≡ W.device out.old)
-        × (line.new ≡ line.old))
-        (TakesNext view.entry (walk_at ahead.old regs line.old)
+    ensures next { MayTakeNext view.entry (walk_at ahead.old regs line.old)
         (walk_at ahead.new regs line.new) pieces.old pieces.new
-        (W.device out.old) (W.device out.new) (C.machine command.old) (C.machine command.new)) }
+        (W.device out.old) (W.device out.new) C.machine command.old command.new result }
     ensures ready { C.is_ready command.new ≡ true }
 {
     let mut next = *ahead;
     let plain = short_ahead(&mut next, view)?;
-    let taken = take_found(command, view, regs, plain, *ahead, next, line, pieces, out);
+    let change = InPlace::of(plain, *ahead, next, *line);
+    let taken = take_found(command, view, regs, change, pieces, out);
+    *line = next.passed();
     *ahead = next;
     Some(taken)
 }
@@ -325,26 +293,14 @@ fn take_shorts<'a, 'p, L, C: Command<L>, W: Sink>(
 ) -> Shorts<'a, 'p>
     requires failures { (W.device out.old).failures < 2 ^ 64 - 1 }
     requires ready { C.is_ready command.old ≡ true }
-    requires within { passed_of ahead ≤ length (bytes_of ahead) }
-    requires line { HasLine (walk_at ahead regs line) }
-    requires part { IsPart (bytes_of ahead) pieces }
-    ensures walks { (a : Ahead) (r : Regs) (m : Machine) (begin : Device)
-        → HasWalked view.entry a r m begin (walk_at ahead.entry regs line)
-        pieces.entry (W.device out.old) (C.machine command.old)
-        → MatchResult result.written
-        (λ _. HasWalked view.entry a r m begin
-        (walk_at result.ahead result.regs result.line) result.pieces
-        (W.device out.new) (C.machine command.new))
-        (λ failed. RunsOver view.entry a r m (C.machine command.new) begin (W.device out.new)
-        (record { passed = passed_of result.ahead; regs = result.regs; written = result.written })) }
+    requires stands { CanWalk (walk_at ahead regs line) pieces }
+    ensures walks { WalksOn view.entry (walk_at ahead.entry regs line) pieces.entry
+        (W.device out.old) (W.device out.new) (C.machine command.old) (C.machine command.new) result }
     ensures ready { C.is_ready command.new ≡ true }
     ensures failures { IfOk result.written
         (λ _. (W.device out.new).failures ≡ (W.device out.old).failures) }
-    ensures within { IfOk result.written
-        (λ _. passed_of result.ahead ≤ length (bytes_of result.ahead)) }
-    ensures part { IfOk result.written (λ _. IsPart (bytes_of result.ahead) result.pieces) }
-    ensures line { IfOk result.written
-        (λ _. HasLine (walk_at result.ahead result.regs result.line)) }
+    ensures stands { IfOk result.written
+        (λ _. CanWalk (walk_at result.ahead result.regs result.line) result.pieces) }
     ensures same { bytes_of result.ahead ≡ bytes_of ahead.entry }
     ensures further { passed_of ahead.entry ≤ passed_of result.ahead }
 {
@@ -368,16 +324,10 @@ fn take_near<L, C: Command<L>>(
     regs: &mut Regs,
     ahead: &mut Ahead<'_>,
     line: &mut usize,
-) -> Option<Result<(), WriteFailed>>
+) -> Option<()>
     requires ready { C.is_ready command.old ≡ true }
-    ensures next { MatchOption result
-        ((command.new ≡ command.old) × (regs.new ≡ regs.old) × (ahead.new ≡ ahead.old)
-        × (line.new ≡ line.old))
-        (λ taken. (v : HeadView) (pieces : Pieces) (out : Device) → IsPart (bytes_of ahead.old) pieces
-        → TakesNext v (walk_at ahead.old regs.old line.old)
-        (walk_at ahead.new regs.new line.new) pieces pieces out out
-        (C.machine command.old) (C.machine command.new) taken) }
-    ensures done { IfSome result (λ taken. IfErr taken (λ _. ⊥)) }
+    ensures next { MayTakeMark (walk_at ahead.old regs.old line.old)
+        (walk_at ahead.new regs.new line.new) C.machine command.old command.new result }
     ensures ready { C.is_ready command.new ≡ true }
 {
     let mut next = *ahead;
@@ -401,18 +351,9 @@ fn take_lines<'a, 'p, L, C: Command<L>, W: Sink>(
 ) -> Shorts<'a, 'p>
     requires failures { (W.device out.old).failures < 2 ^ 64 - 1 }
     requires ready { C.is_ready command.old ≡ true }
-    requires within { passed_of ahead ≤ length (bytes_of ahead) }
-    requires line { HasLine (walk_at ahead regs line) }
-    requires part { IsPart (bytes_of ahead) pieces }
-    ensures walks { (a : Ahead) (r : Regs) (m : Machine) (begin : Device)
-        → HasWalked view.entry a r m begin (walk_at ahead.entry regs line)
-        pieces.entry (W.device out.old) (C.machine command.old)
-        → MatchResult result.written
-        (λ _. HasWalked view.entry a r m begin
-        (walk_at result.ahead result.regs result.line) result.pieces
-        (W.device out.new) (C.machine command.new))
-        (λ failed. RunsOver view.entry a r m (C.machine command.new) begin (W.device out.new)
-        (record { passed = passed_of result.ahead; regs = result.regs; written = result.written })) }
+    requires stands { CanWalk (walk_at ahead regs line) pieces }
+    ensures walks { WalksOn view.entry (walk_at ahead.entry regs line) pieces.entry
+        (W.device out.old) (W.device out.new) (C.machine command.old) (C.machine command.new) result }
     ensures ready { C.is_ready command.new ≡ true }
     ensures further { passed_of ahead.entry ≤ passed_of result.ahead }
 {
@@ -431,7 +372,7 @@ fn take_lines<'a, 'p, L, C: Command<L>, W: Sink>(
         regs = run.regs;
         line = run.line;
         pieces = run.pieces;
-        let Some(_taken) = take_near(command, &mut regs, &mut ahead, &mut line) else {
+        let Some(()) = take_near(command, &mut regs, &mut ahead, &mut line) else {
             return Shorts::until(ahead, regs, line, pieces, Ok(()));
         };
     }
@@ -474,7 +415,7 @@ pub(crate) fn take_each<L, C: Command<L>, W: Sink>(
             Ok(()) => {}
             Err(failed) => return Taken::until(ahead, regs, Err(failed)),
         }
-        if command.has_runs() && line != ahead.passed() && has_run(ahead) {
+        if line != ahead.passed() && has_run(ahead) {
             let run = take_lines(command, view, regs, ahead, line, pieces, out);
             ahead = run.ahead;
             regs = run.regs;

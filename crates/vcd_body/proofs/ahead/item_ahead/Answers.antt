@@ -40,35 +40,11 @@ mark_ahead-requires-clause-opens c = (c.args.ahead.now, c.in_ok-opening.ensures.
 pub real_ahead-requires-clause-opens : goal.real_ahead-requires-clause-opens
 real_ahead-requires-clause-opens c = (c.args.ahead.now, c.in_ok-opening.ensures.opens)
 
-pub returns-clause-gives : goal.returns-clause-gives
-returns-clause-gives c = rw (taken c).1 (taken c).0.gives
-
-pub returns-clause-passes : goal.returns-clause-passes
-returns-clause-passes c = (taken c).0.passes
-
-pub returns-clause-sound : goal.returns-clause-sound
-returns-clause-sound c = (taken c).0.sound
-
-pub returns-clause-plain : goal.returns-clause-plain
-returns-clause-plain c = (taken c).0.plain
-
-pub returns-clause-sized : goal.returns-clause-sized
-returns-clause-sized c = (taken c).0.sized
-
-pub returns-clause-bits : goal.returns-clause-bits
-returns-clause-bits c = (taken c).0.bits
-
-pub returns-clause-spelled : goal.returns-clause-spelled
-returns-clause-spelled c = (taken c).0.spelled
+pub returns-clause-takes : goal.returns-clause-takes
+returns-clause-takes c = (taken c).0
 
 pub returns-clause-regs : goal.returns-clause-regs
 returns-clause-regs c = (taken c).1
 
-pub returns-clause-further : goal.returns-clause-further
-returns-clause-further c = (taken c).0.further
-
 pub returns-clause-within : goal.returns-clause-within
 returns-clause-within c = (taken c).0.within
-
-pub returns-clause-same : goal.returns-clause-same
-returns-clause-same c = (taken c).0.same

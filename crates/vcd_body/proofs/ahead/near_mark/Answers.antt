@@ -8,13 +8,7 @@ returns-clause-opens c =
     let n = c.in_ok-token.ensures in
     let token = c.in_ok-token.token.now in
     record {
-      gives = n.gives;
-      begins = subst (λ t. Begins t c.first_by-first.result) (first_rest token n.some) (c.first_by-first.ensures (drop 1 token));
-      some = n.some;
-      place = n.place;
+      token = n.takes;
+      begins = subst (λ t. Begins t c.first_by-first.result) (first_rest token n.takes.some) (c.first_by-first.ensures (drop 1 token));
       at = omega (arith, n.start, c.passed-at.ensures.passed);
-      before = n.before;
-      further = n.further;
-      within = n.within;
-      same = n.same;
     }

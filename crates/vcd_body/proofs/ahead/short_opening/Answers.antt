@@ -5,16 +5,10 @@ use Rattle.vcd_body.proofs.ahead.short_opening.Goals as goal
 
 pub returns-clause-opens : goal.returns-clause-opens
 returns-clause-opens c =
-    let n = c.in_ok-token.ensures in
+    let t = c.in_ok-token.ensures.takes in
     let token = c.in_ok-token.token.now in
     record {
-      gives = n.gives;
-      begins = subst (λ t. Begins t c.first_by.result) (first_rest token n.some) (c.first_by.ensures (drop 1 token));
-      some = n.some;
-      place = n.place;
+      token = t;
+      begins = subst (λ t. Begins t c.first_by.result) (first_rest token t.some) (c.first_by.ensures (drop 1 token));
       at = ap (λ n. n - 1 - length token) c.passed.ensures.passed;
-      before = n.before;
-      further = n.further;
-      within = n.within;
-      same = n.same;
     }

@@ -6,12 +6,11 @@ pub returns : goal.returns
 returns c = record {
   opens = λ a o.
       let token = c.args.opening.token.now in
-      let m = c.in_ok-code.ensures in
       record {
         middle = c.args.ahead.now;
-        token = record { gives = o.gives; place = o.place; before = o.before; further = o.further; within = o.within; same = o.same };
+        token = o.token;
         begins = subst (Begins token) c.requires.first o.begins;
-        code = record { gives = m.gives; place = m.place; before = m.before; further = m.further; within = m.within; same = m.same };
+        code = c.in_ok-code.ensures.takes;
         at = o.at;
         code_at = ap (λ n. n - 1 - length c.in_ok-code.code.now) c.passed.ensures.passed;
         bits = c.vector_bits-bits.ensures;

@@ -28,8 +28,8 @@ returns-then-is_end-clause-reads g c = λ codes i front placed r.
 
 pub tokens-preserved : goal.tokens-preserved
 tokens-preserved g c = (
-  advances_on g.S.Source.failures _ _ _ _ c.tokens.invariant.0 c.in_ok-next_inner.ensures.advances,
-  (let so_far = c.tokens.invariant.1 in let more = c.in_ok-next_inner.ensures.progress in omega arith),
+  advances_on g.S.Source.failures _ _ _ _ c.tokens.invariant.0 c.in_ok-next_inner.ensures.goes.advances,
+  (let so_far = c.tokens.invariant.1 in let more = c.in_ok-next_inner.ensures.goes.progress in omega arith),
   λ codes i front placed r.
       let on = c.tokens.invariant.2 codes i front placed r in
       let l = c.in_ok-next_inner.ensures.reads codes i front placed (keyword_text Keyword.Comment) on.0 on.2 in

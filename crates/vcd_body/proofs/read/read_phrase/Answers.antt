@@ -29,7 +29,7 @@ returns-in_err-scalar_code-in-Bit-clause-reads g c =
     let p = err_from_is_err_and c.from_residual-in_err-scalar_code-in-Bit.result c.from_residual-in_err-scalar_code-in-Bit.ensures.1 in
     rw (p.1, p.2) (λ h i front items v s.
     let b = given.begun_at h.codes i front items c.args.feed.now c.next_token.new.feed c.args.regs.now c.in_ok-next_token.field-0 c.if-not-branch.false s (c.in_ok-next_token.ensures.reads h.codes i front s.placed [] (given.reads_of h.codes i front items c.args.feed.now c.args.regs.now s)) in
-    given.refused_own h.codes i front items c.next_token.new.feed c.args.regs.now c.token-token.result.now _ b c.token-token.ensures (c.in_err-scalar_code-in-Bit.ensures.code h (phrases_of b.placed) v))
+    given.refused_own h.codes i front items c.next_token.new.feed c.args.regs.now c.token-token.result.now _ b c.token-token.ensures (c.in_err-scalar_code-in-Bit.ensures.refuses h (phrases_of b.placed) v))
 
 pub returns-in_err-read_mark-in-Mark-clause-reads : goal.returns-in_err-read_mark-in-Mark-clause-reads
 returns-in_err-read_mark-in-Mark-clause-reads g c =
@@ -42,7 +42,7 @@ returns-in_err-read_mark-in-Mark-clause-reads g c =
 pub returns-in_ok-scalar_code-in-Bit-clause-reads : goal.returns-in_ok-scalar_code-in-Bit-clause-reads
 returns-in_ok-scalar_code-in-Bit-clause-reads g c = λ h i front items v s.
     let b = given.begun_at h.codes i front items c.args.feed.now c.next_token.new.feed c.args.regs.now c.in_ok-next_token.field-0 c.if-not-branch.false s (c.in_ok-next_token.ensures.reads h.codes i front s.placed [] (given.reads_of h.codes i front items c.args.feed.now c.args.regs.now s)) in
-    let k = c.in_ok-scalar_code-in-Bit.ensures.code h (phrases_of b.placed) v in
+    let k = c.in_ok-scalar_code-in-Bit.ensures.finds.code h (phrases_of b.placed) v in
     (k.0, k.1, given.scalar_given h.codes i front items c.next_token.new.feed c.args.regs.now c.token-token.result.now k.0 b c.token-token.ensures k.2)
 
 pub returns-in_ok-read_vector-in-Vector-clause-reads : goal.returns-in_ok-read_vector-in-Vector-clause-reads

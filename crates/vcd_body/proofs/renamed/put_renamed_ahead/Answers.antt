@@ -1,10 +1,9 @@
-use Rattle.std.proofs.Common.{ℕ, ◌-◌, List, [], ◌∷◌, ◌++◌, false, get_or, length, refl, sym, ap, subst, ◌∙◌, arith}
+use Rattle.std.proofs.Common.{ℕ, List, [], ◌∷◌, ◌++◌, false, get_or, length, refl, sym, ap, subst, ◌∙◌, arith}
 use Rattle.std.specs.Char.{to_ascii_lowercase}
 use Rattle.vcd_model.specs.HeadText.{new_code}
 use Rattle.vcd_text.specs.Device.{Puts}
 use Rattle.vcd_body.specs.Spelled.{HasChange}
 use Rattle.vcd_body.proofs.ChangeLine.{bit_line}
-use Rattle.vcd_body.proofs.LeftOut.{copied_there}
 use Rattle.vcd_body.proofs.LineLemmas.{digit_there}
 use Rattle.vcd_body.proofs.renamed.put_renamed_ahead.Goals as goal
 
@@ -32,7 +31,5 @@ returns-then-is_lower g c =
 pub returns-in-Some : goal.returns-in-Some
 returns-in-Some g c =
     let p = c.in-Some.ensures in
-    let room = p.0 in
     let code = new_code c.args.number in
-    let same = copied_there c.args.bytes.now c.args.from (c.args.plain.code_at - 1) c.in-Some.k (omega arith) ∙ p.4 in
-    subst (λ l. Puts (g.W.Sink.device c.args.w.now) (g.W.Sink.device c.put_copied.new.w) l c.put_copied.result) (ap (λ l. l ++ (32 ∷ code ++ 10 ∷ [])) same ∙ sym (p.3 code)) c.put_copied.ensures
+    subst (λ l. Puts (g.W.Sink.device c.args.w.now) (g.W.Sink.device c.put_copied.new.w) l c.put_copied.result) (ap (λ l. l ++ (32 ∷ code ++ 10 ∷ [])) p.4 ∙ sym (p.3 code)) c.put_copied.ensures

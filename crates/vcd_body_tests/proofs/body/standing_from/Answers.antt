@@ -2,5 +2,5 @@ use Rattle.vcd_body_tests.proofs.body.standing_from.Goals as goal
 
 pub left_out-requires : goal.left_out-requires
 left_out-requires g c =
-    let n = c.item_ahead.ensures in
-    (c.args.view, rw (c.bytes.ensures, n.same.0, c.passed-to.ensures.passed, c.loop-plain.invariant.0) c.in-Some.ensures.spelled)
+    let n = c.in-Some.ensures.takes in
+    (c.args.view, rw (c.bytes.ensures, n.same.0, c.passed-to.ensures.passed, c.loop-plain.invariant.0) n.spelled)

@@ -16,7 +16,7 @@ returns-then-branch-clause-reads g c = λ most i placed before runs r.
 
 pub tokens-preserved : goal.tokens-preserved
 tokens-preserved g c = (
-  advances_on g.S.Source.failures _ _ _ _ c.tokens.invariant.0 c.in_ok-next_ends.ensures.advances,
+  advances_on g.S.Source.failures _ _ _ _ c.tokens.invariant.0 c.in_ok-next_ends.ensures.goes.advances,
   λ most i placed before runs r.
       let on = c.tokens.invariant.1 most i placed before runs r in
       reads_more most i placed before c.next_ends.new.feed on.inner runs on.none (sym c.in_ok-next_ends.ensures.end ∙ c.if-branch.false) (c.in_ok-next_ends.ensures.reads most i placed (before ++ on.inner) on.reads) tt,

@@ -10,17 +10,21 @@ returns-in-Ok-Finish-clause-reads g c = λ most i given placed before s q.
     let n = e.gives i given s in
     fails_at_end most (limit_of c.args.feed.now) i given placed before None c.next.new.self e.advances.limit q n.2 n.1 n.0
 
-pub returns-in-Ok-Finish-clause-advances : goal.returns-in-Ok-Finish-clause-advances
-returns-in-Ok-Finish-clause-advances g c =
+pub returns-in-Ok-Finish-clause-goes : goal.returns-in-Ok-Finish-clause-goes
+returns-in-Ok-Finish-clause-goes g c =
     let e = rw c.in-Ok-Finish.field-0-is at c.in-Ok-Finish.ensures in
     record {
-      loans = e.advances.loans;
-      limit = e.advances.limit;
-      chunk = e.advances.chunk;
-      on = λ x. cc;
-      goes = λ x o. cc;
-      failed = λ x o. cc;
-      same = λ x. e.advances.same (λ y. cc);
+      advances = record {
+        loans = e.advances.loans;
+        limit = e.advances.limit;
+        chunk = e.advances.chunk;
+        on = λ x. cc;
+        goes = λ x o. cc;
+        failed = λ x o. cc;
+        same = λ x. e.advances.same (λ y. cc);
+      };
+      progress = tt;
+      bounded = e.bounded.1;
     }
 
 pub returns-in-Err-TokenTooLong-clause-reads : goal.returns-in-Err-TokenTooLong-clause-reads

@@ -1,8 +1,7 @@
-use Rattle.std.proofs.Common.{[], refl, sym, subst, arith}
+use Rattle.std.proofs.Common.{[], refl, sym, arith}
 use Rattle.vcd_text.specs.Ahead.{lines_of}
 use Rattle.vcd_text.specs.Device.{Device}
-use Rattle.vcd_view.specs.Shown.{HeadShown}
-use Rattle.vcd_view.specs.Views.{Views}
+use Rattle.vcd_merge.specs.MergeAhead.{Stands, StageAhead}
 use Rattle.vcd_merge.proofs.SeatAhead.{ahead_turns, lies_first}
 use Rattle.vcd_merge.proofs.SeatLemmas.{out_of}
 use Rattle.vcd_merge.proofs.merging.take_ahead.Goals as goal
@@ -10,8 +9,8 @@ use Rattle.vcd_merge.proofs.merging.take_ahead.Goals as goal
 pub pass_items-requires : goal.pass_items-requires
 pass_items-requires g c =
     let a = c.ahead.ensures in
-    let p = c.items_ahead-taken.ensures.passes (lines_of c.args.feed.now) [] (rw a.passed refl) in
-    (p.0, rw (sym a.limit, sym a.bytes) p.1)
+    let p = c.items_ahead-taken.ensures.passes.passes (lines_of c.args.feed.now) [] (rw a.passed refl) in
+    (p.0, rw (sym a.limit, sym a.bytes, c.passed-passed.ensures.passed) p.1)
 
 pub returns-clause-turns : goal.returns-clause-turns
 returns-clause-turns g c = λ k scale first l items views at.
@@ -24,11 +23,12 @@ returns-clause-turns g c = λ k scale first l items views at.
     let out0 : Device = g.W.Sink.device c.args.out.now in
     let out : Device = g.W.Sink.device c.items_ahead-taken.new.out in
     let begins = lies_first scale first l items s f at c.requires.unfinished in
-    let gives = rw (c.track.ensures, a.limit, a.bytes, a.passed) at c.items_ahead-taken.ensures.gives in
-    let runs = gives scale first (lines_of f) l.header items (subst (λ (x : HeadShown). Views x l.header) (sym c.view.ensures) views) at.factor_is at.first_is at.few begins in
-    ahead_turns scale first l items s f at c.requires.unfinished g.S.Source.failures k c.args.before c.args.written.now out0 c.requires.open new t.passed t.track.regs t.track.time t.written out c.pass_items.ensures.source c.pass_items.ensures.advances.limit c.pass_items.ensures.advances.chunk
+    let gives = rw (c.track.ensures, a.limit, a.bytes, a.passed) at c.items_ahead-taken.ensures.runs in
+    let stage : StageAhead = record { at = 0; items = []; regs = s.regs; time = s.time; written = c.args.written.now; out = out0 } in
+    let runs = gives scale first (lines_of f) l.header items stage views at.factor_is at.first_is at.few (record { mid = stage; trail = Stands; ends = (begins, refl, refl) }) in
+    ahead_turns scale first l items s f at c.requires.unfinished g.S.Source.failures k c.args.before c.args.written.now out0 c.requires.open new _ t.track.regs t.track.time t.written out c.pass_items.ensures.source c.pass_items.ensures.advances.limit c.pass_items.ensures.advances.chunk
     (λ more lies known. c.pass_items.ensures.gives l.header.codes l.input l.front items more s.regs t.track.regs gave lies known)
-    (λ more x lies known. c.pass_items.ensures.ends l.header.codes l.input l.front items more x s.regs t.track.regs gave lies known) t.ended runs
+    (λ more x lies known. c.pass_items.ensures.ends l.header.codes l.input l.front items more x s.regs t.track.regs gave lies known) t.ended (rw c.passed-passed.ensures.passed runs)
 
 pub returns-clause-progress : goal.returns-clause-progress
 returns-clause-progress g c = λ is. let more = c.items_ahead-taken.ensures.some is in let passed = c.ahead.ensures.passed in let looked = c.pass_items.ensures.looked in omega (arith, more, passed, looked)

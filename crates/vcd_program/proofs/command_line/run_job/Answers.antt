@@ -21,8 +21,8 @@ run_with_hasher-requires-clause-names g c =
     let many = opens-many g.H.Host.opens c.args.host.now (map text_of c.as_slice.result.now) c.in-Ok-open_inputs.inputs.readers.items c.open_inputs.new.host c.in-Ok-open_inputs.ensures.opened in
     ap length c.as_slice-in-Ok-open_inputs.ensures.value ∙ names-many string_bytes c.in-Ok-open_inputs.inputs.names.items (map text_of c.as_slice.result.now) c.in-Ok-open_inputs.ensures.names ∙ sym many ∙ ap length (sym c.as_mut_slice.ensures.value)
 
-pub run_with_hasher-requires-clause-some : goal.run_with_hasher-requires-clause-some
-run_with_hasher-requires-clause-some g c =
+pub run_with_hasher-requires-clause-readers : goal.run_with_hasher-requires-clause-readers
+run_with_hasher-requires-clause-readers g c =
     let m = c.args.matches.now in
     let asked = asked-is m (model_want c.args.job.task) c.args.job.limit c.requires.job in
     let named : map text_of c.as_slice.result.now ≡ inputs_asked m =
@@ -30,18 +30,8 @@ run_with_hasher-requires-clause-some g c =
     let many = opens-many g.H.Host.opens c.args.host.now (map text_of c.as_slice.result.now) c.in-Ok-open_inputs.inputs.readers.items c.open_inputs.new.host c.in-Ok-open_inputs.ensures.opened in
     let all : length c.as_mut_slice.result.now ≡ length (inputs_asked m) = ap length c.as_mut_slice.ensures.value ∙ many ∙ ap length named in
     let some = asked.1.some in
-    omega (arith, all, some)
-
-pub run_with_hasher-requires-clause-few : goal.run_with_hasher-requires-clause-few
-run_with_hasher-requires-clause-few g c =
-    let m = c.args.matches.now in
-    let asked = asked-is m (model_want c.args.job.task) c.args.job.limit c.requires.job in
-    let named : map text_of c.as_slice.result.now ≡ inputs_asked m =
-    ap (map text_of) c.as_slice.ensures.value ∙ c.in-Ok.ensures ∙ ap (λ merge. inputs_for merge m) (c.is_merge.ensures ∙ merge-same c.args.job.task) ∙ asked.0 in
-    let many = opens-many g.H.Host.opens c.args.host.now (map text_of c.as_slice.result.now) c.in-Ok-open_inputs.inputs.readers.items c.open_inputs.new.host c.in-Ok-open_inputs.ensures.opened in
-    let all : length c.as_mut_slice.result.now ≡ length (inputs_asked m) = ap length c.as_mut_slice.ensures.value ∙ many ∙ ap length named in
     let few = asked.1.few in
-    omega (arith, all, few)
+    record { some = omega (arith, all, some); few = omega (arith, all, few); low = search rules }
 
 pub returns-in-Ok-open_inputs-clause-runs : goal.returns-in-Ok-open_inputs-clause-runs
 returns-in-Ok-open_inputs-clause-runs g c =

@@ -10,12 +10,12 @@ returns-in_default-clause-runs g c = RunsOn.NoMatches kind.OutOfMemory (inl refl
 
 pub returns-in-Ok-try_get_matches_from-clause-runs : goal.returns-in-Ok-try_get_matches_from-clause-runs
 returns-in-Ok-try_get_matches_from-clause-runs g c =
-    RunsOn.Parsed c.in-Ok-try_get_matches_from.matches (subst (λ app. HasMatchesOf app (map string_bytes c.args.words.now) c.in-Ok-try_get_matches_from.matches) c.in-Ok.ensures.words c.in-Ok-try_get_matches_from.ensures.matches) c.run_matches.ensures.runs
+    RunsOn.Parsed c.in-Ok-try_get_matches_from.matches (subst (λ app. HasMatchesOf app (map string_bytes c.args.words.now) c.in-Ok-try_get_matches_from.matches) c.in-Ok.ensures.0 c.in-Ok-try_get_matches_from.ensures.matches) c.run_matches.ensures.runs
 
 pub returns-in-Err-clause-runs : goal.returns-in-Err-clause-runs
 returns-in-Err-clause-runs g c =
     let words = map string_bytes c.args.words.now in
     let why = kind_of c.in-Err.error in
-    let kinds = subst (λ app. is_simple_and_free app ≡ true → (why ≡ kind.OutOfMemory) ⊎ IsAmong why (fault_of app words)) c.in-Ok.ensures.words c.in-Err.ensures.kinds in
-    let passes = subst (λ app. takes app words ≡ true → why ≡ kind.OutOfMemory) c.in-Ok.ensures.words c.in-Err.ensures.passes in
+    let kinds = subst (λ app. is_simple_and_free app ≡ true → (why ≡ kind.OutOfMemory) ⊎ IsAmong why (fault_of app words)) c.in-Ok.ensures.0 c.in-Err.ensures.kinds in
+    let passes = subst (λ app. takes app words ≡ true → why ≡ kind.OutOfMemory) c.in-Ok.ensures.0 c.in-Err.ensures.passes in
     RunsOn.NoMatches why (kinds simple) passes refl c.answer.ensures.answers

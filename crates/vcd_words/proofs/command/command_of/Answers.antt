@@ -1,10 +1,10 @@
 use Rattle.std.proofs.Common.{arith, ap, ap₂, codes, refl, ◌≡◌, ◌∙◌, Bool, true, false, not, ◌&&◌, ◌||◌}
 use Rattle.std.proofs.lemmas.Result.{IfOk-weaker}
 use Rattle.clap.specs.Built.{AddsSubcommand}
-use Rattle.clap.specs.Words.{App, app_of, is_broken, new_app, with_subcommand}
+use Rattle.clap.specs.Words.{App, new_app, with_subcommand}
 use Rattle.clap.specs.declared.builder.command.Command.{Command}
-use Rattle.vcd_words.specs.Words.{bare_app, cut_app, merge_app, named_app, one_input_app, sample_app}
-use Rattle.vcd_words.proofs.CommandLemmas.{with_subcommand_required, with_version, without_help, IsWhole}
+use Rattle.vcd_words.specs.Words.{bare_app, cut_app, merge_app, named_app, one_input_app, sample_app, IsWhole}
+use Rattle.vcd_words.proofs.CommandLemmas.{with_subcommand_required, with_version, without_help}
 use Rattle.vcd_words.proofs.command.command_of.Goals as goal
 
 -- a plain command has no global argument
@@ -12,32 +12,21 @@ local : (groups external globals rest : Bool) → (groups && (not external && (n
 local groups external globals rest e = grind arith
 
 -- a program with one more plain command
-added : (old sub new : Command) (before is : App) → AddsSubcommand old sub new → app_of old ≡ before → app_of sub ≡ is → is.top.is_plain ≡ true → app_of new ≡ with_subcommand before is.top
-added old sub new before is adds o s plain = adds.shape (local _ _ _ _ (ap (λ (a : App). a.top.is_plain) s ∙ plain)) ∙ ap₂ with_subcommand o (ap (λ (a : App). a.top) s)
+added : (old sub new : Command) (before is : App) → AddsSubcommand old sub new → IsWhole old before → IsWhole sub is → is.top.is_plain ≡ true → IsWhole new (with_subcommand before is.top)
+added old sub new before is adds o s plain = (
+  adds.shape (local _ _ _ _ (ap (λ (a : App). a.top.is_plain) s.0 ∙ plain)) ∙ ap₂ with_subcommand o.0 (ap (λ (a : App). a.top) s.0),
+  adds.broken ∙ ap₂ ◌||◌ o.1 s.1,
+)
 
--- the program before it has commands
-bare : (c : goal.After-subcommand-7) → IsWhole c.disable_help_subcommand.result bare_app
-bare c =
-    let version = with_version c.new_command.result c.version.result (new_app (codes "vcdkit")) (c.new_command.ensures.words, c.new_command.ensures.whole) _ c.version.ensures in
+pub returns : goal.returns
+returns c =
+    let version = with_version c.new_command.result c.version.result (new_app (codes "vcdkit")) c.new_command.ensures _ c.version.ensures in
     let required = with_subcommand_required c.version.result c.subcommand_required.result _ version c.subcommand_required.ensures in
-    without_help c.subcommand_required.result c.disable_help_subcommand.result _ required c.disable_help_subcommand.ensures
-
-pub returns-clause-words : goal.returns-clause-words
-returns-clause-words c =
-    let first = added _ _ _ bare_app (one_input_app (codes "check")) c.in_ok-program.ensures (bare c).0 c.in_ok-check.ensures.words refl in
-    let second = added _ _ _ _ (one_input_app (codes "list")) c.in_ok-program-2.ensures first c.in_ok-list.ensures.words refl in
-    let third = added _ _ _ _ (named_app (codes "pick") true) c.in_ok-program-3.ensures second c.in_ok-pick.ensures.words refl in
-    let fourth = added _ _ _ _ cut_app c.in_ok-program-4.ensures third c.in_ok-cut.ensures.words refl in
-    let fifth = added _ _ _ _ sample_app c.in_ok-program-5.ensures fourth c.in_ok-sample.ensures.words refl in
-    let sixth = added _ _ _ _ (named_app (codes "edges") false) c.in_ok-program-6.ensures fifth c.in_ok-edges.ensures.words refl in
-    IfOk-weaker c.subcommand-7.result _ _ (λ r h. added _ _ _ _ merge_app h sixth c.in_ok-merge.ensures.words refl) c.subcommand-7.ensures
-
-pub returns-clause-whole : goal.returns-clause-whole
-returns-clause-whole c =
-    let first : is_broken c.in_ok-program.program ≡ false = c.in_ok-program.ensures.broken ∙ ap₂ ◌||◌ (bare c).1 c.in_ok-check.ensures.whole in
-    let second : is_broken c.in_ok-program-2.program ≡ false = c.in_ok-program-2.ensures.broken ∙ ap₂ ◌||◌ first c.in_ok-list.ensures.whole in
-    let third : is_broken c.in_ok-program-3.program ≡ false = c.in_ok-program-3.ensures.broken ∙ ap₂ ◌||◌ second c.in_ok-pick.ensures.whole in
-    let fourth : is_broken c.in_ok-program-4.program ≡ false = c.in_ok-program-4.ensures.broken ∙ ap₂ ◌||◌ third c.in_ok-cut.ensures.whole in
-    let fifth : is_broken c.in_ok-program-5.program ≡ false = c.in_ok-program-5.ensures.broken ∙ ap₂ ◌||◌ fourth c.in_ok-sample.ensures.whole in
-    let sixth : is_broken c.in_ok-program-6.program ≡ false = c.in_ok-program-6.ensures.broken ∙ ap₂ ◌||◌ fifth c.in_ok-edges.ensures.whole in
-    IfOk-weaker c.subcommand-7.result _ _ (λ r h. h.broken ∙ ap₂ ◌||◌ sixth c.in_ok-merge.ensures.whole) c.subcommand-7.ensures
+    let bare : IsWhole c.disable_help_subcommand.result bare_app = without_help c.subcommand_required.result c.disable_help_subcommand.result _ required c.disable_help_subcommand.ensures in
+    let first = added _ _ _ bare_app (one_input_app (codes "check")) c.in_ok-program.ensures bare c.in_ok-check.ensures refl in
+    let second = added _ _ _ _ (one_input_app (codes "list")) c.in_ok-program-2.ensures first c.in_ok-list.ensures refl in
+    let third = added _ _ _ _ (named_app (codes "pick") true) c.in_ok-program-3.ensures second c.in_ok-pick.ensures refl in
+    let fourth = added _ _ _ _ cut_app c.in_ok-program-4.ensures third c.in_ok-cut.ensures refl in
+    let fifth = added _ _ _ _ sample_app c.in_ok-program-5.ensures fourth c.in_ok-sample.ensures refl in
+    let sixth = added _ _ _ _ (named_app (codes "edges") false) c.in_ok-program-6.ensures fifth c.in_ok-edges.ensures refl in
+    IfOk-weaker c.subcommand-7.result _ _ (λ r h. added _ _ _ _ merge_app h sixth c.in_ok-merge.ensures refl) c.subcommand-7.ensures

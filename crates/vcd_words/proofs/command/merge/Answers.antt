@@ -1,22 +1,19 @@
-use Rattle.std.proofs.Common.{codes, ◌∙◌}
+use Rattle.std.proofs.Common.{codes}
 use Rattle.std.proofs.lemmas.Result.{IfOk-weaker}
 use Rattle.clap.specs.Lexer.{usize_max}
 use Rattle.clap.specs.Words.{new_app, new_rule, with_rule}
 use Rattle.clap.specs.declared.builder.range.ValueRange.{ValueRange}
-use Rattle.vcd_words.specs.Words.{files_rule, limit_rule}
-use Rattle.vcd_words.proofs.CommandLemmas.{with_arg, with_help, with_range, with_required, with_value_name, IsLocal}
+use Rattle.vcd_words.specs.Words.{files_rule, limit_rule, IsLocal}
+use Rattle.vcd_words.proofs.CommandLemmas.{with_arg, with_help, with_range, with_required, with_value_name}
 use Rattle.vcd_words.proofs.WordsLemmas.{some-is}
 use Rattle.vcd_words.proofs.command.merge.Goals as goal
 
-pub returns-clause-words : goal.returns-clause-words
-returns-clause-words c =
+pub returns : goal.returns
+returns c =
     let many : ValueRange = record { start_inclusive = 1; end_inclusive = usize_max } in
     let valued = with_value_name c.new.result c.value_name.result (new_rule (codes "files")) (c.new.ensures.rule, c.new.ensures.optional.1) _ c.value_name.ensures in
     let counted = with_range c.value_name.result c.num_args.result _ valued many c.num_args.ensures.0 (some-is c.num_args.result.num_vals many c.num_args.ensures.1) in
     let required = with_required c.num_args.result c.required.result _ counted _ c.required.ensures in
     let files : IsLocal c.help-files.result files_rule = with_help c.required.result c.help-files.result _ required _ c.help-files.ensures in
-    let first = with_arg c.new_command.result c.in_ok-arg.field-0 (new_app (codes "merge")) (c.new_command.ensures.words, c.new_command.ensures.whole) c.token_limit.result limit_rule c.in_ok-arg.ensures (c.token_limit.ensures.rule, c.token_limit.ensures.local) in
-    IfOk-weaker c.arg-2.result _ _ (λ r h. (with_arg c.in_ok-arg.field-0 r (with_rule (new_app (codes "merge")) limit_rule) first c.help-files.result files_rule h files).0) c.arg-2.ensures
-
-pub returns-clause-whole : goal.returns-clause-whole
-returns-clause-whole c = IfOk-weaker c.arg-2.result _ _ (λ r h. h.broken ∙ c.in_ok-arg.ensures.broken ∙ c.new_command.ensures.whole) c.arg-2.ensures
+    let first = with_arg c.new_command.result c.in_ok-arg.field-0 (new_app (codes "merge")) c.new_command.ensures c.token_limit.result limit_rule c.in_ok-arg.ensures c.token_limit.ensures in
+    IfOk-weaker c.arg-2.result _ _ (λ r h. with_arg c.in_ok-arg.field-0 r (with_rule (new_app (codes "merge")) limit_rule) first c.help-files.result files_rule h files) c.arg-2.ensures

@@ -1,22 +1,19 @@
-use Rattle.std.proofs.Common.{codes, ◌∙◌}
+use Rattle.std.proofs.Common.{codes}
 use Rattle.std.proofs.lemmas.Result.{IfOk-weaker}
 use Rattle.clap.specs.Lexer.{usize_max}
 use Rattle.clap.specs.Words.{new_rule}
 use Rattle.clap.specs.declared.builder.range.ValueRange.{ValueRange}
-use Rattle.vcd_words.specs.Words.{names_rule, one_input_app}
-use Rattle.vcd_words.proofs.CommandLemmas.{with_arg, with_help, with_range, with_required, with_value_name, IsLocal}
+use Rattle.vcd_words.specs.Words.{names_rule, one_input_app, IsLocal}
+use Rattle.vcd_words.proofs.CommandLemmas.{with_arg, with_help, with_range, with_required, with_value_name}
 use Rattle.vcd_words.proofs.WordsLemmas.{some-is}
 use Rattle.vcd_words.proofs.command.named.Goals as goal
 
-pub returns-clause-words : goal.returns-clause-words
-returns-clause-words c =
+pub returns : goal.returns
+returns c =
     let many : ValueRange = record { start_inclusive = 1; end_inclusive = usize_max } in
     let valued = with_value_name c.new.result c.value_name.result (new_rule (codes "names")) (c.new.ensures.rule, c.new.ensures.optional.1) _ c.value_name.ensures in
     let counted = with_range c.value_name.result c.num_args.result _ valued many c.num_args.ensures.0 (some-is c.num_args.result.num_vals many c.num_args.ensures.1) in
     let required = with_required c.num_args.result c.required.result _ counted _ c.required.ensures in
     let names : IsLocal c.help-names.result (names_rule c.args.required) = with_help c.required.result c.help-names.result _ required _ c.help-names.ensures in
     IfOk-weaker c.arg.result _ _
-    (λ r h. (with_arg c.in_ok-one_input.field-0 r (one_input_app c.args.name.now) (c.in_ok-one_input.ensures.words, c.in_ok-one_input.ensures.whole) c.help-names.result (names_rule c.args.required) h names).0) c.arg.ensures
-
-pub returns-clause-whole : goal.returns-clause-whole
-returns-clause-whole c = IfOk-weaker c.arg.result _ _ (λ r h. h.broken ∙ c.in_ok-one_input.ensures.whole) c.arg.ensures
+    (λ r h. with_arg c.in_ok-one_input.field-0 r (one_input_app c.args.name.now) c.in_ok-one_input.ensures c.help-names.result (names_rule c.args.required) h names) c.arg.ensures

@@ -1,16 +1,9 @@
 use Rattle.clap.specs.Words.{new_app}
-use Rattle.vcd_words.proofs.CommandLemmas.{with_about, with_after_help, with_usage, IsWhole}
+use Rattle.vcd_words.proofs.CommandLemmas.{with_about, with_after_help, with_usage}
 use Rattle.vcd_words.proofs.command.new_command.Goals as goal
 
--- the command takes no words yet
-command : (c : goal.After-after_help) → IsWhole c.after_help.result (new_app c.args.name.now)
-command c =
+pub returns : goal.returns
+returns c =
     let about = with_about c.new.result c.about.result (new_app c.args.name.now) (c.new.ensures.app, c.new.ensures.whole) _ c.about.ensures in
     let usage = with_usage c.about.result c.override_usage.result _ about _ c.override_usage.ensures in
     with_after_help c.override_usage.result c.after_help.result _ usage _ c.after_help.ensures
-
-pub returns-clause-words : goal.returns-clause-words
-returns-clause-words c = (command c).0
-
-pub returns-clause-whole : goal.returns-clause-whole
-returns-clause-whole c = (command c).1

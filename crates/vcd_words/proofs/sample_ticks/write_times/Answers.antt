@@ -8,7 +8,7 @@ use Rattle.vcd_words.proofs.SampleLemmas.{falling_request, no_units_left, plain_
 use Rattle.vcd_words.proofs.sample_ticks.write_times.Goals as goal
 
 pub returns-in_err-write_ticks-clause-same : goal.returns-in_err-write_ticks-clause-same
-returns-in_err-write_ticks-clause-same c = λ h names v.
+returns-in_err-write_ticks-clause-same c = λ names h v.
     let ns = c.args.numbers.now in
     let us = c.args.units.now in
     let same : c.from_residual.result ≡ Err c.in_err-write_ticks.field-0.0 = search rules in
@@ -17,7 +17,7 @@ returns-in_err-write_ticks-clause-same c = λ h names v.
     rw same (refused_request h.scale ns.items us.items names c.requires.paired c.in_err-write_ticks.field-0.0 told)
 
 pub returns-then-not-do_rise-clause-same : goal.returns-then-not-do_rise-clause-same
-returns-then-not-do_rise-clause-same c = λ h names v.
+returns-then-not-do_rise-clause-same c = λ names h v.
     let ns = c.args.numbers.now in
     let us = c.args.units.now in
     let ks = c.write_ticks.new.numbers in
@@ -29,7 +29,7 @@ returns-then-not-do_rise-clause-same c = λ h names v.
     falling_request h.scale ns.items us.items names c.requires.paired some ks told down
 
 pub returns-clause-same : goal.returns-clause-same
-returns-clause-same c = λ h names v.
+returns-clause-same c = λ names h v.
     let ns = c.args.numbers.now in
     let us = c.args.units.now in
     let ks = c.write_ticks.new.numbers in

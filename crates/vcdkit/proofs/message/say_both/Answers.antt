@@ -1,5 +1,6 @@
+use Rattle.std.proofs.Common.{refl}
 use Rattle.vcdkit.proofs.MessageLemmas.{puts-shows}
 use Rattle.vcdkit.proofs.message.say_both.Goals as goal
 
-pub returns-clause-line : goal.returns-clause-line
-returns-clause-line g c = puts-shows _ _ _ _ c.put_both.ensures
+pub returns : goal.returns
+returns g c = record { line = puts-shows _ _ _ _ c.put_both.ensures; status = refl }

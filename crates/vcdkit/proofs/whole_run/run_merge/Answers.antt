@@ -12,21 +12,21 @@ use Rattle.vcdkit.proofs.whole_run.run_merge.Goals as goal
 pub returns-in_err-memory-clause-ends : goal.returns-in_err-memory-clause-ends
 returns-in_err-memory-clause-ends g c = λ texts names h.
     let e : c.from_residual.result ≡ Err OutOfMemory = search rules in
-    rw e (stopped Want.Merge [] c.args.job.now.limit c.args.job.now.chunk names texts _ _ _ OutOfMemory (nothing_stops _ _ g.S.Source.rest g.S.Source.failures c.args.readers.now texts c.requires.some h))
+    rw e (stopped Want.Merge [] c.args.job.now.limit c.args.job.now.chunk names texts _ _ _ OutOfMemory (nothing_stops _ _ g.S.Source.rest g.S.Source.failures c.args.readers.now texts c.requires.readers.some h))
 
 pub open_inputs-requires-clause-parts : goal.open_inputs-requires-clause-parts
 open_inputs-requires-clause-parts g c =
     let lc : length c.deref_mut.result.now ≡ length c.args.readers.now * c.args.job.now.chunk = c.deref_mut.ensures.len ∙ c.in_ok-memory.ensures.0 in
     let lt : length c.deref_mut-2.result.now ≡ length c.args.readers.now * c.args.job.now.limit = c.deref_mut-2.ensures.len ∙ c.in_ok-memory.ensures.1 in
     let lv : length c.deref_mut-3.result.now ≡ length c.args.readers.now * c.args.job.now.limit = c.deref_mut-3.ensures.len ∙ c.in_ok-memory.ensures.2 in
-    parts_of (length c.args.readers.now) c.args.job.now.chunk c.args.job.now.limit _ _ _ c.requires.some (omega (arith, c.args.job.now.chunk_in_range)) (omega (arith, c.args.job.now.limit_in_range)) lc lt lv
+    parts_of (length c.args.readers.now) c.args.job.now.chunk c.args.job.now.limit _ _ _ c.requires.readers.some (omega (arith, c.args.job.now.chunk_in_range)) (omega (arith, c.args.job.now.limit_in_range)) lc lt lv
 
 pub returns-in_err-inputs-clause-ends : goal.returns-in_err-inputs-clause-ends
 returns-in_err-inputs-clause-ends g c = λ texts names h.
     let why = c.in_err-inputs.field-0.0 in
     let e : c.from_residual-in_err-inputs.result ≡ Err why = search rules in
-    let chunk = part_is (length c.args.readers.now) c.args.job.now.chunk c.deref_mut.result.now c.requires.some (c.deref_mut.ensures.len ∙ c.in_ok-memory.ensures.0) in
-    let limit = part_is (length c.args.readers.now) c.args.job.now.limit c.deref_mut-2.result.now c.requires.some (c.deref_mut-2.ensures.len ∙ c.in_ok-memory.ensures.1) in
+    let chunk = part_is (length c.args.readers.now) c.args.job.now.chunk c.deref_mut.result.now c.requires.readers.some (c.deref_mut.ensures.len ∙ c.in_ok-memory.ensures.0) in
+    let limit = part_is (length c.args.readers.now) c.args.job.now.limit c.deref_mut-2.result.now c.requires.readers.some (c.deref_mut-2.ensures.len ∙ c.in_ok-memory.ensures.1) in
     rw e (stopped Want.Merge [] c.args.job.now.limit c.args.job.now.chunk names texts _ _ _ why (rw (limit, chunk) at (c.in_err-inputs.ensures.begins texts h)))
 
 pub merge-requires-clause-parts : goal.merge-requires-clause-parts
@@ -37,7 +37,7 @@ merge-requires-clause-parts g c =
     let same = c.in_ok-inputs.ensures.lengths in
     let many : length c.deref_mut-4.result.now ≡ length c.args.readers.now = ap length c.deref_mut-4.ensures.value ∙ c.in_ok-inputs.ensures.many.1 in
     parts_same (length c.args.readers.now) _ _ _ _ _ _ _
-    (parts_of (length c.args.readers.now) c.args.job.now.chunk c.args.job.now.limit _ _ _ c.requires.some (omega (arith, c.args.job.now.chunk_in_range)) (omega (arith, c.args.job.now.limit_in_range)) lc lt lv) many same.chunks same.tokens same.values
+    (parts_of (length c.args.readers.now) c.args.job.now.chunk c.args.job.now.limit _ _ _ c.requires.readers.some (omega (arith, c.args.job.now.chunk_in_range)) (omega (arith, c.args.job.now.limit_in_range)) lc lt lv) many same.chunks same.tokens same.values
 
 pub merge-requires-clause-bound : goal.merge-requires-clause-bound
 merge-requires-clause-bound g c =
@@ -48,10 +48,10 @@ merge-requires-clause-bound g c =
     let lv = same.values ∙ c.deref_mut-3.ensures.len ∙ c.in_ok-memory.ensures.2 in
     let heads : length c.deref.result.now ≡ n = ap length c.deref.ensures.value ∙ c.in_ok-inputs.ensures.many.0 in
     let seats : length c.deref_mut-4.result.now ≡ n = ap length c.deref_mut-4.ensures.value ∙ c.in_ok-inputs.ensures.many.1 in
-    lends_within n c.args.job.now.chunk c.args.job.now.limit (length c.deref_mut-4.result.now) c.deref.result.now c.open_inputs.new.windows c.requires.some c.args.job.now.chunk_in_range.1 lc lt lv heads seats
+    lends_within n c.args.job.now.chunk c.args.job.now.limit (length c.deref_mut-4.result.now) c.deref.result.now c.open_inputs.new.windows c.requires.readers.some c.args.job.now.chunk_in_range.1 lc lt lv heads seats
 
 pub merge-requires-clause-reads : goal.merge-requires-clause-reads
-merge-requires-clause-reads g c = still_low g.S.Source.failures _ c.args.readers.now c.open_inputs.new.readers c.in_ok-inputs.ensures.reads c.requires.reader_failures
+merge-requires-clause-reads g c = still_low g.S.Source.failures _ c.args.readers.now c.open_inputs.new.readers c.in_ok-inputs.ensures.reads c.requires.readers.low
 
 pub returns-clause-ends : goal.returns-clause-ends
 returns-clause-ends g c = λ texts names h.
@@ -59,8 +59,8 @@ returns-clause-ends g c = λ texts names h.
     let lt = c.deref_mut-2.ensures.len ∙ c.in_ok-memory.ensures.1 in
     let same = c.in_ok-inputs.ensures.lengths in
     let many : length c.deref_mut-4.result.now ≡ length c.args.readers.now = ap length c.deref_mut-4.ensures.value ∙ c.in_ok-inputs.ensures.many.1 in
-    let chunk = part_is (length c.args.readers.now) c.args.job.now.chunk c.deref_mut.result.now c.requires.some lc in
-    let limit = part_is (length c.args.readers.now) c.args.job.now.limit c.deref_mut-2.result.now c.requires.some lt in
+    let chunk = part_is (length c.args.readers.now) c.args.job.now.chunk c.deref_mut.result.now c.requires.readers.some lc in
+    let limit = part_is (length c.args.readers.now) c.args.job.now.limit c.deref_mut-2.result.now c.requires.readers.some lt in
     let seats : c.deref_mut-4.result.now ≡ c.in_ok-inputs.inputs.seats.items = c.deref_mut-4.ensures.value in
     rw c.merged.ensures
     (merge_ends (length c.args.readers.now) (length c.deref_mut-4.result.now) c.args.job.now.limit _ _ c.args.job.now.chunk _ _ g.S.Source.rest g.S.Source.failures names texts c.args.readers.now c.open_inputs.new.readers c.merge.new.sources

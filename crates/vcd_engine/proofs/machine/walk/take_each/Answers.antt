@@ -46,7 +46,7 @@ items-preserved g c = record {
 pub take_lines-run-requires : goal.take_lines-run-requires
 take_lines-run-requires g c =
     let w = walk_on _ _ _ _ _ _ _ _ _ c.items.invariant.walked _ _ _ _ _ c.in-Some.ensures.next _ c.in-Ok.is in
-    record { failures = omega (arith, w.failures, c.requires.failures); ready = c.in-Some.ensures.ready; within = w.within; line = w.line; part = w.part }
+    record { failures = omega (arith, w.failures, c.requires.failures); ready = c.in-Some.ensures.ready; stands = record { within = w.within; line = w.line; part = w.part } }
 
 pub returns-in-Err-written : goal.returns-in-Err-written
 returns-in-Err-written g c =

@@ -1,20 +1,14 @@
-use Rattle.std.proofs.Common.{◌≡◌, Result, Ok, Err, refl, sym, subst, ap, ◌∙◌, length, arith}
-use Rattle.std.specs.Prelude.{IfErr}
+use Rattle.std.proofs.Common.{refl, sym, subst, ap, ◌∙◌, length, arith}
 use Rattle.vcd_engine.specs.Pieces.{IsPart}
 use Rattle.vcd_engine.proofs.WalkLemmas.{walk_on, walk_same}
 use Rattle.vcd_engine.proofs.machine.walk.take_lines.Goals as goal
-
--- a call that does not fail
-done : {A E : Type 0} (r : Result A E) → IfErr r (λ _. ⊥) → (x : A) × (r ≡ Ok x)
-done (Ok x) h = (x, refl)
-done (Err e) h = absurd h
 
 pub returns-then-is_empty-clause-walks : goal.returns-then-is_empty-clause-walks
 returns-then-is_empty-clause-walks g c = λ a r m begin w. rw c.until.ensures w
 
 pub runs-init : goal.runs-init
 runs-init g c =
-    let q = c.requires in
+    let q = c.requires.stands in
     let same = c.forget.ensures in
     record {
       within = rw (same.0, same.1) q.within;
@@ -22,7 +16,7 @@ runs-init g c =
       failures = refl;
       part = rw same.1 q.part;
       line = rw (same.0, same.1) q.line;
-      ready = q.ready;
+      ready = c.requires.ready;
       walks = λ a r m begin w. walk_same c.args.view a r m begin _ _ _ _ w _ same;
     }
 
@@ -39,10 +33,10 @@ runs-preserved g c =
     let inv = c.runs.invariant in
     let s = c.take_shorts-run.ensures in
     let run = c.take_shorts-run.result in
-    let part = rw c.in-Ok.is at s.part in
+    let stands = rw c.in-Ok.is at s.stands in
+    let part = stands.part in
     let failures = rw c.in-Ok.is at s.failures in
     let n = c.in-Some.ensures.next c.args.view run.pieces (g.W.Sink.device c.take_shorts-run.new.out) part in
-    let ok = done c.in-Some._taken c.in-Some.ensures.done in
     record {
       within = n.item.within;
       further = omega (arith, inv.further, s.further, n.item.further);
@@ -50,13 +44,14 @@ runs-preserved g c =
       part = subst (λ bs. IsPart bs run.pieces) (sym n.item.same.0) part;
       line = n.line;
       ready = c.in-Some.ensures.ready;
-      walks = λ a r m begin w. walk_on c.args.view a r m begin _ _ _ _ (rw c.in-Ok.is at (s.walks a r m begin (inv.walks a r m begin w))) _ _ _ _ _ n ok.0 ok.1;
+      walks = λ a r m begin w. walk_on c.args.view a r m begin _ _ _ _ (rw c.in-Ok.is at (s.walks a r m begin (inv.walks a r m begin w))) _ _ _ _ _ n tt refl;
     }
 
 pub runs-smaller : goal.runs-smaller
 runs-smaller g c =
     let s = c.take_shorts-run.ensures in
-    let part = rw c.in-Ok.is at s.part in
+    let stands = rw c.in-Ok.is at s.stands in
+    let part = stands.part in
     let n = c.in-Some.ensures.next c.args.view c.take_shorts-run.result.pieces (g.W.Sink.device c.take_shorts-run.new.out) part in
     let long = ap length (n.item.same.0 ∙ s.same) in
     omega (arith, n.item.within, n.item.further, s.further, long)

@@ -1,4 +1,4 @@
-use Rattle.std.proofs.Common.{◌≡◌, ℕ, ◌+◌, ◌-◌, [], ◌∷◌, ◌++◌, length, arith, sym, subst, ap₂}
+use Rattle.std.proofs.Common.{◌≡◌, ℕ, ◌+◌, ◌-◌, [], ◌∷◌, ◌++◌, length, arith, refl, sym, subst, ap₂}
 use Rattle.std.specs.Prelude.{slice_range}
 use Rattle.vcd_text.specs.Passed.{AreWhite, IsRun, Passed, line_ahead}
 use Rattle.vcd_text.proofs.Masks.{marks-on}
@@ -52,8 +52,8 @@ slice_bounds-result-start c =
     let m = inv.marks in
     omega (arith, m.ahead c.lowest-bit.result c.lowest-bit.ensures.set, m.within, c.lowest-bit.ensures.bound)
 
-pub returns-clause-gives : goal.returns-clause-gives
-returns-clause-gives c = λ lines ts passed.
+pub returns-clause-takes : goal.returns-clause-takes
+returns-clause-takes c =
     let a = c.args.self.now in
     let inv = c.requires in
     let at = c.args.start in
@@ -61,73 +61,25 @@ returns-clause-gives c = λ lines ts passed.
     let bit = c.lowest-bit.result in
     let m = inv.marks in
     let ahead = m.ahead bit c.lowest-bit.ensures.set in
+    let behind = inv.token bit c.lowest-bit.ensures.set in
     let end : ℕ = w.next + bit - 64 in
-    let run = marked_run a.bytes.now at w bit m c.lowest-bit.ensures.set c.lowest-bit.ensures.below a.limit (λ e. let o = inv.token c.lowest-bit.result c.lowest-bit.ensures.set in absurd (omega (arith, e, o))) c.if-end-start.false in
+    let run = marked_run a.bytes.now at w bit m c.lowest-bit.ensures.set c.lowest-bit.ensures.below a.limit (λ e. absurd (omega (arith, e, behind))) c.if-end-start.false in
     let len = length-slice_range a.bytes.now at end (omega (arith, m.within, c.lowest-bit.ensures.bound)) in
-    let e : end + 1 - length (slice_range a.bytes.now at end) - 1 ≡ at = omega arith in
-    subst (λ k. Passed a.limit lines a.bytes.now (end + 1) (ts ++ record { bytes = slice_range a.bytes.now at end; line = line_ahead lines a.bytes.now k } ∷ [])) (sym e)
-    (passed_to a.limit lines a.bytes.now a.at at end ts inv.before (omega arith) run passed)
-
-pub returns-clause-some : goal.returns-clause-some
-returns-clause-some c =
-    let inv = c.requires in
-    let at = c.args.start in
-    let end : ℕ = c.args.white.next + c.lowest-bit.result - 64 in
-    let m = inv.marks in
-    let ahead = m.ahead c.lowest-bit.result c.lowest-bit.ensures.set in
-    let len = length-slice_range c.args.self.now.bytes.now at end (omega (arith, m.within, c.lowest-bit.ensures.bound)) in
-    omega (arith, len, inv.token c.lowest-bit.result c.lowest-bit.ensures.set)
-
-pub returns-clause-place : goal.returns-clause-place
-returns-clause-place c =
-    let a = c.args.self.now in
-    let inv = c.requires in
-    let at = c.args.start in
-    let end : ℕ = c.args.white.next + c.lowest-bit.result - 64 in
-    let m = inv.marks in
-    let ahead = m.ahead c.lowest-bit.result c.lowest-bit.ensures.set in
-    let len = length-slice_range a.bytes.now at end (omega (arith, m.within, c.lowest-bit.ensures.bound)) in
-    let e : end + 1 - length (slice_range a.bytes.now at end) - 1 ≡ at = omega arith in
-    let f : end + 1 - 1 ≡ end = omega arith in
-    ap₂ (slice_range a.bytes.now) (sym e) (sym f)
-
-pub returns-clause-run : goal.returns-clause-run
-returns-clause-run c =
-    let a = c.args.self.now in
-    let inv = c.requires in
-    let at = c.args.start in
-    let w = c.args.white in
-    let bit = c.lowest-bit.result in
-    let m = inv.marks in
-    let ahead = m.ahead bit c.lowest-bit.ensures.set in
-    let end : ℕ = w.next + bit - 64 in
-    let run = marked_run a.bytes.now at w bit m c.lowest-bit.ensures.set c.lowest-bit.ensures.below a.limit (λ e. let o = inv.token c.lowest-bit.result c.lowest-bit.ensures.set in absurd (omega (arith, e, o))) c.if-end-start.false in
-    let len = length-slice_range a.bytes.now at end (omega (arith, m.within, c.lowest-bit.ensures.bound)) in
-    let e : end + 1 - length (slice_range a.bytes.now at end) - 1 ≡ at = omega arith in
-    subst (λ k. IsRun a.limit a.bytes.now k (length (slice_range a.bytes.now at end))) (sym e) (subst (IsRun a.limit a.bytes.now at) (sym len) run)
-
-pub returns-clause-before : goal.returns-clause-before
-returns-clause-before c =
-    let a = c.args.self.now in
-    let inv = c.requires in
-    let at = c.args.start in
-    let end : ℕ = c.args.white.next + c.lowest-bit.result - 64 in
-    let m = inv.marks in
-    let ahead = m.ahead c.lowest-bit.result c.lowest-bit.ensures.set in
-    let len = length-slice_range a.bytes.now at end (omega (arith, m.within, c.lowest-bit.ensures.bound)) in
-    let e : end + 1 - length (slice_range a.bytes.now at end) - 1 ≡ at = omega arith in
-    subst (AreWhite a.bytes.now a.at) (sym e) inv.before
-
-pub returns-clause-further : goal.returns-clause-further
-returns-clause-further c =
-    let a = c.args.self.now in
-    let inv = c.requires in
-    let at = c.args.start in
-    let end : ℕ = c.args.white.next + c.lowest-bit.result - 64 in
-    let m = inv.marks in
-    let ahead = m.ahead c.lowest-bit.result c.lowest-bit.ensures.set in
-    let len = length-slice_range a.bytes.now at end (omega (arith, m.within, c.lowest-bit.ensures.bound)) in
-    omega (arith, len, inv.before.order)
+    let start : end + 1 - length (slice_range a.bytes.now at end) - 1 ≡ at = omega arith in
+    let last : end + 1 - 1 ≡ end = omega arith in
+    record {
+      gives = λ lines ts passed.
+          subst (λ k. Passed a.limit lines a.bytes.now (end + 1) (ts ++ record { bytes = slice_range a.bytes.now at end; line = line_ahead lines a.bytes.now k } ∷ [])) (sym start)
+          (passed_to a.limit lines a.bytes.now a.at at end ts inv.before (omega arith) run passed);
+      some = omega (arith, len, behind);
+      short = omega (arith, len, c.if-end-start.false);
+      place = ap₂ (slice_range a.bytes.now) (sym start) (sym last);
+      run = subst (λ k. IsRun a.limit a.bytes.now k (length (slice_range a.bytes.now at end))) (sym start) (subst (IsRun a.limit a.bytes.now at) (sym len) run);
+      before = subst (AreWhite a.bytes.now a.at) (sym start) inv.before;
+      further = omega (arith, len, inv.before.order);
+      within = omega (arith, m.within, c.lowest-bit.ensures.bound);
+      same = (refl, refl);
+    }
 
 pub returns-clause-start : goal.returns-clause-start
 returns-clause-start c =

@@ -1,0 +1,6 @@
+use Rattle.std.proofs.Common.{take}
+use Rattle.vcd_body.proofs.LowerCase.{AreLowBy}
+use Rattle.vcd_body.proofs.change.may_have_capital.Given as goal
+
+abbrev pub invariant-loop-byte : goal.invariant-loop-byte
+invariant-loop-byte l = AreLowBy l.all (take l.byte-index l.bytes)

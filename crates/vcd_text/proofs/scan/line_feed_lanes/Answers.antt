@@ -1,0 +1,27 @@
+use Rattle.std.proofs.Common.{◌==◌, ℕ, cond, ap, ◌∙◌, arith, w8}
+use Rattle.std.proofs.lemmas.List.{length-map}
+use Rattle.std.proofs.lemmas.Simd.{length-chunk, tops_compared, zip2_splat}
+use lib.Lanes.{chunk, sel_l, sum_l}
+use lib.ListN.{length, replicate}
+use Rattle.vcd_text.proofs.Masks.{ones-sel, sum-ones}
+use Rattle.vcd_text.proofs.PassedLemmas.{line_feeds_in-few}
+use Rattle.vcd_text.proofs.scan.line_feed_lanes.Goals as goal
+
+pub returns-clause-sum : goal.returns-clause-sum
+returns-clause-sum c =
+    let v = chunk c.args.at 64 c.args.bytes.now in
+    let long = length-chunk c.args.at 64 c.args.bytes.now c.requires in
+    ap (λ ms. sum_l (sel_l {A = ℕ} ms (replicate 64 1) (replicate 64 0))) (tops_compared w8 (λ a b. a == b) v (replicate 64 10) ∙ zip2_splat (λ a b. a == b) v 64 10 long)
+    ∙ ap sum_l (ones-sel (λ b. b == 10) v 64 long) ∙ sum-ones (λ b. b == 10) v
+
+pub returns-clause-few : goal.returns-clause-few
+returns-clause-few c =
+    let v = chunk c.args.at 64 c.args.bytes.now in
+    omega (arith, returns-clause-sum c, line_feeds_in-few v, length-chunk c.args.at 64 c.args.bytes.now c.requires)
+
+pub returns-clause-lanes : goal.returns-clause-lanes
+returns-clause-lanes c =
+    let v = chunk c.args.at 64 c.args.bytes.now in
+    let long = length-chunk c.args.at 64 c.args.bytes.now c.requires in
+    ap (λ ms. length (sel_l {A = ℕ} ms (replicate 64 1) (replicate 64 0))) (tops_compared w8 (λ a b. a == b) v (replicate 64 10) ∙ zip2_splat (λ a b. a == b) v 64 10 long)
+    ∙ ap length (ones-sel (λ b. b == 10) v 64 long) ∙ length-map v (λ b. cond (b == 10) 1 0) ∙ long
