@@ -1,6 +1,7 @@
 #!/usr/bin/env bash
 # slow_inputs.sh [VARIABLES]   how long `vcdkit sample` takes at many times over a header of so many
-# variables (200000), and `vcdkit pick` of many names, beside `check` of the header. See README.md.
+# variables (200000), and `vcdkit pick` of many names, beside `check` of the header; and `check` of
+# section keywords alone, beside as many time marks. See README.md.
 set -eu -o pipefail
 here=$(cd "$(dirname "$0")" && pwd)
 size=${1:-200000}
@@ -18,13 +19,24 @@ best_of() {
     for _ in 1 2 3; do times_of "$1" "$2"; done | sort -n | awk 'NR == 1 { print $1 }'
 }
 
+# A line with two times.
+print_times() {
+    awk -v what="$1" -v time="$2" -v check="$3" \
+        'BEGIN { printf "%-48s %8.3f %8.3f\n", what, time, check }'
+}
+
 # A line with the time of these words over a header, and of check of it.
 measure() {
     local what=$1 file=$2
     shift 2
     words=("$@")
-    awk -v what="$what" -v time="$(best_of words "$file")" -v check="$(best_of check "$file")" \
-        'BEGIN { printf "%-48s %8.3f %8.3f\n", what, time, check }'
+    print_times "$what" "$(best_of words "$file")" "$(best_of check "$file")"
+}
+
+# A dump of one variable, with the lines of standard input as its body.
+write_body() {
+    echo '$var wire 1 ! a $end $enddefinitions $end'
+    cat
 }
 
 # A header of so many variables in one scope, whose names have a point.
@@ -55,3 +67,7 @@ for count in 3000 30000; do
     mapfile -t names < <(seq -f u.a.%.0f 0 $((count - 1)))
     measure "pick of $count names with a point" "$work/points" pick -- "${names[@]}"
 done
+awk 'BEGIN { for (n = 0; n < 2000000; n++) print "$dumpon\n$end" }' | write_body > "$work/sections"
+seq -f '#%.0f' 1000000 4999999 | write_body > "$work/marks"
+print_times 'check of 4,000,000 section keywords, and marks' \
+    "$(best_of check "$work/sections")" "$(best_of check "$work/marks")"

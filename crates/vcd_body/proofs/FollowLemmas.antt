@@ -125,17 +125,14 @@ bit_stays w false e f digits size end values =
     ∙ sym (one_text f 48 (kept_with values end w) digits)
     ∙ sym (told w state.Zero 48 (record { differs = false; rises = false; falls = false }) 48 (ap one_digit e) refl refl (rw e refl) (rw e refl) f digits size end values)
 
-pub not_true : (b : Bool) → not b ≡ true → b ≡ false
-not_true true h = cc
-not_true false h = refl
-
-pub not_false : (b : Bool) → not b ≡ false → b ≡ true
-not_false true h = refl
-not_false false h = cc
-
 pub bit_digit : (one : Bool) (how : ℕ) → how ≡ number_of (cond one state.One state.Zero) → one_digit (state_in how) ≡ Some (cond one 49 48)
 bit_digit true how is = ap (λ n. one_digit (state_in n)) is
 bit_digit false how is = ap (λ n. one_digit (state_in n)) is
+
+-- the way to a digit from the other one tells whether it rises
+pub way_turns : (one : Bool) (way : ℕ) → way ≡ cond one 2 0 → ((way == 2) ≡ one) × ((way == 0) ≡ not one)
+way_turns true way e = rw e (refl, refl)
+way_turns false way e = rw e (refl, refl)
 
 -- a slot that holds the other digit of 0 and 1, or the same
 pub other_bit : (how : ℕ) (one : Bool) → how ≡ number_of (cond one state.Zero state.One) → state_in how ≡ cond one state.Zero state.One

@@ -14,7 +14,7 @@ use Rattle.vcd_body.specs.declared.slot.Slot.{Slot}
 use Rattle.vcd_body.proofs.StoreLemmas.{get_other, get_set, no_slot, same_or_not, some_at, whole_is}
 
 abbrev unset_slot : Slot
-unset_slot = record { number = 0; how = 0; low = 0 ∷ 0 ∷ 0 ∷ [] }
+unset_slot = record { number = 0; how = 0; steps = 0 ∷ 0 ∷ 0 ∷ [] }
 
 abbrev share_at : Code → ℕ
 share_at c = share_of c.size

@@ -11,6 +11,7 @@ use Rattle.std.proofs.Math.Seq.{take-take}
 use borrow.Rule.Slice.PartMut.{put_mid}
 use Rattle.vcd_body.specs.Kept.{Held, Kept, bytes_for, counts_if, counts_with, fits, held_as, one_more, room_for, with_held, with_step, with_text}
 use Rattle.vcd_body.specs.Packed.{digits_in, held_digit, quarter_of}
+use Rattle.vcd_body.specs.Steps.{counts_after, with_steps}
 use Rattle.vcd_body.specs.Stored.{AreLaidOut, ChangesAt, IsHeldAs, IsLaid, Whole, least_bytes, end_at, held_by, held_of, holding_of, holding_at, kept_in, kept_with, len_in, number_of, one_digit, set_whole, some_by, start_or, state_in, used, used_by, whole, whole_at}
 use Rattle.vcd_body.specs.declared.item.Form.{Form}
 use Rattle.vcd_body.specs.declared.item.Form.TheVariants as form
@@ -222,6 +223,25 @@ slot_changes slots k s s' at shares values f one = by_share (slice_get shares k)
     by_share None e = unseen values slots (slice_set slots k s') shares shares k f (no_share slots shares k e) (no_share (slice_set slots k s') shares k e) (other_slots slots shares k s') (λ n j. refl)
     by_share (Some h) e = code_changes slots (slice_set slots k s') shares shares k (whole s h) (whole s' h) (slot_written slots shares k s s' h at e) values f (one h)
 
+-- the slot was written, and what was left to do makes the change whole
+pub slot_leaves : (slots : List Slot) (k : ℕ) (s s' : Slot) → slice_get slots k ≡ Some s → (shares : List Share) (values : List ℕ) (f g : Kept → Kept) → ((h : Share) (end : ℕ) → f (kept_with values end (whole s' h)) ≡ g (kept_with values end (whole s h)))
+    → (after : List ℕ) (counted : List Slot) (with : List Share) → ChangesAt k f values (slice_set slots k s') shares after counted with → ChangesAt k g values slots shares after counted with
+slot_leaves slots k s s' at shares values f g one after counted with rest = λ j. rest j ∙ by_place j (same_or_not j k)
+  where
+    end : ℕ
+    end = end_at shares (length values) k
+
+    by_share : (o : Option Share) → slice_get shares k ≡ o → option_map f (kept_in values (slice_set slots k s') shares k) ≡ option_map g (kept_in values slots shares k)
+    by_share None e = ap (λ (o : Option Whole). option_map f (option_map (kept_with values end) o)) (no_share (slice_set slots k s') shares k e) ∙ sym (ap (λ (o : Option Whole). option_map g (option_map (kept_with values end) o)) (no_share slots shares k e))
+    by_share (Some h) e =
+        ap (λ (o : Option Whole). option_map f (option_map (kept_with values end) o)) (whole_is (slice_set slots k s') shares k s' h (get_set slots k s' (slice_get_within slots k s at)) e)
+        ∙ ap (λ (x : Kept). Some x) (one h end)
+        ∙ sym (ap (λ (o : Option Whole). option_map g (option_map (kept_with values end) o)) (whole_is slots shares k s h at e))
+
+    by_place : (j : ℕ) → (j ≡ k) ⊎ (j ≢ k) → cond (j == k) (option_map f (kept_in values (slice_set slots k s') shares j)) (kept_in values (slice_set slots k s') shares j) ≡ cond (j == k) (option_map g (kept_in values slots shares j)) (kept_in values slots shares j)
+    by_place j (inl e) = rw (eq-eqb j k e) (subst (λ p. option_map f (kept_in values (slice_set slots k s') shares p) ≡ option_map g (kept_in values slots shares p)) (sym e) (by_share (slice_get shares k) refl))
+    by_place j (inr e) = rw (ne_eqb j k e) (ap (option_map (kept_with values (end_at shares (length values) j))) (other_slots slots shares k s' j e))
+
 -- the share alone
 pub share_alone_changes : (shares : List Share) (k : ℕ) (h h' : Share) → slice_get shares k ≡ Some h → h'.start ≡ h.start → (slots : List Slot) (values : List ℕ) (f : Kept → Kept) → ((s : Slot) (end : ℕ) → kept_with values end (whole s h') ≡ f (kept_with values end (whole s h)))
     → ChangesAt k f values slots shares values slots (slice_set shares k h')
@@ -415,10 +435,10 @@ module _ (slots : List Slot) (shares : List Share) (n : ℕ) (laid : AreLaidOut 
 
 -- what an index outside the slots, or the shares, would give in a proof
 abbrev pub blank : Slot
-blank = record { number = 0; how = 0; low = [] }
+blank = record { number = 0; how = 0; steps = [] }
 
 abbrev pub blank_share : Share
-blank_share = record { start = 0; upper = 0; above = []; chosen = false }
+blank_share = record { start = 0; upper = 0; counts = []; chosen = false }
 
 -- with another value
 abbrev kept_as : ℕ → Whole → Held → Kept
@@ -595,6 +615,17 @@ counts_kept s counts which end values e = rw e refl
 pub steps_kept : (s : Whole) (counts : List ℕ) (rises falls : Bool) (end : ℕ) (values : List ℕ) → counts ≡ counts_if falls (counts_if rises (counts_with s.counts 0) 1) 2
     → kept_with values end (record { state = s.state; start = s.start; len = s.len; counts = counts; chosen = s.chosen }) ≡ with_step rises falls (kept_with values end s)
 steps_kept s counts rises falls end values e = rw e refl
+
+pub more_kept : (s : Whole) (counts : List ℕ) (more : ℕ) (rises falls : Bool) (end : ℕ) (values : List ℕ) → counts ≡ counts_after more rises falls s.counts
+    → kept_with values end (record { state = s.state; start = s.start; len = s.len; counts = counts; chosen = s.chosen }) ≡ with_steps more rises falls (kept_with values end s)
+more_kept s counts more rises falls end values e = rw e refl
+
+-- one step at once
+pub one_step : (rises falls : Bool) (k : Kept) → with_steps 1 rises falls k ≡ with_step rises falls k
+one_step true true k = refl
+one_step true false k = refl
+one_step false true k = refl
+one_step false false k = refl
 
 -- a text that is not empty
 pub some_text : (text : List ℕ) → (length text == 0) ≡ false → 0 < length text

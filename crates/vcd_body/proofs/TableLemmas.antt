@@ -1,10 +1,10 @@
 -- The value of a code of a view, as the table has it.
 use Rattle.std.proofs.lemmas.List.{take_all}
-use Rattle.std.proofs.Common.{take, drop, length-drop, ◌-◌, ◌≡◌, ◌≢◌, [], ◌<◌, ◌≤◌, Bool, true, false, cond, ℕ, ◌+◌, arith, List, slice_get, Option, Some, None, get_or, slice_set, min, refl, subst, sym, ap, ap₂, ◌∙◌}
+use Rattle.std.proofs.Common.{take, drop, length-drop, ◌-◌, ◌≡◌, ◌≢◌, [], ◌≤◌, Bool, true, false, cond, ℕ, ◌+◌, arith, List, slice_get, Option, Some, None, min, refl, subst, sym, ap, ap₂, ◌∙◌}
 use Rattle.std.specs.Prelude.{option_map, option_and_then, unwrap_or, length, map, slice_range, ◌∷◌, sum_by}
 use Rattle.std.specs.List.{AllZip}
 use Rattle.std.proofs.lemmas.List.Sums.{sum_by-cons}
-use Rattle.std.proofs.lemmas.Option.{slice_get-get_or, slice_get-map}
+use Rattle.std.proofs.lemmas.Option.{slice_get-map}
 use Rattle.vcd_model.specs.Bound.{value_room}
 use Rattle.vcd_model.specs.Cut.{line_if_set}
 use Rattle.vcd_model.specs.Declarations.{IdCode}
@@ -15,7 +15,7 @@ use Rattle.vcd_view.specs.declared.view.Code.{Code}
 use Rattle.vcd_view.specs.declared.view.HeadView.{HeadView}
 use Rattle.vcd_body.specs.Contents.{IsLaidOut, KeepsTable, codes_shown, held_at, line_of, shown_as, shown_code, value_in}
 use Rattle.vcd_body.specs.Kept.{Held, Kept, value_at_size}
-use Rattle.vcd_body.specs.Stored.{AreLaidOut, ChangesAt, Whole, end_at, held_by, held_from, holding_of, kept_with, len_of, room_of, share_of, some_by, used, whole, whole_at}
+use Rattle.vcd_body.specs.Stored.{AreLaidOut, Whole, end_at, held_by, held_from, holding_of, kept_with, len_of, room_of, share_of, some_by, used, whole_at}
 use denote.Enum.Bare.{sameb}
 use Rattle.vcd_body.specs.contracts.slot.State.{the_type}
 use Rattle.vcd_body.specs.declared.slot.Holding.{Holding}
@@ -25,7 +25,7 @@ use Rattle.vcd_body.specs.declared.slot.Slot.{Slot}
 use Rattle.vcd_body.specs.declared.slot.State.{State}
 use Rattle.vcd_body.specs.declared.slot.State.TheVariants as state
 use Rattle.vcd_body.specs.declared.table.Table.{Table}
-use Rattle.vcd_body.proofs.StoreLemmas.{blank, blank_share, both_written, code_changes, counted_laid, fits_in, slot_laid, some_in, whole_is}
+use Rattle.vcd_body.proofs.StoreLemmas.{fits_in, some_in, whole_is}
 use Rattle.std.proofs.lemmas.Bool.{le-leb}
 
 pub held_here : (t : Table) (code : ℕ) (s : Slot) (h : Share) → slice_get t.slots.now code ≡ Some s → slice_get t.shares.now code ≡ Some h → held_at t code ≡ held_from t.values.now h.start (holding_of s h)
@@ -123,28 +123,3 @@ keeps_laid t t' slots shares values laid = record {
   codes = ap₂ (λ a b. min a b) slots shares;
   bytes = values;
 }
-
--- counters that were written
-module _ (t : Table) (code : ℕ) (at : code < length t.slots.now) (there : code < length t.shares.now) (low above : List ℕ) where
-  abbrev slot_was : Slot
-  slot_was = get_or t.slots.now code blank
-
-  abbrev share_was : Share
-  share_was = get_or t.shares.now code blank_share
-
-  abbrev slot_is : Slot
-  slot_is = record { number = slot_was.number; how = slot_was.how; low = low }
-
-  abbrev share_is : Share
-  share_is = record { start = share_was.start; upper = share_was.upper; above = above; chosen = share_was.chosen }
-
-  pub counted_changes : (f : Kept → Kept) → ((end : ℕ) → kept_with t.values.now end (whole slot_is share_is) ≡ f (kept_with t.values.now end (whole slot_was share_was)))
-      → ChangesAt code f t.values.now t.slots.now t.shares.now t.values.now (slice_set t.slots.now code slot_is) (slice_set t.shares.now code share_is)
-  counted_changes f one = code_changes t.slots.now _ t.shares.now _ code (whole slot_was share_was) (whole slot_is share_is) (both_written t.slots.now t.shares.now code slot_was slot_is share_was share_is (slice_get-get_or t.slots.now code blank at) (slice_get-get_or t.shares.now code blank_share there) refl) t.values.now f one
-
-  pub counted_stays : IsLaidOut t → AreLaidOut (slice_set t.slots.now code slot_is) (slice_set t.shares.now code share_is) (length t.values.now)
-  counted_stays laid =
-      let here = slice_get-get_or t.slots.now code blank at in
-      let l = laid code slot_was here in
-      let n = length t.values.now in
-      counted_laid _ t.shares.now n (slot_laid t.slots.now t.shares.now n laid code slot_was here slot_is (λ h begins. (fits_in t.shares.now n code slot_was h l begins, some_in t.shares.now n code slot_was h l begins))) code share_was share_is (slice_get-get_or t.shares.now code blank_share there) refl refl

@@ -1,10 +1,10 @@
--- How a table keeps it: a slot for each code, with the lowest parts of its counters, and a share of
--- the bytes of values, with the others.
+-- How a table keeps it: a slot for each code, with the steps that it has counted, and a share of
+-- the bytes of values, with the counters before them.
 use Rattle.std.specs.Prelude.{◌≡◌, ◌≢◌, ◌<◌, ℕ, zero, suc, ◌+◌, ◌-◌, ◌*◌, ◌%◌, ◌≤◌, ◌==◌, nat_le, min, max, cond, List, [], ◌∷◌, ◌++◌, length, take, drop, map, sum_by, Bool, false, slice_get, Option, Some, None, option_map, option_and_then}
 use Rattle.std.specs.Str.{byte}
 use Rattle.vcd_view.specs.declared.view.Code.{Code}
 use Rattle.vcd_body.specs.Counters.{counts_of}
-use Rattle.vcd_body.specs.Kept.{Held, Kept, bytes_for, held_as, with_step}
+use Rattle.vcd_body.specs.Kept.{Held, Kept, bytes_for, held_as}
 use Rattle.vcd_model.specs.Values.{extend, short}
 pub use Rattle.vcd_body.specs.Binary.{binary_digits, count_in, is_proper, number_in}
 pub use Rattle.vcd_body.specs.Packed.{digits_in, held_digit}
@@ -125,7 +125,7 @@ pub record Whole : Type 0 where
   pub chosen : Bool
 
 abbrev pub whole : Slot → Share → Whole
-whole s h = record { state = state_in s.how; len = len_in s.how s.number h.upper; start = h.start; counts = counts_of s.low h.above; chosen = h.chosen }
+whole s h = record { state = state_in s.how; len = len_in s.how s.number h.upper; start = h.start; counts = counts_of s.steps h.counts; chosen = h.chosen }
 
 -- with a value that is held so
 abbrev pub set_whole : State → ℕ → Whole → Whole
@@ -168,10 +168,6 @@ ChangesAt code f values slots shares values' slots' shares' = (place : ℕ) → 
 -- a slot is changed so, and no share is: whatever the shares and the values are
 abbrev pub ChangesSlot : ℕ → (Kept → Kept) → List Slot → List Slot → Type 0
 ChangesSlot code f slots slots' = (shares : List Share) (values : List ℕ) → ChangesAt code f values slots shares values slots' shares
-
--- what is left to count is a step, which then makes the change whole
-abbrev pub LeavesStep : ℕ → (Kept → Kept) → Bool → Bool → List Slot → List Slot → Type 0
-LeavesStep code f rises falls slots slots' = (shares : List Share) (values after : List ℕ) (counted : List Slot) (with : List Share) → ChangesAt code (with_step rises falls) values slots' shares after counted with → ChangesAt code f values slots shares after counted with
 
 -- how many bytes a text of n bytes takes at least
 abbrev pub least_bytes : Form → ℕ → ℕ
@@ -235,11 +231,11 @@ start_of codes n k = min (room_of (take k codes)) n
 
 -- a code of which nothing is known
 abbrev pub IsUnset : Slot → Type 0
-IsUnset s = s ≡ record { number = 0; how = 0; low = 0 ∷ 0 ∷ 0 ∷ [] }
+IsUnset s = s ≡ record { number = 0; how = 0; steps = 0 ∷ 0 ∷ 0 ∷ [] }
 
 -- a share that begins here, of a code of which nothing was counted
 abbrev pub share_from : ℕ → Share
-share_from start = record { start = start; upper = 0; above = 0 ∷ 0 ∷ 0 ∷ []; chosen = false }
+share_from start = record { start = start; upper = 0; counts = 0 ∷ 0 ∷ 0 ∷ []; chosen = false }
 
 abbrev pub IsUncounted : Share → Type 0
 IsUncounted h = h ≡ share_from 0

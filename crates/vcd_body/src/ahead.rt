@@ -1,6 +1,6 @@
 // Items whose tokens are whole ahead in the chunk: most cost no change of the feed.
-ghost use Rattle.std.specs.Prelude.{◌≡◌, ◌⊎◌, ℕ, ◌+◌, ◌^◌, ◌<◌, ◌≤◌, List, [], drop, length, slice_range, true, is_some, None, Some, IfSome};
-ghost use Rattle.vcd_body.specs.Names.{Advances, Begins, CallEnd, GivesAhead, GivesToLast, HasMark, HasTime, IsChangeBy, IsFound, IsFoundScalar, IsRun, IsScalar, LeavesRegs, Opens, OpensVector, Passed, TakesItem, TakesOpened, TakesOpenedMark, Token, ahead_of, binary_digits, bytes_of, limit_of, lines_of, longest_of, passed_of, seen, source_of};
+ghost use Rattle.std.specs.Prelude.{◌≡◌, ◌⊎◌, ℕ, ◌+◌, ◌^◌, ◌<◌, ◌≤◌, List, [], drop, length, slice_get, slice_range, true, is_some, None, Some, IfSome};
+ghost use Rattle.vcd_body.specs.Names.{Advances, AreWhite, Begins, CallEnd, GivesAhead, GivesToLast, HasMark, HasTime, IsChangeBy, IsFound, IsFoundScalar, IsRun, IsScalar, LeavesRegs, Opens, OpensVector, Passed, TakesItem, TakesOpened, TakesOpenedMark, Token, ahead_of, binary_digits, byte, bytes_of, limit_of, lines_of, longest_of, passed_of, seen, source_of};
 ghost use Rattle.vcd_body.specs.declared.item.Form.TheVariants as form;
 ghost use Rattle.vcd_body.specs.declared.item.Item.TheVariants as item;
 ghost use Rattle.vcd_body.specs.declared.words.First.TheVariants as first;
@@ -277,6 +277,17 @@ pub fn has_run(ahead: Ahead<'_>) -> bool
     let mut next = ahead;
     let _ = next.next_short();
     next.has_short()
+}
+
+/// Returns whether the next token ahead begins with `$`, as a keyword does. Then no item lies ahead
+/// of it.
+#[inline(always)]
+pub fn keyword_comes(ahead: Ahead<'_>) -> bool
+    ensures { result ≡ true → (start : ℕ)
+        × AreWhite (bytes_of ahead.entry) (passed_of ahead.entry) start
+        × (slice_get (bytes_of ahead.entry) start ≡ Some (byte "$")) }
+{
+    ahead.first_byte() == Some(b'$')
 }
 
 /// The tokens of a vector's change, which were taken ahead: one that a `b` and digits begin, and

@@ -1,84 +1,71 @@
-// The three counters of a code, of 64 bits each. The lowest 8 bits of each are in the code's slot,
-// beside its value, and the others in its share: so most steps touch the slot alone.
-ghost use Rattle.std.specs.Prelude.{◌≡◌, ℕ, List, true, false};
-ghost use Rattle.vcd_body.specs.Names.{count_of, counts_if, counts_of, counts_with};
-
-/// The greatest number above the lowest 8 bits of a counter.
-const MOST_ABOVE: u64 = 72_057_594_037_927_935;
+// The three counters of a code, of 64 bits each. The code's share has them as they were once, and
+// its slot has how many steps came since, in 8 bits for each way that a step may go: so most steps
+// add one to one byte of the slot.
+ghost use Rattle.std.specs.Prelude.{◌≡◌, ◌<◌, ℕ, List, ◌==◌, true, false};
+ghost use Rattle.vcd_body.specs.Names.{counts_after, counts_if, counts_of, counts_plus, counts_plus_if, counts_with};
 
 /// Returns the counters.
 #[inline(always)]
-pub(crate) fn counts_of(low: [u8; 3], above: [u64; 3]) -> [u64; 3]
-    ensures { result ≡ counts_of low above }
+pub(crate) fn counts_of(steps: [u8; 3], counts: [u64; 3]) -> [u64; 3]
+    ensures { result ≡ counts_of steps counts }
 {
+    let falls = u64::from(steps[0]);
+    let rises = u64::from(steps[2]);
     [
-        count_of(low[0], above[0]),
-        count_of(low[1], above[1]),
-        count_of(low[2], above[2]),
+        counts[0].saturating_add(falls + u64::from(steps[1]) + rises),
+        counts[1].saturating_add(rises),
+        counts[2].saturating_add(falls),
     ]
 }
 
-/// Returns a counter of these parts.
+/// How many steps a counter of a slot has counted where it begins again at 0.
+pub(crate) const CARRY: u64 = 256;
+
+/// Adds so many to a counter of a share. A full one stays.
 #[inline(always)]
-fn count_of(low: u8, above: u64) -> u64
-    ensures { result ≡ count_of low above }
+pub(crate) fn count_more(counts: &mut [u64; 3], which: usize, more: u64)
+    ensures { (steps : List ℕ)
+        → counts_of steps counts.new ≡ counts_plus more (counts_of steps counts.old) which }
 {
-    above.saturating_mul(256).saturating_add(u64::from(low))
-}
-
-/// Adds one to a counter. A full one stays.
-#[inline(never)]
-pub(crate) fn count_one(low: &mut [u8; 3], above: &mut [u64; 3], which: usize)
-    ensures { counts_of low.new above.new ≡ counts_with (counts_of low.old above.old) which }
-{
-    if which >= low.len() {
-        return;
-    }
-    if low[which] < u8::MAX {
-        low[which] += 1;
-        return;
-    }
-    if above[which] < MOST_ABOVE {
-        above[which] += 1;
-        low[which] = 0;
+    if which < counts.len() {
+        counts[which] = counts[which].saturating_add(more);
     }
 }
 
-/// Adds one to the first of the lowest parts, and to that of rises or of falls where one of the
-/// tests holds: it takes no branches by which. Returns whether these parts had room; else, or where
-/// both tests hold, nothing changes.
+/// Adds so many to a counter of a share where a test holds. A full one stays.
 #[inline(always)]
-pub(crate) fn step_low(low: &mut [u8; 3], rises: bool, falls: bool) -> bool
-    ensures more { result ≡ true → (above : List ℕ) → counts_of low.new above
-        ≡ counts_if falls (counts_if rises (counts_with (counts_of low.old above) 0) 1) 2 }
-    ensures same { result ≡ false → low.new ≡ low.old }
+fn count_more_if(counts: &mut [u64; 3], which: usize, more: u64, test: bool)
+    ensures { (steps : List ℕ)
+        → counts_of steps counts.new ≡ counts_plus_if test more (counts_of steps counts.old) which }
 {
-    let turned = if falls { 2 } else { 1 };
-    if rises & falls {
-        return false;
+    if test {
+        count_more(counts, which, more);
     }
-    let Some(changes) = low[0].checked_add(1) else {
-        return false;
-    };
-    let Some(turns) = low[turned].checked_add(u8::from(rises | falls)) else {
-        return false;
-    };
-    low[0] = changes;
-    low[turned] = turns;
-    true
 }
 
-/// Adds one to the first counter, and to the others where the tests hold, whatever the lowest parts
-/// are. A full one stays.
-pub(crate) fn carry_step(low: &mut [u8; 3], above: &mut [u64; 3], rises: bool, falls: bool)
-    ensures { counts_of low.new above.new
-        ≡ counts_if falls (counts_if rises (counts_with (counts_of low.old above.old) 0) 1) 2 }
+/// Adds so many to the first counter of a share, and to the others where the tests hold. A full one
+/// stays.
+pub(crate) fn count_steps(counts: &mut [u64; 3], more: u64, rises: bool, falls: bool)
+    ensures { (steps : List ℕ) → counts_of steps counts.new
+        ≡ counts_after more rises falls (counts_of steps counts.old) }
 {
-    count_one(low, above, 0);
-    if rises {
-        count_one(low, above, 1);
-    }
-    if falls {
-        count_one(low, above, 2);
-    }
+    count_more(counts, 0, more);
+    count_more_if(counts, 1, more, rises);
+    count_more_if(counts, 2, more, falls);
+}
+
+/// Counts a step that goes this way in a slot. Returns whether that had room for it; else its
+/// counter begins again, and 256 steps are left to count.
+#[inline(always)]
+pub(crate) fn count_step(steps: &mut [u8; 3], way: usize) -> bool
+    requires { way < 3 }
+    ensures more { result ≡ true → (counts : List ℕ) → counts_of steps.new counts
+        ≡ counts_if (way == 0) (counts_if (way == 2) (counts_with (counts_of steps.old counts) 0) 1) 2 }
+    ensures left { result ≡ false → (counts : List ℕ)
+        → counts_after 256 (way == 2) (way == 0) (counts_of steps.new counts)
+        ≡ counts_if (way == 0) (counts_if (way == 2) (counts_with (counts_of steps.old counts) 0) 1) 2 }
+{
+    let count = steps[way].wrapping_add(1);
+    steps[way] = count;
+    count != 0
 }

@@ -101,8 +101,8 @@ mod value;
 mod words;
 
 pub use ahead::{
-    Opening, Plain, VectorTokens, has_run, item_ahead, mark_ahead, near_mark, opening_ahead,
-    pass_items, real_ahead, scalar_ahead, short_ahead, time_ahead, vector_ahead,
+    Opening, Plain, VectorTokens, has_run, item_ahead, keyword_comes, mark_ahead, near_mark,
+    opening_ahead, pass_items, real_ahead, scalar_ahead, short_ahead, time_ahead, vector_ahead,
     vector_tokens_ahead,
 };
 pub use answer::{Done, More, Stop};

@@ -1,5 +1,5 @@
 // Lines that end with the new code of a number.
-ghost use Rattle.std.specs.Prelude.{◌≡◌, ◌≢◌, ℕ, ◌+◌, ◌-◌, ◌%◌, ◌^◌, ◌<◌, ◌≤◌, ◌++◌, ◌∷◌, [], List, false, true, length, IfSome};
+ghost use Rattle.std.specs.Prelude.{◌≡◌, ◌≢◌, ℕ, ◌+◌, ◌-◌, ◌%◌, ◌^◌, ◌<◌, ◌≤◌, ◌++◌, ◌∷◌, [], List, take, false, true, length, IfSome};
 ghost use Rattle.vcd_body.specs.Names.{Puts, PutsTo, binary_digits, bytes_without, line_under, new_code, HasChange, HasPlaces};
 
 use crate::ahead::Plain;
@@ -9,7 +9,7 @@ use crate::id::Id;
 use crate::item::Form;
 use crate::lines::{is_lower, left_out_of_front};
 use crate::put_line::{is_bit, put_line};
-use vcd_text::{Sink, WriteFailed, put, put_front};
+use vcd_text::{Sink, WriteFailed, put, put_few, put_parts};
 use vcd_view::NewCode;
 
 /// Returns the first byte of the code of a number.
@@ -20,38 +20,47 @@ fn digit_of(number: u64) -> u8
     (number % 94) as u8 + 33
 }
 
-/// Writes a byte, a code of one byte and a line feed.
-// One function for each length: so no line is made ready that is not written.
-#[inline(always)]
-fn put_one<W: Sink>(first: u8, low: u8, w: &mut W) -> Result<(), WriteFailed>
-    requires { (W.device w.old).failures < 2 ^ 64 - 1 }
-    ensures { Puts (W.device w.old) (W.device w.new) (first ∷ low ∷ 10 ∷ []) result }
-{
-    put(w, &[first, low, b'\n'])
+/// The end of a line: its bytes, of which the first ones count.
+#[derive(Clone, Copy)]
+struct End {
+    bytes: [u8; 8],
+    len: usize,
 }
 
-/// Writes a byte, a code of two bytes and a line feed.
+/// Returns a byte, the code of a number below 830,584, which has up to three bytes, and a line
+/// feed. None of a greater number.
 #[inline(always)]
-fn put_two<W: Sink>(first: u8, low: u8, high: u8, w: &mut W) -> Result<(), WriteFailed>
-    requires { (W.device w.old).failures < 2 ^ 64 - 1 }
-    ensures { Puts (W.device w.old) (W.device w.new) (first ∷ low ∷ high ∷ 10 ∷ []) result }
+fn short_end(first: u8, number: u64) -> Option<End>
+    ensures few { IfSome result (λ end. end.len ≤ 8) }
+    ensures text { IfSome result (λ end.
+        take end.len end.bytes ≡ first ∷ new_code number ++ 10 ∷ []) }
 {
-    put(w, &[first, low, high, b'\n'])
-}
-
-/// Writes a byte, a code of three bytes and a line feed.
-#[inline(always)]
-fn put_three<W: Sink>(
-    first: u8,
-    low: u8,
-    middle: u8,
-    high: u8,
-    w: &mut W,
-) -> Result<(), WriteFailed>
-    requires { (W.device w.old).failures < 2 ^ 64 - 1 }
-    ensures { PutsTo W.device w.old w.new (first ∷ low ∷ middle ∷ high ∷ 10 ∷ []) result }
-{
-    put(w, &[first, low, middle, high, b'\n'])
+    if number < 94 {
+        let low = number as u8 + 33;
+        return Some(End {
+            bytes: [first, low, b'\n', 0, 0, 0, 0, 0],
+            len: 3,
+        });
+    }
+    let low = digit_of(number);
+    let rest = number / 94;
+    if rest < 94 {
+        let high = rest as u8 + 33;
+        return Some(End {
+            bytes: [first, low, high, b'\n', 0, 0, 0, 0],
+            len: 4,
+        });
+    }
+    let high = rest / 94;
+    if high < 94 {
+        let middle = digit_of(rest);
+        let high = high as u8 + 33;
+        return Some(End {
+            bytes: [first, low, middle, high, b'\n', 0, 0, 0],
+            len: 5,
+        });
+    }
+    None
 }
 
 /// Writes a byte, the code of a number and a line feed.
@@ -66,25 +75,16 @@ fn put_any_code<W: Sink>(first: u8, number: u64, w: &mut W) -> Result<(), WriteF
 }
 
 /// Writes a byte, the code of a number and a line feed. A code of up to three bytes, as most are,
-/// is written by one write of a known length.
+/// is written by one write.
 #[inline(always)]
 pub(crate) fn put_code_line<W: Sink>(first: u8, number: u64, w: &mut W) -> Result<(), WriteFailed>
     requires { (W.device w.old).failures < 2 ^ 64 - 1 }
     ensures { Puts (W.device w.old) (W.device w.new) (first ∷ new_code number ++ 10 ∷ []) result }
 {
-    if number < 94 {
-        return put_one(first, number as u8 + 33, w);
+    match short_end(first, number) {
+        Some(end) => put_few(w, end.bytes, end.len),
+        None => put_any_code(first, number, w),
     }
-    let low = digit_of(number);
-    let rest = number / 94;
-    if rest < 94 {
-        return put_two(first, low, rest as u8 + 33, w);
-    }
-    let high = rest / 94;
-    if high < 94 {
-        return put_three(first, low, digit_of(rest), high as u8 + 33, w);
-    }
-    put_any_code(first, number, w)
 }
 
 /// Writes a change as `put_change` does, under the new code of this number. The number of the
@@ -107,31 +107,31 @@ pub fn put_renamed_bits<W: Sink>(
     put_line(size, event, form, text, bits, Id::Number(number), w)
 }
 
-/// Writes the bytes from `from` up to `end`, without so many after the first one. Those after them
-/// are looked at too.
-#[inline(always)]
-fn put_without<W: Sink>(
+/// Writes the bytes from `from` up to `end`, without so many after the first one, a blank, the code
+/// of a number and a line feed. The code is long.
+#[cold]
+#[inline(never)]
+fn put_copied_slowly<W: Sink>(
     bytes: &[u8],
     from: usize,
     end: usize,
     left_out: usize,
+    number: u64,
     w: &mut W,
 ) -> Result<(), WriteFailed>
     requires failures { (W.device w.old).failures < 2 ^ 64 - 1 }
     requires few { from + 1 + left_out ≤ end }
     requires within { end ≤ length bytes.now }
-    ensures { PutsTo W.device w.old w.new (bytes_without bytes.now from end left_out) result }
+    ensures { Puts (W.device w.old) (W.device w.new)
+        (bytes_without bytes.now from end left_out ++ (32 ∷ new_code number ++ 10 ∷ [])) result }
 {
-    if left_out == 0 {
-        return put_front(w, &bytes[from..], end - from);
-    }
     put(w, &bytes[from..from + 1])?;
-    let behind = from + 1 + left_out;
-    put_front(w, &bytes[behind..], end - behind)
+    put(w, &bytes[from + 1 + left_out..end])?;
+    put_any_code(b' ', number, w)
 }
 
 /// Writes the bytes from `from` up to `end`, without so many after the first one, a blank, the code
-/// of a number and a line feed.
+/// of a number and a line feed. Those after them are looked at too.
 // Not inlined: two arms of a loop call it.
 #[inline(never)]
 fn put_copied<W: Sink>(
@@ -148,8 +148,18 @@ fn put_copied<W: Sink>(
     ensures { Puts (W.device w.old) (W.device w.new)
         (bytes_without bytes.now from end left_out ++ (32 ∷ new_code number ++ 10 ∷ [])) result }
 {
-    put_without(bytes, from, end, left_out, w)?;
-    put_code_line(b' ', number, w)
+    let Some(code) = short_end(b' ', number) else {
+        return put_copied_slowly(bytes, from, end, left_out, number, w);
+    };
+    let rest = from + 1 + left_out;
+    put_parts(
+        w,
+        bytes[from],
+        &bytes[rest..],
+        end - rest,
+        code.bytes,
+        code.len,
+    )
 }
 
 /// Writes a change of a code of this size, which is no event's, under the new code of a number.

@@ -1,5 +1,5 @@
 //! What is kept of a code.
-ghost use Rattle.std.specs.Prelude.{◌≡◌, ◌≢◌, ◌≤◌, ◌⊎◌, ◌==◌, cond, length, true, false};
+ghost use Rattle.std.specs.Prelude.{◌≡◌, ◌≢◌, ◌≤◌, ◌⊎◌, ◌==◌, Bool, cond, length, true, false};
 ghost use Rattle.vcd_body.specs.Stored.{IsUncounted, IsUnset, held_digit, holding_of, len_of, number_of, one_digit, share_from, some_by, state_in, used};
 
 /// How the value of a code is held. Each digit has a state of its own, so that a value of one digit
@@ -38,8 +38,9 @@ pub struct Slot {
     // The number of the state that holds the value; and from 8 on, by how many binary digits it is
     // above 8.
     pub(crate) how: u8,
-    // The lowest 8 bits of each counter, so that most steps are counted here.
-    pub(crate) low: [u8; 3],
+    // How many steps came since the share had the counters: those that fall, those that do not
+    // turn, and those that rise. So most steps are counted here, by one byte.
+    pub(crate) steps: [u8; 3],
 }
 
 /// What else is kept of a code: its share of the bytes of values, the upper parts of its counters,
@@ -50,8 +51,8 @@ pub struct Share {
     pub(crate) start: usize,
     // How many digits, or bytes of a text, are held in it, above the lowest 32 bits.
     pub(crate) upper: u32,
-    // The 56 bits above the lowest 8 of each counter.
-    pub(crate) above: [u64; 3],
+    // The counters without the steps that the slot has counted.
+    pub(crate) counts: [u64; 3],
     pub(crate) chosen: bool,
 }
 
@@ -107,7 +108,7 @@ impl Slot {
         Slot {
             number: 0,
             how: number_of(State::Unset),
-            low: [0; 3],
+            steps: [0; 3],
         }
     }
 }
@@ -127,7 +128,7 @@ impl Share {
         Share {
             start,
             upper: 0,
-            above: [0; 3],
+            counts: [0; 3],
             chosen: false,
         }
     }
@@ -176,6 +177,16 @@ pub(crate) fn number_of_turned(digit: u8) -> u8
     ensures { result ≡ number_of (cond (digit == 49) State.Zero State.One) }
 {
     number_of_bit(b'0' + b'1' - digit)
+}
+
+/// Returns the number that encodes the state of the digit 0 for that of 1, and the other way round.
+#[inline(always)]
+pub(crate) fn turned(how: u8) -> u8
+    ensures { (one : Bool) → how ≡ number_of (cond one State.Zero State.One)
+        → result ≡ number_of (cond one State.One State.Zero) }
+{
+    // They are 1 and 2, which differ in two bits.
+    how ^ 3
 }
 
 /// Returns the state that a number encodes.

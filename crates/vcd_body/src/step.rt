@@ -1,5 +1,5 @@
 //! What a change of a value is, by its last digit.
-ghost use Rattle.std.specs.Prelude.{◌≡◌, ◌<◌, ◌+◌, ◌%◌, ℕ, ◌==◌, length, not, Some};
+ghost use Rattle.std.specs.Prelude.{◌≡◌, ◌<◌, ◌+◌, ◌%◌, ℕ, ◌==◌, ◌⊎◌, ◌&&◌, cond, false, length, Some};
 ghost use Rattle.vcd_body.specs.Names.{goes_from, last_bit, last_digit_in, model_form, value_with};
 
 use crate::item::Form;
@@ -55,18 +55,32 @@ pub(crate) fn step_to_text(differs: bool, before: Option<u8>, form: Form, text: 
     }
 }
 
-/// Returns the step from one number of binary digits to another.
+/// Returns the way that a step goes, as a slot counts it: 0 where it falls, 2 where it rises, and
+/// else 1.
 #[inline(always)]
-pub(crate) fn step_by_number(before: usize, after: usize) -> Step
-    ensures differs { result.differs ≡ not (before == after) }
-    ensures rises { result.rises ≡ goes_from 48 49 (last_bit before) (last_bit after) }
-    ensures falls { result.falls ≡ goes_from 49 48 (last_bit before) (last_bit after) }
+pub(crate) fn way_of(rises: bool, falls: bool) -> usize
+    ensures within { result < 3 }
+    ensures rises { rises && falls ≡ false → (result == 2) ≡ rises }
+    ensures falls { rises && falls ≡ false → (result == 0) ≡ falls }
 {
-    let first = before % 2;
-    let last = after % 2;
-    Step {
-        differs: before != after,
-        rises: first < last,
-        falls: last < first,
-    }
+    1 + usize::from(rises) - usize::from(falls)
+}
+
+/// Returns the way of a step from one number of binary digits to another.
+#[inline(always)]
+pub(crate) fn way_between(before: usize, after: usize) -> usize
+    ensures within { result < 3 }
+    ensures rises { (result == 2) ≡ goes_from 48 49 (last_bit before) (last_bit after) }
+    ensures falls { (result == 0) ≡ goes_from 49 48 (last_bit before) (last_bit after) }
+{
+    1 + after % 2 - before % 2
+}
+
+/// Returns the way of a step to the digit 0 or 1 from the other one.
+#[inline(always)]
+pub(crate) fn way_to(digit: u8) -> usize
+    requires { (digit ≡ 48) ⊎ (digit ≡ 49) }
+    ensures { result ≡ cond (digit == 49) 2 0 }
+{
+    2 * usize::from(digit - b'0')
 }

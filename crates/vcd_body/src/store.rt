@@ -1,16 +1,16 @@
 // What is kept of each code, in lent slices: a slot, and a share of the values.
 ghost use Rattle.std.specs.Prelude.{◌≡◌, ◌≢◌, ◌==◌, ℕ, max, ◌+◌, ◌-◌, ◌*◌, ◌<◌, ◌≤◌, ◌∷◌, [], true, false, length, take, None, Some, slice_get, Bool};
-ghost use Rattle.vcd_body.specs.Names.{ChangesCode, ChangesSlot, Code, Held, IsHeldAs, IsLaidOut, IsUnset, KeepsTable, LeavesNumber, LeavesTurn, SetsCode, SlotsKeepLaid, StepsTo, TurnsTo, bytes_in, codes_in, end_at, held_at, held_or, is_proper, least_bytes, len_of, one_digit, set_whole, share_from, share_of, some_by, start_of, state_in, used, whole, with_held, with_number, with_step, with_text};
+ghost use Rattle.vcd_body.specs.Names.{ChangesCode, ChangesSlot, Code, Held, IsHeldAs, IsLaidOut, IsUnset, KeepsTable, LeavesNumber, LeavesSteps, LeavesTurn, SetsCode, SlotsKeepLaid, StepsTo, TurnsTo, bytes_in, codes_in, end_at, held_at, held_or, is_proper, least_bytes, len_of, one_digit, set_whole, share_from, share_of, some_by, start_of, state_in, used, whole, with_held, with_number, with_step, with_steps, with_text};
 
 use crate::bits::{Bits, held_bits, is_number_step, is_proper};
-use crate::counters::{carry_step, step_low};
+use crate::counters::{count_step, count_steps};
 use crate::item::Form;
 use crate::packed::pack;
 use crate::slot::{
     HeldValue, Holding, Share, Slot, State, UPPER, holding_of, is_bit, number_of, number_of_bit,
-    number_of_turned,
+    number_of_turned, turned,
 };
-use crate::step::step_by_number;
+use crate::step::{way_between, way_to};
 use crate::table::Table;
 use vcd_view::Code;
 
@@ -174,19 +174,19 @@ impl<'a> Table<'a> {
         }
     }
 
-    /// Counts a step of the value of the code at a place, whatever is in its slot.
+    /// Adds so many to the first counter of the code at a place, and to the others where the tests
+    /// hold, in its share. A full one stays.
     // It is given the table, and no parts of it, so that none is made ready for it where it is not
     // called.
     #[cold]
     #[inline(never)]
-    pub(crate) fn carry(&mut self, code: usize, rises: bool, falls: bool)
+    pub(crate) fn add(&mut self, code: usize, more: u64, rises: bool, falls: bool)
         ensures keeps { KeepsTable self.old self.new }
-        ensures changes { ChangesCode code (with_step rises falls) self.old self.new }
+        ensures changes { ChangesCode code (with_steps more rises falls) self.old self.new }
     {
-        if code < self.slots.len() && code < self.shares.len() {
-            let slots = &mut *self.slots;
+        if code < self.shares.len() {
             let shares = &mut *self.shares;
-            carry_step(&mut slots[code].low, &mut shares[code].above, rises, falls);
+            count_steps(&mut shares[code].counts, more, rises, falls);
         }
     }
 }
@@ -206,18 +206,21 @@ pub(crate) fn set_bits(slots: &mut [Slot], code: usize, bits: Bits)
     }
 }
 
-/// Adds one to the first counter of a code, and to the others where the tests hold, where its slot
-/// has room for that. Returns whether it has; else nothing changes.
+/// Counts a step of the value of a code that goes this way in its slot. Returns whether that had
+/// room for it; else 256 steps are left to count.
 #[inline(always)]
-pub(crate) fn count_in_slot(slots: &mut [Slot], code: usize, rises: bool, falls: bool) -> bool
-    ensures counts { result ≡ true → ChangesSlot code (with_step rises falls) slots.old slots.new }
-    ensures same { result ≡ false → slots.new ≡ slots.old }
+pub(crate) fn count_in_slot(slots: &mut [Slot], code: usize, way: usize) -> bool
+    requires { way < 3 }
+    ensures counts { result ≡ true
+        → ChangesSlot code (with_step (way == 2) (way == 0)) slots.old slots.new }
+    ensures left { result ≡ false → LeavesSteps code (with_step (way == 2) (way == 0)) (way == 2)
+        (way == 0) slots.old slots.new }
     ensures laid { SlotsKeepLaid slots.old slots.new }
 {
     if code >= slots.len() {
         return false;
     }
-    step_low(&mut slots[code].low, rises, falls)
+    count_step(&mut slots[code].steps, way)
 }
 
 /// What became of a change for which its slot alone may be enough.
@@ -227,8 +230,8 @@ pub(crate) enum Stepped {
     Not,
     /// The value was set, and its step was counted where it differs.
     Counted,
-    /// The value was set. Its step, which rises or falls where a test holds, is left to count,
-    /// since the slot has no room for it.
+    /// The value was set. Of its step, which rises or falls where a test holds, 256 are left to
+    /// count, since the slot had no room for one more.
     Uncounted { rises: bool, falls: bool },
 }
 
@@ -245,20 +248,19 @@ pub(crate) fn turn_at(slots: &mut [Slot], code: usize, digit: u8) -> Stepped
     if code >= slots.len() || !is_bit(digit) {
         return Stepped::Not;
     }
-    let how = number_of_bit(digit);
     let before = slots[code].how;
     if before != number_of_turned(digit) {
-        return if before == how {
+        return if before == number_of_bit(digit) {
             Stepped::Counted
         } else {
             Stepped::Not
         };
     }
-    set_how(slots, code, how);
-    let rises = digit == b'1';
-    if count_in_slot(slots, code, rises, !rises) {
+    set_how(slots, code, turned(before));
+    if count_in_slot(slots, code, way_to(digit)) {
         return Stepped::Counted;
     }
+    let rises = digit == b'1';
     Stepped::Uncounted {
         rises,
         falls: !rises,
@@ -278,14 +280,15 @@ pub(crate) fn step_at(slots: &mut [Slot], code: usize, size: usize, bits: Bits) 
     if code >= slots.len() || !is_number_step(&slots[code], size, bits) {
         return Stepped::Not;
     }
-    let step = step_by_number(slots[code].number as usize, bits.number);
+    let before = slots[code].number as usize;
     set_bits(slots, code, bits);
-    if !step.differs || count_in_slot(slots, code, step.rises, step.falls) {
+    let way = way_between(before, bits.number);
+    if before == bits.number || count_in_slot(slots, code, way) {
         return Stepped::Counted;
     }
     Stepped::Uncounted {
-        rises: step.rises,
-        falls: step.falls,
+        rises: way == 2,
+        falls: way == 0,
     }
 }
 

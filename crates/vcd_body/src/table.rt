@@ -4,11 +4,11 @@ ghost use Rattle.vcd_body.specs.Names.{ChangesCode, ChangesRoomy, GivesShares, G
 
 use crate::bits::{Bits, put_digits};
 use crate::compare::value_differs;
-use crate::counters::{count_one, counts_of};
+use crate::counters::{CARRY, count_more, counts_of};
 use crate::held::{digit_shown, last_held};
 use crate::item::Form;
 use crate::slot::{Share, Shown, Slot, State, number_of_digit, state_in};
-use crate::step::{Step, step_to_text};
+use crate::step::{Step, step_to_text, way_of};
 use crate::store::{Stepped, count_in_slot, lay_out, set_bits, set_how, step_at, turn_at};
 use crate::value::Value;
 use vcd_view::HeadView;
@@ -114,7 +114,7 @@ impl<'a> Table<'a> {
         match text {
             [digit] => match turn_at(self.slots, code, *digit) {
                 Stepped::Counted => {}
-                Stepped::Uncounted { rises, falls } => self.carry(code, rises, falls),
+                Stepped::Uncounted { rises, falls } => self.add(code, CARRY, rises, falls),
                 Stepped::Not => self.follow_any(code, size, Form::Vector, text),
             },
             _ => {
@@ -133,7 +133,7 @@ impl<'a> Table<'a> {
     {
         match step_at(self.slots, code, size, bits) {
             Stepped::Counted => {}
-            Stepped::Uncounted { rises, falls } => self.carry(code, rises, falls),
+            Stepped::Uncounted { rises, falls } => self.add(code, CARRY, rises, falls),
             Stepped::Not => self.follow_any_bits(code, size, bits),
         }
     }
@@ -233,7 +233,7 @@ impl<'a> Table<'a> {
         ensures { result ≡ counts_at self.now code }
     {
         if code < self.slots.len() && code < self.shares.len() {
-            counts_of(self.slots[code].low, self.shares[code].above)
+            counts_of(self.slots[code].steps, self.shares[code].counts)
         } else {
             [0; 3]
         }
@@ -245,10 +245,11 @@ impl<'a> Table<'a> {
         ensures keeps { KeepsTable self.old self.new }
         ensures changes { ChangesCode code (one_more which) self.old self.new }
     {
-        if code < self.slots.len() && code < self.shares.len() {
-            let slots = &mut *self.slots;
+        if which == 0 {
+            self.count(code, false, false);
+        } else if code < self.slots.len() && code < self.shares.len() {
             let shares = &mut *self.shares;
-            count_one(&mut slots[code].low, &mut shares[code].above, which);
+            count_more(&mut shares[code].counts, which, 1);
         }
     }
 
@@ -260,8 +261,13 @@ impl<'a> Table<'a> {
         ensures keeps { KeepsTable self.old self.new }
         ensures changes { ChangesCode code (with_step rises falls) self.old self.new }
     {
-        if !count_in_slot(self.slots, code, rises, falls) {
-            self.carry(code, rises, falls);
+        // No step does both, and a slot has no place for it.
+        if rises & falls {
+            self.add(code, 1, rises, falls);
+            return;
+        }
+        if !count_in_slot(self.slots, code, way_of(rises, falls)) {
+            self.add(code, CARRY, rises, falls);
         }
     }
 

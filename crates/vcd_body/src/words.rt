@@ -122,7 +122,7 @@ fn command_for(keyword: Keyword) -> Command
 }
 
 /// Returns what the keyword is that the token is.
-#[inline(never)]
+#[inline(always)]
 pub(crate) fn command_of(token: &[u8]) -> Option<Command>
     ensures { StandsFor token.now result }
 {

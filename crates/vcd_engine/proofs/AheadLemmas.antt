@@ -15,6 +15,7 @@ use Rattle.vcd_text.specs.declared.device.Source.{Ghosts}
 use Rattle.vcd_text.specs.declared.feed.Feed.{Feed}
 use Rattle.vcd_text.proofs.Writes.{both-written, some-behind}
 use Rattle.vcd_body.proofs.CallerLemmas.{gave_none_ahead}
+use Rattle.vcd_body.proofs.Results.{writes-none}
 use Rattle.vcd_body.specs.Ahead.{GaveAhead}
 use Rattle.vcd_body.specs.Given.{IsItem}
 use Rattle.vcd_body.specs.Items.{AreRegsAfter, regs_after}
@@ -27,6 +28,7 @@ use Rattle.vcd_engine.specs.Engine.{CanRun, Keeps, Runs, last_of, request_of_eng
 use Rattle.vcd_engine.specs.declared.engine.Engine.{Engine}
 use Rattle.vcd_engine.specs.declared.machine.Machine.{Machine}
 use Rattle.vcd_engine.specs.Ahead.{RunsAhead}
+use Rattle.vcd_engine.specs.Several.{TakesSeveral}
 use Rattle.vcd_engine.specs.Pieces.{GrowsBut, held_in}
 use Rattle.vcd_engine.specs.declared.pieces.Pieces.{Pieces}
 use Rattle.vcd_body.proofs.AskedLemmas.{split_last}
@@ -113,6 +115,18 @@ stands_first e h i front items f limit lines bytes s =
       last = subst (λ l. last_of e.regs ≡ last_mark l) nil s.holds.last;
       keeps = subst (Keeps e.machine h) nil s.holds.keeps;
       on = subst (λ l. list_any (ends_early (request_of_engine e)) l ≡ false) nil s.on;
+    }
+
+-- none is taken, and nothing has changed
+pub takes_none : {X : Type 0} {g : Ghosts X} (e : Engine) (h : Header) (i : Input) (front : List Token) (items : List BodyItem) (f : Feed X g) (out : Device) → Runs e h i front items f
+    → TakesSeveral (request_of_engine e) items (λ more. Runs e h i front (items ++ more) f × Grows out out (open_text (request_of_engine e) h items) (open_text (request_of_engine e) h (items ++ more)))
+takes_none e h i front items f out s =
+    let nil = sym (append-nil items) in
+    let task = request_of_engine e in
+    record {
+      more = [];
+      on = subst (λ l. list_any (ends_early task) l ≡ false) nil s.on;
+      last = (subst (λ l. Runs e h i front l f) nil s, ([], ap (open_text task h) (append-nil items) ∙ sym (append-nil (open_text task h items)), writes-none out));
     }
 
 -- the same over bytes and a limit that are these

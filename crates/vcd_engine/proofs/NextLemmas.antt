@@ -38,6 +38,19 @@ use Rattle.vcd_engine.proofs.PieceLemmas.{but_failed, but_on, none_on}
 pub more_quietly : {A E : Type 0} (v : A) (holds : Type 0) (task : Request) (h : Header) (items : List BodyItem) (x : BodyItem) (held : List ℕ) (out : Device) → TakesQuietly holds task h items x → TakesMore {A = A} {E = E} (λ due. PutsOn {A = A} {E = E} held held out out due (Ok v)) holds task h items x (Ok v)
 more_quietly v holds task h items x held out q = record { due = ([], q.due, none_on held out); on = q.on; keeps = q.keeps }
 
+-- another result will do that is no failure either
+pub next_as : {A B E : Type 0} (v : HeadView) (w w' : Walk) (p p' : Pieces) (out out' : Device) (m m' : Machine) (a : A) (b : B) → TakesNext {A = A} {E = E} v w w' p p' out out' m m' (Ok a) → TakesNext {A = B} {E = E} v w w' p p' out out' m m' (Ok b)
+next_as v w w' p p' out out' m m' a b n = record {
+  plain = n.plain;
+  item = n.item;
+  regs = n.regs;
+  line = n.line;
+  one = λ h items x views known is few keeps. let one = n.one h items x views known is few keeps in record { due = one.due; on = one.on; keeps = one.keeps };
+  counts = n.counts;
+  part = n.part;
+  same = n.same;
+}
+
 -- a change ends no run
 change_goes_on : (t : Request) (y : Changed) → ends_early t (BodyItem.Changes y) ≡ false
 change_goes_on Request.Check y = refl
@@ -54,7 +67,7 @@ goes_on_change t codes text item place form x e is =
     subst (λ (y : BodyItem). ends_early t y ≡ false) (sym read.2) (change_goes_on t _)
 
 -- a change was found there
-pub found_there : (v : HeadView) (w : Walk) (a : Ahead) (p : Plain) (c : InPlace) (place : ℕ) (form : Form) → TakesItem v w.ahead a w.regs p → p.item ≡ Change place form → HasLine w → c.plain ≡ p → LiesBetween w.ahead a w.line c → HasFound v w a c
+pub found_there : (v : HeadView) (w : Walk) (a : Ahead) (p : Plain) (c : InPlace) (place : ℕ) (form : Form) → TakesItem v w.ahead a w.regs p → p.item ≡ Change place form → HasLine w → c.plain ≡ p → LiesBetween w.ahead a c → HasFound v w a c
 found_there v w a p c place form item change line is there = record {
   item = subst (λ (q : Plain). TakesItem v w.ahead a w.regs q) (sym is) item;
   change = (place, form, subst (λ (q : Plain). q.item ≡ Change place form) (sym is) change);

@@ -167,8 +167,8 @@ but_none out held text e = ([], sym (ap (λ l. text ++ l) e ∙ append-nil text)
 -- ---- the line of a time
 
 -- that of the next item's time, where the bytes are these
-pub next_line_is : (bytes bytes' : List ℕ) (line to to' time time' : ℕ) → bytes ≡ bytes' → to ≡ to' → time ≡ time' → IsLine bytes line to time → IsLine bytes' line to' time'
-next_line_is bytes bytes' line to to' time time' e f g i = subst (λ bs. IsLine bs line to' time') e (subst (λ n. IsLine bytes line n time') f (subst (λ t. IsLine bytes line to t) g i))
+pub next_line_is : (bytes bytes' : List ℕ) (line line' : ℕ × ℕ) (time time' : ℕ) → bytes ≡ bytes' → line ≡ line' → time ≡ time' → IsLine bytes line time → IsLine bytes' line' time'
+next_line_is bytes bytes' line line' time time' e f g i = subst (λ bs. IsLine bs line' time') e (subst (λ l. IsLine bytes l time') f (subst (λ t. IsLine bytes line t) g i))
 
 -- ---- an item that was taken ahead
 
@@ -185,8 +185,8 @@ module _ (v : HeadView) (a a' : Ahead) (r : Regs) (p : Plain) (bytes : Bor (List
       subst (λ (bs : List ℕ). HasSpelled v bs from to p.at p.code_at p.text.now p.item) (sym (e ∙ item.same.0))
       (subst (λ n. HasSpelled v (bytes_of a) n to p.at p.code_at p.text.now p.item) (sym f) (subst (λ n. HasSpelled v (bytes_of a) (passed_of a) n p.at p.code_at p.text.now p.item) (sym g) item.spelled))
 
-  pub placed_there : (line : ℕ) → (place : ℕ) × (form : Form) × (p.item ≡ Change place form) → IsInPlace v (record { plain = p; bytes = bytes; from = from; to = to; line = line })
-  placed_there line change =
+  pub placed_there : (place : ℕ) × (form : Form) × (p.item ≡ Change place form) → IsInPlace v (record { plain = p; bytes = bytes; from = from; to = to })
+  placed_there change =
       let further = item.further in
       let within = item.within in
       let here : to ≤ length bytes.now = subst (λ (bs : List ℕ). to ≤ length bs) (sym e) (omega (arith, g, within)) in

@@ -1,5 +1,5 @@
 -- The loop over the items ahead, step by step.
-use Rattle.std.proofs.Common.{◌≡◌, ℕ, ◌+◌, ◌≤◌, ◌<◌, List, [], ◌∷◌, ◌++◌, length, Result, Ok, Err, refl, sym, ap, subst, ◌∙◌, append-nil, arith}
+use Rattle.std.proofs.Common.{◌≡◌, ℕ, ◌+◌, ◌≤◌, ◌<◌, List, [], ◌∷◌, ◌++◌, length, Result, Ok, Err, refl, sym, ap, subst, ◌∙◌, append-nil}
 use Rattle.std.specs.Prelude.{IfErr, IfOk}
 use Rattle.vcd_text.specs.Ahead.{bytes_of, longest_of, passed_of}
 use Rattle.vcd_text.specs.Device.{Counts, Device, Puts, failures_after}
@@ -9,7 +9,7 @@ use Rattle.vcd_body.specs.declared.item.Regs.{Regs}
 use Rattle.vcd_engine.specs.Ahead.{RunsOver}
 use Rattle.vcd_engine.specs.Engine.{request_in}
 use Rattle.vcd_engine.specs.Next.{TakesNext, Walk, walk_at}
-use Rattle.vcd_engine.specs.Pieces.{IsPart, held_in}
+use Rattle.vcd_engine.specs.Pieces.{IsLine, IsPart, held_in}
 use Rattle.vcd_engine.specs.Walks.{HasWalked}
 use Rattle.vcd_engine.specs.declared.machine.Machine.{Machine}
 use Rattle.vcd_engine.specs.declared.machine.walk.Taken.{Taken}
@@ -19,14 +19,14 @@ use Rattle.vcd_engine.proofs.NextLemmas.{next, next_fails, next_given, next_grow
 use Rattle.vcd_engine.proofs.PieceLemmas.{but_none}
 
 -- it begins with no item, and with nothing that is held
-pub walk_begins : (v : HeadView) (a : Ahead) (r : Regs) (m : Machine) (out : Device) (line : ℕ) (p : Pieces) → passed_of a ≤ length (bytes_of a) → line ≡ passed_of a → IsPart (bytes_of a) p → held_in (bytes_of a) p ≡ [] → HasWalked v a r m out (walk_at a r line) p out m
-walk_begins v a r m out line p within at part none = record {
+pub walk_begins : (v : HeadView) (a : Ahead) (r : Regs) (m : Machine) (out : Device) (line : ℕ × ℕ) (p : Pieces) → passed_of a ≤ length (bytes_of a) → ((bytes : List ℕ) (time : ℕ) → IsLine bytes line time) → IsPart (bytes_of a) p → held_in (bytes_of a) p ≡ [] → HasWalked v a r m out (walk_at a r line) p out m
+walk_begins v a r m out line p within unknown part none = record {
   over = (refl, refl);
   within = within;
   failures = refl;
   same = (refl, refl);
   part = part;
-  line = (omega arith, λ less. absurd (omega (arith, at, less)));
+  line = unknown (bytes_of a) r.time;
   passes = λ lines ts passed. ([], rw append-nil passed);
   stands = λ h lines before views few s. ([], s, rw append-nil (but_none _ _ _ none));
 }
@@ -40,7 +40,7 @@ module _ (v : HeadView) (a : Ahead) (r : Regs) (m : Machine) (begin : Device) (w
     failures = walked.failures;
     same = walked.same;
     part = rw same.1 walked.part;
-    line = rw (same.0, same.1) walked.line;
+    line = rw same.1 walked.line;
     passes = rw same.0 walked.passes;
     stands = rw same.0 walked.stands;
   }

@@ -3,7 +3,7 @@ use Rattle.std.specs.Prelude.{◌≡◌, ℕ, ◌<◌, ◌^◌, false, List, [],
 use Rattle.vcd_model.specs.Header.{Header}
 use Rattle.vcd_model.specs.Items.{BodyItem}
 use Rattle.vcd_model.specs.Outcome.{Request, ends_early, open_text}
-use Rattle.vcd_text.specs.Ahead.{bytes_of, passed_of}
+use Rattle.vcd_text.specs.Ahead.{bytes_of}
 use Rattle.vcd_text.specs.Device.{Counts, Device}
 use Rattle.vcd_text.specs.declared.ahead.Ahead.{Ahead}
 use Rattle.vcd_text.specs.declared.device.WriteFailed.{WriteFailed}
@@ -25,25 +25,25 @@ use Rattle.vcd_engine.specs.declared.machine.Machine.{Machine}
 use Rattle.vcd_engine.specs.declared.pieces.InPlace.{InPlace}
 use Rattle.vcd_engine.specs.declared.pieces.Pieces.{Pieces}
 
--- how far the loop has come: the place, the registers after the items so far, and where the line of
--- the last time begins, if it stands just before that place
+-- how far the loop has come: the place, the registers after the items so far, and from where up to
+-- where the line of the last time stands
 pub record Walk : Type 0 where
   pub ahead : Ahead
   pub regs : Regs
-  pub line : ℕ
+  pub line : ℕ × ℕ
 
-abbrev pub walk_at : Ahead → Regs → ℕ → Walk
+abbrev pub walk_at : Ahead → Regs → ℕ × ℕ → Walk
 walk_at a r line = record { ahead = a; regs = r; line = line }
 
--- the line of the last time stands just before the next item, or nothing is said to
+-- the line of the last time stands there, or nothing is said to
 abbrev pub HasLine : Walk → Type 0
-HasLine w = IsLine (bytes_of w.ahead) w.line (passed_of w.ahead) w.regs.time
+HasLine w = IsLine (bytes_of w.ahead) w.line w.regs.time
 
 -- the next item is a change, and lies there up to this place
 pub record HasFound (v : HeadView) (w : Walk) (a : Ahead) (c : InPlace) : Type 0 where
   pub item : TakesItem v w.ahead a w.regs c.plain
   pub change : (place : ℕ) × (form : Form) × (c.plain.item ≡ Change place form)
-  pub place : LiesBetween w.ahead a w.line c
+  pub place : LiesBetween w.ahead a c
   pub line : HasLine w
 
 -- a mark with which nothing is due was taken

@@ -23,16 +23,15 @@ pub record IsInPlace (v : HeadView) (l : InPlace) : Type 0 where
   pub bits : HasBits l.plain.item l.plain.text.now l.plain.bits
   pub spelled : HasSpelled v l.bytes.now l.from l.to l.plain.at l.plain.code_at l.plain.text.now l.plain.item
 
--- a change lies from one place ahead up to another, and the line of its time from this one on
-pub record LiesBetween (a a' : Ahead) (begin : ℕ) (l : InPlace) : Type 0 where
+-- a change lies from one place ahead up to another
+pub record LiesBetween (a a' : Ahead) (l : InPlace) : Type 0 where
   pub bytes : l.bytes.now ≡ bytes_of a'
   pub from : l.from ≡ passed_of a
   pub to : l.to ≡ passed_of a'
-  pub line : l.line ≡ begin
 
--- from one place of these bytes up to another the line of this time stands, or nothing
-abbrev pub IsLine : List ℕ → ℕ → ℕ → ℕ → Type 0
-IsLine bytes line from time = (line ≤ from) × (line < from → slice_range bytes line from ≡ time_line time)
+-- from one place of these bytes up to another the line of this time stands, or nothing is said
+abbrev pub IsLine : List ℕ → ℕ × ℕ → ℕ → Type 0
+IsLine bytes line time = line.0 < line.1 → (line.1 ≤ length bytes) × (slice_range bytes line.0 line.1 ≡ time_line time)
 
 -- the last piece is a part of these bytes
 abbrev pub IsPart : List ℕ → Pieces → Type 0

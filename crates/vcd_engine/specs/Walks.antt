@@ -42,8 +42,8 @@ pub record CanWalk (w : Walk) (p : Pieces) : Type 0 where
   pub part : IsPart (bytes_of w.ahead) p
 
 -- wherever the loop began, it went on from here to where this run has ended; or a write failed
-abbrev pub WalksOn : HeadView → Walk → Pieces → Device → Device → Machine → Machine → Shorts → Type 0
-WalksOn v w p out out' m m' s = (a : Ahead) (r : Regs) (first : Machine) (begin : Device) → HasWalked v a r first begin w p out m
+abbrev pub WalksOn : HeadView → Walk → Pieces → Device → Device → Machine → Machine → ℕ × ℕ → Shorts → Type 0
+WalksOn v w p out out' m m' line s = (a : Ahead) (r : Regs) (first : Machine) (begin : Device) → HasWalked v a r first begin w p out m
     → MatchResult s.written
-    (λ _. HasWalked v a r first begin (walk_at s.ahead s.regs s.line) s.pieces out' m')
+    (λ _. HasWalked v a r first begin (walk_at s.ahead s.regs line) s.pieces out' m')
     (λ _. RunsOver v a r first m' begin out' (record { passed = passed_of s.ahead; regs = s.regs; written = s.written }))

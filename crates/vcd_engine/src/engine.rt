@@ -5,7 +5,7 @@ ghost use Rattle.vcd_engine.specs.Names.{Advances, Again, BeginsAs, BodyItem, Ca
 use crate::gathered::Gathered;
 use crate::machine::Machine;
 use crate::task::{Room, Task};
-use vcd_body::{Done, Item, More, Regs, Stop, change_text, next_item, pass_items};
+use vcd_body::{Done, Item, More, Regs, Stop, change_text, keyword_comes, next_item, pass_items};
 use vcd_text::{Feed, Sink, Source, WriteFailed};
 use vcd_view::HeadView;
 
@@ -140,7 +140,7 @@ impl<'v, 'n, 'r> Engine<'v, 'n, 'r> {
     /// Takes the items that lie whole ahead in the feed's chunk, and writes what is due after each:
     /// nothing else is looked at, and the feed goes on after them at once.
     #[inline(never)]
-    fn take_ahead<S: Source, W: Sink>(
+    fn walk_ahead<S: Source, W: Sink>(
         &mut self,
         view: HeadView<'_>,
         feed: &mut Feed<'_, '_, '_, '_, S>,
@@ -173,6 +173,36 @@ impl<'v, 'n, 'r> Engine<'v, 'n, 'r> {
                 Err(failed)
             }
         }
+    }
+
+    /// Takes the items that lie whole ahead, as `walk_ahead` does. Where a keyword comes there is
+    /// none, and the loop over them does not begin.
+    #[inline(always)]
+    fn take_ahead<S: Source, W: Sink>(
+        &mut self,
+        view: HeadView<'_>,
+        feed: &mut Feed<'_, '_, '_, '_, S>,
+        gathered: &mut Gathered,
+        out: &mut W,
+    ) -> Result<(), WriteFailed>
+        requires out_failures { (W.device out.old).failures < 2 ^ 64 - 1 }
+        requires going { is_going self.old ≡ true }
+        requires view { parts view ≡ parts self.old.view }
+        ensures gives { StepsAhead self.old self.new feed.old feed.new
+            (W.device out.old) (W.device out.new) result }
+        ensures advances { Advances S.failures feed.old feed.new CallEnd.GoesOn }
+        ensures bounded { seen feed.new < 2 ^ 63 }
+        ensures counts { Counts (W.device out.old) (W.device out.new) result }
+        ensures going { MatchResult result
+            (λ _. is_going self.new ≡ true) (λ _. is_going self.new ≡ false) }
+        ensures request { request_of_engine self.new ≡ request_of_engine self.old }
+        ensures holds { SameHold self.old self.new }
+        ensures view { parts self.new.view ≡ parts self.old.view }
+    {
+        if keyword_comes(feed.ahead()) {
+            return Ok(());
+        }
+        self.walk_ahead(view, feed, gathered, out)
     }
 
     /// Takes the items that lie whole ahead, and then the next one, which may need more of the

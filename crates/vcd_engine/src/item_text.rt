@@ -3,6 +3,7 @@
 ghost use Rattle.std.specs.Prelude.{◌≡◌, ℕ, ◌-◌, ◌^◌, ◌<◌, ◌≤◌, ◌∷◌, [], List, length, Some, IfOk};
 ghost use Rattle.vcd_engine.specs.Names.{as_line, BodyItem, closing, Counts, Entry, HasGoodText, HasWritten, Header, IsInPlace, IsItem, IsLine, IsPart, IsViewOf, item_line, keyword_text, LastTells, model_section, PutsBehind, PutsEntry, PutsPieces, PutsWhere, section_keyword, TakenBy, Takes, time_due, times_with};
 
+use crate::machine::walk::Copying;
 use crate::pieces::{InPlace, Pieces};
 use vcd_body::{Form, Id, Item, Section, left_out, put_change, put_time_unless};
 use vcd_text::{Sink, WriteFailed, put};
@@ -92,19 +93,20 @@ impl ItemText {
     }
 
     /// Writes an item ahead as an entry at this time, after what is held. If its bytes are its
-    /// line, they are held.
+    /// line, they are held, and so is the line of the time where it stands.
     #[inline(always)]
     pub(crate) fn put_in_place<W: Sink>(
         &mut self,
         view: HeadView<'_>,
         time: u64,
         change: InPlace<'_>,
+        line: &Copying,
         pieces: &mut Pieces<'_>,
         out: &mut W,
     ) -> Result<(), WriteFailed>
         requires failures { (W.device out.old).failures < 2 ^ 64 - 1 }
         requires place { IsInPlace view change }
-        requires line { IsLine change.bytes.now change.line change.from time }
+        requires line { IsLine change.bytes.now (line.now.from, line.now.to) time }
         requires part { IsPart change.bytes.now pieces.old }
         ensures text { PutsEntry (λ due. PutsPieces change.entry.bytes.now pieces.old pieces.new
             (W.device out.old) (W.device out.new) due result) view.entry time
@@ -116,7 +118,7 @@ impl ItemText {
             pieces.flush(change.bytes, out)?;
             return self.put(view, time, change.plain.item, change.plain.text, out);
         };
-        self.put_time_behind(time, change, pieces, out)?;
+        self.put_time_behind(time, change.bytes, line, pieces, out)?;
         // A vector alone may leave digits out.
         if let Item::Change {
             form: Form::Vector,
@@ -128,21 +130,20 @@ impl ItemText {
         pieces.append_parts(change.bytes, change.from, change.to, n, out)
     }
 
-    /// Writes the line of the time of an item ahead, unless it was written last, after what is
-    /// held.
+    /// Writes the line of a time, unless it was written last, after what is held.
     #[inline(always)]
     fn put_time_behind<W: Sink>(
         &mut self,
         time: u64,
-        change: InPlace<'_>,
+        bytes: &[u8],
+        line: &Copying,
         pieces: &mut Pieces<'_>,
         out: &mut W,
     ) -> Result<(), WriteFailed>
         requires failures { (W.device out.old).failures < 2 ^ 64 - 1 }
-        requires within { (change.from ≤ change.to) × (change.to ≤ length change.bytes.now) }
-        requires line { IsLine change.bytes.now change.line change.from time }
-        requires part { IsPart change.bytes.now pieces.old }
-        ensures puts { PutsBehind change.entry.bytes.now pieces.old pieces.new
+        requires line { IsLine bytes.now (line.now.from, line.now.to) time }
+        requires part { IsPart bytes.now pieces.old }
+        ensures puts { PutsBehind bytes.now pieces.old pieces.new
             (W.device out.old) (W.device out.new) (time_due self.old.written time) result }
         ensures written { IfOk result (λ _. self.new.written ≡ Some time) }
     {
@@ -150,7 +151,7 @@ impl ItemText {
             return Ok(());
         }
         self.written = Some(time);
-        pieces.append_time(time, change, out)
+        pieces.append_time(time, bytes, line.from, line.to, out)
     }
 
     /// Writes what closes the text where this is the last time mark: its line, unless that was

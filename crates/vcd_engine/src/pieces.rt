@@ -1,52 +1,35 @@
 //! Text that is due and is in the chunk already: pieces of it that follow each other are one, and
 //! short ones are written together.
 ghost use Rattle.std.specs.Prelude.{◌≡◌, ℕ, ◌+◌, ◌-◌, ◌^◌, ◌<◌, ◌≤◌, List, [], ◌++◌, length, take, slice_range, IfErr, IfOk};
-ghost use Rattle.vcd_engine.specs.Names.{bytes_without, Counts, gathered_in, HasMark, held_in, IsLine, IsPart, LiesBetween, Puts, PutsBehind, PutsOn, time_line};
+ghost use Rattle.vcd_engine.specs.Names.{bytes_without, Counts, gathered_in, held_in, IsLine, IsPart, LiesBetween, Puts, PutsBehind, PutsOn, time_line};
 
 use crate::gathered::{GATHERED, Gathered};
-use vcd_body::{Plain, is_mark_line, put_time};
+use vcd_body::{Plain, put_time};
 use vcd_text::{Ahead, Sink, WriteFailed, put};
 
-/// A change ahead: it has the bytes from `from` up to `to`. `line` is where the line of its time
-/// begins, if that comes just before it; else it is `from`.
+/// A change ahead: it has the bytes from `from` up to `to`.
 #[derive(Clone, Copy)]
 pub(crate) struct InPlace<'a> {
     pub(crate) plain: Plain<'a>,
     pub(crate) bytes: &'a [u8],
     pub(crate) from: usize,
     pub(crate) to: usize,
-    pub(crate) line: usize,
 }
 
 impl<'a> InPlace<'a> {
-    /// Returns the change that lies from one place ahead up to another. The line of its time begins
-    /// at `line`, if that comes just before it.
+    /// Returns the change that lies from one place ahead up to another.
     #[inline(always)]
-    pub(crate) fn of(plain: Plain<'a>, from: Ahead<'a>, to: Ahead<'a>, line: usize) -> InPlace<'a>
+    pub(crate) fn of(plain: Plain<'a>, from: Ahead<'a>, to: Ahead<'a>) -> InPlace<'a>
         ensures plain { result.plain ≡ plain.entry }
-        ensures place { LiesBetween from.entry to.entry line result }
+        ensures place { LiesBetween from.entry to.entry result }
     {
         InPlace {
             plain,
             bytes: to.bytes(),
             from: from.passed(),
             to: to.passed(),
-            line,
         }
     }
-}
-
-/// Returns where the line of a time begins that ends at `to`, for a mark that is from `from` up to
-/// there, with its digits from `at` on: `from` where it is spelled as that line, else `to`.
-#[inline(always)]
-pub(crate) fn line_of_mark(bytes: &[u8], from: usize, to: usize, at: usize) -> usize
-    requires { (time : ℕ) × HasMark bytes.now from to at time }
-    ensures { (time : ℕ) → HasMark bytes.now from to at time → IsLine bytes.now result to time }
-{
-    if is_mark_line(bytes, from, to, at) {
-        return from;
-    }
-    to
 }
 
 /// The most bytes of a piece that is gathered; a longer one is written from the chunk.
@@ -243,26 +226,28 @@ impl<'a> Pieces<'a> {
         self.append(bytes, from + 1 + n, to, out)
     }
 
-    /// Takes the line of an item's time, which is due next. If it comes just before the item, it is
-    /// held; else it is written, after what is held.
+    /// Takes the line of a time, which is due next. If it is the part of the bytes from one place
+    /// up to another, it is held; else that part is empty, and the line is written after what is
+    /// held.
     #[inline(always)]
     pub(crate) fn append_time<W: Sink>(
         &mut self,
         time: u64,
-        change: InPlace<'_>,
+        bytes: &[u8],
+        from: usize,
+        to: usize,
         out: &mut W,
     ) -> Result<(), WriteFailed>
         requires failures { (W.device out.old).failures < 2 ^ 64 - 1 }
-        requires part { IsPart change.bytes.now self.old }
-        requires within { (change.from ≤ change.to) × (change.to ≤ length change.bytes.now) }
-        requires line { IsLine change.bytes.now change.line change.from time }
-        ensures { PutsBehind change.entry.bytes.now self.old self.new
+        requires part { IsPart bytes.now self.old }
+        requires line { IsLine bytes.now (from, to) time }
+        ensures { PutsBehind bytes.now self.old self.new
             (W.device out.old) (W.device out.new) (time_line time) result }
     {
-        if change.line < change.from {
-            return self.append(change.bytes, change.line, change.from, out);
+        if from < to {
+            return self.append(bytes, from, to, out);
         }
-        self.flush(change.bytes, out)?;
+        self.flush(bytes, out)?;
         put_time(time, out)
     }
 }

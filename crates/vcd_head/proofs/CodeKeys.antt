@@ -1,22 +1,18 @@
 -- The keys of the codes while a header is read.
-use Rattle.std.proofs.Common.{◌≡◌, ℕ, zero, suc, ◌+◌, ◌<◌, ◌==◌, ◌||◌, not, Bool, true, false, cond, List, [], ◌∷◌, ◌++◌, length, map, take, find, bytes_eq, slice_get, position, get_or, Fits, w8, Some, None, refl, sym, ap, subst, ◌∙◌, arith, add-one}
+use Rattle.std.proofs.Common.{◌≡◌, ℕ, zero, suc, ◌+◌, ◌<◌, ◌==◌, not, Bool, true, false, cond, List, [], ◌∷◌, ◌++◌, length, map, find, bytes_eq, slice_get, position, get_or, Fits, w8, Some, None, refl, sym, ap, subst, ◌∙◌, arith}
 use Rattle.std.specs.Prelude.{nat_lt}
 use Rattle.std.specs.List.{AllByRecursion, list_any, position_or_len, prefix_len}
 use Rattle.std.proofs.lemmas.Bool.{ltb-true, ltb-false, lt-ltb, or_parts}
 use Rattle.std.proofs.lemmas.List.{length-map, map-append}
 use Rattle.std.proofs.lemmas.List.Folds.{find_at}
-use Rattle.std.proofs.lemmas.Option.{none-some, same_Some, slice_get_past}
+use Rattle.std.proofs.lemmas.Option.{slice_get_past}
 use Rattle.std.proofs.lemmas.Slice.Eq.{bytes_eq-Decides}
-use Rattle.indexmap.specs.IndexSet.{insert_key}
 use Rattle.vcd_model.specs.Declarations.{IdCode, has_text}
 use Rattle.vcd_view.specs.Finds.{Finds}
 use Rattle.vcd_view.specs.Keys.{AreBytes, key_in}
-use Rattle.vcd_view.specs.Views.{AreHeld}
-use Rattle.vcd_view.specs.declared.view.Code.{Code}
-use Rattle.vcd_view.proofs.KeyLemmas.{bytes_at_place, same_key}
-use Rattle.vcd_view.proofs.LookUpLemmas.{first_with}
+use Rattle.vcd_view.proofs.KeyLemmas.{same_key}
 use Rattle.vcd_view.proofs.ListLemmas.{same_bytes}
-use Rattle.vcd_head.specs.Keys.{AreKeysOf, same_shape, shape_in, shape_of}
+use Rattle.vcd_head.specs.Keys.{AreKeysOf, is_key, shape_in, shape_of}
 use Rattle.vcd_head.specs.declared.code_key.CodeKey.{CodeKey}
 
 -- ---- one key, one code
@@ -71,111 +67,59 @@ finds_first cs t true q =
     (c.0, c.1, find_at (has_text t) cs ∙ c.1)
 finds_first cs t false q = find_at (has_text t) cs ∙ slice_get_past cs (position_or_len (has_text t) cs) (ltb-false _ _ q)
 
-module _ (key : CodeKey) (t : List ℕ) (s : shape_of key ≡ shape_in t) (a : AreBytes t) where
-  test_same : (k : CodeKey) (c : IdCode) → AreBytes c.text → shape_of k ≡ shape_in c.text → same_shape key k ≡ bytes_eq t c.text
-  test_same k c own e = ap (λ x. bytes_eq x (shape_of k)) s ∙ ap (bytes_eq (shape_in t)) e ∙ same_test t c.text a own
+module _ (t : List ℕ) (a : AreBytes t) where
+  test_same : (k : CodeKey) (c : IdCode) → AreBytes c.text → shape_of k ≡ shape_in c.text → is_key t k ≡ bytes_eq t c.text
+  test_same k c own e = ap (bytes_eq (shape_in t)) e ∙ same_test t c.text a own
 
-  place_same : (keys : List CodeKey) (cs : List IdCode) → AllByRecursion (λ (c : IdCode). AreBytes c.text) cs → AreKeysOf keys cs → position_or_len (same_shape key) keys ≡ position_or_len (has_text t) cs
+  place_same : (keys : List CodeKey) (cs : List IdCode) → AllByRecursion (λ (c : IdCode). AreBytes c.text) cs → AreKeysOf keys cs → position_or_len (is_key t) keys ≡ position_or_len (has_text t) cs
   place_same [] [] h e = refl
   place_same [] (c ∷ cs) h e = absurd (omega (arith, ap length e))
   place_same (k ∷ keys) [] h e = absurd (omega (arith, ap length e))
   place_same (k ∷ keys) (c ∷ cs) h e =
-      ap (λ b. cond (not b) (1 + prefix_len (λ x. not (same_shape key x)) keys) 0) (test_same k c h.0 (ap first_of e))
+      ap (λ b. cond (not b) (1 + prefix_len (λ x. not (is_key t x)) keys) 0) (test_same k c h.0 (ap first_of e))
       ∙ ap (λ n. cond (not (bytes_eq t c.text)) (1 + n) 0) (place_same keys cs h.1 (ap rest_of e))
 
   -- the place of a code's key is that of the code
-  pub finds_key : (keys : List CodeKey) (cs : List IdCode) → AllByRecursion (λ (c : IdCode). AreBytes c.text) cs → AreKeysOf keys cs → Finds cs t (position (same_shape key) keys)
+  pub finds_key : (keys : List CodeKey) (cs : List IdCode) → AllByRecursion (λ (c : IdCode). AreBytes c.text) cs → AreKeysOf keys cs → Finds cs t (position (is_key t) keys)
   finds_key keys cs h e =
       let len : length keys ≡ length cs = sym (length-map keys shape_of) ∙ ap length e ∙ length-map cs (λ (c : IdCode). shape_in c.text) in
       let n = position_or_len (has_text t) cs in
-      let same : position (same_shape key) keys ≡ cond (nat_lt n (length cs)) (Some n) None =
+      let same : position (is_key t) keys ≡ cond (nat_lt n (length cs)) (Some n) None =
       ap (λ i. cond (nat_lt i (length keys)) (Some i) None) (place_same keys cs h e) ∙ ap (λ m. cond (nat_lt n m) (Some n) None) len in
       subst (Finds cs t) (sym same) (finds_first cs t (nat_lt n (length cs)) refl)
 
   -- ---- a code more
 
-  none_there : (keys : List CodeKey) (cs : List IdCode) → AllByRecursion (λ (c : IdCode). AreBytes c.text) cs → AreKeysOf keys cs → find (has_text t) cs ≡ None → list_any (same_shape key) keys ≡ false
-  none_there [] [] h e f = refl
-  none_there [] (c ∷ cs) h e f = absurd (omega (arith, ap length e))
-  none_there (k ∷ keys) [] h e f = absurd (omega (arith, ap length e))
-  none_there (k ∷ keys) (c ∷ cs) h e f =
-      ap (λ b. b || list_any (same_shape key) keys) (test_same k c h.0 (ap first_of e)) ∙ by_test (bytes_eq t c.text) f (none_there keys cs h.1 (ap rest_of e))
-    where
-      by_test : (b : Bool) → cond b (Some c) (find (has_text t) cs) ≡ None → (find (has_text t) cs ≡ None → list_any (same_shape key) keys ≡ false) → (b || list_any (same_shape key) keys) ≡ false
-      by_test true f more = absurd (none-some c (sym f))
-      by_test false f more = more f
-
-  -- where a new key is inserted, the keys are those of one code more
-  pub keys_more : (keys new : List CodeKey) (cs : List IdCode) (c : IdCode) → AllByRecursion (λ (x : IdCode). AreBytes x.text) cs → AreKeysOf keys cs → find (has_text t) cs ≡ None → c.text ≡ t → new ≡ insert_key same_shape keys key → AreKeysOf new (cs ++ c ∷ [])
-  keys_more keys new cs c h e f same made =
-      let last : new ≡ keys ++ key ∷ [] = made ∙ ap (λ b. cond b keys (keys ++ key ∷ [])) (none_there keys cs h e f) in
-      ap (map shape_of) last ∙ map-append shape_of keys (key ∷ []) ∙ ap (λ l. l ++ shape_of key ∷ []) e
-      ∙ ap (λ x. map (λ (c : IdCode). shape_in c.text) cs ++ x ∷ []) (s ∙ ap shape_in (sym same)) ∙ sym (map-append (λ (c : IdCode). shape_in c.text) cs (c ∷ []))
+  -- where its key is put behind the others, they are those of one code more
+  pub keys_more : (keys new : List CodeKey) (key : CodeKey) (cs : List IdCode) (c : IdCode) → AreKeysOf keys cs → shape_of key ≡ shape_in t → c.text ≡ t → new ≡ keys ++ key ∷ [] → AreKeysOf new (cs ++ c ∷ [])
+  keys_more keys new key cs c e own same behind =
+      ap (map shape_of) behind ∙ map-append shape_of keys (key ∷ []) ∙ ap (λ l. l ++ shape_of key ∷ []) e
+      ∙ ap (λ x. map (λ (c : IdCode). shape_in c.text) cs ++ x ∷ []) (own ∙ ap shape_in (sym same)) ∙ sym (map-append (λ (c : IdCode). shape_in c.text) cs (c ∷ []))
 
   -- ---- a key that is inserted
 
   -- where no key is the same, no code has these bytes
-  pub none_entered : (keys : List CodeKey) (cs : List IdCode) → AllByRecursion (λ (c : IdCode). AreBytes c.text) cs → AreKeysOf keys cs → list_any (same_shape key) keys ≡ false → find (has_text t) cs ≡ None
+  pub none_entered : (keys : List CodeKey) (cs : List IdCode) → AllByRecursion (λ (c : IdCode). AreBytes c.text) cs → AreKeysOf keys cs → list_any (is_key t) keys ≡ false → find (has_text t) cs ≡ None
   none_entered [] [] h e n = refl
   none_entered [] (c ∷ cs) h e n = absurd (omega (arith, ap length e))
   none_entered (k ∷ keys) [] h e n = absurd (omega (arith, ap length e))
   none_entered (k ∷ keys) (c ∷ cs) h e n =
-      let p = or_parts (same_shape key k) (list_any (same_shape key) keys) n in
+      let p = or_parts (is_key t k) (list_any (is_key t) keys) n in
       ap (λ b. cond b (Some c) (find (has_text t) cs)) (sym (test_same k c h.0 (ap first_of e)) ∙ p.0) ∙ none_entered keys cs h.1 (ap rest_of e) p.1
 
-  len_of : (keys : List CodeKey) (cs : List IdCode) → AreKeysOf keys cs → length keys ≡ length cs
+  -- there are as many
+  pub len_of : (keys : List CodeKey) (cs : List IdCode) → AreKeysOf keys cs → length keys ≡ length cs
   len_of keys cs e = sym (length-map keys shape_of) ∙ ap length e ∙ length-map cs (λ (c : IdCode). shape_in c.text)
 
-  place_last : (keys : List CodeKey) → list_any (same_shape key) keys ≡ false → position_or_len (same_shape key) keys ≡ length keys
-  place_last [] n = refl
-  place_last (k ∷ keys) n =
-      let p = or_parts (same_shape key k) (list_any (same_shape key) keys) n in
-      ap (λ b. cond (not b) (1 + prefix_len (λ x. not (same_shape key x)) keys) 0) p.0 ∙ (let rest = place_last keys p.1 in omega (arith, rest))
-
-  -- its place is behind all codes
-  pub last_entered : (keys : List CodeKey) (cs : List IdCode) → AreKeysOf keys cs → list_any (same_shape key) keys ≡ false → position_or_len (same_shape key) keys ≡ length cs
-  last_entered keys cs e n = place_last keys n ∙ len_of keys cs e
-
   -- one that is there is at the place of the code with these bytes
-  pub finds_entered : (keys : List CodeKey) (cs : List IdCode) (place : ℕ) → AllByRecursion (λ (c : IdCode). AreBytes c.text) cs → AreKeysOf keys cs → place ≡ position_or_len (same_shape key) keys → place < length keys → Finds cs t (Some place)
+  pub finds_entered : (keys : List CodeKey) (cs : List IdCode) (place : ℕ) → AllByRecursion (λ (c : IdCode). AreBytes c.text) cs → AreKeysOf keys cs → place ≡ position_or_len (is_key t) keys → place < length keys → Finds cs t (Some place)
   finds_entered keys cs place h e is l =
-      let n = position_or_len (same_shape key) keys in
+      let n = position_or_len (is_key t) keys in
       let below : nat_lt n (length keys) ≡ true = lt-ltb n (length keys) (omega (arith, is, l)) in
       subst (Finds cs t) (ap (λ b. cond b (Some n) None) below ∙ ap Some (sym is)) (finds_key keys cs h e)
 
--- ---- one key after the other
+-- ---- bytes
 
 pub all_bytes : (bs : List ℕ) → ((i : ℕ) → Fits w8 (get_or bs i 0)) → AreBytes bs
 all_bytes [] h = tt
 all_bytes (b ∷ bs) h = ((h 0).fits, all_bytes bs (λ i. h (suc i)))
-
-key_at : (keys : List CodeKey) (cs : List IdCode) (i : ℕ) (k : CodeKey) → AreKeysOf keys cs → slice_get keys i ≡ Some k → (c : IdCode) × (slice_get cs i ≡ Some c) × (shape_of k ≡ shape_in c.text)
-key_at [] cs i k e at = absurd (none-some k at)
-key_at (x ∷ keys) [] i k e at = absurd (omega (arith, ap length e))
-key_at (x ∷ keys) (c ∷ cs) zero k e at = (c, refl, ap shape_of (sym (same_Some x k at)) ∙ ap first_of e)
-key_at (x ∷ keys) (c ∷ cs) (suc i) k e at = key_at keys cs i k (ap rest_of e) at
-
-none_more : (cs : List IdCode) (i : ℕ) (c : IdCode) (t : List ℕ) → slice_get cs i ≡ Some c → bytes_eq t c.text ≡ false → find (has_text t) (take i cs) ≡ None → find (has_text t) (take (suc i) cs) ≡ None
-none_more [] i c t at q f = absurd (none-some c at)
-none_more (x ∷ cs) zero c t at q f = ap (λ b. cond b (Some x) None) (ap (λ (y : IdCode). bytes_eq t y.text) (same_Some x c at) ∙ q)
-none_more (x ∷ cs) (suc i) c t at q f = by_test (bytes_eq t x.text) f (none_more cs i c t at q)
-  where
-    by_test : (b : Bool) → cond b (Some x) (find (has_text t) (take i cs)) ≡ None → (find (has_text t) (take i cs) ≡ None → find (has_text t) (take (suc i) cs) ≡ None) → cond b (Some x) (find (has_text t) (take (suc i) cs)) ≡ None
-    by_test true f more = absurd (none-some x (sym f))
-    by_test false f more = more f
-
--- a key that is not of these bytes leaves them not found
-pub none_yet : (keys : List CodeKey) (cs : List IdCode) (i : ℕ) (k : CodeKey) (t : List ℕ) → AllByRecursion (λ (c : IdCode). AreBytes c.text) cs → AreBytes t → AreKeysOf keys cs → slice_get keys i ≡ Some k → bytes_eq (shape_in t) (shape_of k) ≡ false → find (has_text t) (take i cs) ≡ None → find (has_text t) (take (i + 1) cs) ≡ None
-none_yet keys cs i k t h a e at q f =
-    let c = key_at keys cs i k e at in
-    let own : AreBytes c.0.text = bytes_at_place cs i c.0 h c.1 in
-    let test : bytes_eq t c.0.text ≡ false = sym (same_test t c.0.text a own) ∙ ap (bytes_eq (shape_in t)) (sym c.2) ∙ q in
-    ap (λ n. find (has_text t) (take n cs)) (add-one i) ∙ none_more cs i c.0 t c.1 test f
-
--- and one that is theirs is at their place
-pub found_there : (text : List ℕ) (list : List Code) (keys : List CodeKey) (cs : List IdCode) (i : ℕ) (k : CodeKey) (t : List ℕ) → AreHeld text list cs → AreBytes t → AreKeysOf keys cs → slice_get keys i ≡ Some k → bytes_eq (shape_in t) (shape_of k) ≡ true → Finds cs t (Some i)
-found_there text list keys cs i k t h a e at q =
-    let c = key_at keys cs i k e at in
-    let own : AreBytes c.0.text = bytes_at_place cs i c.0 h.texts c.1 in
-    let test : bytes_eq t c.0.text ≡ true = sym (same_test t c.0.text a own) ∙ ap (bytes_eq (shape_in t)) (sym c.2) ∙ q in
-    (c.0, c.1, first_with cs t i c.0 h.distinct c.1 (same_bytes t c.0.text test))

@@ -12,10 +12,9 @@ use Rattle.vcd_model.specs.HeaderChecks.{agrees, same_flag}
 use Rattle.vcd_view.specs.declared.view.Code.{Code}
 use Rattle.vcd_head.specs.declared.codes.Codes.{Codes}
 use Rattle.vcd_view.specs.Views.{AreHeld, IsCode, IsSize}
-use Rattle.indexmap.specs.IndexSet.{insert_key}
 use Rattle.vcd_view.specs.Finds.{Finds}
-use Rattle.vcd_head.specs.Codes.{is_of}
-use Rattle.vcd_head.specs.Keys.{AreKeysOf, same_shape, shape_in, shape_of}
+use Rattle.vcd_head.specs.Codes.{Rises, is_of, keys_of}
+use Rattle.vcd_head.specs.Keys.{AreKeysOf, shape_in, shape_of}
 use Rattle.vcd_head.specs.declared.code_key.CodeKey.{CodeKey}
 use Rattle.vcd_view.specs.Keys.{AreBytes}
 use Rattle.vcd_head.specs.Draft.{HasCodes, CodeHeld}
@@ -44,7 +43,8 @@ codes_alias text es ds v h f =
     let vars = sym (variables_push ds (Declaration.Var v)) in
     record {
       held = subst (AreHeld text es.list.items) c h.held;
-      keys = subst (AreKeysOf es.keys.keys) c h.keys;
+      keys = subst (AreKeysOf (keys_of es)) c h.keys;
+      rises = h.rises;
       known = subst (λ ks. AllByRecursion (λ u. find (has_text u.code) ks ≡ Some (code_of u)) (variables_of (ds ++ Declaration.Var v ∷ []))) c
           (subst (λ vs. AllByRecursion (λ u. find (has_text u.code) (codes_of ds) ≡ Some (code_of u)) vs) vars (all_push (λ u. find (has_text u.code) (codes_of ds) ≡ Some (code_of u)) (variables_of ds) v h.known f));
       seen = λ t. ap (list_any (λ u. bytes_eq u.code t)) (sym vars) ∙ any_push (variables_of ds) v t ∙ seen_or t (bytes_eq v.code t) refl ∙ ap (λ ks. is_some (find (has_text t) ks)) c;
@@ -57,15 +57,16 @@ codes_alias text es ds v h f =
 
 -- ---- a new code
 
-pub codes_new : (text more : List ℕ) (old new : Codes) (ds : List Declaration) (v : Variable) (k : List ℕ) (key : CodeKey) (code : Code) → HasCodes text old ds → shape_of key ≡ shape_in k → AreBytes k → find (has_text v.code) (codes_of ds) ≡ None → k ≡ v.code → new.list.items ≡ old.list.items ++ code ∷ [] → new.keys.keys ≡ insert_key same_shape old.keys.keys key
+pub codes_new : (text more : List ℕ) (old new : Codes) (ds : List Declaration) (v : Variable) (k : List ℕ) (key : CodeKey) (code : Code) → HasCodes text old ds → shape_of key ≡ shape_in k → AreBytes k → find (has_text v.code) (codes_of ds) ≡ None → k ≡ v.code → new.list.items ≡ old.list.items ++ code ∷ [] → keys_of new ≡ keys_of old ++ key ∷ [] → Rises new.rising.items
     → IsCode (text ++ more) code (code_of v) → IsSize (code_of v).size → HasCodes (text ++ more) new (ds ++ Declaration.Var v ∷ [])
-codes_new text more old new ds v k key code h own bytes f b listed made is size =
+codes_new text more old new ds v k key code h own bytes f b listed behind rises is size =
     let c = sym (codes-new ds v (h.seen v.code ∙ ap is_some f)) in
     let vars = sym (variables_push ds (Declaration.Var v)) in
     record {
       held = subst (AreHeld (text ++ more) new.list.items) c
           (subst (λ xs. AreHeld (text ++ more) xs (codes_of ds ++ code_of v ∷ [])) (sym listed) (held_more (text ++ more) old.list.items (codes_of ds) code (code_of v) grown is (subst AreBytes b bytes) f));
-      keys = subst (AreKeysOf new.keys.keys) c (keys_more key k own bytes old.keys.keys new.keys.keys (codes_of ds) (code_of v) h.held.texts h.keys (ap (λ t. find (has_text t) (codes_of ds)) b ∙ f) (sym b) made);
+      keys = subst (AreKeysOf (keys_of new)) c (keys_more k bytes (keys_of old) (keys_of new) key (codes_of ds) (code_of v) h.keys own (sym b) behind);
+      rises = rises;
       known = subst (λ ks. AllByRecursion (λ u. find (has_text u.code) ks ≡ Some (code_of u)) (variables_of (ds ++ Declaration.Var v ∷ []))) c
           (subst (λ vs. AllByRecursion (λ u. find (has_text u.code) (codes_of ds ++ code_of v ∷ []) ≡ Some (code_of u)) vs) vars
           (all_push (λ u. find (has_text u.code) (codes_of ds ++ code_of v ∷ []) ≡ Some (code_of u)) (variables_of ds) v
@@ -179,8 +180,8 @@ held_alias text es ds v place h at f = record {
 }
 
 pub held_new : (old new : List ℕ) (before after : Codes) (ds : List Declaration) (v : Variable) (k : List ℕ) (key : CodeKey) (code : Code) (place : ℕ) → HasCodes old before ds → shape_of key ≡ shape_in k → AreBytes k → find (has_text v.code) (codes_of ds) ≡ None → k ≡ v.code → IsSize (code_of v).size
-    → code ≡ record { start = length old; len = length k; size = (code_of v).size; event = (code_of v).event } → new ≡ old ++ k → place ≡ length (codes_of ds) → after.list.items ≡ before.list.items ++ code ∷ [] → after.keys.keys ≡ insert_key same_shape before.keys.keys key → CodeHeld old new after ds v place
-held_new old new before after ds v k key code place h own bytes f b size is_code text at listed made =
+    → code ≡ record { start = length old; len = length k; size = (code_of v).size; event = (code_of v).event } → new ≡ old ++ k → place ≡ length (codes_of ds) → after.list.items ≡ before.list.items ++ code ∷ [] → keys_of after ≡ keys_of before ++ key ∷ [] → Rises after.rising.items → CodeHeld old new after ds v place
+held_new old new before after ds v k key code place h own bytes f b size is_code text at listed behind rises =
     let from = ap (λ (c : Code). c.start) is_code in
     let size_of = ap (λ (c : Code). c.len) is_code in
     let is : IsCode (old ++ k) code (code_of v) = record {
@@ -190,7 +191,7 @@ held_new old new before after ds v k key code place h own bytes f b size is_code
       event_is = ap (λ (c : Code). c.event) is_code;
     } in
     record {
-      held_codes = rw text (codes_new old k before after ds v k key code h own bytes f b listed made is size);
+      held_codes = rw text (codes_new old k before after ds v k key code h own bytes f b listed behind rises is size);
       held_at = ap (λ ks. slice_get ks place) (codes-new ds v (h.seen v.code ∙ ap is_some f)) ∙ ap (slice_get (codes_of ds ++ code_of v ∷ [])) at ∙ slice_get-seam (codes_of ds) (code_of v) [];
       more = k;
       grown = text;

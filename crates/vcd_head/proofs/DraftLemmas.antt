@@ -13,6 +13,7 @@ use Rattle.vcd_view.specs.declared.view.Row.{Row}
 use Rattle.vcd_view.specs.declared.view.Scale.{Scale}
 use Rattle.vcd_head.specs.declared.codes.Codes.{Codes}
 use Rattle.vcd_view.specs.Views.{AreHeld, HasTexts, IsRow, AreRows, IsExponent, IsSize, counted_from_one}
+use Rattle.vcd_head.specs.Codes.{keys_of}
 use Rattle.vcd_head.specs.Keys.{AreKeysOf}
 use Rattle.vcd_view.specs.declared.view.Code.{Code}
 use Rattle.vcd_head.specs.declared.draft.Draft.{Draft}
@@ -76,7 +77,7 @@ pub held_grow : (text more : List ℕ) (list : List Code) (cs : List IdCode) →
 held_grow text more list cs h = record { stand = are_codes_grow text more list cs h.stand; distinct = h.distinct; texts = h.texts }
 
 pub has_codes_grow : (text more : List ℕ) (es : Codes) (ds : List Declaration) → HasCodes text es ds → HasCodes (text ++ more) es ds
-has_codes_grow text more es ds h = record { held = held_grow text more es.list.items (codes_of ds) h.held; keys = h.keys; known = h.known; seen = h.seen; sizes = h.sizes }
+has_codes_grow text more es ds h = record { held = held_grow text more es.list.items (codes_of ds) h.held; keys = h.keys; rises = h.rises; known = h.known; seen = h.seen; sizes = h.sizes }
 
 same_variables : (ds : List Declaration) (d : Declaration) → variable_of d ≡ None → variables_of (ds ++ d ∷ []) ≡ variables_of ds
 same_variables ds d h = variables_push ds d ∙ rw h (append-nil (variables_of ds))
@@ -87,7 +88,8 @@ has_codes_other text es ds d n h =
     let v = sym (same_variables ds d n) in
     record {
       held = subst (AreHeld text es.list.items) c h.held;
-      keys = subst (AreKeysOf es.keys.keys) c h.keys;
+      keys = subst (AreKeysOf (keys_of es)) c h.keys;
+      rises = h.rises;
       known = subst (λ ks. AllByRecursion (λ u. find (has_text u.code) ks ≡ Some (code_of u)) (variables_of (ds ++ d ∷ []))) c (subst (λ vs. AllByRecursion (λ u. find (has_text u.code) (codes_of ds) ≡ Some (code_of u)) vs) v h.known);
       seen = λ t. ap (list_any (λ u. bytes_eq u.code t)) (sym v) ∙ h.seen t ∙ ap (λ ks. is_some (find (has_text t) ks)) c;
       sizes = subst (λ ks. AllByRecursion (λ (k : IdCode). IsSize k.size) ks) c h.sizes;

@@ -1,52 +1,47 @@
 -- The code of a variable, whose key is inserted.
-use Rattle.std.proofs.Common.{◌≡◌, ℕ, ◌<◌, Bool, true, false, cond, List, [], ◌∷◌, ◌++◌, length, find, None, Some, slice_get, refl, sym, ap, subst, ◌∙◌}
-use Rattle.std.specs.List.{list_any, position_or_len}
-use Rattle.indexmap.specs.IndexSet.{insert_key}
+use Rattle.std.proofs.Common.{◌≡◌, ℕ, Bool, true, false, List, [], ◌∷◌, ◌++◌, length, find, None, Some, slice_get, refl, sym, ap, subst, ◌∙◌}
 use Rattle.vcd_model.specs.Declarations.{Declaration, IdCode, Variable, code_of, codes_of, has_text}
 use Rattle.vcd_view.specs.Finds.{Finds}
 use Rattle.vcd_view.specs.declared.view.Code.{Code}
 use Rattle.vcd_view.specs.Keys.{AreBytes}
 use Rattle.vcd_view.specs.Views.{AreHeld, IsSize}
-use Rattle.vcd_head.specs.declared.code_key.CodeKey.{CodeKey}
 use Rattle.vcd_head.specs.declared.codes.Codes.{Codes}
-use Rattle.vcd_head.specs.Codes.{is_of}
+use Rattle.vcd_head.specs.Codes.{Rises, is_of, keys_of}
 use Rattle.vcd_head.specs.Draft.{HasCodes, IsEntered}
-use Rattle.vcd_head.specs.Keys.{AreKeysOf, same_shape, shape_in, shape_of}
-use Rattle.vcd_head.proofs.CodeKeys.{finds_entered, last_entered, none_entered}
+use Rattle.vcd_head.specs.Entered.{AddsKey, HasKey}
+use Rattle.vcd_head.specs.Keys.{AreKeysOf}
+use Rattle.vcd_head.proofs.CodeKeys.{finds_entered, len_of, none_entered}
 use Rattle.vcd_head.proofs.CodesLemmas.{listed}
 use Rattle.vcd_head.proofs.DraftCodes.{agrees_at, agrees_new, found_is, held_alias, held_new}
 
-module _ (text : List ℕ) (before : Codes) (ds : List Declaration) (v : Variable) (bytes : List ℕ) (size : ℕ) (event : Bool) (key : CodeKey) (place : ℕ) (h : HasCodes text before ds) (is : code_of v ≡ record { text = bytes; size = size; event = event })
-    (own : shape_of key ≡ shape_in bytes) (are : AreBytes bytes) (at : place ≡ position_or_len (same_shape key) before.keys.keys) where
+module _ (text : List ℕ) (before after : Codes) (ds : List Declaration) (v : Variable) (bytes : List ℕ) (size : ℕ) (event : Bool) (place : ℕ) (h : HasCodes text before ds) (is : code_of v ≡ record { text = bytes; size = size; event = event })
+    (are : AreBytes bytes) where
   -- a new one, whose bytes are put to the text
-  pub entered_new : (new : List ℕ) (after : Codes) → IsSize size → list_any (same_shape key) before.keys.keys ≡ false → after.keys.keys ≡ insert_key same_shape before.keys.keys key
+  pub entered_new : (new : List ℕ) → IsSize size → Rises after.rising.items → AddsKey bytes (keys_of before) (keys_of after) place
       → new ≡ text ++ bytes → after.list.items ≡ before.list.items ++ (record { start = length text; len = length bytes; size = size; event = event }) ∷ [] → IsEntered text new after ds v (Some place)
-  entered_new new after is_size any made grown listed =
+  entered_new new is_size rises adds grown listed =
       let cs = codes_of ds in
-      let keys = before.keys.keys in
       let same : bytes ≡ v.code = ap (λ (k : IdCode). k.text) (sym is) in
-      let none : find (has_text v.code) cs ≡ None = subst (λ t. find (has_text t) cs ≡ None) same (none_entered key bytes own are keys cs h.held.texts h.keys any) in
+      let none : find (has_text v.code) cs ≡ None = subst (λ t. find (has_text t) cs ≡ None) same (none_entered bytes are (keys_of before) cs h.held.texts h.keys adds.absent) in
       let code : Code = record { start = length text; len = length bytes; size = size; event = event } in (
         agrees_new text before ds v h none,
-        held_new text new before after ds v bytes key code place h own are none same (subst IsSize (ap (λ (k : IdCode). k.size) (sym is)) is_size) (λ j. record { start = length text; len = length bytes; size = (sym is j).size; event = (sym is j).event }) grown
-            (at ∙ last_entered key bytes own are keys cs h.keys any) listed made,
+        held_new text new before after ds v bytes adds.key code place h adds.own are none same (subst IsSize (ap (λ (k : IdCode). k.size) (sym is)) is_size) (λ j. record { start = length text; len = length bytes; size = (sym is j).size; event = (sym is j).event }) grown
+            (adds.last ∙ len_of bytes are (keys_of before) cs h.keys) listed adds.behind rises,
       )
 
-  module _ (after : Codes) (any : list_any (same_shape key) before.keys.keys ≡ true) (made : after.keys.keys ≡ insert_key same_shape before.keys.keys key) (within : place < length after.keys.keys) (list : after.list.items ≡ before.list.items) where
-    same_keys : after.keys.keys ≡ before.keys.keys
-    same_keys = made ∙ ap (λ b. cond b before.keys.keys (before.keys.keys ++ key ∷ [])) any
-
+  module _ (rises : Rises after.rising.items) (has : HasKey bytes (keys_of before) (keys_of after) place) (list : after.list.items ≡ before.list.items) where
     still : HasCodes text after ds
     still = record {
       held = subst (λ l. AreHeld text l (codes_of ds)) (sym list) h.held;
-      keys = subst (λ k. AreKeysOf k (codes_of ds)) (sym same_keys) h.keys;
+      keys = subst (λ k. AreKeysOf k (codes_of ds)) (sym has.same) h.keys;
+      rises = rises;
       known = h.known;
       seen = h.seen;
       sizes = h.sizes;
     }
 
     finds : Finds (codes_of ds) v.code (Some place)
-    finds = subst (λ t. Finds (codes_of ds) t (Some place)) (ap (λ (k : IdCode). k.text) (sym is)) (finds_entered key bytes own are before.keys.keys (codes_of ds) place h.held.texts h.keys at (subst (λ k. place < length k) same_keys within))
+    finds = subst (λ t. Finds (codes_of ds) t (Some place)) (ap (λ (k : IdCode). k.text) (sym is)) (finds_entered bytes are (keys_of before) (codes_of ds) place h.held.texts h.keys has.at has.within)
 
     -- one that is there is listed
     pub entered_listed : slice_get before.list.items place ≡ None → ⊥

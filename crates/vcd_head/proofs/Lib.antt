@@ -24,6 +24,7 @@ pub mod DraftSteps
 pub mod DraftCodes
 pub mod CodesLemmas
 pub mod CodeKeys
+pub mod RisingLemmas
 pub mod IndexLemmas
 pub mod RankLemmas
 pub mod CodeChecks

@@ -119,7 +119,7 @@ begun_by most i d f placed (Some k) e l h = record { placed = placed; token_read
 
 no_codes_yet : (text : List ℕ) (c : Codes) → HasNone c → HasCodes text c []
 unfolding codes_of
-no_codes_yet text c n = record { held = rw n.no_codes (none_held text); keys = rw n.no_keys refl; known = tt; seen = λ t. refl; sizes = tt }
+no_codes_yet text c n = record { held = rw n.no_codes (none_held text); keys = rw (n.no_numbers, n.no_keys) refl; rises = rw n.no_numbers tt; known = tt; seen = λ t. refl; sizes = tt }
 
 no_rows_yet : (text : List ℕ) → AreRows text (codes_of []) [] [] []
 no_rows_yet text = tt

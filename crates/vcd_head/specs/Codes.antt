@@ -1,7 +1,9 @@
 -- What is kept of the distinct codes while a header is read.
-use Rattle.std.specs.Prelude.{◌≡◌, ℕ, ◌==◌, ◌&&◌, Bool, []}
+use Rattle.std.specs.Prelude.{◌≡◌, ℕ, ◌==◌, ◌&&◌, ◌<◌, Bool, List, [], ◌∷◌, ◌++◌, map}
 use Rattle.vcd_model.specs.HeaderChecks.{same_flag}
 use Rattle.vcd_view.specs.declared.view.Code.{Code}
+use Rattle.vcd_head.specs.declared.code_key.CodeKey.{CodeKey}
+use Rattle.vcd_head.specs.declared.code_key.CodeKey.TheVariants as key
 use Rattle.vcd_head.specs.declared.codes.Codes.{Codes}
 
 -- the code has this size, and is an event or none
@@ -11,4 +13,22 @@ is_of c size event = (c.size == size) && same_flag c.event event
 -- there is none yet
 pub record HasNone (c : Codes) : Type 0 where
   pub no_codes : c.list.items ≡ []
+  pub no_numbers : c.rising.items ≡ []
   pub no_keys : c.keys.keys ≡ []
+
+-- each number is above the one before it, and the first above this one
+abbrev pub RisesFrom : ℕ → List ℕ → Type 0
+RisesFrom n [] = Unit {0}
+RisesFrom n (x ∷ xs) = (n < x) × RisesFrom x xs
+
+-- each number is above the one before it, and above 0
+abbrev pub Rises : List ℕ → Type 0
+Rises xs = RisesFrom 0 xs
+
+-- the keys of codes, where those of the first ones are these numbers
+abbrev pub keys_behind : List ℕ → List CodeKey → List CodeKey
+keys_behind rising keys = map (λ n. key.Short n) rising ++ keys
+
+-- the keys of all codes, in order
+abbrev pub keys_of : Codes → List CodeKey
+keys_of c = keys_behind c.rising.items c.keys.keys

@@ -8,7 +8,7 @@ use Rattle.vcd_model.specs.Bound.{kept_bytes}
 use Rattle.vcd_view.specs.declared.view.Scale.{Scale}
 use Rattle.vcd_head.specs.declared.codes.Codes.{Codes}
 use Rattle.vcd_view.specs.Views.{AreHeld, IsExponent, IsSize, AreRows}
-use Rattle.vcd_head.specs.Codes.{HasNone}
+use Rattle.vcd_head.specs.Codes.{HasNone, Rises, keys_of}
 use Rattle.vcd_head.specs.Keys.{AreKeysOf}
 use Rattle.vcd_head.specs.declared.draft.Draft.{Draft}
 use Rattle.vcd_model.specs.Input.{Input}
@@ -28,7 +28,8 @@ use Rattle.vcd_view.specs.declared.keyword.Keyword.TheVariants as word
 -- the codes of these declarations are held
 pub record HasCodes (text : List ℕ) (c : Codes) (ds : List Declaration) : Type 0 where
   pub held : AreHeld text c.list.items (codes_of ds)
-  pub keys : AreKeysOf c.keys.keys (codes_of ds)
+  pub keys : AreKeysOf (keys_of c) (codes_of ds)
+  pub rises : Rises c.rising.items
   pub known : AllByRecursion (λ u. find (has_text u.code) (codes_of ds) ≡ Some (code_of u)) (variables_of ds)
   pub seen : (t : List ℕ) → list_any (λ u. bytes_eq u.code t) (variables_of ds) ≡ is_some (find (has_text t) (codes_of ds))
   pub sizes : AllByRecursion (λ (c : IdCode). IsSize c.size) (codes_of ds)

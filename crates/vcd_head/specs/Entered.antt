@@ -1,10 +1,14 @@
 -- Codes of variables, as they are asked for and entered.
-use Rattle.std.specs.Prelude.{◌≡◌, ℕ, Bool, List, length, Option, Result, IfOk}
+use Rattle.std.specs.Prelude.{◌≡◌, ℕ, ◌<◌, Bool, false, MatchBool, List, [], ◌∷◌, ◌++◌, length, Option, Result, IfOk}
+use Rattle.std.specs.List.{list_any, position_or_len}
 use Rattle.vcd_model.specs.Declarations.{Declaration, Variable, code_of}
 use Rattle.vcd_model.specs.HeaderChecks.{agrees}
 use Rattle.vcd_view.specs.Views.{IsSize}
 use Rattle.vcd_view.specs.declared.view.Code.{Code}
+use Rattle.vcd_head.specs.Codes.{Rises, keys_of}
 use Rattle.vcd_head.specs.Draft.{HasCodes, IsEntered}
+use Rattle.vcd_head.specs.Keys.{is_key, shape_in, shape_of}
+use Rattle.vcd_head.specs.declared.code_key.CodeKey.{CodeKey}
 use Rattle.vcd_head.specs.declared.codes.Codes.{Codes}
 use Rattle.vcd_head.specs.declared.fault.HeadFault.{HeadFault}
 
@@ -23,3 +27,23 @@ Enters old new known known_after bytes size event r = (ds : List Declaration) (v
 -- the code with these bytes, which stand there in the text
 abbrev pub code_with : ℕ → List ℕ → ℕ → Bool → Code
 code_with start bytes size event = record { start = start; len = length bytes; size = size; event = event }
+
+-- the key of the code with these bytes was not there, and now stands behind the others
+pub record AddsKey (t : List ℕ) (old new : List CodeKey) (place : ℕ) : Type 0 where
+  pub absent : list_any (is_key t) old ≡ false
+  pub key : CodeKey
+  pub own : shape_of key ≡ shape_in t
+  pub behind : new ≡ old ++ key ∷ []
+  pub last : place ≡ length old
+
+-- it is at this place
+pub record HasKey (t : List ℕ) (old new : List CodeKey) (place : ℕ) : Type 0 where
+  pub at : place ≡ position_or_len (is_key t) old
+  pub within : place < length old
+  pub same : new ≡ old
+
+-- the key of the code with these bytes is at this place, and is new or not
+pub record EntersKey (t : List ℕ) (before after : Codes) (place : ℕ) (is_new : Bool) : Type 0 where
+  pub rises : Rises after.rising.items
+  pub list : after.list.items ≡ before.list.items
+  pub entered : MatchBool is_new (AddsKey t (keys_of before) (keys_of after) place) (HasKey t (keys_of before) (keys_of after) place)

@@ -18,6 +18,10 @@ shape_of (key.Long v) = 0 ∷ 0 ∷ v.items
 abbrev pub shape_in : List ℕ → List ℕ
 shape_in t = cond (key_in t == 0) (0 ∷ 0 ∷ t) (key_in t ∷ [])
 
+-- the key is that of the code with these bytes
+abbrev pub is_key : List ℕ → CodeKey → Bool
+is_key t k = bytes_eq (shape_in t) (shape_of k)
+
 -- these are the keys of the codes, in order
 abbrev pub AreKeysOf : List CodeKey → List IdCode → Type 0
 AreKeysOf keys cs = map shape_of keys ≡ map (λ (c : IdCode). shape_in c.text) cs

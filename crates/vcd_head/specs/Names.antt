@@ -3,7 +3,7 @@
 pub use Rattle.std.specs.Cmp.{on_equiv, on_per, partial_equiv_from_equiv}
 pub use Rattle.std.specs.Cmp.Lexicographic.{nat_list_eq_equiv}
 pub use Rattle.std.specs.Int.{div_ceil}
-pub use Rattle.std.specs.List.{concat, join_with_byte, list_all}
+pub use Rattle.std.specs.List.{concat, join_with_byte, list_all, list_any}
 pub use Rattle.std.specs.Option.{SomeIff}
 pub use Rattle.vcd_model.specs.Backward.{each}
 pub use Rattle.vcd_model.specs.Bytes.{is_code_byte}
@@ -30,15 +30,15 @@ pub use Rattle.vcd_view.specs.declared.view.Code.{Code}
 pub use Rattle.vcd_view.specs.declared.view.Scale.{Scale}
 pub use Rattle.vcd_head.specs.Ahead.{DraftsAhead, DraftsNext, EndsBefore, Gives, GivesToken, GoesOnWithin, IsReference, IsScope, IsUpscope, IsVariable, LooksOn, MovesAhead, PassesOn, PassesTokens, TakesNext}
 pub use Rattle.vcd_head.specs.Calls.{MovesFurther, MovesOn, OrFails, ReadsAhead, ReadsAny, ReadsEnd, ReadsNext, ReadsOne, ReadsOther, ReadsPhrase, ReadsReference, ReadsRest, ReadsText, ReadsToEnd, ReadsWord}
-pub use Rattle.vcd_head.specs.Codes.{HasNone, is_of}
+pub use Rattle.vcd_head.specs.Codes.{HasNone, Rises, is_of, keys_of}
 pub use Rattle.vcd_head.specs.Declares.{DeclaresVariable, IsBarred, MayStart, Takes as TakesPhrase}
 pub use Rattle.vcd_head.specs.Draft.{IsDraftOf, IsNew, goes_on}
-pub use Rattle.vcd_head.specs.Entered.{Allows, Enters, code_with}
+pub use Rattle.vcd_head.specs.Entered.{Allows, Enters, EntersKey, code_with}
 pub use Rattle.vcd_head.specs.Fault.{call_end, fault_number}
 pub use Rattle.vcd_head.specs.Fronts.{AreFronts, AreRanks, bytes_at, front_in, order_of, place_in_rank, rank_of}
 pub use Rattle.vcd_head.specs.Groups.{AreRising, FlagsSome, GoesOnWith, IsRun, IsRunOn, RunsOn, names_of}
 pub use Rattle.vcd_head.specs.Inside.{AnyOpen, ComparesAt, Enters as EntersScope, FlagsSelected, GivesAround, IsOpen, KeepsOpen, SelectsAt, StaysOpen, front, row_path}
-pub use Rattle.vcd_head.specs.Keys.{AreKeysOf, same_shape, same_writes, shape_in, shape_of, writes_of}
+pub use Rattle.vcd_head.specs.Keys.{AreKeysOf, is_key, same_shape, same_writes, shape_in, shape_of, writes_of}
 pub use Rattle.vcd_head.specs.Marks.{AllMarked, Marked, RefusesUnmatched, is_marked, marks_of, row_and_scopes, scopes_at}
 pub use Rattle.vcd_head.specs.Matched.{IsFirstFalse, Matches}
 pub use Rattle.vcd_head.specs.Merged.{FitNumbers, IsBehind as IsPast, ShowHeaders, closing, due, input_rows, openings}

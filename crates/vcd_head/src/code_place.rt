@@ -1,13 +1,14 @@
 // The place of a variable's code among the distinct codes.
-ghost use Rattle.std.specs.Prelude.{◌≡◌, [], ◌∷◌, ◌++◌, length, IfOk, IfErr};
-ghost use Rattle.vcd_head.specs.Names.{Enters, code_with};
+ghost use Rattle.std.specs.Prelude.{◌≡◌, nat_eq, false, [], ◌∷◌, ◌++◌, length, IfOk, IfErr};
+ghost use Rattle.vcd_head.specs.Names.{Enters, EntersKey, Rises, code_with, key_in, list_any};
 
 use crate::code_key::CodeKey;
 use crate::codes::{Codes, is_of_kind};
 use crate::fault::HeadFault;
+use crate::rising::{last_of, place_in};
 use crate::rows::token_len;
 use std::alloc::Global;
-use vcd_view::{Code, code_in};
+use vcd_view::{Code, code_in, key_of};
 
 /// Returns the place of the code of a variable, which is added where it is new, at the end of the
 /// text; none where it was declared with another size or kind.
@@ -24,10 +25,7 @@ pub(crate) fn enter_code(
         bytes.now size event result }
     ensures memory { IfErr result (λ fault. fault ≡ HeadFault.OutOfMemory) }
 {
-    let key = CodeKey::of(alloc, bytes)?;
-    let Ok((place, new)) = known.keys.insert_full(key) else {
-        return Err(HeadFault::OutOfMemory);
-    };
+    let (place, new) = enter_key(alloc, known, bytes)?;
     if new {
         add(text, &mut known.list, bytes, size, event)?;
         return Ok(Some(place));
@@ -39,6 +37,44 @@ pub(crate) fn enter_code(
         return Ok(None);
     }
     Ok(Some(place))
+}
+
+/// Enters the key of the code with these bytes, if it is new. Returns the place of the code, and
+/// whether it is new.
+#[inline(always)]
+fn enter_key(alloc: Global, known: &mut Codes, bytes: &[u8]) -> Result<(usize, bool), HeadFault>
+    ensures enters { Rises known.old.rising.items
+        → IfOk result (λ r. EntersKey bytes.now known.old known.new r.0 r.1) }
+    ensures memory { IfErr result (λ fault. fault ≡ HeadFault.OutOfMemory) }
+{
+    let number = key_of(bytes);
+    if known.keys.is_empty() && number > last_of(&known.rising) {
+        let place = known.rising.len();
+        known.rising.push(number)?;
+        return Ok((place, true));
+    }
+    if let Some(place) = place_in(&known.rising, number) {
+        return Ok((place, false));
+    }
+    enter_in_set(alloc, known, bytes)
+}
+
+/// Enters the key of the code with these bytes in the set, if it is new. Returns the place of the
+/// code, and whether it is new.
+fn enter_in_set(alloc: Global, known: &mut Codes, bytes: &[u8]) -> Result<(usize, bool), HeadFault>
+    ensures enters { Rises known.old.rising.items
+        → list_any (nat_eq (key_in bytes.now)) known.old.rising.items ≡ false
+        → IfOk result (λ r. EntersKey bytes.now known.old known.new r.0 r.1) }
+    ensures memory { IfErr result (λ fault. fault ≡ HeadFault.OutOfMemory) }
+{
+    let key = CodeKey::of(alloc, bytes)?;
+    let Ok((place, new)) = known.keys.insert_full(key) else {
+        return Err(HeadFault::OutOfMemory);
+    };
+    let Some(place) = known.rising.len().checked_add(place) else {
+        return Err(HeadFault::OutOfMemory);
+    };
+    Ok((place, new))
 }
 
 /// Puts the bytes of a code to the text, and the code to the others.

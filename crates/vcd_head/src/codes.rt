@@ -1,17 +1,21 @@
 // The distinct codes of a header that is read.
-ghost use Rattle.std.specs.Prelude.{◌≡◌, ℕ, List};
-ghost use Rattle.vcd_head.specs.Names.{Allows, AreHeld, AreKeysOf, Code, Finds, HasNone, IdCode, is_of};
+ghost use Rattle.std.specs.Prelude.{◌≡◌, ℕ, List, position};
+ghost use Rattle.vcd_head.specs.Names.{Allows, AreHeld, AreKeysOf, Finds, HasNone, IdCode, Rises, is_key, is_of, keys_of};
 
 use crate::code_key::CodeKey;
+use crate::rising::place_in;
 use indexmap::IndexSet;
 use std::alloc::Global;
-use vcd_view::{Code, CodeSeed, code_in};
+use vcd_view::{Code, CodeSeed, code_in, key_of};
 
 // The codes in order of first declaration, found by their bytes.
 #[derive(Drop)]
 pub(crate) struct Codes {
     pub(crate) list: Vec<Code>,
-    // The key of each, at its place in the list.
+    // The numbers of the first codes in the list, each above the one before it. Simulators number
+    // codes in the order of declaration, so most headers have no others.
+    pub(crate) rising: Vec<u64>,
+    // The key of each code behind those.
     pub(crate) keys: IndexSet<CodeKey, CodeSeed>,
 }
 
@@ -21,6 +25,7 @@ impl Codes {
     {
         Codes {
             list: Vec::new(alloc),
+            rising: Vec::new(alloc),
             keys: IndexSet::with_hasher(alloc, seed),
         }
     }
@@ -39,11 +44,23 @@ impl Codes {
         }
     }
 
-    /// Returns the place of the code with these bytes. It takes memory for the key of a long one;
-    /// where that is refused, all keys are looked through.
+    /// Returns the place of the code with these bytes.
     fn find(&self, alloc: Global, bytes: &[u8]) -> Option<usize>
         ensures { (text : List ℕ) (cs : List IdCode) → AreHeld text self.now.list.items cs
-            → AreKeysOf self.now.keys.keys cs → Finds cs bytes.now result }
+            → AreKeysOf (keys_of self.now) cs → Rises self.now.rising.items
+            → Finds cs bytes.now result }
+    {
+        if let Some(place) = place_in(&self.rising, key_of(bytes)) {
+            return Some(place);
+        }
+        let place = self.find_key(alloc, bytes)?;
+        self.rising.len().checked_add(place)
+    }
+
+    /// Returns the place in the set of the key of the code with these bytes. It takes memory for
+    /// the key of a long one; where that is refused, all keys are looked through.
+    fn find_key(&self, alloc: Global, bytes: &[u8]) -> Option<usize>
+        ensures { result ≡ position (is_key bytes.now) self.now.keys.keys }
     {
         let Ok(key) = CodeKey::of(alloc, bytes) else {
             return place_among(self.keys.as_slice(), bytes);
@@ -62,8 +79,7 @@ pub(crate) fn is_of_kind(code: Code, size: usize, event: bool) -> bool
 
 /// Returns the place of the key of the code with these bytes among keys, by a look at each.
 fn place_among(keys: &[CodeKey], bytes: &[u8]) -> Option<usize>
-    ensures { (text : List ℕ) (list : List Code) (cs : List IdCode) → AreHeld text list cs
-        → AreKeysOf keys.now cs → Finds cs bytes.now result }
+    ensures { result ≡ position (is_key bytes.now) keys.now }
 {
     for (place, key) in keys.iter().enumerate() {
         if key.is_of(bytes) {

@@ -1,11 +1,12 @@
 // The entries by which codes are looked up: how they are filled. Any code may have any place among
 // them, or none: where an entry is decides only how fast a look-up is.
-ghost use Rattle.std.specs.Prelude.{◌≡◌, ◌*◌, ◌^◌, ◌≤◌, ◌<◌, ℕ, List, true, length, set, slice_get, Some, IfOk, IfSome};
+ghost use Rattle.std.specs.Prelude.{◌≡◌, ◌-◌, ◌*◌, ◌^◌, ◌≤◌, ◌<◌, ℕ, List, true, false, length, set, slice_get, Some, IfOk, IfSome};
 ghost use Rattle.vcd_head.specs.Names.{Code, KeepsRight, are_right, is_right, key_in, text_in};
 
 use std::alloc::{AllocError, Global};
 use vcd_view::{
-    Code, CodeSeed, Entry, MOST_LOOKS, entry_after, entry_of, key_of, long_key, most_of, text_in,
+    Code, CodeSeed, Entry, MOST_LOOKS, code_number, entry_after, entry_of, key_of, long_key,
+    most_of, text_in,
 };
 
 // The entry of no code.
@@ -15,12 +16,13 @@ const EMPTY: Entry = Entry {
     most: 0,
 };
 
-/// Returns the entries of these codes, whose bytes lie in the text: a power of two of them, as many
-/// as three for each code allow.
+/// Returns the entries of these codes, whose bytes lie in the text: a power of two of them, at most
+/// three for each code. Fewer suffice where the codes are in the order of their numbers.
 pub(crate) fn entries_of(
     alloc: Global,
     text: &[u8],
     codes: &[Code],
+    in_order: bool,
     seed: CodeSeed,
 ) -> Result<Vec<Entry>, AllocError>
     ensures right { IfOk result (λ entries. are_right text.now codes.now entries.items ≡ true) }
@@ -29,19 +31,32 @@ pub(crate) fn entries_of(
     if codes.is_empty() {
         return Ok(Vec::new(alloc));
     }
-    let mut entries = vec![in alloc; EMPTY; count_for(codes.len())]?;
+    let count = count_for(codes.len(), greatest_of(text, codes, in_order));
+    let mut entries = vec![in alloc; EMPTY; count]?;
     fill(&mut entries, text, codes, seed);
     Ok(entries)
 }
 
-/// Returns how many entries so many codes have: the greatest power of two that is at most three
-/// times as many.
-fn count_for(codes: usize) -> usize
+/// Returns the greatest number of a code where they are in the order of their numbers, else the
+/// greatest that there is.
+fn greatest_of(text: &[u8], codes: &[Code], in_order: bool) -> usize
+    ensures { in_order ≡ false → result ≡ 2 ^ 64 - 1 }
+{
+    match codes.last() {
+        Some(last) if in_order => code_number(text_in(text, last.start, last.len as usize)),
+        _ => usize::MAX,
+    }
+}
+
+/// Returns how many entries so many codes have, of which this is the greatest number: the least
+/// power of two that has one for each code, and twice as many if three for each code allow that.
+/// Where each number is that of an entry, no two codes have the same one, so no more are needed.
+fn count_for(codes: usize, greatest: usize) -> usize
     requires { (0 < codes) × (codes < 2 ^ 60) }
     ensures { result ≤ 3 * codes }
 {
     let entries = codes.next_power_of_two();
-    if 2 * entries <= 3 * codes {
+    if greatest >= entries && 2 * entries <= 3 * codes {
         2 * entries
     } else {
         entries

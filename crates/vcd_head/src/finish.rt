@@ -25,11 +25,17 @@ pub(crate) fn finish(alloc: Global, draft: Draft) -> Result<Head, HeadFault>
         scale,
         ..
     } = draft;
-    let Codes { list: codes, keys } = codes;
+    let Codes {
+        list: codes,
+        rising,
+        keys,
+    } = codes;
     let seed = *keys.hasher();
+    let in_order = keys.is_empty();
+    drop(rising);
     drop(keys);
     let index = index_of(alloc, &text, &codes)?;
-    let entries = entries_of(alloc, &text, &codes, seed)?;
+    let entries = entries_of(alloc, &text, &codes, in_order, seed)?;
     Ok(Head {
         text,
         rows,

@@ -29,8 +29,8 @@
 //! - `ahead`, `ahead_scopes`: variables and scopes whose phrases are whole in the chunk
 //! - `declarations`, `rows`, `code_place`: what these are checked for, however they are read; what
 //!   becomes of the head: rows, and the place of a code
-//! - `draft`, `codes`, `code_key`, `finish`: a header while it is read, its codes, and the keys by
-//!   which a set finds them; the head that it becomes
+//! - `draft`, `codes`, `rising`, `code_key`, `finish`: a header while it is read, its codes, the
+//!   numbers and the keys by which they are found; the head that it becomes
 //! - `head`, `fault`: `Head`; `HeadFault`
 //! - `entries`, `index`: how the entries are filled; the order of the codes by their bytes
 //! - `enclosing`, `path`: the scopes around a declaration, outermost first; paths
@@ -75,6 +75,7 @@ mod names;
 mod path;
 mod phrases;
 mod read;
+mod rising;
 mod rows;
 mod scale;
 mod scopes;

@@ -46,7 +46,9 @@ pub(crate) fn push(rows: &mut Vec<Row>, row: WideRow) -> Result<(), HeadFault>
 {
     let word = token_len(row.word)?;
     let name = token_len(row.name)?;
-    rows.push(Row {
+    // A `push` would return the row where there is no memory, and be called for each.
+    rows.reserve(1)?;
+    rows.push_reserved(Row {
         kind: row.kind,
         parent: in_32_bits(row.parent),
         word,
@@ -54,6 +56,6 @@ pub(crate) fn push(rows: &mut Vec<Row>, row: WideRow) -> Result<(), HeadFault>
         code: in_32_bits(row.code),
         start: row.start,
         all: row.all,
-    })?;
+    });
     Ok(())
 }

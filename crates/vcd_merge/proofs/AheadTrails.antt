@@ -9,7 +9,7 @@ use Rattle.vcd_model.specs.MergeByInput.{due_with, entry_for, written_with}
 use Rattle.vcd_model.specs.Tokens.{Token}
 use Rattle.vcd_model.proofs.BodyFacts.{all_append}
 use Rattle.vcd_text.specs.Ahead.{bytes_of, longest_of, passed_of}
-use Rattle.vcd_text.specs.Device.{Counts, Device, Takes, Writes, WritesSome}
+use Rattle.vcd_text.specs.Device.{Counts, Device, Takes, Writes, WritesSome, failures_after}
 use Rattle.vcd_text.specs.Passed.{Passed}
 use Rattle.vcd_text.specs.declared.ahead.Ahead.{Ahead}
 use Rattle.vcd_text.specs.declared.device.WriteFailed.{WriteFailed}
@@ -27,6 +27,7 @@ use Rattle.vcd_body.specs.declared.item.Item.{Item}
 use Rattle.vcd_body.specs.declared.item.Item.TheVariants.{Change, Time}
 use Rattle.vcd_body.specs.declared.item.Regs.{Regs}
 use Rattle.vcd_merge.specs.MergeAhead.{Further, GoesAhead, IsAhead, OneAhead, PassesAhead, PutsDue, RunsAhead, StageAhead, TakesNext, track_with}
+use Rattle.vcd_merge.specs.declared.merging.Taken.{Taken}
 use Rattle.vcd_merge.specs.declared.seat.Track.{Track}
 use Rattle.vcd_merge.proofs.SeatLemmas.{not_large}
 
@@ -175,6 +176,37 @@ goes_first shown before s written a out within = record {
   counts = refl;
 }
 
+-- none is taken, and the look-ahead forgets what it has seen
+pub goes_same : (shown : HeadShown) (before : ℕ) (s : Track) (written : Option ℕ) (a b : Ahead) (out : Device) → (passed_of b ≡ passed_of a) × (bytes_of b ≡ bytes_of a) × (longest_of b ≡ longest_of a) → passed_of a ≤ length (bytes_of a) → GoesAhead shown before s written a out out (record { ahead = b; track = s; written = written; ended = Ok false })
+goes_same shown before s written a b out is within =
+    let place = is.0 in record {
+      runs = λ scale first lines h behind start views factor first_is few r. subst (λ n. RunsAhead scale first h (longest_of a) lines (bytes_of a) behind {E = WriteFailed} before start n s.regs s.time written out (Ok false)) (sym place) r;
+      passes = record { same = (is.1, is.2); further = omega (arith, place); within = omega (arith, place, within); passes = λ lines ts p. ([], subst (λ n. Passed (longest_of a) lines (bytes_of a) n (ts ++ [])) (sym place) (rw (append-nil ts) p)) };
+      some = λ e. cc;
+      same = refl;
+      counts = refl;
+    }
+
+-- whole tokens were passed, and then others
+pub passes_further : (a b c : Ahead) → PassesAhead a b → PassesAhead b c → PassesAhead a c
+passes_further a b c p q =
+    let first = p.further in
+    let second = q.further in
+    let bytes = p.same.0 in
+    let longest = p.same.1 in
+    let on : (lines : ℕ) (ts : List Token) → Passed (longest_of a) lines (bytes_of a) (passed_of b) ts → (more : List Token) × Passed (longest_of a) lines (bytes_of a) (passed_of c) (ts ++ more) = λ lines.
+    subst (λ (l : List ℕ). (ts : List Token) → Passed (longest_of a) lines l (passed_of b) ts → (more : List Token) × Passed (longest_of a) lines l (passed_of c) (ts ++ more)) bytes
+    (subst (λ (n : ℕ). (ts : List Token) → Passed n lines (bytes_of b) (passed_of b) ts → (more : List Token) × Passed n lines (bytes_of b) (passed_of c) (ts ++ more)) longest (q.passes lines)) in
+    record {
+      same = (q.same.0 ∙ bytes, q.same.1 ∙ longest);
+      further = omega (arith, first, second);
+      within = subst (λ (l : List ℕ). passed_of c ≤ length l) bytes q.within;
+      passes = λ lines ts passed.
+          let m = p.passes lines ts passed in
+          let n = on lines (ts ++ m.0) m.1 in
+          (m.0 ++ n.0, subst (Passed (longest_of a) lines (bytes_of a) (passed_of c)) (append_assoc ts m.0 n.0) n.1);
+    }
+
 module _ (shown : HeadShown) (before : ℕ) (s : Track) (written : Option ℕ) (a : Ahead) (out : Device) (b : Ahead) (u : Track) (w : Option ℕ) (mid : Device) (g : GoesAhead shown before s written a out mid (record { ahead = b; track = u; written = w; ended = Ok false })) where
   factor_on : (scale : ℕ) → s.factor ≡ scale → u.factor ≡ scale
   factor_on scale e = ap (λ (q : Track). q.factor) g.same ∙ e
@@ -228,3 +260,17 @@ module _ (shown : HeadShown) (before : ℕ) (s : Track) (written : Option ℕ) (
       same = same_on;
       counts = subst (λ (r : Result (Unit {0}) WriteFailed). Counts mid out' r) e counts ∙ ap (λ n. n + 1) g.counts;
     }
+
+  -- others are taken after them
+  pub goes_further : (out' : Device) (t : Taken) → GoesAhead shown before u w b mid out' t → GoesAhead shown before s written a out out' t
+  goes_further out' t n = record {
+    runs = λ scale first lines h behind start views factor first_is few r.
+        let To : ℕ → List ℕ → Type 0 = λ longest bytes.
+        RunsAhead scale first h longest lines bytes behind {E = WriteFailed} before start (passed_of b) u.regs u.time w mid (Ok false) → RunsAhead scale first h longest lines bytes behind before start (passed_of t.ahead) t.track.regs t.track.time t.written out' t.ended in
+        let on = n.runs scale first lines h behind start views (factor_on scale factor) (first_on first first_is) few in
+        subst (To (longest_of a)) g.passes.same.0 (subst (λ longest. To longest (bytes_of b)) g.passes.same.1 on) (g.runs scale first lines h behind start views factor first_is few r);
+    passes = passes_further a b t.ahead g.passes n.passes;
+    some = λ e. let more = n.some e in let further = g.passes.further in omega (arith, more, further);
+    same = n.same ∙ ap (λ (q : Track). track_with q t.track.regs t.track.time) g.same;
+    counts = subst (λ k. out'.failures ≡ failures_after k t.ended) g.counts n.counts;
+  }

@@ -9,8 +9,9 @@ pub use Rattle.vcd_text.specs.Advances.{Advances, CallEnd, HasNotFailed}
 pub use Rattle.vcd_text.specs.Ahead.{bytes_of, longest_of, passed_of}
 pub use Rattle.vcd_text.specs.Device.{Counts, Device, failures_after, Puts, supply, Takes, Writes}
 pub use Rattle.vcd_text.specs.Feed.{chunk_len_of, limit_of, parked_of, parked_seen, SameLoans, seen, source_of}
-pub use Rattle.vcd_text.specs.Passed.{Passed}
+pub use Rattle.vcd_text.specs.Passed.{IsRun, Passed}
 pub use Rattle.vcd_text.specs.Registers.{Fits}
+pub use Rattle.vcd_view.specs.Shown.{parts}
 pub use Rattle.vcd_view.specs.Views.{IsExponent, IsViewOf, Views}
 pub use Rattle.vcd_view.specs.declared.view.Code.{Code}
 pub use Rattle.vcd_head.specs.Merged.{ShowHeaders}

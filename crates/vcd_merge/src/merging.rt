@@ -1,6 +1,6 @@
 //! The steps of one input of a merge, over its source and its windows alone.
 ghost use Rattle.std.specs.Prelude.{◌≡◌, ◌≢◌, ℕ, ◌+◌, ◌-◌, ◌^◌, ◌<◌, ◌≤◌, ◌++◌, [], List, Option, Some, None, length, slice_get, IfOk, IfSome, MatchOption, Ok, true, false, is_some, ◌&&◌};
-ghost use Rattle.vcd_merge.specs.Names.{Advances, AheadTurns, AtSeat, BodyItem, bytes_of, CallEnd, chunk_len_of, Code, Counts, CountsWrites, failures_after, Fits, GoesAhead, HasNotFailed, IsGoodText, IsSeated, Lane, limit_of, MayTakeNext, Moved, NamesInput, Opens, parked_of, parked_seen, passed_of, Puts, PutsDue, reads_failed, RunTurns, SameLoans, SameSeat, seat_with, seen, shown, source_of, spot, spot_with, stage, stage_with, TakesItem, TakesMark, time_due, Turns, Views};
+ghost use Rattle.vcd_merge.specs.Names.{Advances, AheadTurns, AtSeat, BodyItem, bytes_of, CallEnd, chunk_len_of, Code, Counts, CountsWrites, Device, failures_after, Fits, GoesAhead, HasNotFailed, IsGoodText, IsRun, IsSeated, Lane, limit_of, longest_of, MayTakeNext, Moved, NamesInput, Opens, parked_of, parked_seen, parts, passed_of, Puts, PutsDue, reads_failed, RunTurns, SameLoans, SameSeat, seat_with, seen, shown, source_of, spot, spot_with, stage, stage_with, TakesItem, TakesMark, time_due, Turns, Views};
 ghost use Rattle.vcd_body.specs.declared.answer.Stop.TheVariants as stop;
 ghost use Rattle.vcd_body.specs.declared.item.Item.TheVariants as item;
 ghost use Rattle.vcd_body.specs.declared.words.First.TheVariants as first;
@@ -8,9 +8,9 @@ ghost use Rattle.vcd_body.specs.declared.words.First.TheVariants as first;
 use crate::order::Run;
 use crate::seat::{Seat, Track};
 use vcd_body::{
-    First, Form, Item, Opening, Plain, Stop, change_text, has_run, mark_ahead, next_item,
-    opening_ahead, pass_items, put_renamed_ahead, put_renamed_bits, put_time, real_ahead,
-    scalar_ahead, short_ahead, time_ahead, vector_ahead, vector_tokens_ahead,
+    First, Form, Item, Opening, Plain, Stop, change_text, has_run, keyword_comes, mark_ahead,
+    near_mark, next_item, opening_ahead, pass_items, put_renamed_ahead, put_renamed_bits, put_time,
+    real_ahead, scalar_ahead, short_ahead, time_ahead, vector_ahead, vector_tokens_ahead,
 };
 use vcd_head::Head;
 use vcd_text::{Ahead, Feed, Sink, Source, WriteFailed};
@@ -231,10 +231,9 @@ impl<'a> Taken<'a> {
 
 /// Takes the changes that come next, as long as each is a `0` or a `1` with a code of one byte on a
 /// line of its own, and writes what is due with each. The time of the input is before this one.
-// It is a loop of its own, so that it has all registers, and the other loop has none less for it.
-#[inline(never)]
+#[inline(always)]
 fn take_shorts<'a, W: Sink>(
-    head: &Head,
+    view: HeadView<'_>,
     before: u64,
     track: Track,
     mut written: Option<u64>,
@@ -244,10 +243,9 @@ fn take_shorts<'a, W: Sink>(
     requires failures { (W.device out.old).failures < 2 ^ 64 - 1 }
     requires within { passed_of ahead ≤ length (bytes_of ahead) }
     requires early { track.time < before }
-    ensures { GoesAhead (shown head.now) before track written ahead.entry
+    ensures { GoesAhead (parts view.entry) before track written ahead.entry
         (W.device out.old) (W.device out.new) result }
 {
-    let view = head.view();
     'items: loop {
         let Some(put) = take_short(view, &track, &mut written, &mut ahead, out) else {
             return Taken::until(ahead, track, written, Ok(false));
@@ -259,8 +257,72 @@ fn take_shorts<'a, W: Sink>(
     }
 }
 
-/// Takes the short changes that come next, where these are two or more and the time of the input is
-/// before this one. Else it takes none.
+/// Takes the time mark that comes next, if it is near by and not too large once it is scaled. Else
+/// it takes none.
+#[inline(always)]
+fn take_near(before: u64, track: Track, written: Option<u64>, ahead: Ahead<'_>) -> Taken<'_>
+    requires within { passed_of ahead ≤ length (bytes_of ahead) }
+    ensures { (v : HeadView) (out : Device)
+        → GoesAhead (parts v) before track written ahead.entry out out result }
+{
+    let mut next = ahead;
+    let Some(opening) = near_mark(&mut next) else {
+        return Taken::until(ahead, track, written, Ok(false));
+    };
+    let mut marked = track;
+    let Some(()) = take_mark(opening, next, &mut marked) else {
+        return Taken::until(ahead, track, written, Ok(false));
+    };
+    if marked.time >= before {
+        return Taken::until(next, marked, written, Ok(true));
+    }
+    Taken::until(next, marked, written, Ok(false))
+}
+
+/// Takes the short changes that come next and the time mark after them, as `take_shorts` and
+/// `take_near` do.
+// It is a loop of its own, so that it has all registers, and the other loop has none less for it.
+// Mostly the mark ends the run: then the other loop is not begun.
+#[inline(never)]
+fn take_short_run<'a, W: Sink>(
+    head: &Head,
+    before: u64,
+    track: Track,
+    written: Option<u64>,
+    mut ahead: Ahead<'a>,
+    out: &mut W,
+) -> Taken<'a>
+    requires failures { (W.device out.old).failures < 2 ^ 64 - 1 }
+    requires within { passed_of ahead ≤ length (bytes_of ahead) }
+    requires early { track.time < before }
+    ensures { GoesAhead (shown head.now) before track written ahead.entry
+        (W.device out.old) (W.device out.new) result }
+{
+    let view = head.view();
+    // What is known from here on is not asked again for each line.
+    if view.entries.is_empty() || !ahead.has_short() {
+        return Taken::until(ahead, track, written, Ok(false));
+    }
+    ahead.forget();
+    let shorts = take_shorts(view, before, track, written, ahead, out);
+    match shorts.ended {
+        Ok(false) => take_near(before, shorts.track, shorts.written, shorts.ahead),
+        Ok(true) | Err(_) => shorts,
+    }
+}
+
+/// Returns whether a short line comes, and then another one or a time mark.
+#[inline(always)]
+fn has_short_run(ahead: Ahead<'_>) -> bool
+    ensures { result ≡ true
+        → IsRun (longest_of ahead.entry) (bytes_of ahead.entry) (passed_of ahead.entry) 2 }
+{
+    let rest = &ahead.bytes()[ahead.passed()..];
+    has_run(ahead) || (ahead.has_short() && matches!(rest.get(3), Some(b'#')))
+}
+
+/// Takes a run of short changes and the time mark after them, where one begins and the time of the
+/// input is before this one. Else it takes none.
 #[inline(always)]
 fn begin_shorts<'a, W: Sink>(
     head: &Head,
@@ -275,8 +337,8 @@ fn begin_shorts<'a, W: Sink>(
     ensures { GoesAhead (shown head.now) before track written ahead.entry
         (W.device out.old) (W.device out.new) result }
 {
-    if track.time < before && has_run(ahead) {
-        return take_shorts(head, before, track, written, ahead, out);
+    if track.time < before && has_short_run(ahead) {
+        return take_short_run(head, before, track, written, ahead, out);
     }
     Taken::until(ahead, track, written, Ok(false))
 }
@@ -326,7 +388,7 @@ fn items_ahead<'a, W: Sink>(
 
 /// Takes the items of an input that lie whole ahead in its feed's chunk, as long as its time is
 /// before this one: the feed goes on after them at once. Returns whether the time is no longer
-/// early.
+/// early. Where a keyword comes none is taken.
 #[inline(never)]
 fn take_ahead<S: Source, W: Sink>(
     head: &Head,
@@ -350,7 +412,11 @@ fn take_ahead<S: Source, W: Sink>(
     ensures same { seat.new ≡ seat_with seat.old seat.new.regs seat.new.time }
     ensures counts { Counts (W.device out.old) (W.device out.new) result }
 {
-    let taken = items_ahead(head, before, seat.track(), *written, feed.ahead(), out);
+    let ahead = feed.ahead();
+    if keyword_comes(ahead) {
+        return Ok(false);
+    }
+    let taken = items_ahead(head, before, seat.track(), *written, ahead, out);
     let passed = taken.ahead.passed();
     let ended = taken.ended;
     seat.regs = taken.track.regs;

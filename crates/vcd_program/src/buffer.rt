@@ -1,5 +1,5 @@
 //! Bytes that wait, in memory that is taken once.
-ghost use Rattle.std.specs.Prelude.{◌≡◌, ◌+◌, ◌-◌, ◌<◌, ◌≤◌, ◌++◌, [], true, length, take, drop, vec_len, IfOk};
+ghost use Rattle.std.specs.Prelude.{◌≡◌, ◌+◌, ◌-◌, ◌<◌, ◌≤◌, ◌∷◌, ◌++◌, [], true, length, take, drop, vec_len, IfOk};
 
 use std::alloc::{AllocError, Global};
 use std::simd::prelude::*;
@@ -9,6 +9,12 @@ pub(crate) const ROOM: usize = 8_192;
 
 /// The most bytes that are copied by one copy of this many, whatever their number.
 const SHORT: usize = 64;
+
+/// As many bytes as one copy brings to the buffer as a number.
+pub(crate) const FEW: usize = 8;
+
+/// The most bytes that `push_parts` copies.
+const PARTS: usize = 1 + SHORT + FEW;
 
 /// Bytes that wait, one after the other.
 #[derive(Drop)]
@@ -62,6 +68,39 @@ fn copy_short(to: &mut [u8], place: usize, from: &[u8])
     u8x64::from_slice(from).copy_to_slice(&mut to[place..]);
 }
 
+/// Returns these bytes, brought together in a number, so that one write copies them.
+#[inline(always)]
+fn together(bytes: [u8; 8]) -> [u8; 8]
+    ensures { result ≡ bytes }
+{
+    u64::from_le_bytes(bytes).to_le_bytes()
+}
+
+/// Copies these bytes to a place.
+#[inline(always)]
+fn copy_few(to: &mut [u8], place: usize, from: [u8; 8])
+    requires room { place + 8 ≤ length to.old }
+    ensures long { length to.new ≡ length to.old }
+    ensures copied { take (place + 8) to.new ≡ take place to.old ++ from }
+{
+    to[place..place + 8].copy_from_slice(&together(from));
+}
+
+/// Copies a byte, the first n of `from` and the eight of `end` to a place.
+#[inline(always)]
+fn copy_parts(to: &mut [u8], place: usize, first: u8, from: &[u8], n: usize, end: [u8; 8])
+    requires few { n ≤ 64 }
+    requires there { 64 ≤ length from.now }
+    requires room { place + 73 ≤ length to.old }
+    ensures long { length to.new ≡ length to.old }
+    ensures copied { take (place + 1 + n + 8) to.new
+        ≡ take place to.old ++ (first ∷ take n from.now ++ end) }
+{
+    to[place] = first;
+    copy_short(to, place + 1, from);
+    copy_few(to, place + 1 + n, end);
+}
+
 impl Buffer {
     ghost use Rattle.vcd_program.specs.Buffer.{kept};
 
@@ -91,27 +130,40 @@ impl Buffer {
         self.len = end;
     }
 
-    /// Returns whether n bytes may be pushed as the front of these by one copy: they are few, and
-    /// there is room for as many as it copies.
+    /// Appends the first n of these bytes, by one copy of all of them.
+    #[inline(always)]
+    pub(crate) fn push_few(&mut self, bytes: [u8; 8], n: usize)
+        requires few { n ≤ 8 }
+        requires room { self.old.len + 8 ≤ 8192 }
+        ensures { kept self.new ≡ kept self.old ++ take n bytes }
+    {
+        copy_few(&mut self.bytes, self.len, bytes);
+        self.len += n;
+    }
+
+    /// Returns whether n bytes may be pushed as the front of these by `push_parts`: they are few,
+    /// and there is room for as many as it copies.
     #[inline(always)]
     pub(crate) fn has_room(&self, from: &[u8], n: usize) -> bool
         ensures few { result ≡ true → n ≤ 64 }
         ensures there { result ≡ true → 64 ≤ length from.now }
-        ensures room { result ≡ true → self.now.len + 64 ≤ 8192 }
+        ensures room { result ≡ true → self.now.len + 73 ≤ 8192 }
     {
-        n <= SHORT && from.len() >= SHORT && self.len <= ROOM - SHORT
+        n <= SHORT && from.len() >= SHORT && self.len <= ROOM - PARTS
     }
 
-    /// Appends the first n of these bytes, by one copy of a known length.
+    /// Appends a byte, the first n of `from` and the first m of `end`, by copies of known lengths.
     #[inline(always)]
-    pub(crate) fn push_front(&mut self, from: &[u8], n: usize)
+    pub(crate) fn push_parts(&mut self, first: u8, from: &[u8], n: usize, end: [u8; 8], m: usize)
         requires few { n ≤ 64 }
+        requires end { m ≤ 8 }
         requires there { 64 ≤ length from.now }
-        requires room { self.old.len + 64 ≤ 8192 }
-        ensures { kept self.new ≡ kept self.old ++ take n from.now }
+        requires room { self.old.len + 73 ≤ 8192 }
+        ensures { kept self.new ≡ kept self.old ++ (first ∷ take n from.now ++ take m end) }
     {
-        copy_short(&mut self.bytes, self.len, from);
-        self.len += n;
+        let place = self.len;
+        copy_parts(&mut self.bytes, place, first, from, n, end);
+        self.len = place + 1 + n + m;
     }
 
     /// Removes so many bytes from the front.

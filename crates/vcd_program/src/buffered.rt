@@ -3,7 +3,7 @@ ghost use Rattle.std.specs.Prelude.{◌≡◌, ◌+◌, ◌-◌, ◌^◌, ◌<�
 ghost use Rattle.std.specs.Io.{WritesAtMost};
 ghost use Rattle.std.specs.Io.KnownBytes.{Appends, Keeps, WriteAppends};
 
-use crate::buffer::{Buffer, ROOM};
+use crate::buffer::{Buffer, FEW, ROOM};
 use crate::host::Output;
 use std::alloc::{AllocError, Global};
 use std::io::Write;
@@ -159,12 +159,21 @@ impl<D: Write + Drop> Sink for Buffered<D> {
     }
 
     #[inline(always)]
-    fn write_front(&mut self, from: &[u8], n: usize) -> Result<usize, WriteFailed> {
-        if self.buffer.has_room(from, n) {
-            self.buffer.push_front(from, n);
-            return Ok(n);
+    fn write_few(&mut self, bytes: [u8; 8], n: usize) -> bool {
+        if self.buffer.len > ROOM - FEW {
+            return false;
         }
-        self.write(&from[..n])
+        self.buffer.push_few(bytes, n);
+        true
+    }
+
+    #[inline(always)]
+    fn write_parts(&mut self, first: u8, from: &[u8], n: usize, end: [u8; 8], m: usize) -> bool {
+        if !self.buffer.has_room(from, n) {
+            return false;
+        }
+        self.buffer.push_parts(first, from, n, end, m);
+        true
     }
 
     fn failures(&self) -> u64 {

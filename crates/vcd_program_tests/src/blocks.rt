@@ -3,7 +3,7 @@ use std::alloc::{AllocError, Global};
 use std::io;
 use std::io::Write;
 use vcd_program::{Buffered, Output};
-use vcd_text::{Sink, put, put_front};
+use vcd_text::{Sink, put, put_few, put_parts};
 
 // Notes how many bytes each write brings. It takes 3,000 of them at most where it is `narrow`, and
 // fails at the write of one number.
@@ -42,33 +42,46 @@ impl Write for Noted {
     }
 }
 
-// The blocks of texts of these lengths, each by itself or the front of more bytes, where no write
-// fails and the sink is dropped at the end.
-fn blocks_of(alloc: Global, lens: &[usize], fronts: bool) -> Result<Vec<usize>, AllocError> {
+// The blocks of texts of these lengths, where no write fails and the sink is dropped at the end.
+fn blocks_of(alloc: Global, lens: &[usize]) -> Result<Vec<usize>, AllocError> {
     let bytes = [b'x'; 9_000];
     let mut device = Noted::new(alloc, false, usize::MAX);
     {
         let mut out = Buffered::new(alloc, &mut device)?;
         for len in lens {
             if out.failures() == 0 {
-                let n = (*len).min(9_000);
-                let _ = if fronts {
-                    put_front(&mut out, &bytes, n)
-                } else {
-                    put(&mut out, &bytes[..n])
-                };
+                let _ = put(&mut out, &bytes[..(*len).min(9_000)]);
             }
         }
     }
     Ok(device.sizes)
 }
 
-// Whether the blocks of these texts are these, however they are put.
+// Whether the blocks of these texts are these.
 fn are(alloc: Global, lens: &[usize], blocks: &[usize]) -> Result<bool, AllocError> {
-    Ok(
-        blocks_of(alloc, lens, false)?.as_slice() == blocks
-            && blocks_of(alloc, lens, true)?.as_slice() == blocks,
-    )
+    Ok(blocks_of(alloc, lens)?.as_slice() == blocks)
+}
+
+// The blocks of three texts where the buffer has room for the second one at once, but not for the
+// parts of the third one.
+fn blocks_of_parts(alloc: Global) -> Result<Vec<usize>, AllocError> {
+    let bytes = [b'x'; 9_000];
+    let mut device = Noted::new(alloc, false, usize::MAX);
+    {
+        let mut out = Buffered::new(alloc, &mut device)?;
+        let _ = put(&mut out, &bytes[..8_180]);
+        let _ = put_few(&mut out, [b'x'; 8], 5);
+        if out.failures() == 0 {
+            let _ = put_parts(&mut out, b'x', &bytes, 40, [b'x'; 8], 5);
+        }
+    }
+    Ok(device.sizes)
+}
+
+#[test]
+fn what_has_no_room_at_once_is_put_part_by_part(rt: HostRuntime) {
+    let blocks = blocks_of_parts(rt.alloc()).map(|sizes| is(&sizes, &[8_186, 45]));
+    assert_eq!(rt; blocks, Ok(true));
 }
 
 // What is full is passed on with the next byte, and what has no room in the whole buffer by itself.

@@ -1,6 +1,6 @@
 //! A look ahead over the bytes of a chunk, in a caller's loop: most tokens cost no change of the
 //! feed.
-ghost use Rattle.std.specs.Prelude.{◌≡◌, ◌≢◌, ℕ, ◌+◌, ◌^◌, ◌<◌, ◌≤◌, true, false, List, length, slice_index, IfSome, None};
+ghost use Rattle.std.specs.Prelude.{◌≡◌, ◌≢◌, ℕ, ◌+◌, ◌^◌, ◌<◌, ◌≤◌, true, false, List, length, slice_get, slice_index, IfSome, None, Some};
 ghost use Rattle.vcd_text.specs.Names.{AreWhite, IsRun, Marks, bit_at, is_white_space};
 
 use crate::scan::{is_white_space, low_16, lowest, white_64, without};
@@ -155,6 +155,20 @@ impl<'a> Ahead<'a> {
             → IsRun (longest_of self.now) (bytes_of self.now) (passed_of self.now) 2 }
     {
         self.limit >= 2 && has_short(self.bytes, self.at)
+    }
+
+    /// Returns the first byte of the next token, if one begins ahead.
+    #[inline(always)]
+    pub fn first_byte(&self) -> Option<u8>
+        ensures some { IfSome result (λ byte. (start : ℕ)
+            × AreWhite (bytes_of self.now) (passed_of self.now) start
+            × (slice_get (bytes_of self.now) start ≡ Some byte)
+            × (is_white_space byte ≡ false)) }
+        ensures none { result ≡ None
+            → AreWhite (bytes_of self.now) (passed_of self.now) (length (bytes_of self.now)) }
+    {
+        let start = past_white(self.bytes, self.at);
+        self.bytes.get(start).copied()
     }
 
     /// Forgets what white space it has seen, before a loop over `next_short` and `next_near`: so

@@ -1,11 +1,11 @@
 // One turn of a feed: from the chunk to the token's window, and on to the next chunk.
-ghost use Rattle.std.specs.Prelude.{◌≡◌, ℕ, ◌+◌, ◌-◌, ◌^◌, ◌<◌, ◌≤◌, ◌≢◌, ◌++◌, length, take};
-ghost use Rattle.vcd_text.specs.Names.{Collects, Fills, Finishes, Fits, GoesOnIn, Halts, KeepsFit, MayGoOn, Skips, StillFits, looked, stepped_past};
+ghost use Rattle.std.specs.Prelude.{◌≡◌, ℕ, ◌+◌, ◌-◌, ◌^◌, ◌<◌, ◌≤◌, ◌≢◌, ◌++◌, length, take, slice_range, true, false};
+ghost use Rattle.vcd_text.specs.Names.{Collects, Fills, Finishes, Fits, GoesOnIn, Halts, KeepsFit, MayGoOn, Skips, StillFits, is_white_at, looked, stepped_past};
 
 use crate::answer::{Halt, Next};
 use crate::device::Source;
 use crate::registers::{Parked, Phase};
-use crate::scan::{run_len, white_len};
+use crate::scan::{is_white_space, low_16, lowest, run_len, white_len};
 
 #[derive(Clone, Copy)]
 pub(crate) enum Collected {
@@ -59,12 +59,12 @@ pub(crate) fn collect(chunk: &[u8], token: &mut [u8], parked: &mut Parked) -> Co
     let at = parked.at;
     let stop = parked.stop;
     let size = parked.size;
-    let n = run_len(&chunk[at..stop]);
+    let n = token_len(&chunk[at..stop]);
     if n > token.len() - size {
         return Collected::TooLong;
     }
     let end = at + n;
-    append(token, size, &chunk[at..end]);
+    append(token, size, chunk, at, n);
     parked.size = size + n;
     if end == stop {
         parked.at = end;
@@ -87,13 +87,38 @@ fn step_past(chunk: &[u8], end: usize, parked: &mut Parked)
     parked.at = end + 1;
 }
 
-/// Gathers these bytes after the first `size` of the token's window.
+/// Returns how many bytes come before the first white byte: of a short token by one look at 16.
 #[inline(always)]
-fn append(token: &mut [u8], size: usize, bytes: &[u8])
-    requires { size + length bytes.now ≤ length token.old }
-    ensures { take (size + length bytes.now) token.new ≡ take size token.old ++ bytes.now }
+fn token_len(bytes: &[u8]) -> usize
+    ensures within { result ≤ length bytes.now }
+    ensures other { (k : ℕ) → k < result → is_white_at bytes.now k ≡ false }
+    ensures stops { result < length bytes.now → is_white_at bytes.now result ≡ true }
 {
-    token[size..size + bytes.len()].copy_from_slice(bytes);
+    if bytes.len() >= 16 {
+        let low = low_16(bytes, 0);
+        if low != 0 {
+            let len = lowest(low);
+            if is_white_space(bytes[len]) {
+                return len;
+            }
+        }
+    }
+    run_len(bytes)
+}
+
+/// Gathers n bytes of the chunk after the first `size` of the token's window: a short token by one
+/// copy of 16, where so many are there and have room.
+#[inline(always)]
+fn append(token: &mut [u8], size: usize, chunk: &[u8], at: usize, n: usize)
+    requires room { size + n ≤ length token.old }
+    requires within { at + n ≤ length chunk.now }
+    ensures { take (size + n) token.new ≡ take size token.old ++ slice_range chunk.now at (at + n) }
+{
+    if n <= 16 && token.len() - size >= 16 && chunk.len() - at >= 16 {
+        token[size..size + 16].copy_from_slice(&chunk[at..at + 16]);
+    } else {
+        token[size..size + n].copy_from_slice(&chunk[at..at + n]);
+    }
 }
 
 /// Reads on.

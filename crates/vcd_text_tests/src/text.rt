@@ -7,8 +7,8 @@ use itoa::Buffer;
 use std::io;
 use vcd_text::doubles::{Narrow, Pieces, parked_after};
 use vcd_text::{
-    Ahead, Feed, Halt, Next, Sink, Source, Watch, WriteFailed, decimal_of, put, put_front,
-    put_number, text_of,
+    Ahead, Feed, Halt, Next, Sink, Source, Watch, WriteFailed, decimal_of, put, put_few,
+    put_number, put_parts, text_of,
 };
 
 // The most bytes of a record of answers.
@@ -587,13 +587,26 @@ fn writes_stop_where_the_sink_fails(rt: HostRuntime) {
 }
 
 #[test]
-fn of_a_front_no_more_is_written(rt: HostRuntime) {
-    let bytes = b"#1234\n#5678\n".as_slice();
+fn of_few_bytes_no_more_are_written(rt: HostRuntime) {
     for taken in 0..9 {
         let mut sink = Watch::new(Narrow::new(taken));
         let failed = taken < 5;
-        assert_eq!(rt; put_front(&mut sink, bytes, 5).is_err(), failed);
-        assert_eq!(rt; sink.device.held(), &bytes[..taken.min(5)]);
+        assert_eq!(rt; put_few(&mut sink, *b"#1234\n#5", 5).is_err(), failed);
+        assert_eq!(rt; sink.device.held(), &b"#1234"[..taken.min(5)]);
+        assert_eq!(rt; Sink::failures(&sink), failed as u64);
+    }
+}
+
+#[test]
+fn of_the_parts_of_a_line_no_more_is_written(rt: HostRuntime) {
+    for taken in 0..9 {
+        let mut sink = Watch::new(Narrow::new(taken));
+        let failed = taken < 6;
+        assert_eq!(rt;
+            put_parts(&mut sink, b'b', b"10 x", 2, *b" !\n00000", 3).is_err(),
+            failed
+        );
+        assert_eq!(rt; sink.device.held(), &b"b10 !\n"[..taken.min(6)]);
         assert_eq!(rt; Sink::failures(&sink), failed as u64);
     }
 }

@@ -97,6 +97,7 @@ impl Command<Keeping> for Check {
         _view: HeadView<'_>,
         _regs: Regs,
         change: InPlace<'_>,
+        _line: &Keeping,
         _pieces: &mut Pieces<'_>,
         _out: &mut W,
     ) -> Result<(), WriteFailed> {

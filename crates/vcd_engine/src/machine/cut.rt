@@ -227,6 +227,7 @@ impl<'r> Command<Keeping> for Cut<'r> {
         _view: HeadView<'_>,
         _regs: Regs,
         change: InPlace<'_>,
+        _line: &Keeping,
         _pieces: &mut Pieces<'_>,
         _out: &mut W,
     ) -> Result<(), WriteFailed> {
@@ -260,12 +261,14 @@ impl<'r> Command<Copying> for Cut<'r> {
         view: HeadView<'_>,
         regs: Regs,
         change: InPlace<'_>,
+        line: &Copying,
         pieces: &mut Pieces<'_>,
         out: &mut W,
     ) -> Result<(), WriteFailed> {
         if !may_keep(view, regs, change.plain.item) {
             return Ok(());
         }
-        self.text.put_in_place(view, regs.time, change, pieces, out)
+        self.text
+            .put_in_place(view, regs.time, change, line, pieces, out)
     }
 }

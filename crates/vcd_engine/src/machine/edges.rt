@@ -120,6 +120,7 @@ impl<'n, 'r> Command<Keeping> for Edges<'n, 'r> {
         view: HeadView<'_>,
         regs: Regs,
         change: InPlace<'_>,
+        _line: &Keeping,
         _pieces: &mut Pieces<'_>,
         _out: &mut W,
     ) -> Result<(), WriteFailed> {

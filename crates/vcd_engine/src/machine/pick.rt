@@ -133,12 +133,14 @@ impl<'n, 'r> Command<Copying> for Pick<'n, 'r> {
         view: HeadView<'_>,
         regs: Regs,
         change: InPlace<'_>,
+        line: &Copying,
         pieces: &mut Pieces<'_>,
         out: &mut W,
     ) -> Result<(), WriteFailed> {
         if !self.keeps(view, regs, change.plain.item) {
             return Ok(());
         }
-        self.text.put_in_place(view, regs.time, change, pieces, out)
+        self.text
+            .put_in_place(view, regs.time, change, line, pieces, out)
     }
 }

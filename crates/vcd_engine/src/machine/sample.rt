@@ -154,6 +154,7 @@ impl<'n, 'r> Command<Keeping> for Sample<'n, 'r> {
         _view: HeadView<'_>,
         _regs: Regs,
         change: InPlace<'_>,
+        _line: &Keeping,
         _pieces: &mut Pieces<'_>,
         _out: &mut W,
     ) -> Result<(), WriteFailed> {

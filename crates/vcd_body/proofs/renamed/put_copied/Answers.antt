@@ -1,17 +1,21 @@
-use Rattle.std.proofs.Common.{[], ◌∷◌, ◌++◌}
-use Rattle.std.proofs.lemmas.Result.{err_from_is_err_and}
+use Rattle.std.proofs.Common.{List, ℕ, [], ◌∷◌, ◌+◌, ◌-◌, ◌++◌, ◌∙◌, ap, ap₂, sym, subst, take, arith}
+use Rattle.std.specs.Prelude.{slice_index, slice_range}
 use Rattle.vcd_model.specs.HeadText.{new_code}
-use Rattle.vcd_text.proofs.Writes.{puts-twice, some-first}
-use Rattle.vcd_body.specs.Spelled.{bytes_without}
+use Rattle.vcd_text.specs.Device.{Puts}
+use Rattle.vcd_body.proofs.LeftOut.{end_is}
+use Rattle.vcd_body.proofs.LineLemmas.{one_byte}
 use Rattle.vcd_body.proofs.renamed.put_copied.Goals as goal
-
-pub returns-in_err-put_without : goal.returns-in_err-put_without
-returns-in_err-put_without g c =
-    let p = err_from_is_err_and c.from_residual.result c.from_residual.ensures.1 in
-    let front = bytes_without c.args.bytes.now c.args.from c.args.end c.args.left_out in
-    rw p.1 (some-first _ _ front (32 ∷ new_code c.args.number ++ 10 ∷ []) c.in_err-put_without.ensures)
 
 pub returns : goal.returns
 returns g c =
-    let front = bytes_without c.args.bytes.now c.args.from c.args.end c.args.left_out in
-    puts-twice _ _ _ front (32 ∷ new_code c.args.number ++ 10 ∷ []) c.put_code_line.result c.in_ok-put_without.ensures c.put_code_line.ensures
+    let bytes = c.args.bytes.now in
+    let from = c.args.from in
+    let end = c.args.end in
+    let rest = from + 1 + c.args.left_out in
+    let few = c.requires.few in
+    let within = c.requires.within in
+    let first = one_byte bytes from (omega (arith, few, within)) in
+    let copied = ap (take (end - rest)) (end_is bytes rest) in
+    let line = 32 ∷ new_code c.args.number ++ 10 ∷ [] in
+    let all = ap₂ (λ (l r : List ℕ). slice_index bytes from ∷ l ++ r) copied c.in-Some.ensures.text ∙ ap (λ (l : List ℕ). (l ++ slice_range bytes rest end) ++ line) (sym first) in
+    subst (λ l. Puts (g.W.Sink.device c.args.w.now) (g.W.Sink.device c.put_parts.new.w) l c.put_parts.result) all c.put_parts.ensures

@@ -1,28 +1,33 @@
-use Rattle.std.proofs.Common.{◌≡◌, length, find, None, Some, slice_get, refl, sym, ap, subst, ◌∙◌, arith}
-use Rattle.std.proofs.lemmas.List.{length-map, take_all}
-use Rattle.std.proofs.lemmas.Option.{slice_get_read}
-use Rattle.vcd_model.specs.Declarations.{IdCode, has_text}
-use Rattle.vcd_head.specs.Keys.{shape_in, shape_of}
-use Rattle.vcd_head.proofs.CodeKeys.{all_bytes, found_there, none_yet}
+use Rattle.std.proofs.Common.{◌≡◌, false, true, get_or, sym, ap, ◌∙◌, arith}
+use Rattle.std.proofs.lemmas.List.{get_or_default}
+use Rattle.std.proofs.lemmas.List.Sums.{position_or_len_is}
+use borrow.Author.Count.{below_more}
+use Rattle.vcd_head.specs.Keys.{is_key}
+use Rattle.vcd_head.specs.declared.code_key.CodeKey.{CodeKey}
+use Rattle.vcd_head.specs.declared.code_key.CodeKey.TheVariants as key
+use Rattle.vcd_head.proofs.RisingLemmas.{none_at, place_first, place_none}
 use Rattle.vcd_head.proofs.codes.place_among.Goals as goal
 
 pub loop-place-preserved : goal.loop-place-preserved
-loop-place-preserved c = λ text list cs h e.
+loop-place-preserved c = λ d.
     let keys = c.args.keys.now in
-    let key = c.index-keys-place.result in
+    let i = c.loop-place.place in
     let bytes = c.args.bytes.now in
-    let there : slice_get keys c.loop-place.place ≡ Some key = slice_get_read keys (length keys) c.loop-place.place key refl c.loop-place-test.true c.index-keys-place.is in
-    none_yet keys cs c.loop-place.place key bytes h.texts (all_bytes bytes c.type_inv.bytes) e there (sym c.is_of.ensures ∙ c.if-is_of.false) (c.loop-place.invariant text list cs h e)
+    let element = c.index-keys-place.result in
+    let same : get_or keys i d ≡ element = get_or_default keys i d element c.loop-place-test.true ∙ sym c.index-keys-place.is in
+    below_more (λ k. is_key bytes (get_or keys k d) ≡ false) i (c.loop-place.invariant d) (ap (is_key bytes) same ∙ sym c.is_of.ensures ∙ c.if-is_of.false)
 
 pub returns-then-is_of : goal.returns-then-is_of
-returns-then-is_of c = λ text list cs h e.
+returns-then-is_of c =
     let keys = c.args.keys.now in
-    let key = c.index-keys-place.result in
+    let i = c.loop-place.place in
     let bytes = c.args.bytes.now in
-    let there : slice_get keys c.loop-place.place ≡ Some key = slice_get_read keys (length keys) c.loop-place.place key refl c.loop-place-test.true c.index-keys-place.is in
-    found_there text list keys cs c.loop-place.place key bytes h (all_bytes bytes c.type_inv.bytes) e there (sym c.is_of.ensures ∙ c.if-is_of.true)
+    let element = c.index-keys-place.result in
+    let passes : is_key bytes (get_or keys i element) ≡ true = ap (is_key bytes) (sym c.index-keys-place.is) ∙ sym c.is_of.ensures ∙ c.if-is_of.true in
+    sym (place_first (is_key bytes) keys i (position_or_len_is (is_key bytes) keys i element (omega arith) (c.loop-place.invariant element) (λ _. passes)) (omega arith))
 
 pub returns : goal.returns
-returns c = λ text list cs h e.
-    let len : length c.args.keys.now ≡ length cs = sym (length-map c.args.keys.now shape_of) ∙ ap length e ∙ length-map cs (λ (c : IdCode). shape_in c.text) in
-    subst (λ l. find (has_text c.args.bytes.now) l ≡ None) (take_all c.loop-place.place cs (omega arith)) (c.loop-place.invariant text list cs h e)
+returns c =
+    let keys = c.args.keys.now in
+    let d : CodeKey = key.Short 0 in
+    sym (place_none (is_key c.args.bytes.now) keys (none_at (is_key c.args.bytes.now) d keys (λ k l. c.loop-place.invariant d k (omega (arith, l)))))

@@ -10,5 +10,5 @@ returns-clause-right c =
     let codes = c.args.codes.now in
     let items = c.in_ok-entries.entries.items in
     let filled = c.in_ok-entries.ensures.items_if_clones_equal (λ y e. e) in
-    let empty = ap (are_right text codes) (c.deref_mut.ensures.value ∙ filled) ∙ all_replicated (is_right text codes) c.count_for.result _ refl in
+    let empty = ap (are_right text codes) (c.deref_mut.ensures.value ∙ filled) ∙ all_replicated (is_right text codes) c.count_for-count.result _ refl in
     ap (are_right text codes) (take_at c.fill.new.entries (drop (length c.fill.new.entries) items) c.in_ok-entries.entries.len (c.fill.ensures.len ∙ c.deref_mut.ensures.len)) ∙ c.fill.ensures.right empty

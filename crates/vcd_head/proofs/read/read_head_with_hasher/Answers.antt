@@ -10,7 +10,16 @@ pub phrases-init : goal.phrases-init
 phrases-init g c = (advances_nowhere g.S.Source.failures c.args.feed.now, λ i s. carries_nothing c.args.most i c.new-draft.result c.args.feed.now c.requires.most c.new-draft.ensures s)
 
 pub returns-in_err-read_phrase : goal.returns-in_err-read_phrase
-returns-in_err-read_phrase g c = record { reads = search rules; failed = search rules; same = search rules; «open» = search rules; lengths = search rules; loans = search rules }
+returns-in_err-read_phrase g c = record {
+  reads =
+      let p = err_from_is_err_and c.from_residual.result c.from_residual.ensures.1 in
+      rw (p.1, p.2) (λ i s. c.in_err-read_phrase.ensures.reads i (c.phrases.invariant.1 i s));
+  failed = search rules;
+  same = search rules;
+  «open» = search rules;
+  lengths = search rules;
+  loans = search rules;
+}
 
 pub returns-then-not-branch : goal.returns-then-not-branch
 returns-then-not-branch g c = record {

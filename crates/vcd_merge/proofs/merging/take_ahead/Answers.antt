@@ -4,11 +4,15 @@ use Rattle.vcd_text.specs.Device.{Device}
 use Rattle.vcd_merge.specs.MergeAhead.{Stands, StageAhead}
 use Rattle.vcd_merge.proofs.SeatAhead.{ahead_turns, lies_first}
 use Rattle.vcd_merge.proofs.SeatLemmas.{out_of}
+use Rattle.vcd_merge.proofs.SeatTrails.{at_once}
 use Rattle.vcd_merge.proofs.merging.take_ahead.Goals as goal
+
+pub returns-then-keyword_comes-clause-turns : goal.returns-then-keyword_comes-clause-turns
+returns-then-keyword_comes-clause-turns g c = λ k scale first l items views at. (items, at, at_once _ _ _ _ _ _ _)
 
 pub pass_items-requires : goal.pass_items-requires
 pass_items-requires g c =
-    let a = c.ahead.ensures in
+    let a = c.ahead-ahead.ensures in
     let p = c.items_ahead-taken.ensures.passes.passes (lines_of c.args.feed.now) [] (rw a.passed refl) in
     (p.0, rw (sym a.limit, sym a.bytes, c.passed-passed.ensures.passed) p.1)
 
@@ -16,7 +20,7 @@ pub returns-clause-turns : goal.returns-clause-turns
 returns-clause-turns g c = λ k scale first l items views at.
     let s = c.args.seat.now in
     let f = c.args.feed.now in
-    let a = c.ahead.ensures in
+    let a = c.ahead-ahead.ensures in
     let t = c.items_ahead-taken.result in
     let new = c.pass_items.new.feed in
     let gave = out_of scale first l items s f at in
@@ -31,4 +35,4 @@ returns-clause-turns g c = λ k scale first l items views at.
     (λ more x lies known. c.pass_items.ensures.ends l.header.codes l.input l.front items more x s.regs t.track.regs gave lies known) t.ended (rw c.passed-passed.ensures.passed runs)
 
 pub returns-clause-progress : goal.returns-clause-progress
-returns-clause-progress g c = λ is. let more = c.items_ahead-taken.ensures.some is in let passed = c.ahead.ensures.passed in let looked = c.pass_items.ensures.looked in omega (arith, more, passed, looked)
+returns-clause-progress g c = λ is. let more = c.items_ahead-taken.ensures.some is in let passed = c.ahead-ahead.ensures.passed in let looked = c.pass_items.ensures.looked in omega (arith, more, passed, looked)

@@ -1,62 +1,6 @@
-use Rattle.std.proofs.Common.{◌+◌, ◌^◌, ◌<◌, ◌++◌, ◌∷◌, [], length, refl, sym, subst, arith}
-use Rattle.vcd_text.specs.Ahead.{ahead_of, bytes_of, lines_of, longest_of}
-use Rattle.vcd_text.specs.Feed.{limit_of, seen}
-use Rattle.vcd_text.specs.declared.device.WriteFailed.{WriteFailed}
-use Rattle.vcd_view.specs.Shown.{parts}
-use Rattle.vcd_view.specs.Views.{Views}
-use Rattle.vcd_engine.specs.Ahead.{RunsAhead, StandsAhead}
-use Rattle.vcd_engine.specs.Engine.{request_of_engine}
-use Rattle.vcd_engine.specs.declared.engine.Engine.{Engine}
-use Rattle.vcd_engine.proofs.AheadLemmas.{gave_over, runs_behind, stands_first}
+use Rattle.vcd_engine.proofs.AheadLemmas.{takes_none}
 use Rattle.vcd_engine.proofs.engine.Engine.take_ahead.Goals as goal
 
-pub pass_items-requires : goal.pass_items-requires
-pass_items-requires g c =
-    let a = c.ahead.ensures in
-    let p = c.take_ahead-taken.ensures.passes (lines_of c.args.feed.now) [] a.passed in
-    (p.0, rw (sym a.limit, sym a.bytes) p.1)
-
-pub returns-in-Ok-clause-gives : goal.returns-in-Ok-clause-gives
-returns-in-Ok-clause-gives g c = λ h i front items s.
-    let e = c.args.self.now in
-    let f = c.args.feed.now in
-    let a = c.ahead.ensures in
-    let ahead = c.ahead.result in
-    let v : Views (parts c.args.view) h = rw c.requires.view s.holds.views in
-    let lines = lines_of f in
-    let bounded = subst (λ bs. seen f + length bs < 2 ^ 63) (sym a.bytes) a.bounded in
-    let few : length items + length (bytes_of ahead) < 2 ^ 63 = let each = s.few in omega arith in
-    let first = subst (λ n. StandsAhead (request_of_engine e) h (longest_of ahead) lines (bytes_of ahead) items n [] e.machine e.regs) (sym a.passed) (stands_first e h i front items f (longest_of ahead) lines (bytes_of ahead) s) in
-    let r = subst (λ q. RunsAhead (request_of_engine e) h (longest_of ahead) lines (bytes_of ahead) items {E = WriteFailed} c.take_ahead-taken.result.passed c.take_ahead-taken.new.self c.take_ahead-taken.result.regs (g.W.Sink.device c.args.out.now) (g.W.Sink.device c.take_ahead-taken.new.out) q)
-    c.in-Ok.is (c.take_ahead-taken.ensures.gives h lines items v few first) in
-    let stands = r.last.0 in
-    let over = gave_over h.codes (longest_of ahead) (limit_of f) lines (bytes_of ahead) (ahead_of f) c.take_ahead-taken.result.passed items r.more a.limit a.bytes stands.gave in
-    let e' : Engine = record { view = e.view; regs = c.take_ahead-taken.result.regs; machine = c.take_ahead-taken.new.self; going = e.going } in
-    record {
-      more = r.more;
-      on = r.on;
-      last = (
-        runs_behind h i front items e e' f c.pass_items.new.feed (longest_of ahead) lines (bytes_of ahead) c.take_ahead-taken.result.passed s r.more stands
-            (c.pass_items.ensures.gives h.codes i front items r.more e.regs c.take_ahead-taken.result.regs s.gave over stands.known) refl c.take_ahead-taken.ensures.same.0
-            c.pass_items.ensures.looked,
-        r.last.1,
-      );
-    }
-
-pub returns-in-Err-clause-gives : goal.returns-in-Err-clause-gives
-returns-in-Err-clause-gives g c = λ h i front items s.
-    let e = c.args.self.now in
-    let f = c.args.feed.now in
-    let a = c.ahead.ensures in
-    let ahead = c.ahead.result in
-    let v : Views (parts c.args.view) h = rw c.requires.view s.holds.views in
-    let lines = lines_of f in
-    let bounded = subst (λ bs. seen f + length bs < 2 ^ 63) (sym a.bytes) a.bounded in
-    let few : length items + length (bytes_of ahead) < 2 ^ 63 = let each = s.few in omega arith in
-    let first = subst (λ n. StandsAhead (request_of_engine e) h (longest_of ahead) lines (bytes_of ahead) items n [] e.machine e.regs) (sym a.passed) (stands_first e h i front items f (longest_of ahead) lines (bytes_of ahead) s) in
-    let r = subst (λ q. RunsAhead (request_of_engine e) h (longest_of ahead) lines (bytes_of ahead) items {E = WriteFailed} c.take_ahead-taken.result.passed c.take_ahead-taken.new.self c.take_ahead-taken.result.regs (g.W.Sink.device c.args.out.now) (g.W.Sink.device c.take_ahead-taken.new.out) q)
-    c.in-Err.is (c.take_ahead-taken.ensures.gives h lines items v few first) in
-    let x = r.last.0 in
-    let one = r.last.1 in
-    let over = gave_over h.codes (longest_of ahead) (limit_of f) lines (bytes_of ahead) (ahead_of f) c.take_ahead-taken.result.passed items (r.more ++ x ∷ []) a.limit a.bytes one.gave in
-    record { more = r.more; on = r.on; last = (x, c.pass_items.ensures.ends h.codes i front items r.more x e.regs c.take_ahead-taken.result.regs s.gave over one.known, r.last.2) }
+pub returns-then-keyword_comes-clause-gives : goal.returns-then-keyword_comes-clause-gives
+returns-then-keyword_comes-clause-gives g c = λ h i front items s.
+    takes_none c.args.self.now h i front items c.args.feed.now (g.W.Sink.device c.args.out.now) s

@@ -33,7 +33,7 @@ returns-in-Err g c =
 
 pub items-init : goal.items-init
 items-init g c = record {
-  walked = walk_begins _ _ _ _ _ _ _ c.requires.within c.passed-line.ensures.passed (c.new-pieces.ensures.part _) (c.new-pieces.ensures.held _);
+  walked = walk_begins _ _ _ _ _ _ _ c.requires.within c.new-line.ensures (c.new-pieces.ensures.part _) (c.new-pieces.ensures.held _);
   ready = c.requires.ready;
 }
 

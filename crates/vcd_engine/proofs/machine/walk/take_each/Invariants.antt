@@ -6,7 +6,7 @@ use Rattle.vcd_engine.proofs.machine.walk.take_each.Given as goal
 
 abbrev pub invariant-items : goal.invariant-items
 invariant-items g l = record {
-  walked : HasWalked l.fn.view l.fn.ahead l.fn.regs (g.C.Command.machine l.fn.command) (g.W.Sink.device l.fn.out) (walk_at l.ahead l.regs l.line) l.pieces (g.W.Sink.device l.out) (g.C.Command.machine l.command);
+  walked : HasWalked l.fn.view l.fn.ahead l.fn.regs (g.C.Command.machine l.fn.command) (g.W.Sink.device l.fn.out) (walk_at l.ahead l.regs (g.L.Kind.line l.line)) l.pieces (g.W.Sink.device l.out) (g.C.Command.machine l.command);
   ready : g.C.Command.is_ready l.command ≡ true;
 }
 

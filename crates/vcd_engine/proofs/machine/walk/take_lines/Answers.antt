@@ -15,13 +15,13 @@ runs-init g c =
       further = omega (arith, same.0);
       failures = refl;
       part = rw same.1 q.part;
-      line = rw (same.0, same.1) q.line;
+      line = rw same.1 q.line;
       ready = c.requires.ready;
       walks = λ a r m begin w. walk_same c.args.view a r m begin _ _ _ _ w _ same;
     }
 
 pub returns-in-Err-clause-walks : goal.returns-in-Err-clause-walks
-returns-in-Err-clause-walks g c = λ a r m begin w. c.take_shorts-run.ensures.walks a r m begin (c.runs.invariant.walks a r m begin w)
+returns-in-Err-clause-walks g c = λ a r m begin w. rw c.until-in-Err.ensures (rw c.in-Err.is at (c.take_shorts-run.ensures.walks a r m begin (c.runs.invariant.walks a r m begin w)))
 
 pub returns-in_default-clause-walks : goal.returns-in_default-clause-walks
 returns-in_default-clause-walks g c = λ a r m begin w.

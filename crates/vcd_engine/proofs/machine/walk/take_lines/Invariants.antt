@@ -15,10 +15,10 @@ invariant-runs g l = record {
   further : passed_of l.fn.ahead ≤ passed_of l.ahead;
   failures : (g.W.Sink.device l.out).failures ≡ (g.W.Sink.device l.fn.out).failures;
   part : IsPart (bytes_of l.ahead) l.pieces;
-  line : HasLine (walk_at l.ahead l.regs l.line);
+  line : HasLine (walk_at l.ahead l.regs (g.L.Kind.line l.line));
   ready : g.C.Command.is_ready l.command ≡ true;
-  walks : (a : Ahead) (r : Regs) (m : Machine) (begin : Device) → HasWalked l.fn.view a r m begin (walk_at l.fn.ahead l.fn.regs l.fn.line) l.fn.pieces (g.W.Sink.device l.fn.out) (g.C.Command.machine l.fn.command)
-      → HasWalked l.fn.view a r m begin (walk_at l.ahead l.regs l.line) l.pieces (g.W.Sink.device l.out) (g.C.Command.machine l.command);
+  walks : (a : Ahead) (r : Regs) (m : Machine) (begin : Device) → HasWalked l.fn.view a r m begin (walk_at l.fn.ahead l.fn.regs (g.L.Kind.line l.fn.line)) l.fn.pieces (g.W.Sink.device l.fn.out) (g.C.Command.machine l.fn.command)
+      → HasWalked l.fn.view a r m begin (walk_at l.ahead l.regs (g.L.Kind.line l.line)) l.pieces (g.W.Sink.device l.out) (g.C.Command.machine l.command);
 }
 
 abbrev pub decreases-runs : goal.decreases-runs

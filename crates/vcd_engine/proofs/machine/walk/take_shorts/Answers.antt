@@ -9,7 +9,7 @@ use Rattle.vcd_engine.proofs.machine.walk.take_shorts.Goals as goal
 pub returns-in_default-clause-walks : goal.returns-in_default-clause-walks
 returns-in_default-clause-walks g c = λ a r m begin w.
     let same = c.in_default.ensures.next in
-    rw (c.until.ensures, same.0, same.2, same.3, same.4, same.5) (c.items.invariant.walks a r m begin w)
+    rw (c.until.ensures, same.0, same.2, same.3, same.4) (c.items.invariant.walks a r m begin w)
 
 pub returns-in_default-clause-failures : goal.returns-in_default-clause-failures
 returns-in_default-clause-failures g c = rw (c.until.ensures, c.in_default.ensures.next.4) c.items.invariant.failures
@@ -18,7 +18,7 @@ pub returns-in_default-clause-stands : goal.returns-in_default-clause-stands
 returns-in_default-clause-stands g c =
     let same = c.in_default.ensures.next in
     let inv = c.items.invariant in
-    rw (c.until.ensures, same.2, same.3, same.5) (record { within = inv.within; line = inv.line; part = inv.part })
+    rw (c.until.ensures, same.2, same.3) (record { within = inv.within; line = inv.line; part = inv.part })
 
 pub returns-in_default-clause-same : goal.returns-in_default-clause-same
 returns-in_default-clause-same g c = rw (c.until.ensures, c.in_default.ensures.next.2) c.items.invariant.bytes

@@ -1,0 +1,26 @@
+use Rattle.std.proofs.Common.{◌≡◌, List, [], ◌∷◌, None, ap, nat_eq, position, length, refl, sym, subst, ◌∙◌, arith}
+use Rattle.vcd_view.specs.Keys.{key_in}
+use Rattle.vcd_head.specs.Codes.{Rises}
+use Rattle.vcd_head.proofs.RisingLemmas.{enters_known, enters_number, last_in, last_is, none_there}
+use Rattle.vcd_head.proofs.code_place.enter_key.Goals as goal
+
+no_items : {X : Type 0} (xs : List X) → length xs ≡ 0 → xs ≡ []
+no_items [] e = refl
+no_items (x ∷ xs) e = absurd (omega (arith, e))
+
+pub returns-then-number-last_of-clause-enters : goal.returns-then-number-last_of-clause-enters
+returns-then-number-last_of-clause-enters c = λ h.
+    let none : c.args.known.now.keys.keys ≡ [] = no_items c.args.known.now.keys.keys (omega arith) in
+    let last : c.last_of.result ≡ last_in 0 c.args.known.now.rising.items = c.last_of.ensures ∙ last_is c.deref.result.now ∙ ap (last_in 0) c.deref.ensures.value in
+    enters_number c.args.bytes.now c.args.known.now _ refl h c.key_of-number.result c.len-place.result c.key_of-number.ensures none none c.in_ok-push.ensures.items (omega (arith, last)) (omega arith)
+
+pub returns-in-Some-clause-enters : goal.returns-in-Some-clause-enters
+returns-in-Some-clause-enters c = λ h.
+    let found : position (nat_eq (key_in c.args.bytes.now)) c.args.known.now.rising.items ≡ position (nat_eq c.key_of-number.result) c.deref-2.result.now = λ j. position (nat_eq (sym c.key_of-number.ensures j)) (sym c.deref-2.ensures.value j) in
+    enters_known c.args.bytes.now c.args.known.now _ refl h c.in-Some.place refl refl (found ∙ sym (c.in-Some.ensures (subst Rises (sym c.deref-2.ensures.value) h)))
+
+pub returns-clause-enters : goal.returns-clause-enters
+returns-clause-enters c = λ h.
+    let found : position (nat_eq (key_in c.args.bytes.now)) c.args.known.now.rising.items ≡ position (nat_eq c.key_of-number.result) c.deref-2.result.now = λ j. position (nat_eq (sym c.key_of-number.ensures j)) (sym c.deref-2.ensures.value j) in
+    let none : position (nat_eq (key_in c.args.bytes.now)) c.args.known.now.rising.items ≡ None = found ∙ sym (c.place_in.ensures (subst Rises (sym c.deref-2.ensures.value) h)) ∙ c.in_default.is in
+    c.enter_in_set.ensures.enters h (none_there (nat_eq (key_in c.args.bytes.now)) c.args.known.now.rising.items none)

@@ -1,0 +1,25 @@
+// Numbers of codes that rise.
+ghost use Rattle.std.specs.Prelude.{◌≡◌, ◌-◌, nat_eq, length, position, slice_get, unwrap_or};
+ghost use Rattle.vcd_head.specs.Names.{Rises};
+
+/// Returns the last of these numbers, 0 where there is none.
+#[inline(always)]
+pub(crate) fn last_of(rising: &[u64]) -> u64
+    ensures { result ≡ unwrap_or (slice_get rising.now (length rising.now - 1)) 0 }
+{
+    rising.last().copied().unwrap_or(0)
+}
+
+/// Returns the place of a number among these.
+#[inline(always)]
+pub(crate) fn place_in(rising: &[u64], number: u64) -> Option<usize>
+    ensures { Rises rising.now → result ≡ position (nat_eq number) rising.now }
+{
+    if number > last_of(rising) {
+        return None;
+    }
+    match rising.binary_search(&number) {
+        Ok(place) => Some(place),
+        Err(_) => None,
+    }
+}
