@@ -43,8 +43,8 @@ pub struct Slot {
     pub(crate) steps: [u8; 3],
 }
 
-/// What else is kept of a code: its share of the bytes of values, the upper parts of its counters,
-/// and whether it is chosen.
+/// What else is kept of a code: its share of the bytes of values, its counters without the steps
+/// that its slot has counted since, and whether it is chosen.
 #[derive(Clone, Copy, PartialEq, Eq, Debug)]
 pub struct Share {
     // Where the share begins. It ends where the next one begins.
