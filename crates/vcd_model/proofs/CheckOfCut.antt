@@ -49,7 +49,7 @@ pub record CutItems (limit : ℕ) (name : List ℕ) (from to : Moment) (input : 
       o.header.declarations
   pub behind : CutBehind o.header a b (items_in o)
 
-same_ok : (r : Result ℕ ℕ) (a b : ℕ) → r ≡ Ok a → r ≡ Ok b → a ≡ b
+pub same_ok : (r : Result ℕ ℕ) (a b : ℕ) → r ≡ Ok a → r ≡ Ok b → a ≡ b
 same_ok r a b e f = let g = sym e ∙ f in cc
 
 pub cut_items : (limit : ℕ) (name : List ℕ) (from to : Moment) (input : Input) (o : Opened)
@@ -120,7 +120,7 @@ all_set vals (c ∷ cs) = by_event c.event (all_set vals cs)
         let l = more in
         omega arith
 
-set_none : (vals : IdCode → Option Value) (cs : List IdCode)
+pub set_none : (vals : IdCode → Option Value) (cs : List IdCode)
     → (count_by is_begin (set_items vals cs) ≡ 0) × (marks (set_items vals cs) ≡ [])
 set_none vals [] = (refl, refl)
 set_none vals (c ∷ cs) = by_value (vals c) (set_none vals cs)
@@ -163,7 +163,7 @@ cut_closing_is a b items = closing_is a b (ends_cut b items) (last_mark (within 
 
 -- ---- the law
 
-start_marks : (a : ℕ) (set : List BodyItem) → marks set ≡ []
+pub start_marks : (a : ℕ) (set : List BodyItem) → marks set ≡ []
     → marks (BodyItem.Time a ∷ BodyItem.Begin Vars ∷ (set ++ BodyItem.End ∷ [])) ≡ a ∷ []
 start_marks a set none =
     ap (λ l. a ∷ l) (marks-append set (BodyItem.End ∷ []) ∙ append-nil (marks set) ∙ none)

@@ -1,13 +1,14 @@
--- What `cut` wrote is read by `sample` as its input was, at times that were kept.
-use Rattle.std.proofs.Common.{◌≡◌, ◌≢◌, ℕ, ◌≤◌, true, false, List, [], ◌∷◌, None, Result, Ok, Err, ◌⊎◌, inl, inr, IsTrue, refl, sym, ap, ◌∙◌, subst}
+-- What `cut` wrote is read by `list` as its input was, and by `sample` at times that were kept.
+use Rattle.std.proofs.Common.{◌≡◌, ◌≢◌, ℕ, ◌≤◌, true, false, List, [], ◌∷◌, None, Result, Ok, Err, ◌⊎◌, inl, inr, IsTrue, flat_map, refl, sym, ap, ◌∙◌, subst}
 use Rattle.std.specs.List.{AllByRecursion, list_any}
 use Rattle.vcd_model.specs.Declarations.{code_of}
 use Rattle.vcd_model.specs.Selection.{Selected, selected}
 use Rattle.vcd_model.specs.Cut.{ends_cut}
+use Rattle.vcd_model.specs.CheckAndList.{list_line, list_text}
 use Rattle.vcd_model.specs.Ticks.{moment_ticks}
-use Rattle.vcd_model.specs.Outcome.{Request, Outcome, Opened, items_in, fault_in, ends_early, over_dumps}
+use Rattle.vcd_model.specs.Outcome.{Request, Outcome, Opened, items_in, fault_in, ends_early, clean_outcome, over_dump, over_dumps}
 use Rattle.vcd_model.specs.Job.{Want, Refusal, request_of, refusal_outcome, outcome}
-use Rattle.vcd_model.specs.Laws.{input_of, written_by, IsDumpFor, SampleOfCut}
+use Rattle.vcd_model.specs.Laws.{input_of, written_by, IsDumpFor, ListOfCut, SampleOfCut}
 use Rattle.vcd_model.proofs.JobLemmas.{requests_are_valid}
 use Rattle.vcd_model.proofs.WrittenCodes.{In, from_filter, to_contained, in_map, to_codes_of}
 use Rattle.vcd_model.proofs.HeadBack.{variables_are, opens_header}
@@ -90,3 +91,14 @@ sample_of_cut limit name from to times wanted input o a b ts cuts job can first 
     by_end (inl ends) some =
         inl (ends_sample b ts wanted (items_in o) some (ups_to a b ts inside) ends)
     by_end (inr none) some = inr none
+
+pub list_of_cut : ListOfCut
+unfolding request_of over_dump list_text
+list_of_cut limit name from to input o cuts can =
+    let law = cut_is_a_dump limit name from to input o cuts can in
+    let d = law.4 in
+    let head = d.head in
+    opened_run Want.Listing limit name (input_of (written_by (Want.Cut from to) limit name input))
+    d.dump d.opens
+    ∙ ap (λ l. clean_outcome (flat_map list_line l)) head.variables
+    ∙ sym (opened_run Want.Listing limit name input o can.opens)

@@ -13,11 +13,11 @@ use Rattle.vcd_model.specs.BodyReading.{body_items}
 use Rattle.vcd_model.specs.Merge.{dump_of, is_too_large, placed_is_too_large}
 use Rattle.vcd_model.specs.Reading.{Fault, Placed, Reading, phrases_of}
 
-before_past : {X : Type 0} (test : X → Bool) (xs more : List X) → AllByRecursion (λ x. test x ≡ false) xs → before_first test (xs ++ more) ≡ xs ++ before_first test more
+pub before_past : {X : Type 0} (test : X → Bool) (xs more : List X) → AllByRecursion (λ x. test x ≡ false) xs → before_first test (xs ++ more) ≡ xs ++ before_first test more
 before_past test [] more h = refl
 before_past test (x ∷ xs) more h = rw (h.0, one-add) (ap (λ l. x ∷ l) (before_past test xs more h.1))
 
-find_past : {X : Type 0} (test : X → Bool) (xs more : List X) → AllByRecursion (λ x. test x ≡ false) xs → find test (xs ++ more) ≡ find test more
+pub find_past : {X : Type 0} (test : X → Bool) (xs more : List X) → AllByRecursion (λ x. test x ≡ false) xs → find test (xs ++ more) ≡ find test more
 find_past test [] more h = refl
 find_past test (x ∷ xs) more h = rw h.0 (find_past test xs more h.1)
 
@@ -37,7 +37,7 @@ placed_small scale (p ∷ ps) h = by_phrase p.phrase p.line h (placed_small scal
     by_phrase (Comment inner) line h more = (refl, more h)
     by_phrase (Gives x) line h more = (h.0, more h.1)
 
-items_append : (a b : List (Placed BodyPhrase)) → items_of (phrases_of (a ++ b)) ≡ items_of (phrases_of a) ++ items_of (phrases_of b)
+pub items_append : (a b : List (Placed BodyPhrase)) → items_of (phrases_of (a ++ b)) ≡ items_of (phrases_of a) ++ items_of (phrases_of b)
 items_append a b = rw (map-append, filter_map-append) refl
 
 -- the fault of a time mark that is too large, where there is one

@@ -1,13 +1,21 @@
 -- Rows on what is written and read again, computed: that the laws' premises can be met, and why
 -- they are there.
-use Rattle.std.proofs.Common.{◌≡◌, ℕ, ◌+◌, ◌<◌, ◌≤◌, Bool, true, false, cond, List, [], ◌∷◌, length, count_by, map, replicate, codes, Option, Some, None, Result, Ok, Err, refl, ap, ◌∙◌, arith, zero, suc, flat_map, drop}
+use Rattle.std.proofs.Common.{◌≡◌, ℕ, ◌+◌, ◌<◌, ◌≤◌, Bool, true, false, cond, List, [], ◌∷◌, length, count_by, map, replicate, codes, Option, Some, None, Result, Ok, Err, Contains, inl, inr, refl, ap, ◌∙◌, arith, zero, suc, flat_map, drop}
 use Rattle.std.specs.List.{AllByRecursion}
 use Rattle.std.proofs.lemmas.List.{length-append}
 use Rattle.std.proofs.lemmas.List.Sums.{sum_by-cons}
 use Rattle.std.specs.List.Sorted.{IsStrictlyIncreasing}
 use Rattle.vcd_model.proofs.SampleOfMerge.{sample_of_merge}
-use Rattle.vcd_model.specs.Selection.{selected}
+use Rattle.vcd_model.specs.Selection.{Selected, selected}
 use Rattle.vcd_model.proofs.CutUses.{sample_of_cut}
+use Rattle.vcd_model.proofs.CutTwice.{cut_twice}
+use Rattle.vcd_model.proofs.EdgesOfCut.{edges_of_cut}
+use Rattle.vcd_model.proofs.SampleOfCut.{sample_of_cut_anywhere}
+use Rattle.vcd_model.proofs.AllMerged.{sample_of_all_merged}
+use Rattle.vcd_model.specs.Backward.{each}
+use Rattle.vcd_model.proofs.PickedAlone.{sample_of_all_picked, edges_of_all_picked, edges_of_some_picked}
+use Rattle.vcd_model.proofs.PickOfPick.{pick_of_pick}
+use Rattle.vcd_model.proofs.WrittenCodes.{from_contained, to_contained}
 use Rattle.vcd_model.proofs.Computing.{model}
 use Rattle.vcd_model.proofs.PickKept.{at_contained}
 use Rattle.vcd_model.proofs.RowText.{clean, limit, gives, on, cut, sample, at, time}
@@ -21,10 +29,10 @@ use Rattle.vcd_model.specs.HeaderReading.{read_header, header_fault_of}
 use Rattle.vcd_model.specs.HeadText.{head_for}
 use Rattle.vcd_model.specs.Keywords.{Keyword}
 use Rattle.vcd_model.specs.Reading.{Fault}
-use Rattle.vcd_model.specs.Merge.{headers_of}
+use Rattle.vcd_model.specs.Merge.{factor, headers_of}
 use Rattle.vcd_model.specs.Outcome.{Outcome, Opened, declarations_allowed, open_from, dumps_of, clean_outcome, items_in}
 use Rattle.vcd_model.specs.Job.{Want, IsJob, outcome}
-use Rattle.vcd_model.specs.Laws.{input_of, written_by, over_written, stream_over, most_declared, input_scope, distinct, IsShallow, IsReadable, AreReadable, names_under, over_merged, merged_lines}
+use Rattle.vcd_model.specs.Laws.{input_of, written_by, over_written, stream_over, most_declared, input_scope, distinct, IsShallow, IsReadable, AreReadable, names_under, over_merged, merged_lines, line_in, line_of_cut, cut_row, SelectBoth}
 
 abbrev stdin : List ℕ
 stdin = codes "(stdin)"
@@ -98,6 +106,90 @@ sampled : on (sample (0 ∷ 5 ∷ []) some_names) aliased ≡ gives "0 b 1;0 m.c
 unfolding model
 sampled = refl
 
+-- without names all that was picked is sampled and counted
+picked_sampled_alone : over_pick (sample (0 ∷ 5 ∷ []) [])
+    ≡ gives "0 b 1;0 m.c 0;5 b 1;5 m.c 1;" "" 0
+unfolding model
+picked_sampled_alone = refl
+
+rising_alone : IsStrictlyIncreasing (0 ∷ 5 ∷ [])
+rising_alone zero h = omega arith
+rising_alone (suc k) h = absurd (omega arith)
+
+asked_of_pick : IsJob (sample (0 ∷ 5 ∷ []) some_names)
+asked_of_pick = (λ e. cc, (((omega arith), refl), (((omega arith), refl), tt)), λ e. rising_alone)
+
+-- the laws on pipes without names, with all their premises met
+pick_sample_alone : over_pick (sample (0 ∷ 5 ∷ []) []) ≡ on (sample (0 ∷ 5 ∷ []) some_names) aliased
+unfolding model
+pick_sample_alone = sample_of_all_picked limit stdin some_names (map at (0 ∷ 5 ∷ []))
+    (clean aliased) opened asked_of_pick picked_within
+
+pick_edges_alone : over_pick (Want.Edges []) ≡ on (Want.Edges some_names) aliased
+unfolding model
+pick_edges_alone = edges_of_all_picked limit stdin some_names (clean aliased) opened picked_within
+
+-- a name that selects more than the pick
+picked_under : over_written (Want.Edges (codes "m" ∷ [])) (Want.Pick (codes "m.c" ∷ [])) limit stdin
+    (clean aliased) ≡ gives "m.c 1 1 0;" "" 0
+unfolding model
+picked_under = refl
+
+-- a pick of less than was picked
+just_m : List (List ℕ)
+just_m = codes "m" ∷ []
+
+abbrev at_m : Selected
+at_m = record {
+  path = codes "m.c";
+  variable = record {
+    type = codes "wire";
+    size = 1;
+    code = codes "x";
+    reference = codes "c" ∷ [];
+  };
+}
+
+both_select : SelectBoth just_m some_names just_m opened.header
+unfolding model just_m
+both_select = record {
+  each_selects = λ w i. at_contained (λ n. (s : Selected)
+      × Contains (selected (n ∷ []) opened.header.declarations) s
+      × Contains (selected some_names opened.header.declarations) s) just_m w
+      ((at_m, refl_in, there_in), tt) i;
+  alone = refl;
+  together = λ s. (
+    λ i. (
+      i,
+      to_contained (selected some_names opened.header.declarations) s
+          (inr (from_contained (selected just_m opened.header.declarations) s i)),
+    ),
+    λ i. i.0,
+  );
+}
+  where
+    refl_in : Contains (selected just_m opened.header.declarations) at_m
+    refl_in = to_contained (selected just_m opened.header.declarations) at_m (inl refl)
+
+    there_in : Contains (selected some_names opened.header.declarations) at_m
+    there_in = to_contained (selected some_names opened.header.declarations) at_m (inr (inl refl))
+
+-- the laws on pipes with other names, with all their premises met
+pick_pick : over_pick (Want.Pick just_m) ≡ on (Want.Pick just_m) aliased
+unfolding model
+pick_pick = pick_of_pick limit stdin some_names just_m just_m (clean aliased) opened picked_within
+    both_select (λ e. cc)
+
+pick_edges : over_pick (Want.Edges just_m) ≡ on (Want.Edges just_m) aliased
+unfolding model
+pick_edges = edges_of_some_picked limit stdin some_names just_m just_m (clean aliased) opened
+    picked_within both_select
+
+picked_less : over_pick (Want.Pick (codes "m" ∷ []))
+    ≡ gives "$date;^$scope today;$end;$timescale;^1ns;$end;$scope module m $end;$var wire 1 x c $end;$upscope $end;$enddefinitions $end;#0;0x;#5;1x;" "" 0
+unfolding model
+picked_less = refl
+
 picked_counted : over_pick (Want.Edges some_names) ≡ gives "b 0 0 0;m.c 1 1 0;" "" 0
 unfolding model
 picked_counted = refl
@@ -166,6 +258,23 @@ sampled_as_cut : on (sample (1 ∷ 4 ∷ 5 ∷ []) some_names) aliased
 unfolding model
 sampled_as_cut = refl
 
+-- before the cut nothing has a value, and behind it the values stay
+cut_sampled_outside : over_written (sample (0 ∷ 9 ∷ []) some_names) (cut "1" "4") limit stdin
+    (clean aliased) ≡ gives "0 b -;0 m.c -;9 b 1;9 m.c 0;" "" 0
+unfolding model
+cut_sampled_outside = refl
+
+asked_outside : IsJob (sample (0 ∷ 5 ∷ []) some_names)
+asked_outside = (λ e. cc, (((omega arith), refl), (((omega arith), refl), tt)), λ e. rising_alone)
+
+cut_sample_anywhere : over_cut (sample (0 ∷ 5 ∷ []) some_names)
+    ≡ clean_outcome (flat_map (λ t. flat_map (line_of_cut 1 5 (items_in opened) t)
+    (selected some_names opened.header.declarations)) (0 ∷ 5 ∷ []))
+unfolding model
+cut_sample_anywhere = sample_of_cut_anywhere limit stdin (time "1") (time "5")
+    (map at (0 ∷ 5 ∷ [])) some_names (clean aliased) opened 1 5 (0 ∷ 5 ∷ []) cut_asked
+    asked_outside cut_within refl refl refl refl
+
 -- the law on samples of a cut, with all its premises met
 rising_in_cut : IsStrictlyIncreasing (1 ∷ 5 ∷ [])
 rising_in_cut zero h = omega arith
@@ -179,6 +288,53 @@ unfolding model
 cut_sample = sample_of_cut limit stdin (time "1") (time "5") (map at (1 ∷ 5 ∷ [])) some_names
     (clean aliased) opened 1 5 (1 ∷ 5 ∷ []) cut_asked asked_of_cut cut_within refl refl refl
     (((omega arith), (omega arith)), (((omega arith), (omega arith)), tt))
+
+cut_listed : over_cut Want.Listing ≡ gives "a wire 1 x;b wire 1 y;m.c wire 1 x;" "" 0
+unfolding model
+cut_listed = refl
+
+-- the value before the cut counts as its first: the rise at 5 is one of a cut from 5, none of a cut
+-- from 6
+cut_counted : over_written (Want.Edges []) (cut "5" "9") limit stdin (clean aliased)
+    ≡ gives "a 1 1 0;b 0 0 0;m.c 1 1 0;" "" 0
+unfolding model
+cut_counted = refl
+
+later_counted : over_written (Want.Edges []) (cut "6" "9") limit stdin (clean aliased)
+    ≡ gives "a 0 0 0;b 0 0 0;m.c 0 0 0;" "" 0
+unfolding model
+later_counted = refl
+
+-- the law, with all its premises met
+cut_edges : over_cut (Want.Edges some_names)
+    ≡ clean_outcome (flat_map (cut_row 1 5 (items_in opened))
+    (selected some_names opened.header.declarations))
+unfolding model
+cut_edges = edges_of_cut limit stdin (time "1") (time "5") some_names (clean aliased) opened 1 5
+    cut_asked cut_within refl refl refl
+
+-- a cut of a cut that begins later is a cut of the input
+cut_again : over_cut (cut "2" "4")
+    ≡ gives "$date;^$scope today;$end;$timescale;^1ns;$end;$var wire 1 x a $end;$var wire 1 y b $end;$scope module m $end;$var wire 1 x c $end;$upscope $end;$enddefinitions $end;#2;$dumpvars;0x;1y;$end;#4;" "" 0
+unfolding model
+cut_again = refl
+
+asked_again : IsJob (cut "2" "4")
+unfolding model
+asked_again = (((omega arith), refl), ((omega arith), refl), λ e. omega arith)
+
+-- the law, with all its premises met
+cut_of_cut : over_cut (cut "2" "4") ≡ on (cut "2" "4") aliased
+unfolding model
+cut_of_cut = cut_twice limit stdin (time "1") (time "5") (time "2") (time "4") (clean aliased) opened
+    1 5 2 4 cut_asked asked_again cut_within refl refl refl refl (omega arith) (omega arith)
+
+-- One that begins with the first does not: nothing has a value before the first start section,
+-- which stands as a section at its time.
+cut_from_begin : over_cut (cut "1" "5")
+    ≡ gives "$date;^$scope today;$end;$timescale;^1ns;$end;$var wire 1 x a $end;$var wire 1 y b $end;$scope module m $end;$var wire 1 x c $end;$upscope $end;$enddefinitions $end;#1;$dumpvars;$end;$dumpvars;0x;1y;$end;#5;1x;" "" 0
+unfolding model
+cut_from_begin = refl
 
 -- ---- `merge`
 
@@ -291,6 +447,48 @@ merged_counted : over_merge (Want.Edges (codes "in1.b" ∷ codes "in1.m" ∷ [])
 unfolding model
 merged_counted = refl
 
+-- the scope of an input alone
+merged_counted_one : over_merge (Want.Edges (codes "in2" ∷ [])) ≡ gives "in2.q 1 0 0;" "" 0
+unfolding model
+merged_counted_one = refl
+
+-- all inputs, at times that are no multiples of the factor of the first
+merged_sampled_all : over_merge (sample (45 ∷ 59 ∷ []) [])
+    ≡ gives "45 in1.a 0;45 in1.b 1;45 in1.m.c 0;45 in2.q zzzz;59 in1.a 1;59 in1.b 1;59 in1.m.c 1;59 in2.q zzzz;" "" 0
+unfolding model
+merged_sampled_all = refl
+
+merged_counted_all : over_merge (Want.Edges [])
+    ≡ gives "in1.a 1 1 0;in1.b 0 0 0;in1.m.c 1 1 0;in2.q 1 0 0;" "" 0
+unfolding model
+merged_counted_all = refl
+
+-- the law without names, with all its premises met
+rising_in_all : IsStrictlyIncreasing (45 ∷ 59 ∷ [])
+rising_in_all zero h = omega arith
+rising_in_all (suc k) h = absurd (omega arith)
+
+asked_of_all : IsJob (sample (45 ∷ 59 ∷ []) [])
+asked_of_all = (λ e. cc, (((omega arith), refl), (((omega arith), refl), tt)), λ e. rising_in_all)
+
+merged_sample_all : over_merged (sample (45 ∷ 59 ∷ []) []) limit stdin
+    (codes "a.vcd" ∷ codes "b.vcd" ∷ []) (clean aliased ∷ clean finer ∷ [])
+    ≡ clean_outcome (flat_map (λ t. flat_map (λ l. l) (each (λ earlier o. flat_map
+    (line_in (length earlier + 1) (factor (headers_of (dumps_of opened_both)) o.header)
+    (items_in o) t) (selected [] o.header.declarations)) opened_both)) (45 ∷ 59 ∷ []))
+unfolding model
+merged_sample_all = sample_of_all_merged limit stdin (codes "a.vcd" ∷ codes "b.vcd" ∷ [])
+    (clean aliased ∷ clean finer ∷ []) opened_both (map at (45 ∷ 59 ∷ [])) (45 ∷ 59 ∷ [])
+    merged_within asked_of_all refl
+
+-- names of two inputs
+abbrev two_names : List (List ℕ)
+two_names = codes "in1.m" ∷ codes "in2" ∷ []
+
+merged_counted_any : over_merge (Want.Edges two_names) ≡ gives "in1.m.c 1 1 0;in2.q 1 0 0;" "" 0
+unfolding model
+merged_counted_any = refl
+
 -- ---- where an output is not as its input was
 
 -- an input that is opened
@@ -312,6 +510,32 @@ codes_after : code_texts (written_by (Want.Pick some_names) limit stdin (clean a
     ≡ (codes "y" ∷ codes "x" ∷ []) ∷ []
 unfolding model
 codes_after = refl
+
+-- So a cut of a pick and a pick of a cut may have their start sections in another order.
+pick_then_cut : over_pick (cut "1" "5")
+    ≡ gives "$date;^$scope today;$end;$timescale;^1ns;$end;$var wire 1 y b $end;$scope module m $end;$var wire 1 x c $end;$upscope $end;$enddefinitions $end;#1;$dumpvars;1y;0x;$end;#5;1x;" "" 0
+unfolding model
+pick_then_cut = refl
+
+cut_then_pick : over_cut (Want.Pick some_names)
+    ≡ gives "$date;^$scope today;$end;$timescale;^1ns;$end;$var wire 1 y b $end;$scope module m $end;$var wire 1 x c $end;$upscope $end;$enddefinitions $end;#1;$dumpvars;0x;1y;$end;#5;1x;" "" 0
+unfolding model
+cut_then_pick = refl
+
+-- Without a time mark in the input, a pick of less than was picked may have one for changes that it
+-- leaves out.
+abbrev no_mark : String
+no_mark = "$var wire 1 x a $end $var wire 1 y b $end $enddefinitions $end 0x"
+
+picked_alone : on (Want.Pick (codes "b" ∷ [])) no_mark
+    ≡ gives "$var wire 1 y b $end;$enddefinitions $end;" "" 0
+unfolding model
+picked_alone = refl
+
+picked_of_both : over_written (Want.Pick (codes "b" ∷ [])) (Want.Pick (codes "a" ∷ codes "b" ∷ []))
+    limit stdin (clean no_mark) ≡ gives "$var wire 1 y b $end;$enddefinitions $end;#0;" "" 0
+unfolding model
+picked_of_both = refl
 
 -- A code as long as the token limit leaves no place for a digit before it.
 abbrev long_code : String

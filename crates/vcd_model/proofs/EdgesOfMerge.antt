@@ -229,12 +229,12 @@ module _ (c : IdCode) (codes : List IdCode) where
 -- ---- the same counts
 
 -- what a code and its new code count alike in an input and in a merge
-record SameCounts (h : Header) (front : List Header) (items others : List BodyItem)
+pub record SameCounts (h : Header) (front : List Header) (items others : List BodyItem)
     (c : IdCode) : Type 0 where
-  values : c.event ≡ false → values_of others (renamed_code front h c) ≡ values_of items c
-  marks : c.event ≡ true → event_count (renamed_code front h c) others ≡ event_count c items
+  pub values : c.event ≡ false → values_of others (renamed_code front h c) ≡ values_of items c
+  pub marks : c.event ≡ true → event_count (renamed_code front h c) others ≡ event_count c items
 
-counts_same : (h : Header) (front : List Header) (items others : List BodyItem) (c : IdCode)
+pub counts_same : (h : Header) (front : List Header) (items others : List BodyItem) (c : IdCode)
     → SameCounts h front items others c
     → counts_for others (renamed_code front h c) ≡ counts_for items c
 counts_same h front items others c k = by_event c.event refl
@@ -262,7 +262,7 @@ all_found : (hs : List Header) → AllByRecursion CanMerge hs
 all_found [] can = tt
 all_found (h ∷ hs) can = let c = can.0 in (c.found, all_found hs can.1)
 
-merged_counts : (limit : ℕ) (names : List (List ℕ)) (inputs : List Input)
+pub merged_counts : (limit : ℕ) (names : List (List ℕ)) (inputs : List Input)
     (os earlier later : List Opened) (o : Opened) (can : AreReadable limit names inputs os)
     → Among os earlier later o
     → (c : IdCode) → In c o.header.codes

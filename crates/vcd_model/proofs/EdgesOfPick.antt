@@ -78,7 +78,7 @@ counts_same items others c k = by_event c.event refl
     by_event true e = rw (e, k.marks) refl
     by_event false e = rw e (ap counts_of (k.values e))
 
-lines_same : (vs : List Selected) (items others : List BodyItem)
+pub lines_same : (vs : List Selected) (items others : List BodyItem)
     → ((s : Selected) → In s vs → KeepsCounts items others (code_of s.variable))
     → flat_map (edges_line items) vs ≡ flat_map (edges_line others) vs
 lines_same [] items others h = refl

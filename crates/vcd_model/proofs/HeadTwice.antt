@@ -26,7 +26,7 @@ uses (suc d) (Declaration.Up ∷ ds) = uses d ds
 
 module _ (names : List (List ℕ)) where
   -- before it is closed, some selected variable stands
-  abbrev uses_selected : ℕ → List Declaration → List Declaration → Bool
+  abbrev pub uses_selected : ℕ → List Declaration → List Declaration → Bool
   uses_selected d earlier [] = false
   uses_selected d earlier (Declaration.Scope type name ∷ ds) =
       uses_selected (suc d) (earlier ++ Declaration.Scope type name ∷ []) ds

@@ -113,7 +113,7 @@ kept_by_fold P a (x ∷ xs) p h = kept_by_fold P (earlier_fault a x) xs (by_test
     by_test true = h.0
     by_test false = p
 
-first_all : (P : KeyedFault → Type 0) (xs : List KeyedFault) (f : KeyedFault) → reduce earlier_fault xs ≡ Some f → AllByRecursion P xs → P f
+pub first_all : (P : KeyedFault → Type 0) (xs : List KeyedFault) (f : KeyedFault) → reduce earlier_fault xs ≡ Some f → AllByRecursion P xs → P f
 first_all P [] f e h = cc
 first_all P (x ∷ xs) f e h = let same : fold earlier_fault x xs ≡ f = cc in subst P same (kept_by_fold P x xs h.0 h.1)
 
@@ -134,12 +134,12 @@ fault_output output name f = by_kind (f.number == 31) refl
     by_kind false e = rw (e, fault_outcome) refl
 
 -- with a first fault
-with_fault : (names : List (List ℕ)) (ds : List Dump) (f : KeyedFault) → first_fault ds ≡ Some f → merge_outcome names ds ≡ fault_outcome (merge_open (headers_of ds) (items_before f (merged_items ds))) (name_at names f.key.input) f.fault
+pub with_fault : (names : List (List ℕ)) (ds : List Dump) (f : KeyedFault) → first_fault ds ≡ Some f → merge_outcome names ds ≡ fault_outcome (merge_open (headers_of ds) (items_before f (merged_items ds))) (name_at names f.key.input) f.fault
 unfolding merge_outcome
 with_fault names ds f e = rw (e, merge_outcome) refl
 
 -- without a fault
-without_fault : (names : List (List ℕ)) (ds : List Dump) → first_fault ds ≡ None → merge_outcome names ds ≡ clean_outcome (merge_open (headers_of ds) (merged_items ds) ++ merge_close (merged_items ds))
+pub without_fault : (names : List (List ℕ)) (ds : List Dump) → first_fault ds ≡ None → merge_outcome names ds ≡ clean_outcome (merge_open (headers_of ds) (merged_items ds) ++ merge_close (merged_items ds))
 unfolding merge_outcome
 without_fault names ds e = rw (e, merge_outcome) refl
 

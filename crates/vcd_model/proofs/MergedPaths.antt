@@ -1,5 +1,5 @@
 -- Which variables of a merge the names of one input's variables select, under its scope.
-use Rattle.std.proofs.Common.{◌≡◌, ◌≢◌, ℕ, suc, ◌+◌, ◌^◌, ◌<◌, ◌≤◌, ◌==◌, Bool, true, false, cond, ◌||◌, List, [], ◌∷◌, ◌++◌, length, map, filter, flat_map, decimal, codes, Option, Some, option_map, ◌⊎◌, inl, inr, refl, sym, ap, ◌∙◌, subst, arith}
+use Rattle.std.proofs.Common.{◌≡◌, ◌≢◌, ℕ, suc, ◌+◌, ◌^◌, ◌<◌, ◌≤◌, ◌==◌, Bool, true, false, cond, ◌||◌, List, [], ◌∷◌, ◌++◌, length, map, filter, flat_map, decimal, codes, Option, Some, None, option_map, ◌⊎◌, inl, inr, refl, sym, ap, ◌∙◌, subst, arith}
 use Rattle.std.specs.List.{list_any, list_all}
 use Rattle.std.specs.Char.{is_ascii_digit}
 use Rattle.std.proofs.lemmas.List.{append_assoc, append-nil, length-append}
@@ -10,7 +10,7 @@ use Rattle.vcd_model.specs.Backward.{each_after}
 use Rattle.vcd_model.specs.Declarations.{Declaration}
 use Rattle.vcd_model.specs.Header.{Header}
 use Rattle.vcd_model.specs.Selection.{Selected, selects_path, selected, first_unmatched}
-use Rattle.vcd_model.specs.Laws.{input_scope, under_input, merged_variable}
+use Rattle.vcd_model.specs.Laws.{input_scope, under_input, merged_variable, names_in}
 use Rattle.vcd_model.proofs.Decimals.{spells}
 use Rattle.vcd_model.proofs.MergedHead.{merged_selected}
 use Rattle.vcd_model.proofs.PickUses.{chosen, selected_is}
@@ -63,6 +63,34 @@ other_front (x ∷ a) (y ∷ b) path name h g n =
         let forth : (x == y) ≡ true = eq-eqb x y (sym same) in
         cc
 
+-- what ends before a point makes the same difference
+ended_front : (a b path : List ℕ) → list_all is_ascii_digit a ≡ true
+    → list_all is_ascii_digit b ≡ true → a ≢ b → selects_path (a ++ 46 ∷ path) b ≡ false
+ended_front [] [] path h g n = absurd (n refl)
+ended_front [] (y ∷ b) path h g n =
+    let d = (and_parts (is_ascii_digit y) (list_all is_ascii_digit b) g).0 in
+    rw (point_not y d, not_point y d) refl
+ended_front (x ∷ a) [] path h g n =
+    let d = (and_parts (is_ascii_digit x) (list_all is_ascii_digit a) h).0 in
+    rw (point_not x d) refl
+ended_front (x ∷ a) (y ∷ b) path h g n =
+    by_first (x == y) (y == x) refl refl (ended_front a b path
+    (and_parts (is_ascii_digit x) (list_all is_ascii_digit a) h).1
+    (and_parts (is_ascii_digit y) (list_all is_ascii_digit b) g).1)
+  where
+    by_first : (p q : Bool) → (x == y) ≡ p → (y == x) ≡ q
+        → (a ≢ b → selects_path (a ++ 46 ∷ path) b ≡ false)
+        → selects_path (x ∷ (a ++ 46 ∷ path)) (y ∷ b) ≡ false
+    by_first false false e f more = rw (e, f) refl
+    by_first true q e f more =
+        let same : x ≡ y = eqb-true x y e in
+        let back : (y == x) ≡ true = eq-eqb y x (sym same) in
+        rw (e, back) (more (λ s. n (ap (λ l. x ∷ l) s ∙ ap (λ z. z ∷ b) same)))
+    by_first false true e f more =
+        let same : y ≡ x = eqb-true y x f in
+        let forth : (x == y) ≡ true = eq-eqb x y (sym same) in
+        cc
+
 decimals_apart : (m n : ℕ) → m < 2 ^ 64 → n < 2 ^ 64 → (m ≡ n → ⊥) → decimal m ≢ decimal n
 decimals_apart m n h g apart e =
     let a = spells m h in
@@ -78,6 +106,21 @@ other_input m n path name h g apart =
     same_front (codes "in") (decimal m ++ 46 ∷ path) (decimal n ++ 46 ∷ name)
     ∙ other_front (decimal m) (decimal n) path name a.digits b.digits
     (decimals_apart m n h g apart)
+
+-- nor does its scope
+other_scope : (m n : ℕ) (path : List ℕ) → m < 2 ^ 64 → n < 2 ^ 64 → (m ≡ n → ⊥)
+    → selects_path (under_input m path) (input_scope n) ≡ false
+other_scope m n path h g apart =
+    let a = spells m h in
+    let b = spells n g in
+    same_front (codes "in") (decimal m ++ 46 ∷ path) (decimal n)
+    ∙ ended_front (decimal m) (decimal n) path a.digits b.digits (decimals_apart m n h g apart)
+
+-- the scope of an input selects all of it
+own_scope : (n : ℕ) (path : List ℕ) → selects_path (under_input n path) (input_scope n) ≡ true
+own_scope n path =
+    ap (selects_path (under_input n path)) (sym (append-nil (input_scope n)))
+    ∙ same_front (input_scope n) (46 ∷ path) []
 
 own_input : (n : ℕ) (path name : List ℕ)
     → selects_path (under_input n path) (under_input n name) ≡ selects_path path name
@@ -106,29 +149,29 @@ any_other m n path (w ∷ wanted) h g apart =
     rw (other_input m n path w h g apart) (any_other m n path wanted h g apart)
 
 chosen_own : (earlier : List Header) (h : Header) (wanted : List (List ℕ)) (s : Selected)
-    → wanted ≢ [] → chosen (map (under_input (length earlier + 1)) wanted)
-    (merged_variable earlier h s) ≡ chosen wanted s
-chosen_own earlier h [] s some = absurd (some refl)
-chosen_own earlier h (w ∷ wanted) s some = any_own (length earlier + 1) s.path (w ∷ wanted)
+    → chosen (names_in (length earlier + 1) wanted) (merged_variable earlier h s) ≡ chosen wanted s
+chosen_own earlier h [] s = rw (own_scope (length earlier + 1) s.path) refl
+chosen_own earlier h (w ∷ wanted) s = any_own (length earlier + 1) s.path (w ∷ wanted)
 
 chosen_other : (earlier : List Header) (h : Header) (n : ℕ) (wanted : List (List ℕ)) (s : Selected)
-    → wanted ≢ [] → length earlier + 1 < 2 ^ 64 → n < 2 ^ 64 → (length earlier + 1 ≡ n → ⊥)
-    → chosen (map (under_input n) wanted) (merged_variable earlier h s) ≡ false
-chosen_other earlier h n [] s some small low apart = absurd (some refl)
-chosen_other earlier h n (w ∷ wanted) s some small low apart =
+    → length earlier + 1 < 2 ^ 64 → n < 2 ^ 64 → (length earlier + 1 ≡ n → ⊥)
+    → chosen (names_in n wanted) (merged_variable earlier h s) ≡ false
+chosen_other earlier h n [] s small low apart =
+    rw (other_scope (length earlier + 1) n s.path small low apart) refl
+chosen_other earlier h n (w ∷ wanted) s small low apart =
     any_other (length earlier + 1) n s.path (w ∷ wanted) small low apart
 
 filter_own : (earlier : List Header) (h : Header) (wanted : List (List ℕ)) (vs : List Selected)
-    → wanted ≢ [] → filter (chosen (map (under_input (length earlier + 1)) wanted))
+    → filter (chosen (names_in (length earlier + 1) wanted))
     (map (merged_variable earlier h) vs) ≡ map (merged_variable earlier h)
     (filter (chosen wanted) vs)
-filter_own earlier h wanted [] some = refl
-filter_own earlier h wanted (s ∷ vs) some =
-    rw (chosen_own earlier h wanted s some) (by_test (chosen wanted s)
-    (filter_own earlier h wanted vs some))
+filter_own earlier h wanted [] = refl
+filter_own earlier h wanted (s ∷ vs) =
+    rw (chosen_own earlier h wanted s) (by_test (chosen wanted s)
+    (filter_own earlier h wanted vs))
   where
     rest : List Selected
-    rest = filter (chosen (map (under_input (length earlier + 1)) wanted))
+    rest = filter (chosen (names_in (length earlier + 1) wanted))
         (map (merged_variable earlier h) vs)
 
     by_test : (b : Bool) → rest ≡ map (merged_variable earlier h) (filter (chosen wanted) vs)
@@ -139,13 +182,13 @@ filter_own earlier h wanted (s ∷ vs) some =
     by_test false more = more
 
 filter_other : (earlier : List Header) (h : Header) (n : ℕ) (wanted : List (List ℕ))
-    (vs : List Selected) → wanted ≢ [] → length earlier + 1 < 2 ^ 64 → n < 2 ^ 64
+    (vs : List Selected) → length earlier + 1 < 2 ^ 64 → n < 2 ^ 64
     → (length earlier + 1 ≡ n → ⊥)
-    → filter (chosen (map (under_input n) wanted)) (map (merged_variable earlier h) vs) ≡ []
-filter_other earlier h n wanted [] some small low apart = refl
-filter_other earlier h n wanted (s ∷ vs) some small low apart =
-    rw (chosen_other earlier h n wanted s some small low apart)
-    (filter_other earlier h n wanted vs some small low apart)
+    → filter (chosen (names_in n wanted)) (map (merged_variable earlier h) vs) ≡ []
+filter_other earlier h n wanted [] small low apart = refl
+filter_other earlier h n wanted (s ∷ vs) small low apart =
+    rw (chosen_other earlier h n wanted s small low apart)
+    (filter_other earlier h n wanted vs small low apart)
 
 -- ---- all inputs
 
@@ -155,20 +198,20 @@ selected_all earlier hs = flat_map (λ vs. vs) (each_after merged_selected earli
 length-push : (earlier : List Header) (h : Header) → length (earlier ++ h ∷ []) ≡ length earlier + 1
 length-push earlier h = length-append earlier (h ∷ [])
 
-none_other : (earlier hs : List Header) (n : ℕ) (wanted : List (List ℕ)) → wanted ≢ []
+none_other : (earlier hs : List Header) (n : ℕ) (wanted : List (List ℕ))
     → length earlier + length hs < 2 ^ 63 → n < 2 ^ 64
     → (n ≤ length earlier) ⊎ (length earlier + length hs < n)
-    → filter (chosen (map (under_input n) wanted)) (selected_all earlier hs) ≡ []
-none_other earlier [] n wanted some small low apart = refl
-none_other earlier (h ∷ hs) n wanted some small low apart =
+    → filter (chosen (names_in n wanted)) (selected_all earlier hs) ≡ []
+none_other earlier [] n wanted small low apart = refl
+none_other earlier (h ∷ hs) n wanted small low apart =
     let l = length-push earlier h in
-    filter-append (chosen (map (under_input n) wanted)) (merged_selected earlier h)
+    filter-append (chosen (names_in n wanted)) (merged_selected earlier h)
     (selected_all (earlier ++ h ∷ []) hs)
-    ∙ ap (λ x. x ++ filter (chosen (map (under_input n) wanted))
+    ∙ ap (λ x. x ++ filter (chosen (names_in n wanted))
     (selected_all (earlier ++ h ∷ []) hs))
-    (filter_other earlier h n wanted (selected [] h.declarations) some (omega arith) low
+    (filter_other earlier h n wanted (selected [] h.declarations) (omega arith) low
     (differs apart))
-    ∙ none_other (earlier ++ h ∷ []) hs n wanted some (omega arith) low (still apart)
+    ∙ none_other (earlier ++ h ∷ []) hs n wanted (omega arith) low (still apart)
   where
     differs : (n ≤ length earlier) ⊎ (length earlier + length (h ∷ hs) < n) → length earlier + 1 ≡ n
         → ⊥
@@ -180,53 +223,62 @@ none_other earlier (h ∷ hs) n wanted some small low apart =
     still (inl a) = let l = length-push earlier h in inl (omega arith)
     still (inr a) = let l = length-push earlier h in inr (omega arith)
 
-of_own : (before front back : List Header) (h : Header) (wanted : List (List ℕ)) → wanted ≢ []
+of_own : (before front back : List Header) (h : Header) (wanted : List (List ℕ))
     → length before + length (front ++ h ∷ back) < 2 ^ 63
-    → filter (chosen (map (under_input (length (before ++ front) + 1)) wanted))
+    → filter (chosen (names_in (length (before ++ front) + 1) wanted))
     (selected_all before (front ++ h ∷ back))
     ≡ map (merged_variable (before ++ front) h)
     (filter (chosen wanted) (selected [] h.declarations))
-of_own before [] back h wanted some small =
+of_own before [] back h wanted small =
     let l = length-push before h in
-    let own = filter_own before h wanted (selected [] h.declarations) some in
+    let own = filter_own before h wanted (selected [] h.declarations) in
     rw append-nil
-    (filter-append (chosen (map (under_input (length before + 1)) wanted))
+    (filter-append (chosen (names_in (length before + 1) wanted))
     (merged_selected before h) (selected_all (before ++ h ∷ []) back)
-    ∙ ap (λ x. filter (chosen (map (under_input (length before + 1)) wanted))
+    ∙ ap (λ x. filter (chosen (names_in (length before + 1) wanted))
     (merged_selected before h) ++ x) (none_other (before ++ h ∷ []) back (length before + 1)
-    wanted some (omega arith) (omega arith) (inl (omega arith)))
-    ∙ append-nil (filter (chosen (map (under_input (length before + 1)) wanted))
+    wanted (omega arith) (omega arith) (inl (omega arith)))
+    ∙ append-nil (filter (chosen (names_in (length before + 1) wanted))
     (merged_selected before h))
     ∙ own)
-of_own before (x ∷ front) back h wanted some small =
+of_own before (x ∷ front) back h wanted small =
     let l = length-push before x in
     let m = length-append before (x ∷ front) in
     let f = length-append front (h ∷ back) in
     let n = length (before ++ x ∷ front) + 1 in
     let same = append_assoc before (x ∷ []) front in
-    filter-append (chosen (map (under_input n) wanted)) (merged_selected before x)
+    filter-append (chosen (names_in n wanted)) (merged_selected before x)
     (selected_all (before ++ x ∷ []) (front ++ h ∷ back))
-    ∙ ap (λ y. y ++ filter (chosen (map (under_input n) wanted))
+    ∙ ap (λ y. y ++ filter (chosen (names_in n wanted))
     (selected_all (before ++ x ∷ []) (front ++ h ∷ back)))
-    (filter_other before x n wanted (selected [] x.declarations) some (omega arith)
+    (filter_other before x n wanted (selected [] x.declarations) (omega arith)
     (omega arith) (λ e. omega arith))
-    ∙ ap (λ (e : List Header). filter (chosen (map (under_input (length e + 1)) wanted))
+    ∙ ap (λ (e : List Header). filter (chosen (names_in (length e + 1) wanted))
     (selected_all (before ++ x ∷ []) (front ++ h ∷ back))) (sym same)
-    ∙ of_own (before ++ x ∷ []) front back h wanted some (omega arith)
+    ∙ of_own (before ++ x ∷ []) front back h wanted (omega arith)
     ∙ ap (λ (e : List Header). map (merged_variable e h)
     (filter (chosen wanted) (selected [] h.declarations))) same
 
 -- the names of one input's variables, under its scope, select these variables and no others
+pub selected_in : (front back : List Header) (h : Header) (wanted : List (List ℕ))
+    (es : List Declaration) → length (front ++ h ∷ back) < 2 ^ 63
+    → selected [] es ≡ selected_all [] (front ++ h ∷ back)
+    → selected (names_in (length front + 1) wanted) es
+    ≡ map (merged_variable front h) (selected wanted h.declarations)
+selected_in front back h wanted es small e =
+    selected_is (names_in (length front + 1) wanted) es
+    ∙ ap (filter (chosen (names_in (length front + 1) wanted))) e
+    ∙ of_own [] front back h wanted (omega arith)
+    ∙ ap (map (merged_variable front h)) (sym (selected_is wanted h.declarations))
+
 pub selected_under : (front back : List Header) (h : Header) (wanted : List (List ℕ))
     (es : List Declaration) → wanted ≢ [] → length (front ++ h ∷ back) < 2 ^ 63
     → selected [] es ≡ selected_all [] (front ++ h ∷ back)
     → selected (map (under_input (length front + 1)) wanted) es
     ≡ map (merged_variable front h) (selected wanted h.declarations)
-selected_under front back h wanted es some small e =
-    selected_is (map (under_input (length front + 1)) wanted) es
-    ∙ ap (filter (chosen (map (under_input (length front + 1)) wanted))) e
-    ∙ of_own [] front back h wanted some (omega arith)
-    ∙ ap (map (merged_variable front h)) (sym (selected_is wanted h.declarations))
+selected_under front back h [] es some small e = absurd (some refl)
+selected_under front back h (w ∷ wanted) es some small e =
+    selected_in front back h (w ∷ wanted) es small e
 
 same_empty : (front : List Header) (h : Header) (vs : List Selected)
     → is_empty (map (merged_variable front h) vs) ≡ is_empty vs
@@ -248,3 +300,20 @@ unmatched_under front back h (w ∷ wanted) es small e =
     (map (under_input (length front + 1)) wanted) es))) one
     ∙ ap (λ (o : Option ℕ). cond (is_empty (selected (w ∷ []) h.declarations)) (Some 0)
     (option_map suc o)) more
+
+-- names of an input that select something select something under its scope, and so does the scope
+pub unmatched_in : (front back : List Header) (h : Header) (wanted : List (List ℕ))
+    (es : List Declaration) → length (front ++ h ∷ back) < 2 ^ 63
+    → selected [] es ≡ selected_all [] (front ++ h ∷ back)
+    → selected wanted h.declarations ≢ [] → first_unmatched wanted h.declarations ≡ None
+    → first_unmatched (names_in (length front + 1) wanted) es ≡ None
+unmatched_in front back h [] es small e some matched =
+    let one = ap is_empty (selected_in front back h [] es small e)
+    ∙ same_empty front h (selected [] h.declarations) in
+    rw (one ∙ not_empty (selected [] h.declarations) some) refl
+  where
+    not_empty : (vs : List Selected) → vs ≢ [] → is_empty vs ≡ false
+    not_empty [] n = absurd (n refl)
+    not_empty (v ∷ vs) n = refl
+unmatched_in front back h (w ∷ wanted) es small e some matched =
+    unmatched_under front back h (w ∷ wanted) es small e ∙ matched

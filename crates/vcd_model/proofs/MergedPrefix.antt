@@ -41,7 +41,7 @@ filter_all test [] h = refl
 filter_all test (x ∷ xs) h = rw h.0 (ap (λ l. x ∷ l) (filter_all test xs h.1))
 
 -- the items after a place that is not before the key
-late_none : (b : Key) (hs : List Header) (n : ℕ) (es : List Header) (h : Header) (before items : List BodyItem) → key_lt (key_after (factor hs h) n before) b ≡ false → filter (λ y. key_lt y.key b) (from hs n es h before items) ≡ []
+pub late_none : (b : Key) (hs : List Header) (n : ℕ) (es : List Header) (h : Header) (before items : List BodyItem) → key_lt (key_after (factor hs h) n before) b ≡ false → filter (λ y. key_lt y.key b) (from hs n es h before items) ≡ []
 late_none b hs n es h before [] e = refl
 late_none b hs n es h before (x ∷ items) e =
     let here = key_after (factor hs h) n before in

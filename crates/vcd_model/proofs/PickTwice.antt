@@ -56,7 +56,7 @@ line_again codes c good some =
     by_event true e same = rw e refl
     by_event false e same = ap (line_of c.code) (same e)
 
-item_again : (codes : List IdCode) (o : Bool) (x : BodyItem) → IsWritable codes o x
+pub item_again : (codes : List IdCode) (o : Bool) (x : BodyItem) → IsWritable codes o x
     → item_line (read_item x) ≡ item_line x
 item_again codes o (BodyItem.Time u) h = absurd h
 item_again codes o (BodyItem.Begin s) h = refl
@@ -66,12 +66,12 @@ item_again codes o (BodyItem.Changes c) h = line_again codes c h.0 h.1
 -- ---- entries that are read again
 
 -- each entry knows whether a section is open
-abbrev Insides : Bool → List Entry → Type 0
+abbrev pub Insides : Bool → List Entry → Type 0
 Insides o [] = ⊤
 Insides o (e ∷ es) = (e.inside ≡ o) × Insides (next_open o e.item) es
 
 -- the entries that kept ones are read as
-abbrev reread : Bool → List Entry → List Entry
+abbrev pub reread : Bool → List Entry → List Entry
 reread o [] = []
 reread o (e ∷ es) = record { time = e.time; inside = o; item = read_item e.item } ∷ reread
     (next_open o e.item) es
@@ -91,7 +91,7 @@ reread_text codes t o w (e ∷ es) h =
     (reread_text codes e.time (next_open o e.item) (w ++ e.time ∷ []) es h.4)
 
 module _ (codes : List IdCode) (vs : List Selected) where
-  over_time : (t u : ℕ) (o : Bool) (w : List ℕ) (xs : List BodyItem) → Stand w t o → t ≤ u
+  pub over_time : (t u : ℕ) (o : Bool) (w : List ℕ) (xs : List BodyItem) → Stand w t o → t ≤ u
       → filter (picks vs) (entries_from t o (time_items w u ++ xs))
       ≡ filter (picks vs) (entries_from u o xs)
   over_time t u o w xs s l = by_any (list_any (λ v. v == u) w) refl
@@ -138,7 +138,7 @@ module _ (codes : List IdCode) (vs : List Selected) where
       (twice es e.time (next_open o e.item) (w ++ e.time ∷ []) rest h.4
       (stand_more w t e.time o (next_open o e.item) s h.0) i.1 p.1)
 
-  closing_dropped : (t : ℕ) (o : Bool) (w : List ℕ) (mark : Option ℕ)
+  pub closing_dropped : (t : ℕ) (o : Bool) (w : List ℕ) (mark : Option ℕ)
       → filter (picks vs) (entries_from t o (closing_items w mark)) ≡ []
   closing_dropped t o w None = refl
   closing_dropped t o w (Some e) = by_any (list_any (λ v. v == e) w)
@@ -148,7 +148,7 @@ module _ (codes : List IdCode) (vs : List Selected) where
       by_any true = refl
       by_any false = refl
 
-  kept_insides : (t : ℕ) (o : Bool) (items : List BodyItem)
+  pub kept_insides : (t : ℕ) (o : Bool) (items : List BodyItem)
       → Insides o (filter (picks vs) (entries_from t o items))
   kept_insides t o [] = tt
   kept_insides t o (BodyItem.Time u ∷ items) = kept_insides u o items
@@ -166,7 +166,7 @@ module _ (codes : List IdCode) (vs : List Selected) where
       by_keep true more = (refl, more)
       by_keep false more = more
 
-all_kept : {X : Type 0} (test : X → Bool) (xs : List X)
+pub all_kept : {X : Type 0} (test : X → Bool) (xs : List X)
     → AllByRecursion (λ x. test x ≡ true) (filter test xs)
 all_kept test [] = tt
 all_kept test (x ∷ xs) = by_test (test x) refl (all_kept test xs)
@@ -233,7 +233,7 @@ closing_none : (w : List ℕ) (o : Option ℕ) → ((e : ℕ) → o ≡ Some e �
 closing_none w None f = refl
 closing_none w (Some e) f = rw (f e refl) refl
 
-last_push : (xs : List ℕ) (o : Option ℕ) (e : ℕ) → last_or o (xs ++ e ∷ []) ≡ Some e
+pub last_push : (xs : List ℕ) (o : Option ℕ) (e : ℕ) → last_or o (xs ++ e ∷ []) ≡ Some e
 last_push [] o e = refl
 last_push (x ∷ xs) o e = last_push xs (Some x) e
 
@@ -291,7 +291,7 @@ body_twice codes vs items are fit shut =
 
 -- ---- the head
 
-no_open : (ds : List Declaration) (t : List Open) → HasOpen ds t → map (λ (e : Open). e.1) t ≡ []
+pub no_open : (ds : List Declaration) (t : List Open) → HasOpen ds t → map (λ (e : Open). e.1) t ≡ []
     → HasOpen ds []
 no_open ds [] is e = is
 no_open ds (x ∷ t) is e = cc
@@ -327,7 +327,7 @@ rows_twice names ds are =
     (rows_chosen names ds are) (no_open (written own_code (marks_of names ds) ds) r.t r.wrote
     r.same) (all_used names ds are)
 
-head_twice : (names : List (List ℕ)) (h k : Header) → IsHeadFor h names k
+pub head_twice : (names : List (List ℕ)) (h k : Header) → IsHeadFor h names k
     → AreDeclared [] h.declarations
     → k.declarations ≡ written own_code (marks_of names h.declarations) h.declarations
     → head_for k names ≡ head_for h names
@@ -341,7 +341,7 @@ head_twice names h k is are rows =
 
 -- ---- the law
 
-pick_run : (names : List (List ℕ)) (name : List ℕ) (o : Opened) → fault_in o ≡ None
+pub pick_run : (names : List (List ℕ)) (name : List ℕ) (o : Opened) → fault_in o ≡ None
     → over_opened (Want.Pick names) (name ∷ []) (o ∷ [])
     ≡ sampled names (first_unmatched names o.header.declarations)
     (pick_open o.header names (items_in o) ++ pick_close o.header names (items_in o))

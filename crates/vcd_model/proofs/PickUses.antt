@@ -240,7 +240,7 @@ sample_shape units ks wanted request e = by_all (list_all is_ok ks) e
     by_all true f = by_rise (units && not (do_rise (filter_map ok_of ks))) f
     by_all false f = cc
 
-any_time : (ts : List ℕ) → AllByRecursion (λ t. Unit {0}) ts
+pub any_time : (ts : List ℕ) → AllByRecursion (λ t. Unit {0}) ts
 any_time [] = tt
 any_time (t ∷ ts) = (tt, any_time ts)
 

@@ -22,7 +22,7 @@ use Rattle.vcd_model.proofs.CutLaw.{cut_keeps}
 use Rattle.vcd_model.proofs.MergeLaw.{merge_keeps}
 
 -- a fault has another status
-fault_status : (output name : List ℕ) (f : Fault) → (fault_outcome output name f).status ≢ 0
+pub fault_status : (output name : List ℕ) (f : Fault) → (fault_outcome output name f).status ≢ 0
 fault_status output name f e = by_number (f.number == 31) e
   where
     by_number : (b : Bool) → (elim b as (λ _. Outcome) [
@@ -33,7 +33,7 @@ fault_status output name f e = by_number (f.number == 31) e
     by_number false e = cc
 
 -- one input gives one header
-opened_one : (limit : ℕ) (input : Input) (os : List Opened) → open_from limit [] (input ∷ []) ≡ Ok os → (o : Opened) × (os ≡ o ∷ [])
+pub opened_one : (limit : ℕ) (input : Input) (os : List Opened) → open_from limit [] (input ∷ []) ≡ Ok os → (o : Opened) × (os ≡ o ∷ [])
 unfolding open_from
 opened_one limit input os e =
     let stream = stream_of limit input in
@@ -153,6 +153,16 @@ pick_case names name o h =
     let ends : (at_end task o.header (items_in o) shown (fault_in o)).status ≡ 0 = sym (ap (λ (d : Outcome). d.status) same) ∙ h in
     let clean = clean_end task o.header (items_in o) shown (fault_in o) ends in
     (clean.0, ap (λ (d : Outcome). d.output) same ∙ clean.1)
+
+-- each name of a pick with status 0 selects something
+pub pick_matched : (names : List (List ℕ)) (name : List ℕ) (o : Opened) → (over_opened (Want.Pick names) (name ∷ []) (o ∷ [])).status ≡ 0 → first_unmatched names o.header.declarations ≡ None
+unfolding request_of over_dump named
+pick_matched names name o h =
+    by_place (first_unmatched names o.header.declarations) (over_body (Request.Pick names) o.header (items_in o) (name_at (name ∷ []) 0) (fault_in o)) h
+  where
+    by_place : (place : Option ℕ) (done : Outcome) → (named names place done).status ≡ 0 → place ≡ None
+    by_place (Some i) done s = cc
+    by_place None done s = refl
 
 pub pick_run_keeps : PickRunKeeps
 pick_run_keeps limit name names input h =

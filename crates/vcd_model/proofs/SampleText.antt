@@ -139,7 +139,7 @@ sample_is h (t ∷ ts) names items name fault some up clean =
         (both_parts (is_settled items) (t ∷ ts) (settled_below (marks items)) up)))
 
 -- a mark above the last time is above the times
-above_less : (b l : ℕ) (items : List BodyItem) → l ≤ b → list_any (is_mark_above b) items ≡ true
+pub above_less : (b l : ℕ) (items : List BodyItem) → l ≤ b → list_any (is_mark_above b) items ≡ true
     → list_any (is_mark_above l) items ≡ true
 above_less b l [] le h = cc
 above_less b l (BodyItem.Time t ∷ items) le h =

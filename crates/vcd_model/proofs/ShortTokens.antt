@@ -130,7 +130,7 @@ stream_short limit input =
 
 -- ---- texts of such tokens
 
-no_long : (limit : ℕ) (text places : List ℕ) → AllShort limit (map (run_at text) places)
+pub no_long : (limit : ℕ) (text places : List ℕ) → AllShort limit (map (run_at text) places)
     → filter (λ i. nat_lt limit (length (run_at text i))) places ≡ []
 no_long limit text [] h = refl
 no_long limit text (i ∷ places) h =

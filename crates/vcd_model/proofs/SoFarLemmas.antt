@@ -7,12 +7,12 @@ use Rattle.vcd_model.specs.SoFar.{IsSoFar, IsWhole}
 
 module _ {P : Type 0} (g : Grammar P) where
   -- reading on behind a phrase, which may be the last of its kind
-  abbrev behind_phrase : List (Placed P) → List Token → Bool → Reading P
+  abbrev pub behind_phrase : List (Placed P) → List Token → Bool → Reading P
   behind_phrase placed ts true = record { placed = placed; before = []; ending = AtLast; rest = ts }
   behind_phrase placed ts false = read_from g placed [] ts
 
   -- reading on at a token with this fault, where this phrase is whole with it
-  abbrev at_token : List (Placed P) → List (List ℕ) → Token → List Token → Option ℕ → Option P → Reading P
+  abbrev pub at_token : List (Placed P) → List (List ℕ) → Token → List Token → Option ℕ → Option P → Reading P
   at_token placed before t ts (Some n) q = record { placed = placed; before = before; ending = AtFault (record { number = n; line = t.line }); rest = t ∷ ts }
   at_token placed before t ts None None = read_from g placed (before ++ t.bytes ∷ []) ts
   at_token placed before t ts None (Some p) = behind_phrase (placed ++ record { phrase = p; line = t.line } ∷ []) ts (g.is_last p)
@@ -25,7 +25,7 @@ module _ {P : Type 0} (g : Grammar P) where
   behind_is placed ts true = refl
   behind_is placed ts false = refl
 
-  token_step : (placed : List (Placed P)) (before : List (List ℕ)) (t : Token) (ts : List Token) (o : Option ℕ) (q : Option P) → g.fault (phrases_of placed) before t.bytes ≡ o → g.phrase (before ++ t.bytes ∷ []) ≡ q
+  pub token_step : (placed : List (Placed P)) (before : List (List ℕ)) (t : Token) (ts : List Token) (o : Option ℕ) (q : Option P) → g.fault (phrases_of placed) before t.bytes ≡ o → g.phrase (before ++ t.bytes ∷ []) ≡ q
       → read_from g placed before (t ∷ ts) ≡ at_token placed before t ts o q
   token_step placed before t ts (Some n) q e f = rw (e, read_from) refl
   token_step placed before t ts None None e f = rw (e, read_from, f) refl

@@ -10,7 +10,7 @@
 //!
 //! # The modules
 //!
-//! - `laws`: each function has a law on what commands write as its contract
+//! - `laws`: each function has a law on what commands write, or on how they end, as its contract
 //!
 //! In `specs/` callers read `Run` (`Follows`), `Engine`, `Step` and `Room` of the commands over one
 //! dump; `MergeRun`, `MergeStart`, `MergeStep`, `MergeParts`, `MergeRoom`, `MergeOrder` and `Seat`
