@@ -16,7 +16,7 @@ use Rattle.vcd_model.specs.Job.{Want, request_of, outcome}
 use Rattle.vcd_model.specs.Laws.{Opens, input_of, written_by, Tally, tally_outcome, scopes_around, distinct, as_list, changes_in, pick_times, CheckOfPick}
 use Rattle.vcd_model.proofs.ItemStates.{entries_from, at_start, entries_are}
 use Rattle.vcd_model.proofs.OpenedBodies.{opens_good, opened_fit, opened_shut}
-use Rattle.vcd_model.proofs.PickKept.{picks, pick_parts}
+use Rattle.vcd_model.proofs.PickLaw.{picks, pick_parts}
 use Rattle.vcd_model.proofs.WrittenCodes.{from_filter, to_filter, from_contained, to_contained}
 use Rattle.vcd_model.proofs.HeadBack.{marks as marks_of, own_code, variables_are, opens_header}
 use Rattle.vcd_model.proofs.RunLaws.{opened_run}

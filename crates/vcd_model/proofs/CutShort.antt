@@ -26,7 +26,7 @@ use Rattle.vcd_model.proofs.Assembled.{parts_items, parts_fit, closing_items}
 use Rattle.vcd_model.proofs.BodyFacts.{all_front, all_append}
 use Rattle.vcd_model.proofs.HeaderFacts.{AreCodes, filter_words}
 use Rattle.vcd_model.proofs.OpenedBodies.{opens_good}
-use Rattle.vcd_model.proofs.PickKept.{all_kept, find_all, same_declared}
+use Rattle.vcd_model.proofs.FoundCodes.{all_kept, find_all, same_declared}
 use Rattle.vcd_model.proofs.CutSplit.{within_is}
 use Rattle.vcd_model.proofs.StartSections.{item_if_set, set_items}
 use Rattle.vcd_model.proofs.CutKept.{cuts}

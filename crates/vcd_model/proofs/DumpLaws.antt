@@ -22,7 +22,7 @@ use Rattle.vcd_model.specs.Laws.{stream_over, read_text, Opens, KeepsValues, inp
 use Rattle.vcd_model.proofs.TokenTexts.{texts_from, texts_of-tokens}
 use Rattle.vcd_model.proofs.HeaderFacts.{AreCodes}
 use Rattle.vcd_model.proofs.OpenedBodies.{opens_good}
-use Rattle.vcd_model.proofs.PickKept.{find-filter, all_kept}
+use Rattle.vcd_model.proofs.FoundCodes.{find-filter, all_kept}
 use Rattle.vcd_model.proofs.HeadersGood.{IsGoodHeader}
 use Rattle.vcd_model.proofs.WrittenCodes.{In, from_filter, to_filter, from_contained, to_contained, from_map, any_of, from_codes_of, found_same}
 use Rattle.vcd_model.proofs.SameReadings.{bodies_alike, same_items, same_whole}

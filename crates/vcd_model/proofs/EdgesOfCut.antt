@@ -27,7 +27,7 @@ use Rattle.vcd_model.proofs.Latest.{gives_at, last_value_is, latest_none, latest
 use Rattle.vcd_model.proofs.Rewritten.{read_item, written_items, IsWritable, AreWritable}
 use Rattle.vcd_model.proofs.Assembled.{parts_fit, closing_items}
 use Rattle.vcd_model.proofs.OpenedBodies.{opens_good, opened_fit}
-use Rattle.vcd_model.proofs.PickKept.{same_declared}
+use Rattle.vcd_model.proofs.FoundCodes.{same_declared}
 use Rattle.vcd_model.proofs.StartSections.{IsSettable, item_if_set, set_items, start_items, start_behind}
 use Rattle.vcd_model.proofs.CutKept.{cuts, settable, among}
 use Rattle.vcd_model.proofs.CutLaw.{cut_entries, cut_start, cut_end}

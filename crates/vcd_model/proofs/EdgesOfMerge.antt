@@ -24,7 +24,7 @@ use Rattle.vcd_model.proofs.Rewritten.{read_item, written_items, IsWritable, Are
 use Rattle.vcd_model.proofs.Assembled.{parts_items, parts_fit, closing_items}
 use Rattle.vcd_model.proofs.BodyFacts.{all_front, all_back}
 use Rattle.vcd_model.proofs.HeaderFacts.{AreCodes, inputs_good}
-use Rattle.vcd_model.proofs.PickKept.{same_declared}
+use Rattle.vcd_model.proofs.FoundCodes.{same_declared}
 use Rattle.vcd_model.proofs.MergeCodes.{declared_in_merge}
 use Rattle.vcd_model.proofs.MergeChanges.{IsGoodDump}
 use Rattle.vcd_model.proofs.MergeDumps.{dumps_good, kept_all}

@@ -18,7 +18,7 @@ use Rattle.vcd_model.proofs.ItemStates.{entries_from, at_start, entries_are}
 use Rattle.vcd_model.proofs.Lines.{IsRead}
 use Rattle.vcd_model.proofs.Assembled.{parts_items, parts_read}
 use Rattle.vcd_model.proofs.OpenedBodies.{opens_good, opened_fit, opened_shut}
-use Rattle.vcd_model.proofs.PickKept.{picks, pick_parts, pick_keeps_items}
+use Rattle.vcd_model.proofs.PickLaw.{picks, pick_parts, pick_keeps_items}
 use Rattle.vcd_model.proofs.WrittenCodes.{In, from_filter, to_filter, in_map, to_contained, from_contained, to_codes_of, found_in}
 use Rattle.vcd_model.proofs.WrittenRows.{written}
 use Rattle.vcd_model.proofs.HeadBack.{marks, own_code, variables_are, opens_header}

@@ -21,7 +21,7 @@ use Rattle.vcd_model.proofs.HeaderGrammar.{end_text, no_end, mapped, keyword_of-
 use Rattle.vcd_model.proofs.ReadBack.{at_more}
 use Rattle.vcd_model.proofs.Decimals.{Spells, spells}
 use Rattle.vcd_model.proofs.TokenTexts.{IsWord}
-use Rattle.vcd_model.proofs.PickKept.{find_all}
+use Rattle.vcd_model.proofs.FoundCodes.{find_all}
 
 -- ---- the tokens of one phrase
 

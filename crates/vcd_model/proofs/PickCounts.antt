@@ -16,7 +16,8 @@ use Rattle.vcd_model.proofs.ItemStates.{IsGoodChange, next_time, next_open, AreF
 use Rattle.vcd_model.proofs.ChangeLines.{read_again, read_again_is}
 use Rattle.vcd_model.proofs.Rewritten.{read_item, time_items, written_items, IsWritable, AreWritable}
 use Rattle.vcd_model.proofs.Assembled.{parts_items, parts_fit, closing_items}
-use Rattle.vcd_model.proofs.PickKept.{picks, pick_parts, find-filter, same_declared, find_all}
+use Rattle.vcd_model.proofs.FoundCodes.{find-filter, same_declared, find_all}
+use Rattle.vcd_model.proofs.PickLaw.{picks, pick_parts}
 use Rattle.vcd_model.proofs.HeaderFacts.{AreCodes}
 
 pub values-append : (xs ys : List BodyItem) (c : IdCode)

@@ -17,7 +17,7 @@ use Rattle.vcd_model.proofs.ChangeLines.{read_again_is}
 use Rattle.vcd_model.proofs.Rewritten.{read_item, time_items, written_items, IsWritable, AreWritable, Stand, stand_more, last_time, last_open}
 use Rattle.vcd_model.proofs.Assembled.{parts_items, parts_fit, closing_items}
 use Rattle.vcd_model.proofs.HeaderFacts.{AreCodes}
-use Rattle.vcd_model.proofs.PickKept.{picks, pick_parts}
+use Rattle.vcd_model.proofs.PickLaw.{picks, pick_parts}
 use Rattle.vcd_model.proofs.OpenedBodies.{opens_good, opened_fit, opened_shut}
 use Rattle.vcd_model.proofs.HeadPhrases.{AreDeclared}
 use Rattle.vcd_model.proofs.HeadLines.{head_of}

@@ -23,7 +23,7 @@ use Rattle.vcd_model.proofs.ChangeLines.{read_again, read_again_is}
 use Rattle.vcd_model.proofs.Rewritten.{read_item, time_items, written_items, IsWritable, AreWritable, Stand, stand_more, at_most, last_time, last_open}
 use Rattle.vcd_model.proofs.Assembled.{parts_items, parts_fit, closing_items}
 use Rattle.vcd_model.proofs.BodyFacts.{all_append}
-use Rattle.vcd_model.proofs.PickKept.{picks, pick_parts}
+use Rattle.vcd_model.proofs.PickLaw.{picks, pick_parts}
 use Rattle.vcd_model.proofs.HeaderFacts.{AreCodes}
 use Rattle.vcd_model.proofs.OpenedBodies.{opens_good, opened_fit, opened_shut}
 use Rattle.vcd_model.proofs.HeadPhrases.{AreDeclared}

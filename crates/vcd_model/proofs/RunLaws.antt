@@ -17,7 +17,7 @@ use Rattle.vcd_model.specs.Outcome.{Request, Outcome, Opened, fault_text, progra
 use Rattle.vcd_model.specs.Job.{Want, IsJob, IsTime, Refusal, request_of, cut_request, first_refusal, has_unit, refusal_outcome, over_opened, outcome}
 use Rattle.vcd_model.specs.Laws.{IsBehind, KeepsValues, Opens, cut_text, PickRunKeeps, CutRunKeeps, MergeRunKeeps, MergeKeepsValues}
 use Rattle.vcd_model.proofs.JobLemmas.{requests_are_valid}
-use Rattle.vcd_model.proofs.PickKept.{pick_keeps}
+use Rattle.vcd_model.proofs.PickLaw.{pick_keeps}
 use Rattle.vcd_model.proofs.CutLaw.{cut_keeps}
 use Rattle.vcd_model.proofs.MergeLaw.{merge_keeps}
 

@@ -37,7 +37,7 @@ use Rattle.vcd_model.proofs.Assembled.{parts_items, parts_fit, parts_text, closi
 use Rattle.vcd_model.proofs.BodyFacts.{all_front, all_back, all_append}
 use Rattle.vcd_model.proofs.HeaderFacts.{filter_words}
 use Rattle.vcd_model.proofs.OpenedBodies.{opens_good, opened_fit, opened_shut}
-use Rattle.vcd_model.proofs.PickKept.{picks, pick_parts}
+use Rattle.vcd_model.proofs.PickLaw.{picks, pick_parts}
 use Rattle.vcd_model.proofs.WrittenRows.{written}
 use Rattle.vcd_model.proofs.WrittenCodes.{from_filter, to_contained, from_find}
 use Rattle.vcd_model.proofs.HeadBack.{marks, own_code, rows_declared, head_is, opens_header}

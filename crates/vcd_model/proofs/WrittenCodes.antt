@@ -12,7 +12,7 @@ use Rattle.vcd_model.specs.HeaderChecks.{same_flag}
 use Rattle.vcd_model.specs.BodyPhrases.{declared_code}
 use Rattle.vcd_model.proofs.BodyFacts.{all_front, all_back}
 use Rattle.vcd_model.proofs.HeaderFacts.{AreCodes}
-use Rattle.vcd_model.proofs.PickKept.{at_contained}
+use Rattle.vcd_model.proofs.FoundCodes.{at_contained}
 use Rattle.vcd_model.proofs.HeadPhrases.{AreDeclared}
 use Rattle.vcd_model.proofs.WrittenDeclared.{fits, AllFit, all_true}
 
