@@ -5,7 +5,7 @@ use Rattle.std.proofs.lemmas.List.Elements.{All-contains, All-from_recursion}
 use Rattle.std.proofs.lemmas.Bool.{and_parts}
 use Rattle.std.proofs.lemmas.Slice.Eq.{bytes_eq-Decides}
 use Rattle.vcd_model.specs.Declarations.{IdCode, same_code}
-use Rattle.vcd_model.specs.Items.{Change, BodyItem, Entry, entries}
+use Rattle.vcd_model.specs.Items.{Change, BodyItem, Entry}
 use Rattle.vcd_model.specs.BodyPhrases.{declared_code}
 use Rattle.vcd_model.proofs.ItemStates.{IsGoodChange, AreFit, entries_from}
 use Rattle.vcd_model.proofs.Latest.{gives_at}

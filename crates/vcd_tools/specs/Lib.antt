@@ -20,3 +20,5 @@ pub use Rattle.vcd_merge.specs.MergeStep
 pub use Rattle.vcd_merge.specs.Seat
 -- the definitions that the clauses cite
 pub use Rattle.vcd_model.specs as Model
+-- the laws
+pub use Rattle.vcd_laws.specs as Laws

@@ -1,7 +1,8 @@
 // Headers that are listed, bodies that are counted and of which some variables are picked, and
 // devices that fail.
 ghost use Rattle.std.specs.Prelude.{◌≡◌, ◌-◌, ◌^◌, ◌<◌, ◌≤◌, true};
-ghost use Rattle.vcd_tools.specs.Model.Laws.{CutKeeps, IsValid, MergeKeeps, NothingRevised, PickKeeps};
+ghost use Rattle.vcd_tools.specs.Laws.KeptValues.{CutKeeps, MergeKeeps, PickKeeps};
+ghost use Rattle.vcd_tools.specs.Model.Laws.{IsValid, NothingRevised};
 ghost use Rattle.vcd_text.specs.Feed.{chunk_len_of, limit_of, source_of};
 ghost use Rattle.vcd_text.specs.Watch.{failed_calls};
 ghost use Rattle.vcd_tools.specs.Engine.{is_going, request_of};

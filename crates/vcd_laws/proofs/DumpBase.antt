@@ -1,0 +1,41 @@
+-- What the rows on written dumps share.
+use Rattle.std.proofs.Common.{ℕ, List, [], ◌∷◌, codes, Result, Ok, arith, zero, suc}
+use Rattle.std.specs.List.Sorted.{IsStrictlyIncreasing}
+use Rattle.vcd_laws.proofs.RowText.{clean, limit, cut}
+use Prim.Native.String.{String}
+use Rattle.vcd_model.specs.Header.{header_of}
+use Rattle.vcd_model.specs.Reading.{Fault}
+use Rattle.vcd_model.specs.Outcome.{Outcome, Opened, open_from}
+use Rattle.vcd_model.specs.Job.{Want}
+use Rattle.vcd_model.specs.Laws.{stream_over}
+use Rattle.vcd_laws.specs.Dumps.{over_written}
+
+abbrev pub stdin : List ℕ
+stdin = codes "(stdin)"
+
+-- b shares no code with a, and c is an alias of a
+abbrev pub aliased : String
+aliased = "$date $scope today $end $timescale 1 ns $end $var wire 1 x a $end $var wire 1 y b $end $scope module m $end $var wire 001 x c $end $enddefinitions $end #0 0x 1y #5 b1 x"
+
+abbrev pub some_names : List (List ℕ)
+some_names = codes "b" ∷ codes "m" ∷ []
+
+-- the input, its header read
+abbrev pub opened : Opened
+opened = first_or (open_from limit [] (clean aliased ∷ []))
+  where
+    first_or : Result (List Opened) (ℕ × Fault) → Opened
+    first_or (Ok (o ∷ os)) = o
+    first_or r = record { header = header_of []; stream = stream_over []; rest = [] }
+
+-- what a job gives for what a pick wrote
+abbrev pub over_pick : Want → Outcome
+over_pick want = over_written want (Want.Pick some_names) limit stdin (clean aliased)
+
+-- what a job gives for what a cut wrote
+abbrev pub over_cut : Want → Outcome
+over_cut want = over_written want (cut "1" "5") limit stdin (clean aliased)
+
+pub rising_alone : IsStrictlyIncreasing (0 ∷ 5 ∷ [])
+rising_alone zero h = omega arith
+rising_alone (suc k) h = absurd (omega arith)

@@ -1,0 +1,76 @@
+pub mod Computing
+pub mod RowText
+pub mod Rows
+pub mod MoreRows
+mod KeptRows
+mod TableRows
+mod StepRows
+mod OrderRows
+mod WordRows
+mod CornerRows
+mod TokenRows
+mod SettledRows
+mod UnitRows
+mod DumpBase
+mod PickRows
+mod CutRows
+mod MergeRows
+mod UnlikeRows
+mod SafeRows
+pub mod WordLemmas
+pub mod OpenedBodies
+pub mod PickLaw
+pub mod CutLaw
+pub mod MergeDumps
+pub mod MergeLaw
+pub mod RunLaws
+pub mod MergeAlone
+pub mod Safe
+pub mod Settling
+pub mod FewDeclarations
+pub mod SafeMerge
+pub mod MergeFaults
+pub mod SettlingMerge
+pub mod HeadersGood
+pub mod WrittenDeclared
+pub mod WrittenCodes
+pub mod SameReadings
+pub mod HeadBack
+pub mod MergedHead
+pub mod MergedBack
+pub mod ShortTokens
+pub mod ShortHeads
+pub mod ShortBodies
+pub mod CutShort
+pub mod MergeShort
+pub mod DumpLaws
+pub mod FirstTokens
+pub mod Unsettled
+pub mod UnsettledMerge
+pub mod SampleText
+pub mod PickUses
+pub mod PickCounts
+pub mod EdgesOfPick
+pub mod PickedAlone
+pub mod CutUses
+pub mod WrittenCounts
+pub mod HeadCounts
+pub mod HeadTwice
+pub mod PickTwice
+pub mod Checks
+pub mod CheckOfCut
+pub mod DumpOfDump
+pub mod MergeCounts
+pub mod CheckOfMerge
+pub mod MergedPaths
+pub mod ListOfMerge
+pub mod WholeDumps
+pub mod SampleOfMerge
+pub mod EdgesOfMerge
+pub mod AllMerged
+pub mod HeadOfHead
+pub mod PickOfPick
+pub mod CutAgain
+pub mod CutTwice
+pub mod EdgesOfCut
+pub mod SampleOfCut

@@ -1,0 +1,127 @@
+-- Rows on outputs that are not as their inputs were: why the laws have their premises.
+use Rattle.std.proofs.Common.{◌≡◌, ℕ, List, [], ◌∷◌, map, replicate, codes, Option, Some, None, Result, Ok, Err, refl}
+use Rattle.vcd_laws.proofs.Computing.{model}
+use Rattle.vcd_laws.proofs.RowText.{clean, limit, gives, on, cut}
+use Prim.Native.String.{String}
+use Rattle.vcd_model.specs.Declarations.{Declaration}
+use Rattle.vcd_model.specs.Header.{Header}
+use Rattle.vcd_model.specs.Checks.{first_failed}
+use Rattle.vcd_model.specs.HeaderChecks.{start_checks}
+use Rattle.vcd_model.specs.HeaderReading.{read_header, header_fault_of}
+use Rattle.vcd_model.specs.HeadText.{head_for}
+use Rattle.vcd_model.specs.Keywords.{Keyword}
+use Rattle.vcd_model.specs.Reading.{Fault}
+use Rattle.vcd_model.specs.Outcome.{Opened, declarations_allowed, open_from}
+use Rattle.vcd_model.specs.Job.{Want, outcome}
+use Rattle.vcd_model.specs.Laws.{stream_over}
+use Rattle.vcd_laws.specs.KeptValues.{written_by}
+use Rattle.vcd_laws.specs.Heads.{most_declared, input_scope}
+use Rattle.vcd_laws.specs.Dumps.{input_of, over_written}
+use Rattle.vcd_laws.proofs.DumpBase.{stdin, aliased, some_names, over_pick, over_cut}
+
+-- an input that is opened
+abbrev first_of : Result (List Opened) (ℕ × Fault) → List Header
+first_of (Err e) = []
+first_of (Ok os) = map (λ o. o.header) os
+
+abbrev code_texts : List ℕ → List (List (List ℕ))
+code_texts text = map (λ h. map (λ c. c.text) h.codes)
+    (first_of (open_from limit [] (input_of text ∷ [])))
+
+-- The codes of a pick are those of the header that are selected, but they may come in another
+-- order: the first variable with a code may not be selected.
+codes_before : code_texts (codes aliased) ≡ (codes "x" ∷ codes "y" ∷ []) ∷ []
+unfolding model
+codes_before = refl
+
+codes_after : code_texts (written_by (Want.Pick some_names) limit stdin (clean aliased))
+    ≡ (codes "y" ∷ codes "x" ∷ []) ∷ []
+unfolding model
+codes_after = refl
+
+-- So a cut of a pick and a pick of a cut may have their start sections in another order.
+pick_then_cut : over_pick (cut "1" "5")
+    ≡ gives "$date;^$scope today;$end;$timescale;^1ns;$end;$var wire 1 y b $end;$scope module m $end;$var wire 1 x c $end;$upscope $end;$enddefinitions $end;#1;$dumpvars;1y;0x;$end;#5;1x;" "" 0
+unfolding model
+pick_then_cut = refl
+
+cut_then_pick : over_cut (Want.Pick some_names)
+    ≡ gives "$date;^$scope today;$end;$timescale;^1ns;$end;$var wire 1 y b $end;$scope module m $end;$var wire 1 x c $end;$upscope $end;$enddefinitions $end;#1;$dumpvars;0x;1y;$end;#5;1x;" "" 0
+unfolding model
+cut_then_pick = refl
+
+-- Without a time mark in the input, a pick of less than was picked may have one for changes that it
+-- leaves out.
+abbrev no_mark : String
+no_mark = "$var wire 1 x a $end $var wire 1 y b $end $enddefinitions $end 0x"
+
+picked_alone : on (Want.Pick (codes "b" ∷ [])) no_mark
+    ≡ gives "$var wire 1 y b $end;$enddefinitions $end;" "" 0
+unfolding model
+picked_alone = refl
+
+picked_of_both : over_written (Want.Pick (codes "b" ∷ [])) (Want.Pick (codes "a" ∷ codes "b" ∷ []))
+    limit stdin (clean no_mark) ≡ gives "$var wire 1 y b $end;$enddefinitions $end;#0;" "" 0
+unfolding model
+picked_of_both = refl
+
+-- A code as long as the token limit leaves no place for a digit before it.
+abbrev long_code : String
+long_code = "$var wire 1 cccccccccccccccccccccccccccccccccccccccccccccccccccccccccccccccc a $end $enddefinitions $end #0 b1 cccccccccccccccccccccccccccccccccccccccccccccccccccccccccccccccc"
+
+long_code_read : (outcome Want.Check 64 (stdin ∷ []) (clean long_code ∷ [])).status ≡ 0
+unfolding model
+long_code_read = refl
+
+long_code_halts : over_written Want.Check (Want.Pick (codes "a" ∷ [])) 64 stdin (clean long_code)
+    ≡ gives "" "vcdkit: (stdin):4: token too long;" 1
+unfolding model
+long_code_halts = refl
+
+-- a limit one greater is enough
+long_code_fits : outcome Want.Check 65 (stdin ∷ [])
+    (input_of (written_by (Want.Pick (codes "a" ∷ [])) 64 stdin (clean long_code)) ∷ [])
+    ≡ gives "scopes 0;variables 1;codes 1;times 1;sections 0;changes 1;last 0;" "" 0
+unfolding model
+long_code_fits = refl
+
+-- Scopes that a header leaves open are closed where it is written: each is a declaration more.
+abbrev left_open : List ℕ
+left_open = codes
+    "$scope module a $end $scope module b $end $var wire 1 x v $end $enddefinitions $end"
+
+-- the fault of a text, for a number of declarations that are allowed
+abbrev header_fault_in : ℕ → List ℕ → Option Fault
+header_fault_in most text = header_fault_of (stream_over text) (read_header most (stream_over text))
+
+abbrev heads_of : List ℕ → List (List ℕ)
+heads_of text = map (λ h. head_for h []) (first_of (open_from limit [] (input_of text ∷ [])))
+
+three_are_read : header_fault_in 3 left_open ≡ None
+unfolding model
+three_are_read = refl
+
+five_are_written : map (header_fault_in 4) (heads_of left_open)
+    ≡ Some (record { number = 11; line = 5 }) ∷ []
+unfolding model
+five_are_written = refl
+
+five_are_read : map (header_fault_in 5) (heads_of left_open) ≡ None ∷ []
+unfolding model
+five_are_read = refl
+
+five_at_most : map most_declared (first_of (open_from limit [] (input_of left_open ∷ []))) ≡ 5 ∷ []
+unfolding model
+five_at_most = refl
+
+-- A merge puts each input into a scope of its own, so a thousand open scopes are one too many.
+abbrev deep : List Declaration
+deep = replicate 999 (Declaration.Scope (codes "module") (codes "s"))
+
+scope_number_1000 : first_failed (start_checks declarations_allowed deep Keyword.Scope) ≡ None
+scope_number_1000 = refl
+
+scope_number_1001 : first_failed (start_checks declarations_allowed
+    (Declaration.Scope (codes "module") (input_scope 1) ∷ deep) Keyword.Scope) ≡ Some 10
+unfolding model
+scope_number_1001 = refl

@@ -1,0 +1,5 @@
+use Rattle.vcd_laws.proofs.CutUses.{list_of_cut as law}
+use Rattle.vcd_laws.proofs.laws.list_of_cut.Goals as goal
+
+pub returns : goal.returns
+returns c = law

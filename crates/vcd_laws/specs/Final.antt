@@ -1,0 +1,94 @@
+-- What settles a run is final, and less leaves it open.
+use Rattle.std.specs.Prelude.{◌≡◌, ◌≢◌, ℕ, ◌≤◌, ◌+◌, IsTrue, IsFalse, List, [], ◌∷◌, ◌++◌, length, map, ◌^◌, ◌<◌, Some, take}
+use Rattle.std.specs.List.{AllByRecursion}
+use Rattle.vcd_model.specs.Input.{Input}
+use Rattle.vcd_model.specs.Tokens.{Token, tokens_of, stream_of}
+use Rattle.vcd_model.specs.Outcome.{Opened, declarations_allowed, allowed_after}
+use Rattle.vcd_model.specs.Job.{Want, outcome}
+use Rattle.vcd_model.specs.Settled.{is_settled}
+use Rattle.vcd_laws.specs.SettledMerge.{Seen, is_settled_merge}
+use Rattle.vcd_model.specs.Laws.{IsPrefixOf}
+use Rattle.vcd_laws.specs.KeptValues.{OpenAll}
+use Rattle.vcd_laws.specs.Checked.{run_of}
+
+-- what a source gives of an input begins with these tokens
+abbrev pub BeginsWith : ℕ → Input → List Token → Type 0
+BeginsWith limit input ts = IsPrefixOf ts (stream_of limit input).tokens
+
+-- whatever follows first tokens that settle a run, its outcome is the same
+abbrev pub SettledIsFinal : Type 0
+SettledIsFinal = (want : Want) (limit : ℕ) (name : List ℕ) (ts : List Token) (a b : Input)
+    → IsTrue (is_settled want declarations_allowed ts)
+    → BeginsWith limit a ts → BeginsWith limit b ts
+    → run_of want limit name a ≡ run_of want limit name b
+
+-- Of one input of a merge, whatever the others are, the first tokens settle what it adds: whatever
+-- follows them, the outcome is the same. As many declarations are allowed as the inputs before it
+-- leave.
+abbrev pub SettledIsFinalInMerge : Type 0
+SettledIsFinalInMerge = (limit : ℕ) (names : List (List ℕ)) (earlier later : List Input)
+    (os : List Opened) (ts : List Token) (a b : Input)
+    → OpenAll limit earlier os
+    → IsTrue (is_settled Want.Merge (allowed_after (map (λ o. o.header) os)) ts)
+    → BeginsWith limit a ts → BeginsWith limit b ts
+    → outcome Want.Merge limit names (earlier ++ a ∷ later)
+    ≡ outcome Want.Merge limit names (earlier ++ b ∷ later)
+
+-- what is known of an input is true of it
+abbrev pub IsSeen : ℕ → Seen → Input → Type 0
+IsSeen limit (Seen.First ts) input = BeginsWith limit input ts
+IsSeen limit (Seen.All stream) input = stream_of limit input ≡ stream
+
+-- what is known of inputs is true of them, one by one
+abbrev pub AreSeen : ℕ → List Seen → List Input → Type 0
+AreSeen limit [] [] = Unit {0}
+AreSeen limit [] (input ∷ inputs) = ⊥
+AreSeen limit (s ∷ ss) [] = ⊥
+AreSeen limit (s ∷ ss) (input ∷ inputs) = IsSeen limit s input × AreSeen limit ss inputs
+
+-- where what is known of the inputs settles a merge, all inputs of which it is true have one
+-- outcome
+abbrev pub SettledMergeIsFinal : Type 0
+SettledMergeIsFinal = (limit : ℕ) (names : List (List ℕ)) (seen : List Seen)
+    (inputs others : List Input)
+    → IsTrue (is_settled_merge seen) → AreSeen limit seen inputs → AreSeen limit seen others
+    → outcome Want.Merge limit names inputs ≡ outcome Want.Merge limit names others
+
+-- a text, and how many of its first tokens are known
+pub record Front : Type 0 where
+  pub text : List ℕ
+  pub count : ℕ
+
+abbrev pub first_tokens : Front → List Token
+first_tokens f = take f.count (tokens_of f.text)
+
+-- the text has fewer than 2^63 - 1 bytes, and none of the tokens is longer than the limit
+abbrev pub IsShort : ℕ → Front → Type 0
+IsShort limit f = (length f.text + 1 < 2 ^ 63)
+    × AllByRecursion (λ t. length t.bytes ≤ limit) (first_tokens f)
+
+-- first tokens that do not settle a run leave it open: two inputs begin with them, one of which
+-- ends otherwise than the other
+abbrev pub UnsettledIsOpen : Type 0
+UnsettledIsOpen = (want : Want) (limit : ℕ) (name : List ℕ) (f : Front) → IsShort limit f
+    → IsFalse (is_settled want declarations_allowed (first_tokens f))
+    → (a : Input) × (b : Input) × BeginsWith limit a (first_tokens f)
+    × BeginsWith limit b (first_tokens f)
+    × ((run_of want limit name a).status ≢ (run_of want limit name b).status)
+
+-- what is known of an input: first tokens of a text, or all that some source gives that does not
+-- fail
+abbrev pub CanBeSeen : ℕ → Seen → Type 0
+CanBeSeen limit (Seen.First ts) = (f : Front) × IsShort limit f × (ts ≡ first_tokens f)
+CanBeSeen limit (Seen.All stream) =
+    (input : Input) × (stream_of limit input ≡ stream) × (stream.halt ≢ Some 31)
+
+-- what is known of the inputs of a merge and does not settle it leaves it open: it is true of two
+-- lists of inputs, one of which ends otherwise than the other
+abbrev pub UnsettledMergeIsOpen : Type 0
+UnsettledMergeIsOpen = (limit : ℕ) (names : List (List ℕ)) (seen : List Seen)
+    → AllByRecursion (CanBeSeen limit) seen → IsFalse (is_settled_merge seen)
+    → (inputs : List Input) × (others : List Input)
+    × AreSeen limit seen inputs × AreSeen limit seen others
+    × ((outcome Want.Merge limit names inputs).status
+    ≢ (outcome Want.Merge limit names others).status)

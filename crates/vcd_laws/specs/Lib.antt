@@ -1,0 +1,11 @@
+pub mod Jobs
+pub mod KeptValues
+pub mod Heads
+pub mod Dumps
+pub mod OverPick
+pub mod OverCut
+pub mod OverMerge
+pub mod Counted
+pub mod Checked
+pub mod SettledMerge
+pub mod Final

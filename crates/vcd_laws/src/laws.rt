@@ -1,0 +1,300 @@
+//! The laws over the definitions: on what commands write, how runs end, and what settles them; and
+//! those of `vcd_model`, which proofs of code rest on.
+
+ghost use Rattle.vcd_laws.specs.Jobs.{JobsAreValid};
+ghost use Rattle.vcd_laws.specs.KeptValues.{PickKeeps, CutKeeps, MergeKeepsChanges, MergeKeepsChangesBefore, MergeKeeps, PickRunKeeps, CutRunKeeps, MergeRunKeeps};
+ghost use Rattle.vcd_laws.specs.Heads.{HeadIsReadBack, MergedHeadIsReadBack};
+ghost use Rattle.vcd_laws.specs.Dumps.{PickIsADump, CutIsADump, MergeIsADump};
+ghost use Rattle.vcd_laws.specs.OverPick.{ListOfPick, SampleOfPick, EdgesOfPick, SampleOfAllPicked, EdgesOfAllPicked, SampleOfSomePicked, EdgesOfSomePicked, PickTwice, PickOfPick};
+ghost use Rattle.vcd_laws.specs.OverCut.{ListOfCut, SampleOfCut, SampleOfCutAnywhere, EdgesOfCut, CutTwice, CutPastEnd, CutOfCut, CutOfPick, PickOfCut};
+ghost use Rattle.vcd_laws.specs.OverMerge.{ListOfMerge, SampleOfMerge, EdgesOfMerge, SampleOfOneMerged, SampleOfAllMerged, EdgesOfOneMerged, EdgesOfAllMerged, SampleOfAnyMerged, EdgesOfAnyMerged};
+ghost use Rattle.vcd_laws.specs.Counted.{CheckOfPick, CheckOfCut, CheckOfMerge};
+ghost use Rattle.vcd_laws.specs.Checked.{CheckedIsSafe, CheckNamesTheFault, CleanIsChecked, CheckedMergeIsSafe, MergeNamesTheFault};
+ghost use Rattle.vcd_laws.specs.Final.{SettledIsFinal, SettledIsFinalInMerge, SettledMergeIsFinal, UnsettledIsOpen, UnsettledMergeIsOpen};
+
+pub use vcd_model::laws::{
+    body_reading, codes_differ, header_reading, merge_fits, nothing_revised,
+    nothing_revised_in_merge, requests_are_valid, room_fits, short_is_shortest, ticks_are_rounded,
+};
+
+/// What words ask for is a job, and its token limit is in range.
+pub fn jobs_are_valid()
+    ensures { JobsAreValid }
+{}
+
+/// What `pick` writes gives the selected codes their values.
+pub fn pick_keeps()
+    ensures { PickKeeps }
+{}
+
+/// What `cut` writes gives each code its values between its times.
+pub fn cut_keeps()
+    ensures { CutKeeps }
+{}
+
+/// The changes under a merged code are those of one input's code.
+pub fn merge_keeps_changes()
+    ensures { MergeKeepsChanges }
+{}
+
+/// The changes under a merged code before a fault are those of one input's code before it.
+pub fn merge_keeps_changes_before()
+    ensures { MergeKeepsChangesBefore }
+{}
+
+/// What `merge` writes gives each merged code its values at scaled times.
+pub fn merge_keeps()
+    ensures { MergeKeeps }
+{}
+
+/// The output of a run of `pick` with status 0 gives the selected codes their values.
+pub fn pick_run_keeps()
+    ensures { PickRunKeeps }
+{}
+
+/// The output of a run of `cut` with status 0 gives each code its values between its times.
+pub fn cut_run_keeps()
+    ensures { CutRunKeeps }
+{}
+
+/// The output of a run of `merge` with status 0 gives each merged code its values.
+pub fn merge_run_keeps()
+    ensures { MergeRunKeeps }
+{}
+
+/// A written head is read again as what it was written from.
+pub fn head_is_read_back()
+    ensures { HeadIsReadBack }
+{}
+
+/// A merged head is read again as what it was written from.
+pub fn merged_head_is_read_back()
+    ensures { MergedHeadIsReadBack }
+{}
+
+/// The output of a run of `pick` with status 0 is a dump of the selected variables.
+pub fn pick_is_a_dump()
+    ensures { PickIsADump }
+{}
+
+/// The output of a run of `cut` with status 0 is a dump of all variables, between its times.
+pub fn cut_is_a_dump()
+    ensures { CutIsADump }
+{}
+
+/// The output of a run of `merge` with status 0 is a dump of all variables.
+pub fn merge_is_a_dump()
+    ensures { MergeIsADump }
+{}
+
+/// `list` of what `pick` wrote has the rows of the selected variables.
+pub fn list_of_pick()
+    ensures { ListOfPick }
+{}
+
+/// `sample` of what `pick` wrote is `sample` of its input.
+pub fn sample_of_pick()
+    ensures { SampleOfPick }
+{}
+
+/// `edges` of what `pick` wrote is `edges` of its input.
+pub fn edges_of_pick()
+    ensures { EdgesOfPick }
+{}
+
+/// `sample` without names of what `pick` wrote is `sample` of its input with the names of the pick.
+pub fn sample_of_all_picked()
+    ensures { SampleOfAllPicked }
+{}
+
+/// `edges` without names of what `pick` wrote is `edges` of its input with the names of the pick.
+pub fn edges_of_all_picked()
+    ensures { EdgesOfAllPicked }
+{}
+
+/// `sample` of what `pick` wrote is `sample` of its input, for what both select.
+pub fn sample_of_some_picked()
+    ensures { SampleOfSomePicked }
+{}
+
+/// `edges` of what `pick` wrote is `edges` of its input, for what both select.
+pub fn edges_of_some_picked()
+    ensures { EdgesOfSomePicked }
+{}
+
+/// `pick` of what `pick` wrote, with the same names, writes it again.
+pub fn pick_twice()
+    ensures { PickTwice }
+{}
+
+/// `pick` of what `pick` wrote is `pick` of its input, for what both select, where it has a time
+/// mark.
+pub fn pick_of_pick()
+    ensures { PickOfPick }
+{}
+
+/// `list` of what `cut` wrote is `list` of its input.
+pub fn list_of_cut()
+    ensures { ListOfCut }
+{}
+
+/// `sample` of what `cut` wrote is `sample` of its input, at times that were kept.
+pub fn sample_of_cut()
+    ensures { SampleOfCut }
+{}
+
+/// `sample` of what `cut` wrote gives the values of its input between the times of the cut, none
+/// before them, and after them those at the second.
+pub fn sample_of_cut_anywhere()
+    ensures { SampleOfCutAnywhere }
+{}
+
+/// `edges` of what `cut` wrote counts from the value before the first of its times to that at the
+/// second.
+pub fn edges_of_cut()
+    ensures { EdgesOfCut }
+{}
+
+/// `cut` of what `cut` wrote, from a later time to one that is not later, is `cut` of its input.
+pub fn cut_twice()
+    ensures { CutTwice }
+{}
+
+/// `cut` of what `cut` wrote, from a later time to one past its end, is `cut` of its input to that
+/// end.
+pub fn cut_past_end()
+    ensures { CutPastEnd }
+{}
+
+/// `cut` of what `cut` wrote is a dump of all variables, at times within both.
+pub fn cut_of_cut()
+    ensures { CutOfCut }
+{}
+
+/// `cut` of what `pick` wrote is a dump of what was picked, between the times of the cut.
+pub fn cut_of_pick()
+    ensures { CutOfPick }
+{}
+
+/// `pick` of what `cut` wrote is a dump of what was picked, between the times of the cut.
+pub fn pick_of_cut()
+    ensures { PickOfCut }
+{}
+
+/// `list` of what `merge` wrote has the rows of each input in turn, with new codes.
+pub fn list_of_merge()
+    ensures { ListOfMerge }
+{}
+
+/// `sample` of what `merge` wrote gives the values of each input, at scaled times and under its
+/// scope.
+pub fn sample_of_merge()
+    ensures { SampleOfMerge }
+{}
+
+/// `edges` of what `merge` wrote gives the counts of each input, under its scope.
+pub fn edges_of_merge()
+    ensures { EdgesOfMerge }
+{}
+
+/// `sample` of what `merge` wrote gives the values of one input, at any times and for its scope.
+pub fn sample_of_one_merged()
+    ensures { SampleOfOneMerged }
+{}
+
+/// `sample` of what `merge` wrote, without names, gives the values of all inputs at any times.
+pub fn sample_of_all_merged()
+    ensures { SampleOfAllMerged }
+{}
+
+/// `edges` of what `merge` wrote gives the counts of one input, for its scope.
+pub fn edges_of_one_merged()
+    ensures { EdgesOfOneMerged }
+{}
+
+/// `edges` of what `merge` wrote, without names, gives the counts of all inputs.
+pub fn edges_of_all_merged()
+    ensures { EdgesOfAllMerged }
+{}
+
+/// `sample` of what `merge` wrote gives the values of variables of any inputs, at any times.
+pub fn sample_of_any_merged()
+    ensures { SampleOfAnyMerged }
+{}
+
+/// `edges` of what `merge` wrote gives the counts of variables of any inputs.
+pub fn edges_of_any_merged()
+    ensures { EdgesOfAnyMerged }
+{}
+
+/// `check` of what `pick` wrote counts the selected variables and what was kept of the body.
+pub fn check_of_pick()
+    ensures { CheckOfPick }
+{}
+
+/// `check` of what `cut` wrote counts all variables, the start section and what was kept of the
+/// body.
+pub fn check_of_cut()
+    ensures { CheckOfCut }
+{}
+
+/// `check` of what `merge` wrote counts what all inputs declare, a scope more for each, and the
+/// changes that were kept.
+pub fn check_of_merge()
+    ensures { CheckOfMerge }
+{}
+
+/// Where `check` ends well, every other command that suits the header ends well.
+pub fn checked_is_safe()
+    ensures { CheckedIsSafe }
+{}
+
+/// Where `check` names a fault, every other command that suits the header names it too, or ends
+/// well before it.
+pub fn check_names_the_fault()
+    ensures { CheckNamesTheFault }
+{}
+
+/// Where `pick` or `edges` ends well, so does `check`.
+pub fn clean_is_checked()
+    ensures { CleanIsChecked }
+{}
+
+/// Where `check` of each input ends well, their merge ends well, or names a time mark that is too
+/// large.
+pub fn checked_merge_is_safe()
+    ensures { CheckedMergeIsSafe }
+{}
+
+/// A merge ends well, or names what `check` names of one of its inputs, or a time mark that is too
+/// large.
+pub fn merge_names_the_fault()
+    ensures { MergeNamesTheFault }
+{}
+
+/// Whatever follows first tokens that settle a run, its outcome is the same.
+pub fn settled_is_final()
+    ensures { SettledIsFinal }
+{}
+
+/// Whatever follows first tokens that settle an input of a merge, the outcome is the same.
+pub fn settled_is_final_in_merge()
+    ensures { SettledIsFinalInMerge }
+{}
+
+/// Whatever follows what is known of all inputs and settles their merge, its outcome is the same.
+pub fn settled_merge_is_final()
+    ensures { SettledMergeIsFinal }
+{}
+
+/// First tokens that do not settle a run leave it open: two inputs begin with them, and end in
+/// different ways.
+pub fn unsettled_is_open()
+    ensures { UnsettledIsOpen }
+{}
+
+/// What is known of inputs and does not settle their merge leaves it open: two lists of inputs
+/// agree with it, and end in different ways.
+pub fn unsettled_merge_is_open()
+    ensures { UnsettledMergeIsOpen }
+{}

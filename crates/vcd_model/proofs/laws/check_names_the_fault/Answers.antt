@@ -1,5 +1,0 @@
-use Rattle.vcd_model.proofs.Safe.{check_names_the_fault as law}
-use Rattle.vcd_model.proofs.laws.check_names_the_fault.Goals as goal
-
-pub returns : goal.returns
-returns c = law

@@ -1,5 +1,0 @@
-use Rattle.vcd_model.proofs.CheckOfMerge.{check_of_merge as law}
-use Rattle.vcd_model.proofs.laws.check_of_merge.Goals as goal
-
-pub returns : goal.returns
-returns c = law

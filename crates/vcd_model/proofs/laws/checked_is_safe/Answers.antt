@@ -1,5 +1,0 @@
-use Rattle.vcd_model.proofs.Safe.{checked_is_safe as law}
-use Rattle.vcd_model.proofs.laws.checked_is_safe.Goals as goal
-
-pub returns : goal.returns
-returns c = law

@@ -1,5 +1,0 @@
-use Rattle.vcd_model.proofs.Safe.{clean_is_checked as law}
-use Rattle.vcd_model.proofs.laws.clean_is_checked.Goals as goal
-
-pub returns : goal.returns
-returns c = law

@@ -1,5 +1,0 @@
-use Rattle.vcd_model.proofs.DumpLaws.{cut_is_a_dump as law}
-use Rattle.vcd_model.proofs.laws.cut_is_a_dump.Goals as goal
-
-pub returns : goal.returns
-returns c = law

@@ -1,5 +1,0 @@
-use Rattle.vcd_model.proofs.AllMerged.{edges_of_all_merged as law}
-use Rattle.vcd_model.proofs.laws.edges_of_all_merged.Goals as goal
-
-pub returns : goal.returns
-returns c = law

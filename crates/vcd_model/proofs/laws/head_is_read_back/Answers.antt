@@ -1,5 +1,0 @@
-use Rattle.vcd_model.proofs.HeadBack.{head_is_read_back as law}
-use Rattle.vcd_model.proofs.laws.head_is_read_back.Goals as goal
-
-pub returns : goal.returns
-returns c = law

@@ -1,5 +1,0 @@
-use Rattle.vcd_model.proofs.WordLemmas.{jobs_are_valid as law}
-use Rattle.vcd_model.proofs.laws.jobs_are_valid.Goals as goal
-
-pub returns : goal.returns
-returns c = law

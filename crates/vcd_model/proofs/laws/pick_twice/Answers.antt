@@ -1,5 +1,0 @@
-use Rattle.vcd_model.proofs.PickTwice.{pick_twice as law}
-use Rattle.vcd_model.proofs.laws.pick_twice.Goals as goal
-
-pub returns : goal.returns
-returns c = law

@@ -1,5 +1,0 @@
-use Rattle.vcd_model.proofs.SampleOfCut.{sample_of_cut_anywhere as law}
-use Rattle.vcd_model.proofs.laws.sample_of_cut_anywhere.Goals as goal
-
-pub returns : goal.returns
-returns c = law

@@ -1,5 +1,0 @@
-use Rattle.vcd_model.proofs.Settling.{settled_is_final as law}
-use Rattle.vcd_model.proofs.laws.settled_is_final.Goals as goal
-
-pub returns : goal.returns
-returns c = law

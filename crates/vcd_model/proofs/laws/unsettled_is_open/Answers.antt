@@ -1,5 +1,0 @@
-use Rattle.vcd_model.proofs.Unsettled.{unsettled_is_open as law}
-use Rattle.vcd_model.proofs.laws.unsettled_is_open.Goals as goal
-
-pub returns : goal.returns
-returns c = law
