@@ -1,7 +1,17 @@
 #!/usr/bin/env bash
-# check_speed.sh [MB | DUMP ...] [--large]   how fast `vcdkit check` is on a plain dump of so many
-# megabytes (200) or on these dumps, beside rivals and `wc -l`; and on plain ones what memory each
-# takes on 1 MB, on that dump and, with --large, on 1 GB. See README.md.
+# check_speed.sh [MB | DUMP ...] [--large]   how fast `vcdkit check` is on a plain dump of MB
+# megabytes (200) or on these dumps, beside rivals and `wc -l`; and on plain ones the peak memory
+# of each on 1 MB, on that dump and, with --large, on 1 GB.
+#
+# Each program runs three times in turn, on standard input. Printed are the best user and system
+# time and the best wall time, as MB/s (of 1,000,000 bytes), and the speed of `vcdkit check` over
+# that of the program in the line: above 1 where vcdkit is faster.
+#
+# `rival` is rival.rs, unverified: a byte loop over the chunk with a table of codes. It counts what
+# `check` counts, and its report has to be the same byte for byte, or the script stops. Without
+# rustc it is left out. RIVALS names more such programs, with blanks between them. `wc -l` counts
+# line feeds alone: about what reading costs. TMPDIR needs the size of the dumps (1.2 GB with
+# --large).
 set -eu
 here=$(cd "$(dirname "$0")" && pwd)
 . "$here/common.sh"

@@ -1,7 +1,8 @@
 #!/usr/bin/env bash
-# code_families.sh [CODES ...]   how fast `vcdkit list` of headers with so many codes is (100000 and
-# 200000), and `check` with four changes of each, for families of codes, beside ordinary ones. See
-# README.md.
+# code_families.sh [CODES ...]   how fast `vcdkit list` of headers with this many codes is (100000
+# and 200000), and `check` with four changes of each, for the families of codes of
+# code_families.py: in ns for each byte of the dump, and over the time of ordinary codes. TMPDIR
+# needs 260 MB.
 set -eu
 here=$(cd "$(dirname "$0")" && pwd)
 sizes=("$@")

@@ -1,7 +1,12 @@
 #!/usr/bin/env bash
-# cut_speed.sh [DUMP ...]   how fast `vcdkit cut` is on these dumps (plain ones of 200 MB with 64
-# and with 20000 variables): before the window, within it, and of the middle half, beside `vcdkit
-# check` and `wc -l` on the same dump. See README.md.
+# cut_speed.sh [DUMP ...]   how fast `vcdkit cut` is, beside `vcdkit check` and `wc -l` on the same
+# dump, and its peak memory. The dumps are the words, or else plain ones of 200 MB with 64 and with
+# 20000 variables.
+#
+# `cut before` has a window after the whole dump: it keeps each value, and writes the header and a
+# section. `cut within` has a window of the whole dump: it writes everything. `cut middle` takes
+# the middle half by time, and reads nothing after it. Before that, `check` has to read each cut.
+# TMPDIR as of pick_speed.sh.
 set -eu -o pipefail
 here=$(cd "$(dirname "$0")" && pwd)
 programs=(check 'cut before' 'cut within' 'cut middle' 'wc -l')

@@ -1,7 +1,9 @@
 #!/usr/bin/env bash
-# edges_speed.sh [DUMP ...]   how fast `vcdkit edges` is on these dumps (plain ones of 200 MB with
-# 64 and with 20000 variables), of one variable and of all, beside `vcdkit check` and `wc -l` on the
-# same dump. See README.md.
+# edges_speed.sh [DUMP ...]   how fast `vcdkit edges` is, of one variable (in the middle of `list`)
+# and of all, beside `vcdkit check` and `wc -l` on the same dump, and its peak memory. The dumps
+# are the words, or else plain ones of 200 MB with 64 and with 20000 variables.
+#
+# Before that, the counts of all have to have the paths of `list`. TMPDIR as of pick_speed.sh.
 set -eu -o pipefail
 here=$(cd "$(dirname "$0")" && pwd)
 programs=(check 'edges one' 'edges all' 'wc -l')

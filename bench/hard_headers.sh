@@ -1,7 +1,10 @@
 #!/usr/bin/env bash
-# hard_headers.sh [CODES ...]   how fast `vcdkit list`, `check` and `pick` are on headers of so many
-# crafted codes (25000, 100000 and 400000) beside ordinary ones, and `pick` of names of deep and of
-# many variables beside `check`. See README.md.
+# hard_headers.sh [CODES ...]   how fast `vcdkit list`, `check` and `pick` are on headers of this
+# many crafted codes (25000, 100000 and 400000) beside ordinary ones. Crafted: they fall close
+# together in the hash that `indexmap` has without a seed (crafted_codes.py).
+#
+# Then `pick` of all variables and of the last one of 1000000 variables 1000 scopes deep, beside
+# `check`; and `pick` of 1000 names of 200000 variables beside that of one. TMPDIR needs 60 MB.
 set -eu
 here=$(cd "$(dirname "$0")" && pwd)
 sizes=("$@")

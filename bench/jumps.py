@@ -1,7 +1,13 @@
 #!/usr/bin/env python3
-"""jumps.py PROGRAM DUMP COMMAND ..  runs `PROGRAM COMMAND ..` on a dump under valgrind, and says of
-the function that takes most instructions how many jumps it executed that cross or end at a multiple
-of 32 bytes, where it stands and 16 bytes further. See README.md."""
+"""jumps.py PROGRAM DUMP COMMAND ..  runs `PROGRAM COMMAND ..` on a dump under valgrind. Of the
+function that takes most instructions it prints how many jumps it executed that cross or end at a
+multiple of 32 bytes, at its present address and 16 bytes further.
+
+Some processors decode such a jump anew each time: Intel's of 2015 to 2019, with the microcode that
+mends their erratum of conditional jumps. So a loop may take 20 % more time than the same
+instructions at another address, and any change to the source moves all loops after it, by a
+multiple of 16 bytes. To compare two designs, compare instructions and these counts before times.
+It needs valgrind and objdump, and minutes for 200 MB: a tenth of that says as much."""
 import collections
 import os
 import re

@@ -1,7 +1,11 @@
 #!/usr/bin/env bash
-# names.sh [VARIABLES ...]   how long `vcdkit pick` takes for one name and for 1000 names of headers
-# of so many variables (200000 and 1000000), and for a name of the innermost of 1000 scopes, beside
-# `vcdkit check`. See README.md.
+# names.sh [VARIABLES ...]   how long `vcdkit pick` takes for the last variable, and for 1000 at
+# like distances, of headers of this many variables (200000 and 1000000), beside `vcdkit check`.
+# Printed are the best of three user and system times, and the ratios of each to the one before.
+#
+# Headers have no body, and scopes of 20 variables each (`spread`), 1000 scopes, each inside the
+# one before (`deep`), or one scope (`flat`). `pick` of 1000 names has to keep 1000 variables.
+# TMPDIR needs 40 MB.
 set -eu -o pipefail
 here=$(cd "$(dirname "$0")" && pwd)
 kinds=(spread deep flat)

@@ -1,7 +1,13 @@
 #!/usr/bin/env bash
-# slow_inputs.sh [VARIABLES]   how long `vcdkit sample` takes at many times over a header of so many
-# variables (200000), and `vcdkit pick` of many names, beside `check` of the header; and `check` of
-# section keywords alone, beside as many time marks. See README.md.
+# slow_inputs.sh [VARIABLES]   what inputs that could be slow cost, each beside `vcdkit check` of
+# the same header of this many variables (200000): the best of three user and system times.
+#
+#     `sample` of one variable at 1000 and at 20000 times
+#     `pick` of one name, given once and 30000 times; the same with another name among each 64
+#     `pick` of 3000 and 30000 names with a dot inside the last component
+#     `check` of 4000000 lines `$dumpon` and `$end` in turn, beside as many timestamps
+#
+# TMPDIR needs 80 MB.
 set -eu -o pipefail
 here=$(cd "$(dirname "$0")" && pwd)
 size=${1:-200000}
