@@ -4,7 +4,20 @@ COMMANDS=check,list takes the cases of these alone
 
 Runs the program where memory is refused, where its devices fail or give little, and on dumps that
 are cut off after each byte. What it writes has to be what the evaluator says. DEVICES is devices.c,
-built as a shared library."""
+built as a shared library.
+
+memory   refuses each request of a run in turn: no output, the line `vcdkit: out of memory` and
+         status 3; or the whole outcome, if a library asked for more than it needs. A body with
+         5,000 comments after it makes as many requests, of as many bytes, as one with five. All
+         requests are below a bound: the windows, four times what is kept of the headers, and 64 KB
+         for the command line and the buffer of the output.
+large    the whole outcome, and the same bound.
+devices  Reads and writes give or take 1, 2, 3, 5 or 7 bytes a call: the whole outcome. Read number
+         1, 2, 3, .. of an input fails: the outcome of the bytes given until then. Write number
+         1, 2, 3, .. to standard output fails: a prefix of the output, and the write line; to the
+         error stream: a prefix of the message, and the same status. A signal interrupts call number
+         1 to 5 of each: the whole outcome, since the call is made again.
+cut_off  reads each dump by whole chunks and byte by byte."""
 import os, subprocess, sys, tempfile
 from concurrent.futures import ThreadPoolExecutor
 
