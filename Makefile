@@ -2,12 +2,13 @@
 #     a sample dump
 # make CPU=x86-64-v3    the same for a newer processor, whose instructions it may use; such a
 #     program says so and ends where they lack
-# make test    the gate: every proof from nothing, must-fail edits, tests, the program as two
-#     compilers build it
+# make test    the gate: every proof that no earlier run on this machine passed, must-fail edits,
+#     tests, the program as two compilers build it
 # make hostile runs the program where memory, reads and writes fail, and on dumps that are cut off,
 #     crafted or made at random: some minutes
-# make docs-check runs the commands that README, manual and recipes show over ./vcdkit, and compares
-#     what they print and which must-fail edits PROOFS lists: seconds
+# make docs-check runs the commands that README, manual and recipes show over ./vcdkit. It compares
+#     what they print, and the must-fail edits that PROOFS lists, and looks for links that lead
+#     nowhere and for pages above their budgets of words: seconds
 # make static  links ./vcdkit-static, the program without any shared library: seconds after make
 # make dist    a tarball and a Debian package of it in dist/, with documents, man page, completions
 #     and extras
@@ -68,6 +69,8 @@ hostile: vcdkit
 docs-check:
 	docs/check.py
 	docs/edits.py
+	docs/budgets.py
+	packaging/links.py .
 
 # Both link and pack what `make` built, and prove nothing.
 static:
