@@ -49,7 +49,7 @@ find_command() {
     esac
 }
 
-# Makes the dump of so many megabytes, and says where it is.
+# Makes the dump of this many megabytes, and prints where it is.
 dump_of() {
     [ -s "$work/$1.vcd" ] || "$here/plain_dump.py" "$1" > "$work/$1.vcd"
     echo "$work/$1.vcd"

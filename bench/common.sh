@@ -99,7 +99,7 @@ need_files() {
     done
 }
 
-# The greatest time, and the last time mark of a dump: sets `last`, to 0 where there is none.
+# The greatest time, and the last timestamp of a dump: sets `last`, to 0 where there is none.
 greatest=18446744073709551615
 find_last() {
     last=$("$work/vcdkit" check < "$1" | awk '$1 == "last" { print $2 == "-" ? 0 : $2 }')

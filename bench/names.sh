@@ -16,8 +16,8 @@ sizes=("$@")
 . "$here/common.sh"
 need_numbers "${sizes[@]}"
 
-# Writes a header of so many variables and no body: `spread` over scopes of 20, in 1000 scopes each
-# inside the one before (`deep`), or `flat` in one scope.
+# Writes a header of this many variables and no body: `spread` over scopes of 20, in 1000 scopes,
+# each inside the one before (`deep`), or `flat` in one scope.
 write_header() {
     awk -v size="$1" -v kind="$2" '
         function code_of(number, code) {

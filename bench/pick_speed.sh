@@ -14,7 +14,7 @@ programs=(check 'pick one' 'pick all' 'wc -l')
 . "$here/common.sh"
 need_files "$@"
 
-# Sets `one` to the path in the middle of the list, and `all` to the names before the first points,
+# Sets `one` to the path in the middle of the list, and `all` to the names before the first dots,
 # which select all that there is.
 find_names() {
     find_one "$1"
@@ -33,14 +33,14 @@ find_command() {
     esac
 }
 
-# Makes sure that what a pick writes is read as a dump with the same last time mark, and says how
+# Makes sure that what a pick writes is read as a dump with the same last timestamp, and prints how
 # many bytes it has.
 written_by() {
     find_command "$1"
     "${command[@]}" < "$2" > "$work/picked"
     "$work/vcdkit" check < "$work/picked" | grep '^last ' |
         cmp -s - <("$work/vcdkit" check < "$2" | grep '^last ') ||
-        { echo "pick_speed.sh: $1 of $2 has another last time mark" >&2; exit 1; }
+        { echo "pick_speed.sh: $1 of $2 has another last timestamp" >&2; exit 1; }
     wc -c < "$work/picked"
     rm "$work/picked"
 }

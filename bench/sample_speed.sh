@@ -13,8 +13,8 @@ programs=(check 'sample one' 'sample all' 'sample end' 'wc -l')
 . "$here/common.sh"
 need_files "$@"
 
-# So many times with commas between them, from 0 to near the last time mark, or past it where there
-# are fewer.
+# This many times with commas between them, from 0 to near the last timestamp, or past it where
+# there are fewer.
 times_over() {
     local step=$((last / $1))
     [ "$step" -gt 0 ] || step=1
@@ -40,7 +40,7 @@ count_one() {
         $2 != "event" && ($1 == one || index($1, one ".") == 1)' "$work/list" | wc -l
 }
 
-# Makes sure that so many lines are written for each of so many times, and says how many bytes.
+# Makes sure that this many lines are written for each of this many times, and prints how many bytes.
 written_by() {
     local lines bytes
     find_command "$1"

@@ -45,8 +45,8 @@ write_body() {
     cat
 }
 
-# A header of so many variables in one scope, whose names have a point.
-write_points() {
+# A header of this many variables in one scope, whose names have a dot.
+write_dots() {
     awk -v size="$1" 'BEGIN {
         print "$scope module u $end"
         for (n = 0; n < size; n++) print "$var wire 1 c" n " a." n " $end"
@@ -69,9 +69,9 @@ mapfile -t names < <(yes top | head -n 30000 |
     awk -v one="$one" 'NR % 64 == 0 { $0 = one } { print }')
 measure 'the same, and one variable in each 64 names' "$work/header" pick -- "${names[@]}"
 for count in 3000 30000; do
-    write_points "$count" > "$work/points"
+    write_dots "$count" > "$work/dots"
     mapfile -t names < <(seq -f u.a.%.0f 0 $((count - 1)))
-    measure "pick of $count names with a point" "$work/points" pick -- "${names[@]}"
+    measure "pick of $count names with a dot" "$work/dots" pick -- "${names[@]}"
 done
 awk 'BEGIN { for (n = 0; n < 2000000; n++) print "$dumpon\n$end" }' | write_body > "$work/sections"
 seq -f '#%.0f' 1000000 4999999 | write_body > "$work/marks"
