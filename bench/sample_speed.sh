@@ -40,7 +40,7 @@ count_one() {
         $2 != "event" && ($1 == one || index($1, one ".") == 1)' "$work/list" | wc -l
 }
 
-# Makes sure that this many lines are written for each of this many times, and prints how many bytes.
+# Makes sure that $3 lines are written for each of $4 times, and prints how many bytes.
 written_by() {
     local lines bytes
     find_command "$1"
