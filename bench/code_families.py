@@ -1,6 +1,6 @@
 #!/usr/bin/env python3
-"""code_families.py FAMILY CODES CHANGES  writes a dump with so many codes of a family to standard
-output, and then so many changes of each, in scattered order, the same each time. Families:
+"""code_families.py FAMILY CODES CHANGES  writes a dump with CODES codes of a family to standard
+output, and then CHANGES changes of each, in scattered order, the same each time. Families:
 
     ordinary    numbered in base 94, as simulators do
     close       crafted: their hashes fall close together where `indexmap` hashes without a seed

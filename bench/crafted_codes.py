@@ -1,6 +1,6 @@
 #!/usr/bin/env python3
-"""crafted_codes.py CODES  writes a header of so many codes of five bytes to standard output, and
-two changes of each, the same each time. In the hash that `indexmap` has without a seed they fall
+"""crafted_codes.py CODES  writes a header of CODES codes of five bytes to standard output, and two
+changes of each, the same each time. In the hash that `indexmap` has without a seed they fall
 close together, so a map by that hash takes a time that grows with their square. With a second word
 they are ordinary codes instead."""
 import sys

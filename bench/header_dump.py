@@ -1,5 +1,5 @@
 #!/usr/bin/env python3
-"""header_dump.py VARIABLES KIND  writes a header of so many variables and no body to standard
+"""header_dump.py VARIABLES KIND  writes a header of VARIABLES variables and no body to standard
 output, the same each time. KIND: ordered (codes in order of declaration), shuffled (the same codes
 in any order) or nested (ordered, in 1000 scopes, each inside the one before)."""
 import random
@@ -7,7 +7,7 @@ import sys
 
 TYPES = ["wire 1", "reg 1", "wire 8", "reg 4", "wire 32", "integer 32", "real 64", "event 1",
          "wire 1", "reg 128"]
-A_SCOPE = 100  # so many variables stand in a scope that is not nested
+A_SCOPE = 100  # the variables in a scope that is not nested
 DEEP = 1000
 
 

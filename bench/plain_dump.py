@@ -1,12 +1,12 @@
 #!/usr/bin/env python3
-"""plain_dump.py MB [VARIABLES]  writes a plain dump of so many megabytes (of 1,000,000 bytes) to
-standard output, the same each time: so many variables of one bit (64) in a scope, and in steps of 5
-a time mark with 16 changes behind it."""
+"""plain_dump.py MB [VARIABLES]  writes a plain dump of MB megabytes (of 1,000,000 bytes) to standard
+output, the same each time: VARIABLES variables of one bit (64) in a scope, and in steps of 5 a
+timestamp with 16 changes after it."""
 import random
 import sys
 
-NEAR = 64  # the changes behind a time mark are of variables among so many in a row
-LISTS = 1 << 16  # so many lists of changes are made, and then used again and again
+NEAR = 64  # the changes after a timestamp are of variables among this many in a row
+LISTS = 1 << 16  # the lists of changes that are made, and then used again and again
 
 
 def code_of(place):
