@@ -1,0 +1,363 @@
+#!/usr/bin/env python3
+"""Tests of the package vcdkit, the same over the program and over the library.
+
+VCDKIT names the program, else it is ./vcdkit of the repository, else that on the PATH.
+VCDKIT_LIBRARY names the library; without it the program alone is tried. CORPUS is a folder of more
+dumps. Expected values were read off the samples, or are those of a reader in this file, which has
+nothing of vcdkit.
+"""
+import glob
+import os
+import subprocess
+import sys
+import tempfile
+import threading
+import unittest
+
+HERE = os.path.dirname(os.path.abspath(__file__))
+TOP = os.path.dirname(os.path.dirname(HERE))
+sys.path.insert(0, os.path.dirname(HERE))
+if "VCDKIT" not in os.environ and os.path.exists(os.path.join(TOP, "vcdkit")):
+    os.environ["VCDKIT"] = os.path.join(TOP, "vcdkit")
+LIBRARY = os.environ.setdefault("VCDKIT_LIBRARY", "")
+
+import vcdkit
+from vcdkit import (Dump, DumpFault, Edges, NoTimescale, RunFailed, Timescale, UnknownName,
+                    UsageError, Value, merge)
+
+PROGRAM = vcdkit._program.path()
+SAMPLES = os.path.join(TOP, "samples")
+NESTED = os.path.join(SAMPLES, "nested.vcd")
+SMALL = 1_000_000
+BROKEN = b"$var wire 1 ! a $end\n$enddefinitions $end\n#0\n1!\n#x\n"
+
+
+def dumps():
+    """The dumps of at most 1 MB, of three simulators at least, that have no fault."""
+    found = sorted(glob.glob(os.path.join(SAMPLES, "*.vcd")))
+    if os.environ.get("CORPUS"):
+        found += sorted(glob.glob(os.path.join(os.environ["CORPUS"], "**", "*.vcd"),
+                                  recursive=True))
+    four_state = os.path.join(TOP, "extras", "vcdkit-four-state")
+    for path in found:
+        if os.path.getsize(path) <= SMALL:
+            dump = Dump(path)
+            if path.endswith("ghdl.vcd"):
+                dump = Dump(subprocess.run([four_state, path], stdout=subprocess.PIPE,
+                                           check=True).stdout, path)
+            try:
+                dump.check()
+            except DumpFault:
+                continue
+            yield dump
+
+
+def answered(command, data, *words):
+    """What the program writes of a dump."""
+    return subprocess.run([PROGRAM, command, *words], input=data, stdout=subprocess.PIPE,
+                          stderr=subprocess.DEVNULL).stdout
+
+
+def changes_by_hand(text, code):
+    """The changes of a scalar or a vector: pairs of a time and digits."""
+    tokens, found, now, at = text.split(), [], 0, 0
+    at = tokens.index(b"$enddefinitions") + 2
+    while at < len(tokens):
+        token, at = tokens[at], at + 1
+        if token == b"$comment":
+            at = tokens.index(b"$end", at) + 1
+        elif token[:1] == b"#":
+            now = int(token[1:])
+        elif token[:1] in b"bBrR":
+            if tokens[at] == code:
+                found.append((now, token[1:].lower().decode()))
+            at += 1
+        elif token[:1] in b"01xXzZ" and token[1:] == code:
+            found.append((now, token[:1].lower().decode()))
+    return found
+
+
+def plain(column):
+    """A column as a list, with None for what is masked."""
+    return column.tolist() if hasattr(column, "tolist") else list(column)
+
+
+class Questions:
+    """What holds in both ways; a class below for each."""
+
+    WAY = ""
+
+    def setUp(self):
+        os.environ["VCDKIT_WAY"] = self.WAY
+        os.environ["VCDKIT_LIBRARY"] = LIBRARY
+
+    def test_the_way(self):
+        self.assertEqual(vcdkit.way().__name__, "vcdkit._" + self.WAY)
+
+    def test_report_and_header(self):
+        dump = Dump(NESTED)
+        self.assertEqual(dump.check(), (7, 24, 18, 26, 4, 211, 1220))
+        self.assertEqual(dump.header.version, "Icarus Verilog")
+        self.assertEqual((str(dump.timescale), dump.time(dump.check().last)), ("100ps", "122ns"))
+        self.assertIsNone(Dump(b"$enddefinitions $end\n").timescale)
+        self.assertEqual(str(Dump(BROKEN.replace(b"$var", b"$timescale 1 us $end $var")).timescale),
+                         "1us")
+
+    def test_answers_are_those_of_the_program(self):
+        for dump in dumps():
+            with self.subTest(dump=dump):
+                data = dump.read()
+                rows = answered("list", data).decode("utf-8", "surrogateescape")
+                self.assertEqual("".join("%s %s %d %s\n" % one for one in dump.signals), rows)
+                rows = {}
+                for row in answered("edges", data).decode("utf-8", "surrogateescape").split("\n"):
+                    if row:
+                        path, *counts = row.split(" ")
+                        rows[path] = tuple(map(int, counts))
+                self.assertEqual(dump.edges(), rows)
+                self.assertEqual(dump.cut(3, 90).read(),
+                                 answered("cut", data, "--from", "3", "--to", "90"))
+                for one in dump.signals[:1]:
+                    self.assertEqual(dump.pick(one.path).read(),
+                                     answered("pick", data, "--", one.path))
+
+    def test_find_and_select(self):
+        dump = Dump(NESTED)
+        self.assertEqual([one.path for one in dump.find(r"slow\.c")],
+                         ["bench.slow.clock", "bench.slow.count"])
+        self.assertEqual(len(dump.select(["bench.slow", "bench.slow.count", "bench.level"])), 5)
+        self.assertEqual(dump.signals[0], ("bench.lane0", "wire", 2, "!"))
+
+    def test_sample(self):
+        dump = Dump(NESTED)
+        found = dump.sample(["115ns", 0, "118.999ns", 1150], ["bench.slow.count", "bench.level"])
+        self.assertEqual(found["115ns"], {"bench.slow.count": "1011", "bench.level": 3.0})
+        self.assertEqual(found[1150], found["118.999ns"])
+        self.assertEqual(found[0]["bench.slow.count"].hex(), "x")
+        self.assertEqual(int(found["115ns"]["bench.slow.count"]), 11)
+        self.assertEqual(list(dump.sample("5ns")), ["5ns"])
+        self.assertEqual(dump.sample([]), {})
+        self.assertEqual(len(dump.sample(range(12000), "bench.level")), 12000)
+        self.assertIsNone(Dump(BROKEN[:-3]).sample(0)[0].get("b"))
+
+    def test_edges(self):
+        self.assertEqual(Dump(NESTED).edges("bench.slow.count"), {"bench.slow.count":
+                                                                 Edges(12, 5, 4)})
+
+    def test_changes(self):
+        times, values = Dump(NESTED).changes("bench.slow.count")
+        self.assertEqual((plain(times)[:3], plain(values)[:3]), ([0, 50, 150], [None, 0, 1]))
+        times, values = Dump(NESTED).changes("bench.level")
+        self.assertEqual((plain(times)[:3], plain(values)[:3]), ([0, 50, 150], [0, 0.25, 0.5]))
+
+    def test_changes_are_those_of_another_reader(self):
+        tried = 0
+        for dump in dumps():
+            text = dump.read()
+            for one in dump.signals[:12]:
+                if one.is_real or one.type == "event" or len(dump.select(one.path)) > 1:
+                    continue
+                with self.subTest(dump=dump, signal=one):
+                    wanted = [(now, Value(digits.rjust(one.size, "0" if digits[0] == "1" else
+                                                       digits[0])))
+                              for now, digits in changes_by_hand(text, one.code.encode())]
+                    times, values = dump.changes(one.path, digits=True)
+                    self.assertEqual(list(zip(plain(times), values)), wanted)
+                    times, values = dump.changes(one.path)
+                    self.assertEqual(list(zip(plain(times), plain(values))), [
+                        (now, value if one.size > 64 else int(value) if value.is_known else None)
+                        for now, value in wanted])
+                    tried += 1
+        self.assertGreater(tried, 30)
+
+    def test_events_and_wide_values(self):
+        text = (b"$var event 1 ! e $end $var reg 70 \" w $end $enddefinitions $end\n"
+                b"#0 $dumpvars 1! $end #3 1! b1%s \" #4 1! bx \"\n" % (b"0" * 65))
+        times, values = Dump(text).changes("e")
+        self.assertEqual((plain(times), plain(values)), ([3, 4], [1, 1]))
+        times, values = Dump(text).changes("w")
+        self.assertEqual((plain(times), values), ([3, 4], ["00001" + "0" * 65, "x" * 70]))
+        self.assertEqual(values[0].hex(), "02" + "0" * 16)
+
+    def test_rows(self):
+        dump = Dump(NESTED)
+        rows = list(dump.rows(["bench.slow.count", "bench.level"]))
+        self.assertEqual(rows[:2], [(0, ["xxxx", 0.0]), (50, ["0000", 0.25])])
+        rows = list(dump.rows("bench.slow.count", rise="bench.slow.clock"))
+        self.assertEqual(rows[:3], [(50, ["xxxx"]), (150, ["0000"]), (250, ["0001"])])
+        rows = list(dump.rows("bench.slow.count", fall="bench.slow.clock"))
+        self.assertEqual(rows[0], (100, ["0000"]))
+        table = dump.table("bench.slow.count", at=["10ns", "115ns"])
+        self.assertEqual(table, {"time": [100, 1150], "bench.slow.count": [0, 11]})
+        table = dump.table("bench.slow.count", digits=True)
+        self.assertEqual(table["bench.slow.count"][0], "xxxx")
+        with self.assertRaises(UsageError):
+            list(dump.rows("bench.slow.count", rise="bench.slow"))
+
+    def test_rows_end_with_the_values_of_sample(self):
+        for dump in dumps():
+            paths = [one.path for one in dump.signals if one.type != "event"]
+            rows = list(dump.rows(paths[:6]))[:40] if paths else []
+            found = dump.sample([time for time, _ in rows], paths[:6]) if rows else {}
+            for time, values in rows:
+                wanted = [found[time][one.path] for one in dump.select(paths[:6])
+                          if one.type != "event"]
+                self.assertEqual(repr(values), repr(wanted), (dump, time))
+
+    def test_parts(self):
+        dump = Dump(NESTED)
+        part = dump.cut("100ns", "110ns").pick("bench.slow")
+        self.assertEqual(part.check(), (2, 4, 4, 3, 1, 7, 1100))
+        self.assertEqual(Dump(part.read()).check(), part.check())
+        self.assertEqual(dump.around("110ns", "5ns").read(), dump.cut(1050, 1150).read())
+        self.assertEqual(dump.around(10, 50, 0).read(), dump.cut(0, 10).read())
+        both = merge(dump, part)
+        self.assertEqual(both.check().variables, 28)
+        self.assertEqual(both.signals[-1].path, "in2.bench.slow.count")
+        self.assertEqual(merge(*[Dump(dump.read())] * 64).check().variables, 64 * 24)
+        with self.assertRaises(UsageError):
+            merge(*[dump] * 65).check()
+        with tempfile.TemporaryDirectory() as folder:
+            path = os.path.join(folder, "w.vcd")
+            self.assertEqual(part.save(path).check(), part.check())
+            self.assertEqual(os.listdir(folder), ["w.vcd"])
+
+    def test_packed_dumps_and_pipes(self):
+        wanted = Dump(NESTED).check()
+        with tempfile.TemporaryDirectory() as folder:
+            for packer in ["gzip", "-c"], ["xz", "-c"], ["bzip2", "-c"], ["zstd", "-cq"]:
+                path = os.path.join(folder, "any.name")
+                try:
+                    with open(path, "wb") as file:
+                        subprocess.run([*packer, NESTED], stdout=file, check=True)
+                except FileNotFoundError:
+                    continue
+                self.assertEqual(Dump(path).check(), wanted)
+                self.assertEqual(merge(Dump(path), Dump(NESTED)).check().variables, 48)
+                with open(path, "r+b") as file:
+                    file.truncate(os.path.getsize(path) // 2)
+                with self.assertRaises((DumpFault, RunFailed)):
+                    Dump(path).check()
+            pipe = os.path.join(folder, "pipe")
+            os.mkfifo(pipe)
+            writer = subprocess.Popen("gzip -c '%s' > '%s'" % (NESTED, pipe), shell=True)
+            dump = Dump(pipe)
+            self.assertEqual((dump.check(), dump.check()), (wanted, wanted))
+            writer.wait()
+
+    def test_faults_have_a_file_and_a_line(self):
+        broken = Dump(BROKEN, "bad.vcd")
+        for call in (broken.check, broken.cut().pick("a").check, lambda: broken.changes("a"),
+                     lambda: broken.edges(), lambda: merge(Dump(NESTED), broken.cut()).check(),
+                     lambda: merge(broken, Dump(NESTED)).read(), lambda: list(broken.rows("a"))):
+            with self.assertRaises(DumpFault) as raised:
+                call()
+            fault = raised.exception
+            self.assertEqual((fault.file, fault.line, fault.fault, fault.status),
+                             ("bad.vcd", 5, "bad time", 1))
+            self.assertEqual(str(fault), "bad.vcd:5: bad time")
+        self.assertEqual([one.path for one in broken.signals], ["a"])
+        with tempfile.TemporaryDirectory() as folder:
+            with self.assertRaises(DumpFault):
+                broken.cut().save(os.path.join(folder, "x.vcd"))
+            self.assertEqual(os.listdir(folder), [])
+
+    def test_errors_say_what_to_do(self):
+        dump = Dump(NESTED)
+        no_scale = Dump(b"$var reg 2 ! q[1:0] $end $enddefinitions $end\n", "n.vcd")
+        for call, kind, said in (
+                (lambda: dump.pick("bench.slow.count[3:0]").check(), UnknownName,
+                 "there is bench.slow.count"),
+                (lambda: dump.sample(0, "count"), UnknownName, "there is bench.lane[0].count"),
+                (lambda: dump.edges("BENCH.level"), UnknownName, "there is bench.level"),
+                (lambda: no_scale.edges("q"), UnknownName, "there is q[1:0]"),
+                (lambda: dump.changes("bench.*"), UnknownName, "regular expression"),
+                (lambda: dump.changes("nothing"), UnknownName, "`list`"),
+                (lambda: dump.changes("bench.slow"), UsageError, "selects 4 signals"),
+                (lambda: no_scale.sample("5ns"), NoTimescale, "give times in ticks"),
+                (lambda: no_scale.cut("5ns").check(), NoTimescale, "n.vcd: no timescale"),
+                (lambda: dump.cut("x"), UsageError, "bad time: x"),
+                (lambda: dump.cut(1.5), UsageError, '"1.5ns"'),
+                (lambda: dump.cut(-1), UsageError, "from 0"),
+                (lambda: dump.cut(5, 3).check(), UsageError, "--from is above --to"),
+                (lambda: Dump(NESTED, token_limit=3).check(), UsageError, "token limit"),
+                (lambda: Dump("/no/such/file").check(), RunFailed, "/no/such/file: No such file"),
+                (lambda: Dump("/tmp").check(), RunFailed, "/tmp"),
+                (lambda: dump.save("/no/such/folder/x"), RunFailed, "/no/such/folder/x")):
+            with self.assertRaises(kind) as raised:
+                call()
+            self.assertIn(said, str(raised.exception))
+
+    def test_threads(self):
+        wanted, found = Dump(NESTED).check(), []
+        many = [threading.Thread(target=lambda: found.append(Dump(NESTED).check()))
+                for _ in range(8)]
+        for one in many:
+            one.start()
+        for one in many:
+            one.join()
+        self.assertEqual(found, [wanted] * 8)
+
+
+class ByProgram(Questions, unittest.TestCase):
+    WAY = "program"
+
+    def test_no_program(self):
+        named = os.environ.pop("VCDKIT", None)
+        path, os.environ["PATH"] = os.environ["PATH"], "/nowhere"
+        try:
+            with self.assertRaises(RunFailed) as raised:
+                Dump(NESTED).check()
+            self.assertIn("VCDKIT=FILE", str(raised.exception))
+        finally:
+            os.environ["PATH"] = path
+            if named:
+                os.environ["VCDKIT"] = named
+
+
+@unittest.skipUnless(LIBRARY, "VCDKIT_LIBRARY names no library")
+class ByLibrary(Questions, unittest.TestCase):
+    WAY = "library"
+
+    def test_every_room(self):
+        text = Dump(NESTED).read()
+        whole = answered("cut", text, "--from", "0", "--to", "900")
+        for room in 1, 2, len(whole) - 1, len(whole), len(whole) + 1:
+            self.assertEqual(vcdkit._library.run(["cut", "--from", "0", "--to", "900"], text, (),
+                                                 room), (0, whole, b""))
+
+
+class Times(unittest.TestCase):
+    def test_words(self):
+        for time, wanted in ((1150, "1150"), ("1150", "1150"), ("115ns", "115ns"),
+                             ("1.5ns", "1500ps"), ("0.25us", "250ns"), ("1.50ns", "1500ps"),
+                             ("2.000001s", "2000001us"), ("3.0", "3"), (" 7 ps", "7ps")):
+            self.assertEqual(vcdkit.times.word(time), wanted)
+        for time in "1.5", "1.5fs", "ns", "-5ns", "1e3ns", "", 2**64:
+            with self.assertRaises(UsageError):
+                vcdkit.times.word(time)
+
+    def test_scales(self):
+        scale = Timescale(100, "ps")
+        self.assertEqual([scale.ticks(time) for time in (7, "115ns", "118.999ns", "1us", "99ps")],
+                         [7, 1150, 1189, 10000, 0])
+        self.assertEqual([scale.text(ticks) for ticks in (0, 1, 1150, 1189, 10**7, 10**10)],
+                         ["0ps", "100ps", "115ns", "118900ps", "1ms", "1s"])
+        self.assertEqual([scale.text(1189, unit) for unit in ("ns", "us", "ps", "s")],
+                         ["118.9ns", "0.1189us", "118900ps", "0.0000001189s"])
+        self.assertEqual(scale.seconds(1150), 1.15e-07)
+
+
+class Values(unittest.TestCase):
+    def test_hex(self):
+        for digits, wanted in (("1011", "b"), ("x", "x"), ("xxxx0001", "x1"), ("10000", "10"),
+                               ("z0z0", "X"), ("xx1", "X"), ("0", "0"), ("zzzzz", "zz")):
+            self.assertEqual(Value(digits).hex(), wanted)
+        with self.assertRaises(ValueError):
+            int(Value("1x"))
+
+
+if __name__ == "__main__":
+    if not PROGRAM:
+        sys.exit("test_vcdkit.py: " + vcdkit._program.refusal())
+    unittest.main()

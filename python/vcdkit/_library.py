@@ -1,0 +1,214 @@
+"""Answers by libvcdkit, in this process, by ctypes, which lets other threads run meanwhile.
+
+What the library is, extras/c/vcdkit.h says: this file alone knows how it is called."""
+import contextlib
+import ctypes
+import io
+import mmap
+import os
+import subprocess
+from array import array
+from typing import BinaryIO, Dict, Iterator, List, Optional, Sequence, Tuple, Union
+
+from ._program import no_program
+from ._texts import Bytes, File, Made, Text
+from .errors import RunFailed, UnknownName, VcdkitError, error_of
+
+Data = Union[bytes, mmap.mmap]
+OUT_OF_MEMORY = 4
+
+
+class _Lent(ctypes.Structure):
+    _fields_ = [("at", ctypes.c_void_p), ("length", ctypes.c_size_t)]
+
+
+class _File(ctypes.Structure):
+    _fields_ = [("name", _Lent), ("bytes", _Lent)]
+
+
+class _Buffer(ctypes.Structure):
+    """Py_buffer."""
+
+    _fields_ = [("buf", ctypes.c_void_p), ("obj", ctypes.py_object), ("len", ctypes.c_ssize_t),
+                ("itemsize", ctypes.c_ssize_t), ("readonly", ctypes.c_int), ("ndim", ctypes.c_int),
+                ("format", ctypes.c_char_p), ("shape", ctypes.c_void_p),
+                ("strides", ctypes.c_void_p), ("suboffsets", ctypes.c_void_p),
+                ("internal", ctypes.c_void_p)]
+
+
+ctypes.pythonapi.PyObject_GetBuffer.argtypes = [ctypes.py_object, ctypes.c_void_p, ctypes.c_int]
+ctypes.pythonapi.PyBuffer_Release.argtypes = [ctypes.c_void_p]
+ctypes.pythonapi.PyBuffer_Release.restype = None
+
+_loaded: Dict[str, ctypes.CDLL] = {}
+
+
+def path() -> Optional[str]:
+    """Returns the library that VCDKIT_LIBRARY names (none where it is empty), else the one beside
+    the package; None where there is none."""
+    named = os.environ.get("VCDKIT_LIBRARY")
+    if named is not None:
+        return os.path.abspath(named) if named else None
+    beside = os.path.join(os.path.dirname(os.path.abspath(__file__)), "libvcdkit.so")
+    return beside if os.path.exists(beside) else None
+
+
+def _library() -> ctypes.CDLL:
+    """Returns the library, which is loaded at the first call."""
+    name = path() or ""
+    if name not in _loaded:
+        try:
+            library = ctypes.CDLL(name)
+            number, size, at = ctypes.POINTER(ctypes.c_uint64), ctypes.c_size_t, ctypes.c_void_p
+            library.vcdkit_run.restype = library.vcdkit_changes.restype = ctypes.c_uint8
+            library.vcdkit_run.argtypes = [
+                ctypes.POINTER(_Lent), size, at, size, ctypes.POINTER(_File), size,
+                at, size, number, at, size, number]
+            library.vcdkit_changes.argtypes = [at, size, at, size, at, size, at, size, at, size,
+                                               number]
+        except (OSError, AttributeError) as error:
+            raise RunFailed("%s: %s" % (name, error)) from error
+        _loaded[name] = library
+    return _loaded[name]
+
+
+class _Lender:
+    """What keeps lent bytes in their place until the call is over."""
+
+    def __init__(self):
+        self.kept: List[object] = []
+        self.buffers: List[_Buffer] = []
+
+    def lend(self, data: Data) -> Tuple[int, int]:
+        """Returns where the bytes are and how many, without a copy."""
+        self.kept.append(data)
+        if isinstance(data, bytes):
+            # The object's own bytes, which a NUL ends, so that the pointer is never null.
+            return ctypes.cast(ctypes.c_char_p(data), ctypes.c_void_p).value, len(data)
+        buffer = _Buffer()
+        ctypes.pythonapi.PyObject_GetBuffer(data, ctypes.byref(buffer), 0)
+        self.buffers.append(buffer)
+        return buffer.buf, len(data)
+
+    def __enter__(self) -> "_Lender":
+        return self
+
+    def __exit__(self, *_) -> None:
+        for buffer in self.buffers:
+            ctypes.pythonapi.PyBuffer_Release(ctypes.byref(buffer))
+
+
+def run(words: Sequence[str], given: Data = b"", files: Sequence[Tuple[bytes, Data]] = (),
+        room: int = 1 << 16) -> Tuple[int, bytes, bytes]:
+    """Returns the status, the output and the message of these words over standard input and files.
+
+    `room` is how long the output may be; where it is longer, the command runs a second time."""
+    with _Lender() as lender:
+        lent = [lender.lend(word.encode("utf-8", "surrogateescape")) for word in words]
+        named = [(lender.lend(name), lender.lend(data)) for name, data in files]
+        words_array = (_Lent * max(len(lent), 1))(*lent)
+        files_array = (_File * max(len(named), 1))(*[(_Lent(*a), _Lent(*b)) for a, b in named])
+        text = lender.lend(given)
+        used, said, said_room = ctypes.c_uint64(0), ctypes.c_uint64(0), 1 << 16
+        while True:
+            # Pages of a map are taken only as they are written.
+            with mmap.mmap(-1, room) as out, _Lender() as of_call:
+                said_bytes = ctypes.create_string_buffer(said_room)
+                status = _library().vcdkit_run(
+                    words_array, len(lent), *text, files_array, len(named), *of_call.lend(out),
+                    ctypes.byref(used), ctypes.addressof(said_bytes), said_room, ctypes.byref(said))
+                if status == OUT_OF_MEMORY:
+                    raise RunFailed("out of memory")
+                of_call.__exit__()
+                of_call.buffers.clear()
+                if used.value <= room and said.value <= said_room:
+                    return status, out[:used.value], said_bytes.raw[:said.value]
+            room, said_room = max(room, used.value), max(said_room, said.value)
+
+
+def changes(text: Text, code: bytes, room: int = 1 << 20) -> Optional[Tuple[array, array, array]]:
+    """Returns the times, values and masks of known digits of the changes of a code, arrays of
+    uint64; None where the dump has a fault or no such code."""
+    with _Lender() as lender:
+        data, name = lender.lend(_data(text)), lender.lend(code)
+        found = ctypes.c_uint64(0)
+        while True:
+            columns = tuple(array("Q", bytes(8 * room)) for _ in range(3))
+            places = [word for column in columns for word in (column.buffer_info()[0], room)]
+            status = _library().vcdkit_changes(*data, *name, *places, ctypes.byref(found))
+            if status:
+                return None
+            if found.value <= room:
+                return tuple(column[:found.value] for column in columns)
+            room = found.value
+
+
+def _data(text: Text) -> Data:
+    """Returns the bytes of a text, those of a plain file as a map."""
+    if isinstance(text, Bytes):
+        return text.data
+    if isinstance(text, File):
+        return _bytes_of(text)
+    out, error = _made(text)
+    if error:
+        raise error
+    return out
+
+
+def _made(text: Made) -> Tuple[bytes, Optional[VcdkitError]]:
+    """Returns what a command writes, and its error."""
+    inputs = [_data(one) for one in text.of]
+    # A part is mostly no longer than the dump; room that is not written costs nothing.
+    is_part = text.command in ("pick", "cut", "merge")
+    room = (sum(map(len, inputs)) if is_part else 0) + (1 << 16)
+    if text.command == "merge":
+        files = [(b"%d" % at, data) for at, data in enumerate(inputs)]
+        names = {"%d" % at: one.name for at, one in enumerate(text.of)}
+        status, out, said = run(["merge", *text.words, "--", *names], b"", files, room)
+    else:
+        names = {"(stdin)": text.of[0].name}
+        status, out, said = run([text.command, *text.words], inputs[0], (), room)
+    error = error_of(said.decode(errors="backslashreplace"), status, names) if status else None
+    if isinstance(error, UnknownName):
+        error.text = text.of[0]
+    return out, error
+
+
+def _bytes_of(file: File) -> Data:
+    """Returns the bytes of a file: a map of it, or what its packed bytes stand for."""
+    unpacker = file.unpacker()
+    with file.open() as source:
+        if not unpacker:
+            try:
+                return mmap.mmap(source.fileno(), 0, access=mmap.ACCESS_READ)
+            except (ValueError, OSError):  # it is empty, or cannot be mapped
+                return source.read()
+        try:
+            done = subprocess.run(unpacker, stdin=source, stdout=subprocess.PIPE,
+                                  stderr=subprocess.PIPE)
+        except OSError as error:
+            raise no_program(unpacker[0], error) from error
+    if done.returncode:
+        said = done.stderr.decode(errors="backslashreplace").strip()
+        raise RunFailed("%s: %s" % (file.name, said or "%s: status %d" % (
+            unpacker[0], done.returncode)))
+    return done.stdout
+
+
+@contextlib.contextmanager
+def opened(text: Text) -> Iterator[BinaryIO]:
+    """Opens a text to be read once. As with a pipe, an error comes after what was written before
+    it, unless the reader ends early."""
+    error = None
+    if isinstance(text, File) and not text.unpacker():
+        file = text.open()
+    elif isinstance(text, Made):
+        out, error = _made(text)
+        file = io.BytesIO(out)
+    else:
+        file = io.BytesIO(_data(text))
+    with file:
+        yield file
+        was_read = not file.read(1)
+    if error and was_read:
+        raise error

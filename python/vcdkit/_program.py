@@ -1,0 +1,144 @@
+"""Answers by the program vcdkit, over pipes."""
+import contextlib
+import os
+import shutil
+import signal
+import subprocess
+import sys
+import tempfile
+from typing import BinaryIO, Dict, Iterator, List, Optional, Sequence
+
+from ._texts import Bytes, File, Text
+from .errors import RunFailed, UnknownName, VcdkitError, error_of
+
+
+def path() -> Optional[str]:
+    """Returns the program that VCDKIT names, else the one on the PATH or beside the running script;
+    None where there is none."""
+    named = os.environ.get("VCDKIT")
+    script = os.path.abspath(sys.argv[0]) if sys.argv and sys.argv[0] else ""
+    beside = os.path.join(os.path.dirname(script), "vcdkit")
+    is_command = os.path.basename(script).startswith("vcdkit-") and not named
+    return shutil.which(named or "vcdkit") or (shutil.which(beside) if is_command else None)
+
+
+def refusal() -> str:
+    """Returns what to do where there is no program."""
+    named = os.environ.get("VCDKIT")
+    return ("there is no program %s, which VCDKIT names" % named if named else
+            "there is no program vcdkit on the PATH: install it, or name it by VCDKIT=FILE")
+
+
+def no_program(program: str, error: OSError) -> RunFailed:
+    """Returns the exception where a program cannot be started."""
+    said = "there is no program %s on the PATH to unpack it" % program
+    return RunFailed(said if isinstance(error, FileNotFoundError) else
+                     "%s: %s" % (program, error.strerror))
+
+
+class _Part:
+    """A running program, and what it calls its inputs."""
+
+    def __init__(self, words: Sequence[str], stdin, names: Dict[str, str], of: Optional[Text],
+                 pass_fds=()):
+        self.words, self.names, self.of = words, names, of
+        try:
+            self.process = subprocess.Popen(words, stdin=stdin, stdout=subprocess.PIPE,
+                                            stderr=subprocess.PIPE, pass_fds=pass_fds)
+        except OSError as error:
+            raise no_program(words[0], error) from error
+
+    def finish(self) -> None:
+        """Waits for it, and keeps what it says."""
+        with self.process.stderr as said:
+            self.said = said.read().decode(errors="backslashreplace").strip()
+        self.status = self.process.wait()
+
+    def ended_early(self) -> bool:
+        """Whether the next program did not read on."""
+        return self.status == -signal.SIGPIPE or self.said == "vcdkit: write failed"
+
+    def error(self) -> VcdkitError:
+        """Returns the exception of its status and message."""
+        if self.of is None:
+            return RunFailed("%s: %s" % (self.names["(stdin)"], self.said or "%s: status %d" % (
+                self.words[0], self.status)))
+        error = error_of(self.said or "vcdkit: status %d" % self.status, self.status, self.names)
+        if isinstance(error, UnknownName):
+            error.text = self.of
+        return error
+
+
+class _Pipe:
+    """The programs of one pipe, the nearest to the files first."""
+
+    def __init__(self):
+        self.parts: List[_Part] = []
+
+    def start(self, words, stdin, names, of, pass_fds=()) -> BinaryIO:
+        """Starts a program, and returns what it writes."""
+        try:
+            self.parts.append(_Part(words, stdin or subprocess.DEVNULL, names, of, pass_fds))
+        finally:
+            if stdin:
+                stdin.close()
+        return self.parts[-1].process.stdout
+
+    def feed(self, text: Text) -> BinaryIO:
+        """Returns a file from which the text can be read."""
+        if isinstance(text, File):
+            unpacker = text.unpacker()
+            file = text.open()
+            return self.start(unpacker, file, {"(stdin)": text.name}, None) if unpacker else file
+        if isinstance(text, Bytes):
+            file = tempfile.TemporaryFile()
+            file.write(text.data)
+            file.seek(0)
+            return file
+        program = path()
+        if not program:
+            raise RunFailed(refusal())
+        files = [self.feed(one) for one in text.of]
+        if text.command != "merge":
+            return self.start([program, text.command, *text.words], files[0],
+                              {"(stdin)": text.of[0].name}, text.of[0])
+        names = ["/dev/fd/%d" % file.fileno() for file in files]
+        try:
+            return self.start([program, "merge", *text.words, "--", *names], None,
+                              dict(zip(names, (one.name for one in text.of))), text.of[0],
+                              [file.fileno() for file in files])
+        finally:
+            for file in files:
+                file.close()
+
+    def finish(self, was_read: bool) -> None:
+        """Waits for all; raises the error of the one nearest to the files, unless the reader ended
+        before all was read."""
+        for part in self.parts:
+            part.finish()
+        for at, part in enumerate(self.parts):
+            is_last = at == len(self.parts) - 1
+            if part.status and was_read and (is_last or not part.ended_early()):
+                raise part.error()
+
+    def stop(self) -> None:
+        """Ends all that still run."""
+        for part in self.parts:
+            part.process.terminate()
+            part.process.stdout.close()
+            part.finish()
+
+
+@contextlib.contextmanager
+def opened(text: Text) -> Iterator[BinaryIO]:
+    """Opens a text to be read once; where the reader ends early, so do the programs."""
+    pipe = _Pipe()
+    try:
+        out = pipe.feed(text)
+        with out:
+            yield out
+            was_read = not out.read(1)
+    except BaseException:
+        pipe.stop()
+        raise
+    pipe.finish(was_read)

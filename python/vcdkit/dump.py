@@ -1,0 +1,361 @@
+"""Dump: questions about one dump."""
+import contextlib
+import itertools
+import numbers
+import os
+import re
+from typing import Any, BinaryIO, Dict, Iterable, Iterator, List, Optional, Sequence, Tuple, Union
+
+from . import _body, _library, _program
+from ._body import Header
+from ._texts import Bytes, File, Made, Text
+from .errors import NoTimescale, RunFailed, UnknownName, UsageError, VcdkitError
+from .times import LAST_TICK, Time, Timescale, word
+from .values import Edges, Report, Signal, value_of
+
+try:
+    import numpy
+except ImportError:  # lists in place of arrays
+    numpy = None
+
+Names = Union[str, Iterable[str]]
+TIMES_OF_A_CALL = 5000  # a word of Linux has at most 131,071 bytes
+_new = tuple.__new__
+
+
+def way():
+    """Returns what answers: the library where there is one, else the program. VCDKIT_WAY=program
+    or VCDKIT_WAY=library takes one of them alone."""
+    asked = os.environ.get("VCDKIT_WAY", "")
+    if asked not in ("", "library", "program"):
+        raise UsageError("VCDKIT_WAY is %s: it may be library or program" % asked)
+    if asked != "program" and _library.path():
+        return _library
+    if asked == "library":
+        raise RunFailed("there is no libvcdkit.so beside the package: name it by "
+                        "VCDKIT_LIBRARY=FILE")
+    return _program
+
+
+class Dump:
+    """A dump: a file, its bytes, or what pick(), cut() and merge() make of others.
+
+    A file may be packed (gzip, xz, bzip2, zstd, or FST where fst2vcd is on the PATH), or a pipe;
+    "-" is standard input. Nothing is read before the first question, and each question reads the
+    dump anew, but for the header. So a fault or an unknown name comes up at a question:
+    DumpFault, UnknownName, NoTimescale, UsageError or RunFailed, which are all VcdkitErrors.
+
+    A time is a number of ticks, or a text with a unit, as "115ns" or "1.5us". A name is a path of
+    `signals`, or a scope with all that it has."""
+
+    def __init__(self, source: Union[str, "os.PathLike[str]", bytes], name: Optional[str] = None,
+                 token_limit: Optional[int] = None):
+        """`name` is what faults call bytes; `token_limit`, in bytes, is how long a token may be
+        (1,048,576 without it)."""
+        is_bytes = isinstance(source, (bytes, bytearray, memoryview))
+        self._text: Text = Bytes(bytes(source), name or "(bytes)") if is_bytes else File(source)
+        self._options = () if token_limit is None else ("--token-limit", str(token_limit))
+        self._signals: Optional[Sequence[Signal]] = None
+        self._header: Optional[Header] = None
+
+    def _made(self, command: str, words: Sequence[str], of: Tuple[Text, ...] = ()) -> "Dump":
+        made = Dump(b"")
+        made._text = Made(command, (*self._options, *words), of or (self._text,))
+        made._options = self._options
+        return made
+
+    @property
+    def name(self) -> str:
+        """What messages call it."""
+        return self._text.name
+
+    def __repr__(self) -> str:
+        made = isinstance(self._text, Made) and self._text.command != "merge"
+        return "<Dump %s%s>" % (self._text.command + " of " if made else "", self.name)
+
+    def unpacker(self) -> Optional[List[str]]:
+        """Returns the words of the program that unpacks the file; None for plain text."""
+        return self._text.unpacker() if isinstance(self._text, File) else None
+
+    # Reading.
+
+    @contextlib.contextmanager
+    def open(self) -> Iterator[BinaryIO]:
+        """Opens the text of the dump, to be read as a binary file."""
+        with _opened(self._text) as file:
+            yield file
+
+    def read(self) -> bytes:
+        """Returns the text of the dump. Dump(dump.read()) keeps a part in memory for many
+        questions."""
+        with self.open() as file:
+            return file.read()
+
+    def save(self, path: Union[str, "os.PathLike[str]"]) -> "Dump":
+        """Writes the text to a file, and returns the Dump of that. Where this fails, the file is
+        as it was."""
+        part = "%s.%d.part" % (os.fspath(path), os.getpid())
+        try:
+            with self.open() as text, open(part, "wb") as file:
+                for block in iter(lambda: text.read(1 << 18), b""):
+                    file.write(block)
+            os.replace(part, path)
+        except OSError as error:
+            if isinstance(error, VcdkitError):
+                raise
+            raise RunFailed("%s: %s" % (os.fspath(path), error.strerror)) from error
+        finally:
+            if os.path.exists(part):
+                os.unlink(part)
+        return Dump(path)
+
+    def _answer(self, command: str, words: Sequence[str] = ()) -> str:
+        with _opened(Made(command, (*self._options, *words), (self._text,))) as out:
+            return out.read().decode("utf-8", "surrogateescape")
+
+    def _words(self, command: str, words: Sequence[str] = ()) -> List[str]:
+        """Returns the words of all rows that a command writes; no word has white space."""
+        words_found = self._answer(command, words).replace("\n", " ").split(" ")
+        words_found.pop()
+        return words_found
+
+    # The header.
+
+    @property
+    def signals(self) -> Sequence[Signal]:
+        """The variables of the header, in the order of declaration."""
+        if self._signals is None:
+            words = self._words("list")
+            self._signals = tuple(map(_new, itertools.repeat(Signal), zip(
+                words[0::4], words[1::4], map(int, words[2::4]), words[3::4])))
+        return self._signals
+
+    def find(self, pattern: str, flags: int = 0) -> List[Signal]:
+        """Returns the signals in whose paths a regular expression is found (re.search)."""
+        search = re.compile(pattern, flags).search
+        return [one for one in self.signals if search(one.path)]
+
+    def select(self, names: Names) -> List[Signal]:
+        """Returns the signals that names select, each once, in the order of the names. UnknownName
+        where one selects nothing."""
+        found: Dict[int, Signal] = {}
+        for name in _list(names):
+            chosen = {at: one for at, one in enumerate(self.signals)
+                      if one.path == name or one.path.startswith(name + ".")}
+            if not chosen:
+                raise UnknownName(name, _hint(name, self.signals))
+            for at, one in chosen.items():
+                found.setdefault(at, one)
+        return list(found.values())
+
+    @property
+    def header(self) -> Header:
+        """The header's date, version and time scale."""
+        if self._header is None:
+            made = Made("cut", (*self._options, "--from", "0", "--to", "0"), (self._text,))
+            with _opened(made) as out:  # a fault of the body comes after what is read of it
+                self._header = _body.header(out)
+        return self._header
+
+    @property
+    def timescale(self) -> Optional[Timescale]:
+        """How long a tick is, as str() shows it: `100ps`. None where the header does not say."""
+        return self.header.timescale
+
+    def ticks(self, time: Time) -> int:
+        """Returns a time in ticks; one between two ticks is the earlier one. NoTimescale where it
+        has a unit and the dump has no time scale."""
+        text = word(time)
+        if text.isdigit():
+            return int(text)
+        if self.timescale is None:
+            raise NoTimescale("%s: no timescale: give times in ticks" % self.name)
+        return self.timescale.ticks(text)
+
+    def time(self, ticks: int, unit: str = "") -> str:
+        """Returns ticks with a unit, as `115ns`: the largest in which they are a whole number, or
+        the one that is given. Without a time scale, the number alone."""
+        return self.timescale.text(ticks, unit) if self.timescale else str(ticks)
+
+    # The body.
+
+    def check(self) -> Report:
+        """Reads the whole dump, and returns what it counts. DumpFault where it has a fault."""
+        words = self._words("check")
+        return Report(**{key: None if number == "-" else int(number)
+                         for key, number in zip(words[0::2], words[1::2])})
+
+    def sample(self, times: Union[Time, Iterable[Time]], names: Names = ()
+               ) -> Dict[Time, Dict[str, Any]]:
+        """Returns of each time, as it was given, the value of each path at its end.
+
+        A value is a Value; a float of a real number; None where there is none yet. Times may come
+        in any order. Without names all signals are sampled; events have no value. Of variables
+        with one path the last one counts."""
+        asked = {time: self.ticks(time) for time in
+                 ([times] if isinstance(times, (numbers.Number, str)) else times)}
+        every = sorted(set(asked.values()))
+        found: Dict[int, Dict[str, Any]] = {time: {} for time in every}
+        for begin in range(0, len(every), TIMES_OF_A_CALL):
+            at = ",".join(map(str, every[begin:begin + TIMES_OF_A_CALL]))
+            words = self._words("sample", ["--at", at, "--", *_list(names)])
+            for time, path, value in zip(words[0::3], words[1::3], words[2::3]):
+                found[int(time)][path] = value_of(value)
+        return {time: found[ticks] for time, ticks in asked.items()}
+
+    def edges(self, names: Names = ()) -> Dict[str, Edges]:
+        """Returns of each path how often its value changes, and its least significant bit rises and
+        falls; of an event its triggers. Without names of all signals."""
+        words = self._words("edges", ["--", *_list(names)])
+        return dict(zip(words[0::4], map(_new, itertools.repeat(Edges), zip(
+            map(int, words[1::4]), map(int, words[2::4]), map(int, words[3::4])))))
+
+    def changes(self, name: str, digits: bool = False) -> Tuple[Any, Any]:
+        """Returns the times, in ticks, and the values of one signal: one for each value that the
+        dump writes, also where it is the same again.
+
+        With numpy: an array of uint64, and a masked array of uint64, masked where a value has an
+        x or a z. Without: a list of int, and one of int or None. Of a real number: floats. Of more
+        than 64 bits, or with `digits`: a list of Values. Of an event each trigger is a 1.
+        UnknownName where the name selects nothing, UsageError where it selects several."""
+        chosen = self.select(name)
+        if len({one.code for one in chosen}) > 1:
+            raise UsageError("%s: selects %d signals, and changes() takes one: %s, .."
+                             % (name, len(chosen), chosen[0].path))
+        signal = chosen[0]
+        if (way() is _library and not digits and not signal.is_real and signal.size <= 64
+                and signal.type != "event"):
+            found = _library.changes(self._text, signal.code.encode("utf-8", "surrogateescape"))
+            if found is not None:
+                return _columns(*found)
+            self.check()  # it says the fault
+        with self.pick(name).open() as out:
+            return _body.changes(out, signal, digits, numpy)
+
+    def rows(self, names: Names, at: Optional[Iterable[Time]] = None, rise: Optional[str] = None,
+             fall: Optional[str] = None) -> Iterator[Tuple[int, List[Any]]]:
+        """Returns rows of a table: a time in ticks, and the value of each signal of names (select),
+        as sample() has it; events are left out.
+
+        By default a row for each time at which one of them changes, with the values at its end.
+        With `rise` or `fall`, the path of a clock of one bit, a row for each time at which it rises
+        or falls, with the values just before that time, as a flip-flop takes them. With `at`, a row
+        for each of these times."""
+        columns = [one for one in self.select(names) if one.type != "event"]
+        if at is not None:
+            paths = [one.path for one in columns]
+            for time, values in self.sample(at, paths).items():
+                yield self.ticks(time), [values[path] for path in paths]
+            return
+        clock = rise or fall
+        edge = (b"0", b"1") if rise else (b"1", b"0")
+        codes = [one.code.encode("utf-8", "surrogateescape") for one in columns]
+        clock_code = b""
+        if clock:
+            chosen = self.select(clock)
+            if len(chosen) > 1:
+                raise UsageError("%s: is no clock: it selects %d signals" % (clock, len(chosen)))
+            clock_code = chosen[0].code.encode("utf-8", "surrogateescape")
+        shown: Dict[bytes, Any] = {}
+        wanted, sizes = set(codes), dict(zip(codes, columns))
+        last: Optional[bytes] = None
+        with self.pick([*_list(names), *([clock] if clock else [])]).open() as out:
+            _body.skip_header(out)
+            for time, found in _body.steps(out):
+                is_due, now = not clock and any(code in wanted for code, _ in found), last
+                if clock:
+                    for code, value in found:
+                        if code == clock_code:
+                            is_due, now = is_due or (now, value) == edge, value
+                    last = now
+                    if is_due:
+                        yield time, [shown.get(code) for code in codes]
+                for code, value in found:
+                    if code in wanted:
+                        shown[code] = _body.value(value, sizes[code])
+                if is_due and not clock:
+                    yield time, [shown.get(code) for code in codes]
+
+    def table(self, names: Names, digits: bool = False, **which) -> Dict[str, List[Any]]:
+        """Returns the rows() as columns: "time", in ticks, and each path. Values are numbers, None
+        where they have an x or a z, or Values with `digits`. pandas.DataFrame() takes it."""
+        paths = [one.path for one in self.select(names) if one.type != "event"]
+        rows = list(self.rows(names, **which))
+        columns = [list(column) for column in zip(*(values for _, values in rows))] or [
+            [] for _ in paths]
+        if not digits:
+            columns = [[_body.number(one) for one in column] for column in columns]
+        return {"time": [time for time, _ in rows], **dict(zip(paths, columns))}
+
+    # Dumps of it.
+
+    def pick(self, names: Names) -> "Dump":
+        """Returns the dump of some signals, or scopes."""
+        return self._made("pick", ["--", *_list(names)])
+
+    def cut(self, begin: Time = 0, end: Time = LAST_TICK) -> "Dump":
+        """Returns the dump from one time to another: the values just before `begin`, and what
+        changes from there to `end`."""
+        return self._made("cut", ["--from", word(begin), "--to", word(end)])
+
+    def around(self, time: Time, before: Time, after: Optional[Time] = None) -> "Dump":
+        """Returns the dump from so much before a time to so much after it, as much where `after` is
+        not given."""
+        at, early = self.ticks(time), self.ticks(before)
+        late = early if after is None else self.ticks(after)
+        return self.cut(max(at - early, 0), min(at + late, LAST_TICK))
+
+
+def merge(*dumps: Dump) -> Dump:
+    """Returns one dump of up to 64: the signals of the first are in the scope in1, and so on. Its
+    tick is the shortest of theirs; a dump without a time scale counts as one of 1s."""
+    if not dumps:
+        raise UsageError("merge() needs a dump")
+    return dumps[0]._made("merge", [], tuple(one._text for one in dumps))
+
+
+def _list(names: Names) -> List[str]:
+    return [names] if isinstance(names, str) else list(names)
+
+
+def _columns(times, values, known):
+    """Returns the columns of the library as changes() gives them."""
+    every = 2**64 - 1
+    if numpy is None:
+        return list(times), [value if mask == every else None
+                             for value, mask in zip(values, known)]
+    times, values, known = (numpy.array(column, dtype=numpy.uint64)
+                            for column in (times, values, known))
+    unknown = known != numpy.uint64(every)
+    values[unknown] = 0
+    return times, numpy.ma.masked_array(values, mask=unknown)
+
+
+@contextlib.contextmanager
+def _opened(text: Text) -> Iterator[BinaryIO]:
+    """Opens a text; an unknown name gets a hint."""
+    try:
+        with way().opened(text) as file:
+            yield file
+    except UnknownName as error:
+        of = getattr(error, "text", None)
+        if of is None:
+            raise
+        base = Dump(b"")
+        base._text = of
+        raise UnknownName(error.name, _hint(error.name, base.signals)) from None
+
+
+def _hint(name: str, signals: Sequence[Signal]) -> str:
+    """Returns what to write in place of a name that selects nothing."""
+    paths = [one.path for one in signals]
+    bare = re.sub(r"\s*\[[-\d]+(:[-\d]+)?\]\Z", "", name)
+    near = ([path for path in paths if path == bare]
+            or [path for path in paths if path.startswith(bare + "[")]
+            or [path for path in paths if path.endswith("." + name) or path.endswith("." + bare)]
+            or [path for path in paths if path.lower() in (name.lower(), bare.lower())])
+    if near:
+        return "; there is " + ", ".join(near[:3]) + ", .." * (len(near) > 3)
+    if re.search(r"[*?]", name):
+        return "; names are no patterns: find() takes a regular expression"
+    return "; names are the paths that `list` writes, and the scopes in them"

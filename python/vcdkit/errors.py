@@ -1,0 +1,65 @@
+"""What can go wrong: a class for each cause, whose `status` is the exit status of the program."""
+import re
+from typing import Dict
+
+
+class VcdkitError(Exception):
+    """What vcdkit refused or could not do."""
+
+    status = 3
+
+
+class DumpFault(VcdkitError, ValueError):
+    """The first fault of a dump: its file, its line (from 1) and its name, as `unknown command`."""
+
+    status = 1
+
+    def __init__(self, file: str, line: int, fault: str):
+        super().__init__("%s:%d: %s" % (file, line, fault))
+        self.file, self.line, self.fault = file, line, fault
+
+
+class UnknownName(VcdkitError, LookupError):
+    """A name that selects no variable; the message says what comes near."""
+
+    status = 1
+
+    def __init__(self, name: str, hint: str = ""):
+        super().__init__("%s: selects nothing%s" % (name, hint))
+        self.name = name
+
+
+class NoTimescale(VcdkitError, ValueError):
+    """A time has a unit, and the dump has no time scale: give ticks."""
+
+    status = 1
+
+
+class UsageError(VcdkitError, ValueError):
+    """A bad time or limit, or a name that does not fit what is asked for."""
+
+    status = 2
+
+
+class RunFailed(VcdkitError, OSError):
+    """A file that cannot be read or written, no memory, or no vcdkit to ask."""
+
+    status = 3
+
+
+def error_of(text: str, status: int, names: Dict[str, str]) -> VcdkitError:
+    """Returns the exception for the message and the status of a run. `names` has, of each name that
+    the message may have for an input, the name that the caller knows."""
+    text = re.sub(r"\A(vcdkit|error): ", "", text.strip()).split("\n")[0]
+    fault = re.match(r"(.*):(\d+): ([^:]*)\Z", text)
+    if status == 1 and fault:
+        file = names.get(fault.group(1), fault.group(1))
+        return DumpFault(file, int(fault.group(2)), fault.group(3))
+    at, _, what = text.rpartition(": ")
+    if status == 1 and what.startswith("selects nothing"):
+        return UnknownName(at)
+    if status == 1 and what.startswith("no timescale"):
+        return NoTimescale("%s: no timescale: give times in ticks" % names.get(at, at))
+    if status in (1, 2):
+        return UsageError(text)
+    return RunFailed("%s: %s" % (names[at], what) if at in names else text)
