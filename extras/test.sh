@@ -1,11 +1,14 @@
 #!/usr/bin/env bash
-# Tries each of the extras on samples/ and on small dumps. Nothing is built: VCDKIT names the
-# program, else ./vcdkit. extras/test.sh DUMP..: also on these dumps, by what must hold of any.
+# Tries the Python package and the scripts on samples/ and on small dumps. Nothing is built: VCDKIT
+# names the program, else ./vcdkit. extras/test.sh DUMP..: also on these dumps, by what must hold of
+# any. Where `make library` has left ./libvcdkit.so, the package is tried over that too.
 set -u
 cd "$(dirname "$0")/.."
-export VCDKIT=${VCDKIT:-./vcdkit} LC_ALL=C
+export VCDKIT=${VCDKIT:-./vcdkit} LC_ALL=C PYTHONDONTWRITEBYTECODE=1
 [[ -x $VCDKIT ]] ||
     { echo "extras/test.sh: there is no program $VCDKIT. Run make first." >&2; exit 1; }
+VCDKIT=$(realpath "$VCDKIT")
+PATH=$PWD/extras:$PATH
 failed=0 tried=0
 folder=$(mktemp -d)
 trap 'rm -rf "$folder"' EXIT
@@ -17,43 +20,168 @@ same() {
     failed=$((failed + 1))
     printf '%s\n  wanted: %s\n  got:    %s\n' "$1" "${2:0:400}" "${3:0:400}"
 }
-# of_rows CODE: what this code of Python prints of the rows of list_json
-of_rows() { python3 -c "import json, sys; rows = json.load(sys.stdin); $1"; }
+# status COMMAND ..: what it prints, and its status
+status() { "$@" 2>&1; echo "status $?"; }
 
 dump=samples/nested.vcd
 
-same 'pick_by_pattern: paths' 'bench.\data+flags
-bench.lane[0].count
-bench.lane[1].count' "$(extras/pick_by_pattern $dump '\\data' '^bench\.lane.[01]..count$' |
-    "$VCDKIT" list | cut -d ' ' -f 1)"
-same 'pick_by_pattern: the dump of pick' "$("$VCDKIT" pick -i $dump bench.slow bench.steps)" \
-    "$(extras/pick_by_pattern $dump 'slow|steps')"
-extras/pick_by_pattern $dump nothing 2> /dev/null
-same 'pick_by_pattern: status where nothing matches' 1 $?
-extras/pick_by_pattern $dump.none slow 2> /dev/null
-same 'pick_by_pattern: status of the program' 3 $?
+# The package, in both ways, with numpy and without: a Python with numpy is looked for, and numpy is
+# hidden by a folder that has an empty one.
+library=
+[[ ! -e libvcdkit.so ]] || library=$PWD/libvcdkit.so
+mkdir "$folder/hidden"
+echo 'raise ImportError("hidden")' > "$folder/hidden/numpy.py"
+with_numpy=
+for python in python3 /usr/bin/python3; do
+    [[ -n $with_numpy ]] || ! "$python" -c 'import numpy' 2> /dev/null || with_numpy=$python
+done
+# package WHAT COMMAND ..: the tests of the package by this Python
+package() {
+    VCDKIT_LIBRARY=$library "${@:2}" python/tests/test_vcdkit.py > "$folder/said" 2>&1
+    same "the package, $1" 0 "$?$(grep -A 30 -E '^(ERROR|FAIL|Trace)' "$folder/said")"
+}
+package 'without numpy' env PYTHONPATH="$folder/hidden" python3
+if [[ -n $with_numpy ]]; then
+    package 'with numpy' "$with_numpy"
+else
+    echo 'the package is not tried with numpy: there is none'
+fi
+[[ -n $library ]] || echo 'the package is not tried over the library: no libvcdkit.so'
 
-same 'values_csv: digits' 'time (1ns),count1
-0,x
-5,0
-25,1
-45,0' "$(extras/values_csv samples/counter.vcd count1 | head -n 5)"
-same 'values_csv: all digits' 'time (100ps),bench.slow.count
-0,xxxx
-50,0000
-150,0001' "$(extras/values_csv $dump bench.slow.count | head -n 4)"
-same 'values_csv: numbers' 'time (100ps),bench.slow.count
-0,xxxx
-50,0
-150,1
-250,2' "$(extras/values_csv --decimal $dump bench.slow.count | head -n 5)"
-same 'values_csv: a real number' 'time (100ps),bench.level
-0,0
-50,0.25' "$(extras/values_csv $dump bench.level | head -n 3)"
-extras/values_csv $dump bench.slow > /dev/null 2>&1
-same 'values_csv: status of two signals' 1 $?
-extras/values_csv $dump bench.none 2> /dev/null
-same 'values_csv: status of the program' 1 $?
+same 'vcdkit-find: paths' 'bench.\data+flags reg 8 &
+bench.lane[0].count wire 2 *
+bench.lane[1].count wire 2 -' "$(vcdkit-find $dump '\\data' '^bench\.lane.[01]..count$')"
+same 'vcdkit-find --pick: the dump of pick' "$("$VCDKIT" pick -i $dump bench.slow bench.steps)" \
+    "$(vcdkit-find --pick $dump 'slow|steps')"
+same 'vcdkit-find: nothing matches' 'vcdkit-find: no path matches
+status 1' "$(status vcdkit-find $dump nothing)"
+same 'vcdkit-find: a bad expression' 'status 2' "$(status vcdkit-find $dump '(' | tail -n 1)"
+same 'vcdkit-find --json' "clk reg 1 !
+reset reg 1 \"
+count0 reg 1 #
+count1 reg 1 \$
+lowest wire 1 #" "$(vcdkit-find --json samples/counter.vcd | python3 -c \
+    'import json, sys; [print(*row.values()) for row in json.load(sys.stdin)]')"
+printf '$var wire 1 ! a\377 $end\n$enddefinitions $end\n' > "$folder/bytes.vcd"
+same 'vcdkit-find: a name that is no UTF-8' 'a\xff' "$(vcdkit-find --json "$folder/bytes.vcd" |
+    python3 -c 'import json, sys; print(json.load(sys.stdin)[0]["path"])')"
+same 'vcdkit-find: its bytes' "$("$VCDKIT" list -i "$folder/bytes.vcd" | cksum)" \
+    "$(vcdkit-find - < "$folder/bytes.vcd" | cksum)"
+same 'vcdkit-find --csv' 'path,type,size,code
+reset,reg,1,""""' "$(vcdkit-find --csv samples/counter.vcd reset)"
+
+same 'vcdkit-info' 'timescale 100ps
+types wire 12, reg 7, event 3, real 1, integer 1
+largest bench 9
+first 0ps (tick 0)
+last 122ns (tick 1220)
+changes 211' "$(vcdkit-info --scopes 1 $dump | grep -E '^(time.*scale|types|larg|fir|last|chan)')"
+same 'vcdkit-info --json' '122ns 1220 24' "$(vcdkit-info --json - < $dump | python3 -c \
+    'import json, sys; of = json.load(sys.stdin)
+print(of["last"], of["last_tick"], of["variables"])')"
+same 'vcdkit-info: a fault' 'vcdkit-info: samples/ghdl.vcd:36: unknown command
+status 1' "$(status vcdkit-info samples/ghdl.vcd | tail -n 2)"
+
+# Several signals: the rows of samples/counter.vcd and samples/nested.vcd that these tests want were
+# read off the dumps.
+same 'vcdkit-table: changes' 'time (ns),count0,count1
+0,x,x
+5,0,0
+15,1,0
+25,0,1
+35,1,1
+45,0,0' "$(vcdkit-table samples/counter.vcd count0 count1)"
+same 'vcdkit-table --rise: the values before it' 'time (ns),reset,count0,count1
+5,1,x,x
+15,0,0,0
+25,0,1,0
+35,0,0,1
+45,0,1,1' "$(vcdkit-table --rise clk samples/counter.vcd reset count0 count1)"
+printf '%s' '$timescale 1ns $end $var reg 6 ! q $end $var real 64 " level $end ' \
+    '$enddefinitions $end #0 r0.5 " #3 bxx1 ! #5 b101010 ! r-1e3 "' > "$folder/small.vcd"
+same 'vcdkit-table --hex: a real number, no value' 'time (ns),q,level
+0,-,0.5
+3,xX,0.5
+5,2a,-1000' "$(vcdkit-table --hex "$folder/small.vcd" q level)"
+same 'vcdkit-table --decimal, ticks' 'time (tick),q
+3,xxxxx1
+5,42' "$(vcdkit-table --decimal --unit tick "$folder/small.vcd" q)"
+same 'vcdkit-table --at, a unit' 'time (us),bench.slow.count,bench.level
+0.01,0,0.25
+0.115,b,3' "$(vcdkit-table --hex --at 10ns,115ns --unit us $dump bench.slow.count bench.level)"
+same 'vcdkit-table --from' 'time (ps),bench.slow.count
+100000,1001
+105000,1010' "$(vcdkit-table --from 100ns --to 110ns $dump bench.slow.count)"
+same 'vcdkit-table: a clock that is a scope' 'status 2' \
+    "$(status vcdkit-table --rise bench.slow $dump bench.slow.count | tail -n 1)"
+same 'vcdkit-table: an unknown name' \
+    'vcdkit-table: level: selects nothing; there is bench.level
+status 1' "$(status vcdkit-table $dump level)"
+
+same 'vcdkit-x' '0ps bench.step.parity xx
+status 1' "$(status vcdkit-x --to 10ns $dump bench.step)"
+same 'vcdkit-x: none' 'status 0' "$(status vcdkit-x --from 100ns $dump bench.slow)"
+
+same 'vcdkit-diff: none' 'status 0' "$(status vcdkit-diff $dump $dump)"
+sed '/^#350$/,/^#450$/s/^b11 1$/b1011 1/' $dump > "$folder/other.vcd"
+same 'vcdkit-diff: a value' 'differs 35ns bench.slow.count 0011 1011
+status 1' "$(status vcdkit-diff $dump "$folder/other.vcd")"
+same 'vcdkit-diff: packed, from a pipe' 'differs 35ns bench.slow.count 0011 1011
+status 1' "$(gzip -c "$folder/other.vcd" | status vcdkit-diff $dump -)"
+same 'vcdkit-diff: of some' 'status 0' \
+    "$(status vcdkit-diff $dump "$folder/other.vcd" bench.level)"
+same 'vcdkit-diff --window' "window $folder/diff.a.vcd
+window $folder/diff.b.vcd
+status 1" "$(status vcdkit-diff --window 5ns --into "$folder" $dump "$folder/other.vcd" | sed 1d)"
+same 'vcdkit-diff --window: the cut' "$("$VCDKIT" cut --from 300 --to 400 < $dump)" \
+    "$(cat "$folder/diff.a.vcd")"
+"$VCDKIT" pick -i "$folder/other.vcd" bench.slow bench.clock > "$folder/part.vcd"
+same 'vcdkit-diff: what one alone has' 'alone A bench.step 1
+differs 35ns bench.slow.count 0011 1011
+status 1' "$(status vcdkit-diff $dump "$folder/part.vcd" | tail -n 3)"
+"$VCDKIT" cut -i $dump --from 0 --to 900 > "$folder/short.vcd"
+same 'vcdkit-diff: the end' 'ends 122ns 90ns
+status 1' "$(status vcdkit-diff $dump "$folder/short.vcd")"
+sed 's/100ps/1ns/' $dump > "$folder/scale.vcd"
+same 'vcdkit-diff: the time scale' 'timescale 100ps 1ns' \
+    "$(vcdkit-diff $dump "$folder/scale.vcd" | head -n 1)"
+printf '%s' '$timescale 1ns $end $var reg 6 % q $end $enddefinitions $end ' \
+    '#0 $dumpall b000xx1 % $end #2 #3 bx1 % #5 b101010 %' > "$folder/again.vcd"
+same 'vcdkit-diff: codes, digits and sections do not matter' 'alone A level 1
+differs 0ns q - 000xx1
+status 1' "$(status vcdkit-diff "$folder/small.vcd" "$folder/again.vcd")"
+printf '%s' '$timescale 100ps $end $var reg 6 a q $end $var real 64 b level $end ' \
+    '$enddefinitions $end #0 r0.50 b #30 bxx1 a #40 $dumpall bxx1 a r0.5 b $end ' \
+    '#50 r-1000 b bx1 a b101010 a' > "$folder/fine.vcd"
+same 'vcdkit-diff: the same times in other ticks' 'timescale 1ns 100ps
+status 1' "$(status vcdkit-diff "$folder/small.vcd" "$folder/fine.vcd")"
+sed 's/100ps/1ns/; s/#\([0-9]\)0/#\1/g' "$folder/fine.vcd" > "$folder/again.vcd"
+same 'vcdkit-diff: values that are written again' 'status 0' \
+    "$(status vcdkit-diff "$folder/small.vcd" "$folder/again.vcd")"
+same 'vcdkit-diff: nothing in common' 'timescale 100ps 1ns
+alone A bench 24
+alone B clk 1' "$(vcdkit-diff $dump samples/counter.vcd | head -n 3)"
+same 'vcdkit-diff: no such file' 'vcdkit-diff: samples/none.vcd: No such file or directory
+status 3' "$(status vcdkit-diff $dump samples/none.vcd)"
+
+vcdkit-wave --from 100ns --to 122ns --mark 110ns $dump bench.slow bench.level > "$folder/wave.svg"
+same 'vcdkit-wave: status' 0 $?
+same 'vcdkit-wave: names, values, a mark' 'bench.level bench.slow.clock bench.slow.count
+9 A B 1' "$(python3 - "$folder/wave.svg" <<'END'
+import sys
+import xml.etree.ElementTree as tree
+of = tree.parse(sys.argv[1]).getroot()
+texts = [one.text for one in of.iter() if one.tag.endswith("text")]
+print(*sorted(text for text in texts if text in (
+    "bench.level", "bench.slow.clock", "bench.slow.count")))
+print(*[text for text in texts if text in ("9", "A", "B")],
+      sum(one.get("class") == "mark" for one in of.iter()))
+END
+)"
+same 'vcdkit-wave: nothing there' 'status 2' \
+    "$(status vcdkit-wave --from 2us --to 3us $dump bench.slow | tail -n 1)"
+same 'vcdkit-wave: an unknown name' 'status 1' \
+    "$(status vcdkit-wave $dump bench.none | tail -n 1)"
 
 cat > "$folder/nine.vcd" <<'END'
 $comment
@@ -79,7 +207,7 @@ bh -
 -U
 bLLLLLLLLL -
 END
-same 'four_state: values, and nothing else' '$comment
+same 'vcdkit-four-state: values, and nothing else' '$comment
 UWLH
 $end
 $var reg 1 U clk $end
@@ -98,72 +226,10 @@ $end
 b1 -
 #6
 xU
-b000000000 -' "$(extras/four_state < "$folder/nine.vcd")"
-same 'four_state: read by the program' '6 clk x
+b000000000 -' "$(vcdkit-four-state < "$folder/nine.vcd")"
+same 'vcdkit-four-state: read by the program' '6 clk x
 6 bus[8:0] 000000000
-6 level r-1.5e3' "$(extras/four_state < "$folder/nine.vcd" | "$VCDKIT" sample --at 6)"
-
-same 'list_json' "['clk', 'reg', 1, '!']
-['reset', 'reg', 1, '\"']
-['count0', 'reg', 1, '#']
-['count1', 'reg', 1, '$']
-['lowest', 'wire', 1, '#']" "$(extras/list_json -i samples/counter.vcd |
-    of_rows '[print([r["path"], r["type"], r["size"], r["code"]]) for r in rows]')"
-extras/list_json -i $dump.none 2> /dev/null
-same 'list_json: status of the program' 3 $?
-
-same 'list_json: a name that is no UTF-8' 'a\xff' \
-    "$(printf '$var wire 1 ! a\377 $end\n$enddefinitions $end\n' | extras/list_json |
-        of_rows 'print(rows[0]["path"])')"
-
-# Several signals: the rows of samples/counter.vcd and samples/nested.vcd that these tests want were
-# read off the dumps.
-same 'table_csv: changes' 'time (1ns),count0,count1
-0,x,x
-5,0,0
-15,1,0
-25,0,1
-35,1,1
-45,0,0' "$(extras/table_csv samples/counter.vcd count0 count1)"
-same 'table_csv: at a clock, the values before it' 'time (1ns),reset,count0,count1
-5,1,x,x
-15,0,0,0
-25,0,1,0
-35,0,0,1
-45,0,1,1' "$(extras/table_csv --rise clk samples/counter.vcd reset count0 count1)"
-printf '%s' '$timescale 1ns $end $var reg 6 ! q $end $var real 64 " level $end ' \
-    '$enddefinitions $end #0 r0.5 " #3 bxx1 ! #5 b101010 ! r-1e3 "' > "$folder/small.vcd"
-same 'table_csv: hex, a real number, no value' 'time (1ns),q,level
-0,-,0.5
-3,xx1,0.5
-5,2a,-1e3' "$(extras/table_csv --hex "$folder/small.vcd" q level |
-    sed 's/xxxxx1/xx1/; s/xxxxxx/xxx/')"
-same 'table_csv: decimal' 'time (1ns),q
-3,xxxxx1
-5,42' "$(extras/table_csv --decimal "$folder/small.vcd" q)"
-extras/table_csv --rise bench.slow "samples/nested.vcd" bench.slow.count > /dev/null 2>&1
-same 'table_csv: a clock that is a scope' 1 $?
-extras/table_csv samples/nested.vcd bench.none 2> /dev/null
-same 'table_csv: status of the program' 1 $?
-
-extras/first_difference samples/nested.vcd samples/nested.vcd > "$folder/said"
-same 'first_difference: none' '0 ' "$? $(cat "$folder/said")"
-sed '/^#350$/,/^#450$/s/^b11 1$/b1011 1/' samples/nested.vcd > "$folder/other.vcd"
-extras/first_difference samples/nested.vcd "$folder/other.vcd" > "$folder/said"
-status=$?
-before=$("$VCDKIT" sample -i samples/nested.vcd --at 350 bench.slow.count)
-after=$("$VCDKIT" sample -i "$folder/other.vcd" --at 350 bench.slow.count | cut -d ' ' -f 3)
-same 'first_difference: one' "1 $before $after" "$status $(grep slow "$folder/said")"
-extras/first_difference samples/nested.vcd "$folder/other.vcd" bench.level > "$folder/said"
-same 'first_difference: of some' '0 ' "$? $(cat "$folder/said")"
-printf '%s' '$timescale 1ns $end $var reg 6 % q $end $enddefinitions $end ' \
-    '#0 $dumpall b000xx1 % $end #2 #3 bx1 % #5 b101010 %' > "$folder/again.vcd"
-same 'first_difference: codes, digits and sections do not matter' '0 q - 000xx1' \
-    "$(extras/first_difference "$folder/small.vcd" "$folder/again.vcd")"
-extras/first_difference samples/nested.vcd samples/counter.vcd 2> /dev/null
-same 'first_difference: nothing in common' 2 $?
-extras/first_difference samples/nested.vcd samples/none.vcd 2> /dev/null
-same 'first_difference: status of the program' 3 $?
+6 level r-1.5e3' "$(vcdkit-four-state < "$folder/nine.vcd" | "$VCDKIT" sample --at 6)"
 
 # A dump as ModelSim writes it, bit by bit.
 cat > "$folder/bits.vcd" <<'END'
@@ -193,7 +259,7 @@ $end
 #7
 0#
 END
-same 'join_bits' '$timescale 1ns $end
+same 'vcdkit-join-bits' '$timescale 1ns $end
 $scope module tb $end
 $var reg 1 ! clk $end
 $var wire 3 " q [2:0] $end
@@ -210,12 +276,13 @@ $end
 1!
 b110 "
 #7
-b100 "' "$(extras/join_bits < "$folder/bits.vcd")"
-same 'join_bits: read by the program' '7 tb.clk 1
+b100 "' "$(vcdkit-join-bits < "$folder/bits.vcd")"
+same 'vcdkit-join-bits: read by the program' '7 tb.clk 1
 7 tb.q 100
-7 tb.r 01' "$(extras/join_bits < "$folder/bits.vcd" | "$VCDKIT" sample --at 7)"
-same 'join_bits: a bit with a second name' 'tb.clk 1 tb.q 1 tb.q 1 tb.q 1 tb.r 2 tb.alias 1' \
-    "$(sed 's/^\$upscope/$var wire 1 # alias $end\n&/' "$folder/bits.vcd" | extras/join_bits |
+7 tb.r 01' "$(vcdkit-join-bits < "$folder/bits.vcd" | "$VCDKIT" sample --at 7)"
+same 'vcdkit-join-bits: a bit with a second name' \
+    'tb.clk 1 tb.q 1 tb.q 1 tb.q 1 tb.r 2 tb.alias 1' \
+    "$(sed 's/^\$upscope/$var wire 1 # alias $end\n&/' "$folder/bits.vcd" | vcdkit-join-bits |
         "$VCDKIT" list | cut -d ' ' -f 1,3 | paste -s -d ' ')"
 
 cat > "$folder/open.vcd" <<'END'
@@ -239,7 +306,7 @@ $end
 $dumpall
 0!
 END
-same 'endmend' '$var wire 1 ! a $end
+same 'vcdkit-endmend' '$var wire 1 ! a $end
 $enddefinitions $end
 #0
 $dumpvars
@@ -259,128 +326,142 @@ $end
 #9
 $dumpall
 0!
-$end' "$(extras/endmend < "$folder/open.vcd")"
-same 'endmend: read by the program' 'sections 4' \
-    "$(extras/endmend < "$folder/open.vcd" | "$VCDKIT" check | grep sections)"
+$end' "$(vcdkit-endmend < "$folder/open.vcd")"
+same 'vcdkit-endmend: read by the program' 'sections 4' \
+    "$(vcdkit-endmend < "$folder/open.vcd" | "$VCDKIT" check | grep sections)"
 
-# explained FILE: the cause that explain names, and then its status
-explained() { extras/explain "$1" 2> /dev/null | sed -n 's/^cause: //p'; echo "${PIPESTATUS[0]}"; }
+# explained FILE: the cause that vcdkit-explain names, and its status. Where its help is a pipe into
+# vcdkit check, that is run, and has to accept the dump; with the word `unable` it is not.
+explained() {
+    local said remedy
+    said=$(vcdkit-explain "$1" 2> /dev/null; echo "$?")
+    remedy=$(sed -n 's/^help:  \(.*| vcdkit check\)\(    .*\)\{0,1\}$/\1/p' <<< "$said")
+    if [[ -n $remedy && $remedy != *FIRST* && $2 != unable ]]; then
+        (PATH=$folder/program:$PATH; set -o pipefail; eval "$remedy") > /dev/null 2>&1 ||
+            echo "the remedy fails: $remedy"
+    fi
+    sed -n 's/^cause: //p; $p' <<< "$said"
+}
+mkdir "$folder/program"
+ln -s "$VCDKIT" "$folder/program/vcdkit"
 body='$var wire 4 ! q $end\n$enddefinitions $end\n'
-fault() { printf "$@" > "$folder/fault.vcd"; explained "$folder/fault.vcd"; }
-same 'explain: a dump without a fault' "$("$VCDKIT" check -i samples/counter.vcd)" \
-    "$(extras/explain samples/counter.vcd)"
+# cause WANTED FORMAT: the cause of a dump
+cause() {
+    printf "${@:2}" > "$folder/fault.vcd"
+    same "vcdkit-explain: $1" "$1
+1" "$(explained "$folder/fault.vcd" able)"
+}
+same 'vcdkit-explain: a dump without a fault' "$("$VCDKIT" check -i samples/counter.vcd)" \
+    "$(vcdkit-explain samples/counter.vcd)"
 printf "${body}#0\nbUU !\n#2\n#3\n" > "$folder/fault.vcd"
-same 'explain: the lines around the fault' '       2 | $enddefinitions $end
+same 'vcdkit-explain: the lines around the fault' '       2 | $enddefinitions $end
        3 | #0
 >      4 | bUU !
-       5 | #2' "$(extras/explain "$folder/fault.vcd" 2> /dev/null | head -n 4)"
-gzip -c samples/counter.vcd > "$folder/packed.vcd"
-same 'explain: gzip' 'the file is compressed by gzip
-1' "$(explained "$folder/packed.vcd")"
-same 'explain: nine states' 'a nine-state value of VHDL
-1' "$(explained samples/ghdl.vcd)"
-same 'explain: nine states in a vector' 'a nine-state value of VHDL
-1' "$(fault "${body}#0\nbUU !\n")"
-same 'explain: a string' 'a string, which four-state VCD does not have
-1' "$(fault "${body}#0\nsIDLE !\n")"
-same 'explain: dumpports' 'extended VCD, of $dumpports
-1' "$(fault "${body}#0\n\$dumpports\npD 6 0 !\n\$end\n")"
-same 'explain: a negative time' 'a negative time
-1' "$(fault "${body}#-5\n")"
-same 'explain: an upper-case unit' 'a unit in upper case
-1' "$(fault "\$timescale 1 NS \$end\n${body}")"
-same 'explain: a section with no end' \
-    'a $dumpvars, $dumpall, $dumpoff or $dumpon before it has no $end
-1' "$(explained "$folder/open.vcd")"
-same 'explain: a part' 'no header: a later part of a dump that was split, or a cut-off begin
-1' "$(fault '#10\n1!\n')"
-same 'explain: two dumps' 'a header in the midst: two dumps in one file
-1' "$(cat samples/nested.vcd samples/nested.vcd > "$folder/two.vcd"; explained "$folder/two.vcd")"
-same 'explain: cut off' 'the dump is cut off
-1' "$(head -n 60 samples/nested.vcd > "$folder/off.vcd"; explained "$folder/off.vcd")"
-same 'explain: sigrok-cli' 'sigrok-cli wrote a line of its own before the dump
-1' "$(fault "META samplerate: 1000000\n${body}")"
-same 'explain: status of the program' 3 "$(explained "$folder/none.vcd")"
+       5 | #2' "$(vcdkit-explain "$folder/fault.vcd" 2> /dev/null | head -n 4)"
+gzip -c "$folder/fault.vcd" > "$folder/packed.vcd"
+same 'vcdkit-explain: gzip' 'a nine-state value of VHDL
+1' "$(explained "$folder/packed.vcd" able)"
+same 'vcdkit-explain: a pipe' 'help:  .. | vcdkit-four-state | vcdkit check' \
+    "$(vcdkit-explain - < "$folder/fault.vcd" 2> /dev/null | tail -n 1 | sed 's/    .*//')"
+cause 'a nine-state value of VHDL' "${body}#0\nbUU !\n"
+cause 'bytes that are no text: the file is damaged here' "${body}#0\nb\xff\x80- !\n"
+cause 'a string, which four-state VCD does not have' "${body}#0\nsIDLE !\n"
+printf "${body}#0\n\$dumpports\npD 6 0 !\n\$end\n" > "$folder/fault.vcd"
+same 'vcdkit-explain: $dumpports' 'extended VCD, of $dumpports
+1' "$(explained "$folder/fault.vcd" unable)"
+cause 'a negative time' "${body}#-5\n"
+cause 'a unit in upper case' "\$timescale 1 NS \$end\n${body}"
+cause 'no header: a later part of a dump that was split, or a cut-off begin' '#10\n1!\n'
+cause 'sigrok-cli wrote a line of its own before the dump' "META samplerate: 1000000\n${body}"
+cause 'an analog line of sigrok-cli among those of the dump' "${body}#0\nA0: 1.5 V\n"
+cause '$enddefinitions without its $end' \
+    '$var wire 4 ! q $end\n$enddefinitions\n#0\nb1 !\n#1\n'
+cause 'a misspelt $end' "${body}#0\n\$dumpvars\nb1 !\n\$edn\n"
+cause 'a misspelt $end' "\$timescale 1ns \$ned\n${body}"
+cause 'a scope without a name, or one that is named $end' "\$scope module \$end \$end\n${body}"
+cause 'a binary file, no text of VCD: FSDB, WLF, SHM, or damaged' 'a\x01\x02\x03\n'
+cause 'the file begins with a byte order mark' "\xef\xbb\xbf${body}"
+cause 'the dump is cut off' "${body}#0\nb"
+same 'vcdkit-explain: nothing' 'cause: there is no dump' \
+    "$(vcdkit-explain - < /dev/null 2> /dev/null | grep -o 'cause: there is no dump')"
+cause 'white space between a value of one bit and its code' \
+    '$var wire 1 ! q $end\n$enddefinitions $end\n#0\n1 !\n'
+iconv -f UTF-8 -t UTF-16 samples/counter.vcd > "$folder/wide.vcd"
+same 'vcdkit-explain: UTF-16' 'the file is UTF-16
+1' "$(explained "$folder/wide.vcd" able)"
+same 'vcdkit-explain: GHDL' 'a nine-state value of VHDL
+1' "$(explained samples/ghdl.vcd able)"
+same 'vcdkit-explain: a section with no end' \
+    'a section ($dumpvars, $dumpall, $dumpoff, $dumpon) whose $end is missing
+1' "$(explained "$folder/open.vcd" able)"
+cat samples/nested.vcd samples/nested.vcd > "$folder/two.vcd"
+same 'vcdkit-explain: two dumps' 'a header in the midst: two dumps in one file
+1' "$(explained "$folder/two.vcd" able)"
+head -n 60 samples/nested.vcd > "$folder/off.vcd"
+same 'vcdkit-explain: cut off' 'the dump is cut off
+1' "$(explained "$folder/off.vcd" able)"
+same 'vcdkit-explain: no such file' 3 "$(explained "$folder/none.vcd" able)"
 
-# What each does with no help, and where there is no program.
-for script in extras/*; do
-    [[ -f $script && -x $script && $script != */test.sh ]] || continue
+# What each does with no help, with a word too many, and where there is no program, package or
+# reader.
+for script in extras/vcdkit-*; do
     name=${script##*/}
-    "$script" --help > "$folder/said" 2>&1
-    same "$name --help" "0 $name" "$? $(head -c ${#name} "$folder/said")"
-    case $name in four_state | join_bits | endmend | test.sh) continue ;; esac
+    same "$name --help" "0 1" \
+        "$(said=$("$name" --help 2>&1); echo "$? $(head -n 1 <<< "$said" | grep -c "$name")")"
+    same "$name: usage" 2 "$("$name" --no-such-option 2> /dev/null; echo $?)"
     case $name in
-        explain) words=(samples/counter.vcd) ;;
-        first_difference) words=(samples/counter.vcd samples/counter.vcd) ;;
-        table_csv | values_csv | pick_by_pattern) words=(samples/counter.vcd clk) ;;
-        *) words=(-i samples/counter.vcd) ;;
+        vcdkit-four-state | vcdkit-endmend) continue ;;
+        vcdkit-join-bits) words=() ;;
+        vcdkit-diff) words=(samples/counter.vcd samples/counter.vcd) ;;
+        vcdkit-table | vcdkit-wave) words=(samples/counter.vcd clk) ;;
+        *) words=(samples/counter.vcd) ;;
     esac
-    same "$name: no program" "3 $name: there is no program none on the PATH; VCDKIT=FILE names it" \
-        "$(said=$(VCDKIT=none "$script" "${words[@]}" 2>&1 > /dev/null); echo "$? $said")"
+    cp -L "$script" "$folder/$name"
+    same "$name: no package" "3 $name: it needs the Python package vcdkit" \
+        "$(said=$("$folder/$name" "${words[@]}" 2>&1); echo "$? ${said%%: install*}")"
+    [[ $name != vcdkit-join-bits ]] || continue
+    same "$name: no program" "3 $name: there is no program none, which VCDKIT names" \
+        "$(said=$(VCDKIT=none VCDKIT_LIBRARY='' "$name" "${words[@]}" 2>&1 > /dev/null)
+           echo "$? $said")"
+    [[ $name == vcdkit-diff ]] ||
+        same "$name: a full device" "3 $name: write failed" \
+            "$(said=$("$name" "${words[@]}" 2>&1 > /dev/full); echo "$? $said")"
 done
 
-# A caller in C and one in Python, where `make library` has left the library, and there is a C
-# compiler.
-if [[ -e libvcd_c.a && -e libvcd_c.so ]] && command -v cc > /dev/null; then
-    cc -std=c99 -Wall -Wextra -Werror -Iextras/c -o "$folder/variables" \
-        extras/c/variables.c libvcd_c.a
-    for dump in samples/*.vcd; do
-        wanted=$(grep -c '\$var' "$dump")
-        same "$dump: variables by C" "$wanted" "$("$folder/variables" < "$dump")"
-        same "$dump: variables by Python" "$wanted" \
-            "$(python3 extras/c/variables.py ./libvcd_c.so "$dump")"
-    done
-    same 'C: the fault of a header' 'fault 7
-1' "$(printf '$var wire 0 ! q $end\n' | "$folder/variables" 2>&1; echo $?)"
-    same 'Python: the fault of a header' 'fault 2
-1' "$(python3 extras/c/variables.py ./libvcd_c.so /dev/null 2>&1; echo $?)"
-else
-    echo 'the callers in C and Python are not tried:' \
-        'there is no libvcd_c.a (make library), or no cc'
-fi
-
-# last_of_times: of rows TIME,VALUE the last one of each time
-last_of_times() {
-    awk -F , '
-        $1 != time && NR > 1 { print time, value }
-        { time = $1; value = $2 }
-        END { print time, value }'
-}
 # sampled DUMP PATH: what sample says of a variable at the times of $folder/values
 sampled() {
     local times
     times=$(cut -d ' ' -f 1 "$folder/values" | paste -s -d ,)
-    "$VCDKIT" sample -i "$1" --at "$times" -- "$2" | sed 's/ r/ /' | cut -d ' ' -f 1,3
+    "$VCDKIT" sample -i "$1" --at "$times" -- "$2" | cut -d ' ' -f 1,3 |
+        awk '$2 ~ /^r/ { $2 = substr($2, 2) + 0 } { print }'
 }
 
 # What holds of any dump: of three simulators here (Icarus Verilog, Verilator, GHDL), and of those
 # that are given.
-extras/four_state < samples/ghdl.vcd > "$folder/ghdl.vcd"
+vcdkit-four-state < samples/ghdl.vcd > "$folder/ghdl.vcd"
 for dump in samples/counter.vcd samples/nested.vcd samples/verilator.vcd "$folder/ghdl.vcd" "$@"; do
     "$VCDKIT" cut -i "$dump" --from 0 --to 18446744073709551615 > "$folder/cut.vcd"
-    extras/first_difference "$dump" "$folder/cut.vcd" > /dev/null
-    same "$dump: no difference from itself, picked and cut" 0 $?
-    same "$dump: join_bits and endmend leave the changes of all" \
+    same "$dump: no difference from itself, cut" 'status 0' \
+        "$(status vcdkit-diff "$dump" "$folder/cut.vcd")"
+    same "$dump: vcdkit-join-bits and vcdkit-endmend leave the changes of all" \
         "$("$VCDKIT" sample -i "$dump" --at 0,7,1000000 | cksum)" \
-        "$(extras/endmend < "$dump" | extras/join_bits | "$VCDKIT" sample --at 0,7,1000000 | cksum)"
-    same "$dump: explain has the report of check" "$("$VCDKIT" check -i "$dump")" \
-        "$(extras/explain "$dump")"
-    extras/four_state < "$dump" | cmp -s - "$dump"
-    same "$dump: four_state leaves four states as they are" 0 $?
-    same "$dump: list_json has the rows of list" "$("$VCDKIT" list -i "$dump" | cksum)" \
-        "$(extras/list_json -i "$dump" | of_rows '[print(*r.values()) for r in rows]' | cksum)"
-    # The first and the last variable that is no event: each value of values_csv, the last of its
-    # time, is that of sample.
+        "$(vcdkit-endmend < "$dump" | vcdkit-join-bits | "$VCDKIT" sample --at 0,7,1000000 | cksum)"
+    same "$dump: vcdkit-explain has the report of check" "$("$VCDKIT" check -i "$dump")" \
+        "$(vcdkit-explain "$dump")"
+    vcdkit-four-state < "$dump" | cmp -s - "$dump"
+    same "$dump: vcdkit-four-state leaves four states as they are" 0 $?
+    same "$dump: vcdkit-find has the rows of list" "$("$VCDKIT" list -i "$dump" | cksum)" \
+        "$(vcdkit-find "$dump" | cksum)"
+    # The first and the last variable that is no event: each value of a table is that of sample.
     paths=$("$VCDKIT" list -i "$dump" |
         awk '$2 != "event" { if (!first) first = $1; last = $1 } END { print first, last }')
     for path in $paths; do
-        extras/values_csv "$dump" "$path" | sed 1d | last_of_times | head -n 1000 > "$folder/values"
-        same "$dump: values of $path" "$(sampled "$dump" "$path")" "$(cat "$folder/values")"
-        extras/table_csv "$dump" "$path" | sed 1d | head -n 1000 | tr , ' ' > "$folder/values"
-        same "$dump: table_csv of $path" "$(sampled "$dump" "$path")" "$(cat "$folder/values")"
+        vcdkit-table --unit tick "$dump" "$path" | sed 1d | head -n 1000 | tr , ' ' \
+            > "$folder/values"
+        same "$dump: vcdkit-table of $path" "$(sampled "$dump" "$path")" "$(cat "$folder/values")"
         pattern=^$(sed 's/[^A-Za-z0-9_.]/[&]/g; s/\\/\\\\/g; s/[.]/[.]/g' <<< "$path")'$'
         same "$dump: pick of $path" "$("$VCDKIT" pick -i "$dump" -- "$path" | cksum)" \
-            "$(extras/pick_by_pattern "$dump" "$pattern" | cksum)"
+            "$(vcdkit-find --pick "$dump" "$pattern" | cksum)"
     done
 done
 

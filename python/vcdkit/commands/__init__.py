@@ -1,0 +1,89 @@
+"""The commands vcdkit-diff, vcdkit-explain, .. : a module each, whose main() the shell calls."""
+import argparse
+import functools
+import os
+import sys
+from typing import Callable, List, Optional
+
+from .. import __version__, _program
+from ..errors import UsageError, VcdkitError
+from ..times import UNITS
+
+STATUSES = """
+exit status:
+  %s
+  1  %s
+  2  usage error
+  3  I/O error, out of memory, or no vcdkit
+
+FILE may be packed (gzip, xz, bzip2, zstd; FST where fst2vcd is on the PATH), a pipe, or - for
+standard input. TIME is a number of ticks, or has a unit, as 115ns or 1.5us.
+VCDKIT names the program, else it is vcdkit on the PATH."""
+
+
+def parser(name: str, text: str, done: str = "0  all was written",
+           failed: str = "a name selects nothing, or not a valid dump") -> argparse.ArgumentParser:
+    """Returns a parser of words, whose help has the text of a command and its exit statuses."""
+    first, _, rest = text.partition("\n")
+    made = argparse.ArgumentParser(
+        prog=name, description=first, epilog=rest.strip("\n") + "\n" * bool(rest.strip())
+        + STATUSES % (done, failed), formatter_class=argparse.RawDescriptionHelpFormatter,
+        allow_abbrev=False)
+    made.add_argument("--version", action="version", version="%s %s" % (name, __version__))
+    return made
+
+
+def add_window(to: argparse.ArgumentParser) -> None:
+    """Adds --from and --to."""
+    to.add_argument("--from", dest="begin", default="0", metavar="TIME", help="the first time")
+    to.add_argument("--to", dest="end", default=str(2**64 - 1), metavar="TIME",
+                    help="the last time")
+
+
+def add_form(to: argparse.ArgumentParser) -> None:
+    """Adds --hex, --decimal and --binary."""
+    for form in "hex", "decimal", "binary":
+        to.add_argument("--" + form, dest="form", action="store_const", const=form,
+                        help="values as %s" % ("all digits" if form == "binary" else form))
+
+
+def unit(text: str) -> str:
+    """Reads the word of --unit."""
+    if text not in UNITS + ("tick",):
+        raise argparse.ArgumentTypeError("it may be tick, %s" % ", ".join(UNITS))
+    return text
+
+
+def command(function: Callable[[List[str]], int]) -> Callable[[Optional[List[str]]], int]:
+    """Makes main() of what takes words and returns a status: errors become a line and a status."""
+    name = "vcdkit-" + function.__module__.rpartition(".")[2].replace("_", "-")
+
+    @functools.wraps(function)
+    def main(words: Optional[List[str]] = None) -> int:
+        # Pipes to the program hold no output in memory, so they come first here.
+        if _program.path():
+            os.environ.setdefault("VCDKIT_WAY", "program")
+        sys.stdout.reconfigure(encoding="utf-8", errors="surrogateescape", newline="\n")
+        sys.stderr.reconfigure(encoding="utf-8", errors="surrogateescape")
+        try:
+            status = function(sys.argv[1:] if words is None else words)
+            sys.stdout.flush()
+            return status
+        except VcdkitError as error:
+            return _said(name, str(error), error.status)
+        except (OSError, KeyboardInterrupt) as error:
+            if isinstance(error, KeyboardInterrupt):
+                return 130
+            os.dup2(os.open(os.devnull, os.O_WRONLY), 1)  # what is left goes nowhere
+            return _said(name, "write failed", UsageError.status + 1)
+
+    return main
+
+
+def _said(name: str, text: str, status: int) -> int:
+    try:
+        sys.stdout.flush()
+    except OSError:
+        os.dup2(os.open(os.devnull, os.O_WRONLY), 1)
+    print("%s: %s" % (name, text), file=sys.stderr)
+    return status

@@ -1,0 +1,180 @@
+"""Checks a dump; at a fault it shows the lines around it, the usual cause and a command that helps
+
+The report or the fault is that of vcdkit check, and so is the status. Bytes that are no text are
+shown as \\xNN, and long lines are cut off. Where no cause is known, the lines are shown alone.
+
+examples:
+  vcdkit-explain sim.vcd
+  ssh lab cat sim.vcd.gz | vcdkit-explain -"""
+import itertools
+import re
+import shlex
+import sys
+
+from .. import Dump, DumpFault
+from . import command, parser
+
+WIDTH = 100
+FRONT = 1 << 16  # how much before a fault is looked at
+NINE = ("a nine-state value of VHDL",
+        "vcdkit-four-state < FILE | vcdkit check    (or run ghdl again with --vcd-4states)")
+STRING = ("a string, which four-state VCD does not have",
+          "vcdkit-four-state < FILE | vcdkit check    (it leaves strings out)")
+PORTS = ("extended VCD, of $dumpports",
+         "evcd2vcd FILE | vcdkit check    (of GTKWave; or take $dumpvars in its place)")
+CUT_OFF = ("vcdkit cut --from 0 --to 18446744073709551615 < FILE > LEFT.vcd    "
+           "(all before the fault)")
+PRODUCER = "let the producer write it anew, or mend the line by hand"
+SECTION = ("a section ($dumpvars, $dumpall, $dumpoff, $dumpon) whose $end is missing",
+           "vcdkit-endmend < FILE | vcdkit check")
+
+# How files begin that are no text: pattern, cause, help.
+BINARY = [
+    (rb"\A\xef\xbb\xbf", "the file begins with a byte order mark",
+     r"sed '1s/^\xEF\xBB\xBF//' < FILE | vcdkit check"),
+    (rb"\A(\xff\xfe|\xfe\xff)", "the file is UTF-16",
+     "iconv -f UTF-16 -t UTF-8 < FILE | vcdkit check"),
+    (rb"\A\x00\x00\x00\x00\x00\x00\x00\x01\x49", "a binary file: FST",
+     "fst2vcd FILE | vcdkit check    (fst2vcd: GTKWave)"),
+    (rb"\A\x13\x80", "a binary file: LXT2", "lxt2vcd FILE | vcdkit check    (lxt2vcd: GTKWave)"),
+    (rb"\AVZ", "a binary file: VZT", "vzt2vcd FILE | vcdkit check    (vzt2vcd: GTKWave)"),
+    (rb"\APK\x03\x04", "a zip archive", "unzip -p FILE | vcdkit check"),
+    (rb"(?s)\A.{0,1024}?[\x00-\x06\x0e-\x1a]", "a binary file, no text of VCD: FSDB, WLF, SHM, or "
+     "damaged", "convert it by a tool of its producer: fsdb2vcd, wlf2vcd, simvisdbutil"),
+]
+# Of a fault: its name, what its line matches, what stands before that, the cause and what helps.
+# The first that fits is shown; an empty pattern fits all.
+CAUSES = [
+    ("", rb"", rb"(?im)^(?![br]\S+\s)(.*\s)?\$(?!end\s)(ned|edn|en|nd|end[a-z;.,]?)\s*$",
+     "a misspelt $end", PRODUCER),
+    ("unknown command", rb"\AMETA ", rb"", "sigrok-cli wrote a line of its own before the dump",
+     "tail -n +2 < FILE | vcdkit check"),
+    ("unknown command", rb"^\s*[\w.]+: +[-+\d.]", rb"",
+     "an analog line of sigrok-cli among those of the dump",
+     "grep -vE '^[A-Za-z0-9_.]+: ' < FILE | vcdkit check    (or leave analog channels out by -C)"),
+    ("unknown command", rb"^\s*[UuWwLlHh-][!-~]+\s*$", rb"", *NINE),
+    ("unknown command", rb"^\s*s\S*\s+\S+\s*$", rb"", *STRING),
+    ("unknown command", rb"\$dumpports|^\s*p\S+ +\d", rb"", *PORTS),
+    ("unknown command", rb"\$vcdclose", rb"", "extended VCD: $vcdclose ends such a dump",
+     "grep -v '^\\$vcdclose' < FILE | vcdkit check"),
+    ("unknown command", rb"\A\$\w+\s*\n\Z", rb"", "a command that no body has", PRODUCER),
+    ("command out of place", rb"", rb"\$enddefinitions\s+(?!\$end\s)\S", "$enddefinitions without "
+     "its $end", r"sed 's/^\$enddefinitions[ \t]*$/$enddefinitions $end/' < FILE | vcdkit check"),
+    ("command out of place", rb"^\s*\$end\s*$", rb"", "an $end that ends nothing",
+     "vcdkit-endmend < FILE | vcdkit check"),
+    ("command out of place", rb"^\s*[#01bxzr]", rb"",
+     "no header: a later part of a dump that was split, or a cut-off begin",
+     "cat FIRST FILE .. | vcdkit check    (all parts in order)"),
+    ("command out of place", rb"^\s*\$", rb"", "a header in the midst: two dumps in one file",
+     "vcdkit merge ONE OTHER    (of the two dumps by themselves)"),
+    ("bad value", rb"^\s*[bB][01xXzZ]*[UuWwLlHh-][01xXzZUuWwLlHh-]*\s", rb"", *NINE),
+    ("bad value", rb"^\s*[01xXzZ]\s+\S", rb"",
+     "white space between a value of one bit and its code",
+     r"sed -E 's/^([01xXzZ])[ \t]+/\1/' < FILE | vcdkit check"),
+    ("bad scope", rb"\$scope\s+\S+\s+\$end", rb"",
+     "a scope without a name, or one that is named $end",
+     "give it a name in the source: \\$end and the like are words of VCD"),
+    ("bad scope", rb"\$scope\s+\S+\s+\S+\s+(?!\$end)\S", rb"", "a scope's name with a space in it",
+     PRODUCER),
+    ("bad variable", rb"\$var\s+string\s", rb"", *STRING),
+    ("bad variable", rb"\$var\s+port\s|\$var\s+\S+\s+\[", rb"", *PORTS),
+    ("bad variable", rb"\$var\s+\S+\s+0\s", rb"", "a variable of no bits",
+     "leave it out of the dump, in the source"),
+    ("bad timescale", rb"\b1(0|00)?\s*[MUNPF]?S\b", rb"", "a unit in upper case",
+     r"sed -E '/\$timescale/,/\$end/s/([MUNPF]?S)\b/\L\1/' < FILE | vcdkit check    (GNU sed)"),
+    ("bad timescale", rb"", rb"",
+     "a number that is not 1, 10 or 100, or a unit that is none of s, ms, us, ns, ps, fs",
+     "mend the line, by sed for one"),
+    ("time inside a section", rb"", rb"", *SECTION),
+    ("bad time", rb"#-", rb"", "a negative time",
+     "sed '/^#-/d' < FILE | vcdkit check    (what it had comes before the first timestamp)"),
+    ("bad time", rb"#\d+\.", rb"", "a time with a fraction",
+     "take a finer time scale in the simulation"),
+    ("time goes back", rb"", rb"",
+     "lines in another order; in the last line a dump that is cut off", CUT_OFF),
+    ("unexpected end of input", rb"", rb"\A\s*\Z", "there is no dump: nothing was "
+     "written to the pipe, or the simulation never came to $dumpvars", "look at its messages"),
+    ("unexpected end of input", rb"", rb"", "the dump is cut off", "run again, or " + CUT_OFF),
+    ("unknown code", rb"", rb"", "header and body do not belong together, or the line is damaged",
+     PRODUCER),
+    ("value too wide", rb"", rb"", "more digits than the variable has bits", PRODUCER),
+    ("token too long", rb"", rb"", "a value of very many digits, or a binary file",
+     "vcdkit check --token-limit 16777216 < FILE"),
+]
+
+
+def cause_of(fault, front, before, bad):
+    """Returns cause and help of a fault, by the front of the file, what is before the bad line, and
+    that line; None where none is known."""
+    for pattern, cause, remedy in BINARY:
+        if re.search(pattern, front):
+            return cause, remedy
+    for of, pattern, earlier, cause, remedy in CAUSES:
+        if of in ("", fault) and re.search(pattern, bad) and re.search(earlier, before + bad):
+            return cause, remedy
+    if re.search(rb"[\x00-\x06\x0e-\x1a\x7f-\xff]", bad):
+        return "bytes that are no text: the file is damaged here", CUT_OFF
+    if not bad.endswith(b"\n"):  # the last line of the file
+        return "the dump is cut off", "run again, or " + CUT_OFF
+    return None
+
+
+def printable(line):
+    """Returns the begin of a line as text."""
+    text = line[:WIDTH].rstrip(b"\r\n").decode("ascii", "backslashreplace")
+    return "".join(c if " " <= c <= "~" or c == "\t" else "\\x%02x" % ord(c) for c in text)
+
+
+def with_file(remedy, name, unpacker):
+    """Returns a remedy with the file in it, or with what unpacks it, or with a pipe."""
+    file = shlex.quote(name)
+    source = [".."] if name.startswith(("(stdin)", "/dev/")) else []
+    if unpacker:
+        source.append(" ".join(unpacker) if source else
+                      " ".join([word for word in unpacker if word[0] != "/"] + [file]))
+    if source:
+        remedy = re.sub(r"\A(run again, or )?(.*?) < FILE",
+                        lambda found: "%s%s | %s" % (found.group(1) or "", " | ".join(source),
+                                                     found.group(2)), remedy)
+    return remedy.replace("FILE", file)
+
+
+def explain(dump, fault, unpacker):
+    """Shows the lines around a fault, its cause and what helps."""
+    before, bad, front = b"", b"", b""
+    with dump.open() as text:
+        for number, line in enumerate(itertools.islice(text, fault.line + 1), 1):
+            if number >= fault.line - 2:
+                print("%s %6d | %s" % (">" if number == fault.line else " ", number,
+                                       printable(line)))
+            if len(front) < FRONT:
+                front += line[:FRONT]
+            if number < fault.line:
+                before = (before + line)[-FRONT:]
+            bad = line if number == fault.line else bad
+    found = cause_of(fault.fault, front, before, bad)
+    if found:
+        print("cause: " + found[0])
+        print("help:  " + with_file(found[1], dump.name, unpacker))
+
+
+@command
+def main(words):
+    of = parser("vcdkit-explain", __doc__, "0  a valid dump, as far as it goes", "not a valid dump")
+    of.add_argument("--token-limit", type=int, metavar="N",
+                    help="how long a token may be, in bytes")
+    of.add_argument("file", metavar="FILE")
+    asked = of.parse_args(words)
+    dump = Dump(asked.file, token_limit=asked.token_limit)
+    unpacker = dump.unpacker()
+    if unpacker:
+        print("packed: " + with_file("vcdkit check < FILE", dump.name, unpacker), flush=True)
+    try:
+        report = dump.check()
+    except DumpFault as fault:
+        print("vcdkit: %s" % fault, file=sys.stderr, flush=True)
+        explain(dump, fault, unpacker)
+        return fault.status
+    for key, value in report._asdict().items():
+        print(key, "-" if value is None else value)
+    return 0

@@ -1,0 +1,80 @@
+"""Says what a dump is: its time scale, first and last timestamps, counts and largest scopes
+
+A line is a word and what it says. The first and the last timestamp are shown in units and, where
+that differs, in ticks. `types` counts the variables of each type, `bits` those of all codes. The
+largest scopes are those with most variables of their own. At a fault of the body, what the header
+says is there, and the fault is on the error stream.
+
+examples:
+  vcdkit-info sim.vcd.xz
+  vcdkit-info --json sim.vcd | jq .last"""
+import json
+from collections import Counter
+
+from .. import Dump, _body
+from . import command, parser
+
+
+def first_tick(dump):
+    """Returns the time of the first change; None where there is none."""
+    names = sorted({one.path.partition(".")[0] for one in dump.signals})
+    if not names:
+        return None
+    with dump.pick(names).open() as out:
+        _body.skip_header(out)
+        return next((int(line[1:]) for line in out if line[:1] == b"#"), None)
+
+
+def of_header(dump, most):
+    """Returns what the header says, as pairs; without the file's name."""
+    date, version, scale = dump.header
+    types = Counter(one.type for one in dump.signals)
+    scopes = Counter(one.path.rpartition(".")[0] for one in dump.signals)
+    sizes = {one.code: one.size for one in dump.signals}
+    yield "date", date
+    yield "version", version
+    yield "timescale", str(scale) if scale else None
+    yield "types", {kind: count for kind, count in types.most_common()}
+    yield "bits", sum(sizes.values())
+    yield "largest", {scope: count for scope, count in scopes.most_common(most)}
+
+
+def shown(key, value):
+    """Returns the lines of a value, for a reader."""
+    if isinstance(value, dict) and key == "largest":
+        return ["largest %s %d" % (scope or "(top)", count) for scope, count in value.items()]
+    if isinstance(value, dict):
+        value = ", ".join("%s %d" % pair for pair in value.items())
+    return ["%s %s" % (key, "-" if value in (None, "") else value)]
+
+
+@command
+def main(words):
+    of = parser("vcdkit-info", __doc__, failed="not a valid dump")
+    of.add_argument("--json", action="store_true", help="as one object of JSON")
+    of.add_argument("--scopes", type=int, default=5, metavar="N",
+                    help="how many of the largest scopes (5)")
+    of.add_argument("file", metavar="FILE")
+    asked = of.parse_args(words)
+    dump = Dump(asked.file)
+    facts = {"file": dump.name, **dict(of_header(dump, asked.scopes))}
+    if not asked.json:
+        for key, value in facts.items():
+            for line in shown(key, value):
+                print(line, flush=True)
+    report = dump.check()
+    counts = {key: value for key, value in report._asdict().items() if key != "last"}
+    for key, tick in ("first", first_tick(dump)), ("last", report.last):
+        text = None if tick is None else dump.time(tick)
+        counts[key] = text
+        counts[key + "_tick"] = tick
+        if not asked.json and text not in (None, str(tick)):
+            text += " (tick %d)" % tick
+        if not asked.json:
+            print(key, text or "-")
+    if asked.json:
+        print(json.dumps({**facts, **counts}, indent=1))
+    else:
+        for key in ("scopes", "variables", "codes", "times", "sections", "changes"):
+            print(key, counts[key])
+    return 0

@@ -1,0 +1,61 @@
+"""Writes the values of several signals as CSV, a column for each
+
+A row for each time at which one of them changed, with their values at its end. With --rise or
+--fall, a row for each time at which a clock rises or falls, with the values just before that time,
+as a flip-flop takes them. With --at, a row for each of these times. So what comes and goes within
+one time is not seen, and events have no column.
+
+Values have all their digits; --hex and --decimal change them, where an x or a z is: --hex shows x
+or z for four such digits, X for others, and --decimal leaves them. `-` is no value yet. Times are
+whole numbers of the unit of the time scale, or exact ones of --unit.
+
+examples:
+  vcdkit-table --hex --at 10ns,20ns,30ns sim.vcd tb.pc tb.bus
+  vcdkit-table --decimal --rise tb.clk --from 1us sim.vcd.gz tb.cpu
+  vcdkit-table --unit tick sim.vcd tb.count"""
+import csv
+import sys
+
+from .. import Dump, Value
+from . import add_form, add_window, command, parser, unit
+
+
+def shown(value, size, form):
+    """Returns a value as a cell has it."""
+    if value is None:
+        return "-"
+    if not isinstance(value, Value):
+        return repr(value)[:-2] if repr(value).endswith(".0") else repr(value)
+    if form == "hex":
+        return value.hex()
+    return int(value) if form == "decimal" and value.is_known else value
+
+
+@command
+def main(words):
+    of = parser("vcdkit-table", __doc__)
+    add_form(of)
+    which = of.add_mutually_exclusive_group()
+    which.add_argument("--rise", metavar="CLOCK", help="a row where this signal rises")
+    which.add_argument("--fall", metavar="CLOCK", help="a row where this signal falls")
+    which.add_argument("--at", metavar="TIME,..", help="a row at each of these times")
+    add_window(of)
+    of.add_argument("--unit", type=unit, help="the unit of the times: tick, s, ms, us, ns, ps, fs")
+    of.add_argument("file", metavar="FILE")
+    of.add_argument("names", metavar="NAME", nargs="+")
+    asked = of.parse_args(words)
+    whole = Dump(asked.file)
+    columns = [one for one in whole.select(asked.names) if one.type != "event"]
+    scale = whole.timescale
+    in_unit = asked.unit or (scale.unit if scale else "tick")
+    whole.ticks("0" if in_unit == "tick" else "0" + in_unit)  # a unit needs a time scale
+    is_part = (asked.begin, asked.end) != (of.get_default("begin"), of.get_default("end"))
+    # Values at the begin of a cut are a section, and none that changed.
+    dump = whole.cut(asked.begin, asked.end) if is_part and not asked.at else whole
+    out = csv.writer(sys.stdout, lineterminator="\n")
+    out.writerow(["time (%s)" % in_unit] + [one.path for one in columns])
+    at = asked.at.split(",") if asked.at else None
+    for time, values in dump.rows(asked.names, at, asked.rise, asked.fall):
+        out.writerow([time if in_unit == "tick" else scale.decimal(time, in_unit)] + [
+            shown(value, one.size, asked.form) for value, one in zip(values, columns)])
+    return 0
