@@ -10,24 +10,24 @@
 #     what they print, and the must-fail edits that PROOFS lists, and looks for links that lead
 #     nowhere and for pages above their budgets of words: seconds
 # make static  links ./vcdkit-static, the program without any shared library: seconds after make
-# make dist    a tarball and a Debian package of it in dist/, with documents, man page, completions
-#     and extras
+# make dist    a tarball, Debian packages and a wheel of it in dist/, with documents, man page,
+#     completions, scripts and the Python package; with ./libvcdkit.so too, where it is
 # make library ./libvcd_c.a and ./libvcd_c.so, for callers in C and Python: a minute or two after
 #     make
-# make dist-check          tries both without the kit, and that they come out the same byte for
+# make dist-check          tries them without the kit, and that they come out the same byte for
 #     byte: a minute
 # make clean   drops what was built, and what the proofs kept
 # make install [PREFIX=/usr/local] [DESTDIR=]    puts ./vcdkit, as it was built, its man page,
-#     completions, extras and documents in place
+#     completions, scripts, Python package (PYTHON_FOLDER=) and documents in place
 # make uninstall [PREFIX=..] [DESTDIR=..]        takes them away again
 # make completions-check    compares the completions and the man page with the help of ./vcdkit: a
 #     second
-# make extras-check         tries extras/ with ./vcdkit: some seconds
+# make extras-check         tries extras/ and python/ with ./vcdkit: half a minute
 
 sample := samples/counter.vcd
 
-.PHONY: all test hostile docs-check clean vcdkit toolchain static library dist dist-check install \
-    uninstall completions-check extras-check
+.PHONY: all test hostile docs-check clean vcdkit toolchain sources static library dist dist-check \
+    install uninstall completions-check extras-check
 
 # The processor that is built for; none for any of x86-64 with SSE4.2.
 CPU ?=
@@ -40,9 +40,10 @@ bash_words := $(DESTDIR)$(PREFIX)/share/bash-completion/completions
 # installed beside packages.
 ZSH_FOLDER ?= $(PREFIX)/share/zsh/$(if $(filter /usr,$(PREFIX)),vendor-completions,site-functions)
 zsh_words := $(DESTDIR)$(ZSH_FOLDER)
-extras := endmend explain first_difference four_state join_bits list_json pick_by_pattern \
-    table_csv values_csv
-scripts := $(DESTDIR)$(PREFIX)/share/vcdkit/extras
+scripts := $(notdir $(wildcard extras/vcdkit-*))
+# Where the Python package goes: the scripts look there, and where Python finds it.
+PYTHON_FOLDER ?= $(PREFIX)/share/vcdkit/python
+python := $(DESTDIR)$(PYTHON_FOLDER)/vcdkit
 documents := $(DESTDIR)$(PREFIX)/share/doc/vcdkit
 
 all: vcdkit
@@ -73,12 +74,12 @@ docs-check:
 	packaging/links.py .
 
 # Both link and pack what `make` built, and prove nothing.
-static:
+static: sources
 	packaging/static.sh vcdkit-static
 
-dist:
+dist: sources
 	packaging/static.sh vcdkit-static
-	packaging/dist.sh vcdkit-static dist
+	packaging/dist.sh vcdkit-static dist $(wildcard libvcdkit.so)
 
 # A static library for C, proved as the program is, and the same as a shared one.
 library: toolchain
@@ -91,7 +92,12 @@ dist-check:
 clean:
 	rm -rf vcdkit vcdkit-static libvcd_c.a libvcd_c.so dist make.log crates/*/out
 
-toolchain:
+# A tarball has the built program, and no crates.
+sources:
+	@test -d crates || { echo "make: this folder has the built program, and not its sources:" \
+	    "run make install, or ./vcdkit" >&2; exit 1; }
+
+toolchain: sources
 	@command -v rt > /dev/null || \
 	    { echo "make: there is no command rt. It comes with the Rattle kit:" \
 	    "see README.md, \"Set up\"." >&2; exit 1; }
@@ -99,24 +105,20 @@ toolchain:
 # Nothing is built or proved here, so that no proof runs as root: `make` comes first.
 install:
 	@test -x vcdkit || { echo "make: there is no ./vcdkit to install. Run make first." >&2; exit 1; }
-	install -d "$(bin)" "$(man)" "$(bash_words)" "$(zsh_words)" "$(scripts)"
-	install -d "$(documents)/docs" "$(documents)/samples" "$(documents)/bench" "$(documents)/hostile"
-	install -m 755 vcdkit "$(bin)/vcdkit"
+	install -d "$(bin)" "$(man)" "$(bash_words)" "$(zsh_words)" "$(python)/commands"
+	install -m 755 vcdkit $(addprefix extras/,$(scripts)) "$(bin)"
 	install -m 644 man/vcdkit.1 "$(man)/vcdkit.1"
 	install -m 644 completions/vcdkit.bash "$(bash_words)/vcdkit"
 	install -m 644 completions/_vcdkit "$(zsh_words)/_vcdkit"
-	install -m 755 $(addprefix extras/,$(extras)) "$(scripts)"
-	install -m 644 extras/README.md extras/dumps.py "$(scripts)"
-	install -m 644 README.md CHANGELOG.md CONTRIBUTING.md NOTICE.md "$(documents)"
-	install -m 644 docs/*.md "$(documents)/docs"
-	install -m 644 bench/README.md "$(documents)/bench"
-	install -m 644 hostile/README.md "$(documents)/hostile"
-	install -m 644 samples/* "$(documents)/samples"
-	ln -sfn ../../vcdkit/extras "$(documents)/extras"
+	install -m 644 python/vcdkit/*.py python/vcdkit/py.typed "$(python)"
+	install -m 644 python/vcdkit/commands/*.py "$(python)/commands"
+	if test -e libvcdkit.so; then install -m 644 libvcdkit.so "$(python)"; fi
+	packaging/pages.sh "$(documents)"
 
 uninstall:
-	rm -f "$(bin)/vcdkit" "$(man)/vcdkit.1" "$(bash_words)/vcdkit" "$(zsh_words)/_vcdkit"
-	rm -rf "$(DESTDIR)$(PREFIX)/share/vcdkit" "$(documents)"
+	rm -f "$(bin)/vcdkit" $(foreach script,$(scripts),"$(bin)/$(script)") "$(man)/vcdkit.1" \
+	    "$(bash_words)/vcdkit" "$(zsh_words)/_vcdkit"
+	rm -rf "$(DESTDIR)$(PREFIX)/share/vcdkit" "$(python)" "$(documents)"
 
 completions-check:
 	completions/check.sh

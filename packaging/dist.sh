@@ -1,22 +1,27 @@
 #!/usr/bin/env bash
-# dist.sh PROGRAM FOLDER: packs a program, with documents, man page, completions, samples and
-# extras, into the folder:
+# dist.sh PROGRAM FOLDER [LIBRARY]: packs a program, with documents, man page, completions, samples,
+# extras and the Python package, into the folder:
 #   vcdkit-VERSION-x86_64-linux.tar.gz   to unpack and run, or `make install` in it
-#   vcdkit_VERSION_amd64.deb             a Debian package, where there is dpkg-deb
+#   vcdkit_VERSION_amd64.deb             a Debian package of the program, where there is dpkg-deb
+#   python3-vcdkit_VERSION_*.deb         one of the Python package and of vcdkit-diff, ..
+#   vcdkit-VERSION-py3-none-linux_x86_64.whl    all of it for pip, the program too
 #   vcdkit-VERSION-relink.tar.gz         the object files, for who wants to link the program with
 #                                        another C library (NOTICE.md)
-# The same files give the same bytes: names are sorted, owner and modes fixed, and all times are
-# SOURCE_DATE_EPOCH, else that of the last commit. MAINTAINER is who stands in the package.
+# LIBRARY is libvcdkit.so, which goes into the Python packages, and with what `make library` left
+# beside it into the tarball. The same files give the same bytes: names are sorted, owner and
+# modes fixed, and all times are SOURCE_DATE_EPOCH, else that of the last commit. MAINTAINER is who
+# is named in the Debian packages, else the author of that commit.
 set -eu
-[[ $# == 2 ]] || { sed -n '2,/^set/s/^# //p' "$0"; exit 2; }
+[[ $# == 2 || $# == 3 ]] || { sed -n '2,/^set/s/^# //p' "$0"; exit 2; }
 top=$(cd "$(dirname "$0")/.." && pwd)
-program=$(realpath "$1")
+program=$(realpath "$1") library=${3:+$(realpath -s "$3")}
 mkdir -p "$2"
 out=$(realpath "$2")
 cd "$top"
 umask 022
-export LC_ALL=C TZ=UTC
+export LC_ALL=C TZ=UTC PYTHONDONTWRITEBYTECODE=1
 export SOURCE_DATE_EPOCH=${SOURCE_DATE_EPOCH:-$(git log -1 --format=%ct 2> /dev/null || echo 0)}
+maintainer=${MAINTAINER:-$(git log -1 --format='%an <%ae>' 2> /dev/null || echo vcdkit)}
 version=$("$program" --version | cut -d ' ' -f 2)
 folder=$(mktemp -d)
 trap 'rm -rf "$folder"' EXIT
@@ -33,8 +38,11 @@ kit=${KIT:-}
 # licences FOLDER: the texts that go with the program, as NOTICE.md says
 licences() {
     mkdir -p "$1"
-    cp "$kit/rattle/clap/LICENSE-MIT" "$1/clap.MIT"
-    cp "$kit/rattle/clap/LICENSE-APACHE" "$1/clap.Apache-2.0"
+    local part
+    for part in clap indexmap; do
+        cp "$kit/rattle/$part/LICENSE-MIT" "$1/$part.MIT"
+        cp "$kit/rattle/$part/LICENSE-APACHE" "$1/$part.Apache-2.0"
+    done
     cp "$kit/rattle/strsim/LICENSE" "$1/strsim.MIT"
     cp "$kit/rattle/itoa/LICENSE" "$1/itoa.MIT"
     cp /usr/share/common-licenses/LGPL-2.1 "$1/glibc.LGPL-2.1"
@@ -43,49 +51,86 @@ licences() {
 # The tarball: the files of the repository that need no kit, and the program.
 name=vcdkit-$version-x86_64-linux
 mkdir "$folder/$name"
-cp -r Makefile README.md CHANGELOG.md CONTRIBUTING.md NOTICE.md \
-    docs man completions samples extras packaging "$folder/$name"
-mkdir "$folder/$name/bench" "$folder/$name/hostile"
-cp bench/README.md "$folder/$name/bench"
-cp hostile/README.md "$folder/$name/hostile"
+cp -r Makefile man completions samples extras packaging python "$folder/$name"
+mkdir "$folder/$name/docs"
+cp docs/check.py docs/edits.py "$folder/$name/docs"
+packaging/pages.sh "$folder/$name"
 find "$folder/$name" -name __pycache__ -exec rm -rf {} +
 install -m 755 "$program" "$folder/$name/vcdkit"
-[[ ! -e libvcd_c.a || ! -e libvcd_c.so ]] || cp libvcd_c.a libvcd_c.so "$folder/$name"
+if [[ -n $library ]]; then
+    for file in "${library%.so}".* "$(dirname "$library")/vcdkit.pc"; do
+        [[ ! -e $file ]] || cp -P "$file" "$folder/$name"
+    done
+fi
 licences "$folder/$name/licences"
 packed "$name"
 
-# The package: what `make install` puts in place, with the man page packed and the notices where
-# Debian has them.
-if command -v dpkg-deb > /dev/null; then
-    tree=$folder/deb
-    make -s -C "$folder/$name" install DESTDIR="$tree" PREFIX=/usr > /dev/null
-    gzip -9n "$tree/usr/share/man/man1/vcdkit.1"
-    mv "$tree/usr/share/doc/vcdkit/NOTICE.md" "$tree/usr/share/doc/vcdkit/copyright"
-    ln -s copyright "$tree/usr/share/doc/vcdkit/NOTICE.md"
-    licences "$tree/usr/share/doc/vcdkit/licences"
+# The wheel: all for pip.
+"$folder/$name/packaging/wheel.py" "$out" "$folder/$name/vcdkit" $library
+
+# deb PACKAGE ARCHITECTURE < CONTROL: the folder PACKAGE as a Debian package, with its changelog and
+# its copyright file
+deb() {
+    local tree=$folder/$1 documents=$folder/$1/usr/share/doc/$1 size
+    mkdir -p "$tree/DEBIAN" "$documents"
+    cp packaging/copyright "$documents/copyright"
+    printf 'vcdkit (%s) unstable; urgency=medium\n\n  * %s\n\n -- %s  %s\n' "$version" \
+        'CHANGELOG.md of the package vcdkit says what it has.' "$maintainer" \
+        "$(date -R -d "@$SOURCE_DATE_EPOCH")" | gzip -9n > "$documents/changelog.gz"
     size=$(find "$tree/usr" -type f -size +0 -printf '%s\n' |
         awk '{ k += int(($1 + 1023) / 1024) } END { print k }')
-    mkdir "$tree/DEBIAN"
-    cat > "$tree/DEBIAN/control" <<END
-Package: vcdkit
-Version: $version
-Architecture: amd64
-Maintainer: ${MAINTAINER:-vcdkit <vcdkit@localhost>}
-Installed-Size: $size
-Section: electronics
-Priority: optional
-Recommends: python3
-Suggests: gtkwave, pv
-Description: reads value change dumps (VCD) and answers questions about them
- Seven commands over the dumps of simulators: check, list, pick, cut, sample,
- edges and merge. Memory does not grow with the length of a dump. The answers
- are proved; README.md says what of it is, and what is not. Some small scripts
- that are not proved lie in /usr/share/vcdkit/extras.
-END
+    { printf 'Package: %s\nVersion: %s\nArchitecture: %s\nMaintainer: %s\nInstalled-Size: %s\n' \
+        "$1" "$version" "$2" "$maintainer" "$size"; cat; } > "$tree/DEBIAN/control"
     (cd "$tree" && find usr -type f | sort | xargs -d '\n' md5sum > DEBIAN/md5sums)
     find "$tree" -type d -exec chmod 755 {} +
     find "$tree" -exec touch -h -d "@$SOURCE_DATE_EPOCH" {} +
-    dpkg-deb --root-owner-group -Zxz -b "$tree" "$out/vcdkit_${version}_amd64.deb" > /dev/null
+    dpkg-deb --root-owner-group -Zxz -b "$tree" "$out/$1_${version}_$2.deb" > /dev/null
+}
+
+# The packages: what `make install` puts in place, in two parts.
+if command -v dpkg-deb > /dev/null; then
+    rm -f "$out"/*vcdkit_*.deb
+    tree=$folder/vcdkit
+    make -s -C "$folder/$name" install DESTDIR="$tree" PREFIX=/usr \
+        PYTHON_FOLDER=/usr/lib/python3/dist-packages > /dev/null
+    gzip -9n "$tree/usr/share/man/man1/"*.1
+    licences "$tree/usr/share/doc/vcdkit/licences"
+    python=$folder/python3-vcdkit
+    mkdir -p "$python/usr/bin" "$python/usr/lib"
+    mv "$tree/usr/lib/python3" "$python/usr/lib"
+    rm -rf "$tree/usr/lib" "$tree/usr/include"  # the library for C is in the tarball
+    for script in "$tree"/usr/bin/vcdkit-*; do
+        head -n 1 "$script" | grep -q python3 || continue
+        sed '1s,.*,#!/usr/bin/python3,' "$script" > "$python/usr/bin/${script##*/}"
+        chmod 755 "$python/usr/bin/${script##*/}"
+        rm "$script"
+    done
+    deb vcdkit amd64 <<'END'
+Section: electronics
+Priority: optional
+Recommends: python3-vcdkit
+Suggests: gtkwave, pv
+Description: value change dumps (VCD): check, list, pick, cut, sample, edges, merge
+ Seven commands over the dumps of simulators. Memory does not grow with the
+ length of a dump. The answers are proved; README.md says what of it is, and
+ what is not.
+END
+    architecture=all depends=
+    if [[ -n $library ]]; then
+        architecture=amd64 depends=', libc6 (>= 2.34)'
+        install -m 644 "$library" "$python/usr/lib/python3/dist-packages/vcdkit/libvcdkit.so"
+    fi
+    deb python3-vcdkit $architecture <<END
+Section: python
+Priority: optional
+Depends: python3 (>= 3.8), vcdkit (= $version)$depends
+Recommends: python3-numpy
+Suggests: gtkwave, zstd
+Description: value change dumps (VCD) in Python, and commands over them
+ The Python package vcdkit, which asks the program vcdkit or its library, and
+ commands over it: vcdkit-diff, vcdkit-explain, vcdkit-find, vcdkit-info,
+ vcdkit-table, vcdkit-wave and vcdkit-x. They are tested, and not proved.
+END
 fi
 
 # What a new link takes.
@@ -105,5 +150,5 @@ cd "$(dirname "$0")" &&
 END
 chmod 755 "$folder/$relink/relink.sh"
 packed "$relink"
-(cd "$out" && ls -l "$name.tar.gz" "vcdkit_${version}_amd64.deb" "$relink.tar.gz" 2> /dev/null |
-    awk '{ print "packed " $NF ": " $5 " bytes" }')
+(cd "$out" && ls -l "$name.tar.gz" ./*vcdkit_*.deb ./*.whl "$relink.tar.gz" 2> /dev/null |
+    awk '{ sub(/^\.\//, "", $NF); print "packed " $NF ": " $5 " bytes" }')

@@ -1,8 +1,9 @@
 #!/usr/bin/env bash
 # try_dist.sh FOLDER: tries what dist.sh left in the folder, on a path without the kit: that all
 # checks pass in the unpacked tarball, that the program runs where there is no other file, that the
-# package has what it should and links of its pages lead somewhere, that relink.sh links, and, in
-# the repository, that packing again gives the same bytes.
+# Debian packages have what they should and links of their pages lead somewhere, that the wheel can
+# be installed, that relink.sh links, and, in the repository, that packing again gives the same
+# bytes.
 set -u
 [[ $# == 1 ]] || { sed -n '2,/^set/s/^# //p' "$0"; exit 2; }
 top=$(cd "$(dirname "$0")/.." && pwd)
@@ -26,6 +27,8 @@ without_kit bash -c '! command -v rt' > /dev/null ||
     { echo "try_dist.sh: there is an rt in /usr/bin or /bin" >&2; exit 1; }
 tarball=$(ls "$out"/vcdkit-*-x86_64-linux.tar.gz) || exit 1
 package=$(ls "$out"/vcdkit_*_amd64.deb 2> /dev/null)
+for_python=$(ls "$out"/python3-vcdkit_*.deb 2> /dev/null)
+wheel=$(ls "$out"/vcdkit-*.whl)
 relink=$(ls "$out"/vcdkit-*-relink.tar.gz 2> /dev/null)
 
 mkdir "$folder/tar"
@@ -37,6 +40,8 @@ tries 'the program needs no shared library' \
 for target in docs-check extras-check completions-check; do
     tries "make $target" without_kit make -s "$target"
 done
+tries 'make says what to do' bash -c '! make static > "$1" 2>&1 && grep -q "make install" "$1"' - \
+    "$folder/static"
 tries 'links of the pages' without_kit packaging/links.py .
 tries 'make install' without_kit make -s install DESTDIR="$folder/local"
 tries 'links of the installed pages' \
@@ -52,28 +57,52 @@ into_root=(chroot)
 tries 'the program alone in a root' bash -c '"$@" | grep -qx "last 1220"' - \
     "${into_root[@]}" "$folder/root" /vcdkit check -i nested.vcd
 
-# The files that `make install` put into the current folder, by their names in the package.
+# The files that `make install` put into the current folder, by their names in the packages, but for
+# what the packages add or leave to the tarball.
 installed() {
-    find . ! -type d | sed 's/vcdkit\.1$/&.gz/'
-    echo ./usr/share/doc/vcdkit/copyright
+    find . ! -type d | sed 's/\.1$/&.gz/' | grep -vE '/include/|/lib/(libvcdkit|pkgconfig)'
 }
+added='/licences/|/copyright$|/changelog\.gz$'
 
 if [[ -n $package ]]; then
-    tries 'the package is unpacked' dpkg-deb -x "$package" "$folder/deb"
+    tries 'the packages are unpacked' bash -c 'for package in "${@:2}"; do
+        dpkg-deb -x "$package" "$1/deb" || exit 1; done' - "$folder" "$package" "$for_python"
     tries 'the program of the package' cmp vcdkit "$folder/deb/usr/bin/vcdkit"
-    make -s install DESTDIR="$folder/usr" PREFIX=/usr
-    tries 'its files are those of make install' diff \
+    make -s install DESTDIR="$folder/usr" PREFIX=/usr PYTHON_FOLDER=/usr/lib/python3/dist-packages
+    tries 'their files are those of make install' diff \
         <(cd "$folder/usr" && installed | sort) \
-        <(cd "$folder/deb" && find . ! -type d | grep -v /licences/ | sort)
-    tries 'its sums' bash -c 'dpkg-deb -e "$1" "$2/control" && cd "$2/deb" &&
-        md5sum --quiet -c ../control/md5sums' - "$package" "$folder"
+        <(cd "$folder/deb" && find . ! -type d | grep -vE "$added" | sort)
+    for one in "$package" "$for_python"; do
+        tries "the sums of ${one##*/}" bash -c 'dpkg-deb -e "$1" "$2/control" && cd "$2/deb" &&
+            md5sum --quiet -c ../control/md5sums' - "$one" "$folder"
+        ! command -v lintian > /dev/null ||
+            tries "lintian on ${one##*/}" bash -c '! lintian "$1" | grep "^E: "' - "$one"
+    done
     tries 'links of its pages' without_kit packaging/links.py "$folder/deb/usr/share/doc/vcdkit"
     tries 'its man page' bash -c 'gzip -dc "$1" | groff -man -ww -z 2>&1 | { ! grep .; }' - \
         "$folder/deb/usr/share/man/man1/vcdkit.1.gz"
-    tries 'an extra of the package' bash -c 'export PATH=$1/usr/bin:/usr/bin:/bin
-        "$1/usr/share/vcdkit/extras/list_json" -i samples/counter.vcd | grep -q count0' - \
-        "$folder/deb"
+    tries 'a script of the package' bash -c 'export PATH=$1/usr/bin:/usr/bin:/bin
+        export PYTHONPATH=$1/usr/lib/python3/dist-packages
+        vcdkit-find samples/counter.vcd | grep -q count0' - "$folder/deb"
 fi
+tries 'the wheel has what its RECORD says' python3 - "$wheel" <<'END'
+import base64, hashlib, sys, zipfile
+wheel = zipfile.ZipFile(sys.argv[1])
+names = wheel.namelist()
+record, = [name for name in names if name.endswith(".dist-info/RECORD")]
+rows = [row.split(",") for row in wheel.read(record).decode().splitlines()]
+assert sorted(row[0] for row in rows) == sorted(names), set(names) ^ {row[0] for row in rows}
+for name, digest, size in rows[:-1]:
+    data = wheel.read(name)
+    found = base64.urlsafe_b64encode(hashlib.sha256(data).digest()).rstrip(b"=").decode()
+    assert (digest, size) == ("sha256=" + found, str(len(data))), name
+END
+tries 'the wheel is installed, and answers' bash -c 'python3 -m venv "$2/venv" &&
+    "$2/venv/bin/pip" install --no-index --disable-pip-version-check -q "$1" &&
+    export PATH="$2/venv/bin:/usr/bin:/bin" &&
+    vcdkit-info samples/nested.vcd | grep -q "last 122ns" &&
+    python3 -c "import vcdkit; print(vcdkit.Dump(\"samples/nested.vcd\").check())"' - \
+    "$wheel" "$folder"
 
 if [[ -n $relink ]] && command -v cc > /dev/null; then
     mkdir "$folder/relink"
@@ -83,8 +112,9 @@ fi
 
 if [[ -e $top/vcdkit-static ]]; then
     tries 'packing again, in another folder and at another umask' bash -c 'umask 077 &&
-        "$1/packaging/dist.sh" "$1/vcdkit-static" "$2/again"' - "$top" "$folder"
-    for file in "$out"/vcdkit*.tar.gz "$out"/vcdkit*.deb; do
+        "$1/packaging/dist.sh" "$1/vcdkit-static" "$2/again" $3' - "$top" "$folder" \
+        "$(ls "$unpacked/libvcdkit.so" 2> /dev/null)"
+    for file in "$out"/vcdkit*.tar.gz "$out"/*vcdkit*.deb "$wheel"; do
         tries "the same bytes: ${file##*/}" cmp "$file" "$folder/again/${file##*/}"
     done
 fi
