@@ -3,15 +3,16 @@
 
 Of each ```console block of the pages for users (DOCUMENTS), each line that begins with `$ ` is run
 by bash in the repository's top folder; the lines below it, up to the next one, are what it prints,
-standard output and error together. A command whose line ends in `\\` goes on in the next line. The
-variable T names an empty folder for the files that a document writes; it goes at the end. A block
-that begins with ```console PROGRAM .. is passed over where one of these programs is not on the
-PATH, and the last line says so. VCDKIT is ./vcdkit, which `make` leaves there, for the scripts of
-extras/.
+standard output and error together. A command whose line ends in `\\` goes on in the next line, one
+with << 'END' up to the line END. The variable T names an empty folder for the files that a document
+writes; it goes at the end. A block that begins with ```console PROGRAM .. is passed over where one
+of these programs (or modules of Python) is not there, and the last line says so. VCDKIT is ./vcdkit,
+which `make` leaves there; extras/ is on the PATH, and python/ on PYTHONPATH.
 
 The exit status is 0 where all is as written, 1 where some output differs, 2 where there is no
 ./vcdkit."""
 import difflib
+import importlib.util
 import os
 import shutil
 import subprocess
@@ -20,7 +21,7 @@ import tempfile
 
 TOP = os.path.dirname(os.path.dirname(os.path.abspath(__file__)))
 DOCUMENTS = ["README.md", "docs/MANUAL.md", "docs/RECIPES.md", "docs/PRODUCERS.md",
-             "extras/README.md"]
+             "extras/README.md", "python/README.md"]
 SECONDS = 60
 
 
@@ -39,7 +40,8 @@ def commands_of(document):
                     commands[-1][1] += "\n" + line
                 else:
                     commands.append([number, line[2:], [], needs])
-                goes_on = line.endswith("\\")
+                is_text = "<< 'END'" in commands[-1][1] and line != "END"
+                goes_on = line.endswith("\\") or is_text
             elif is_inside and commands:
                 commands[-1][2].append(line)
     return commands
@@ -50,7 +52,9 @@ def printed_by(command, folder):
     words = {name: word
              for name, word in os.environ.items()
              if name not in ("MAKELEVEL", "MAKEFLAGS", "MFLAGS")}
-    words.update(LC_ALL="C", T=folder, VCDKIT="./vcdkit")
+    words.update(LC_ALL="C", T=folder, VCDKIT="./vcdkit", PYTHONDONTWRITEBYTECODE="1",
+                 PATH=os.path.join(TOP, "extras") + os.pathsep + words["PATH"],
+                 PYTHONPATH=os.path.join(TOP, "python"))
     try:
         done = subprocess.run(["bash", "-c", command], cwd=TOP, env=words, timeout=SECONDS,
                               stdin=subprocess.DEVNULL, stdout=subprocess.PIPE,
@@ -69,7 +73,8 @@ def main(documents):
     for document in documents or DOCUMENTS:
         with tempfile.TemporaryDirectory() as folder:
             for number, command, expected, needs in commands_of(document):
-                absent = {program for program in needs if not shutil.which(program)}
+                absent = {program for program in needs
+                          if not shutil.which(program) and not importlib.util.find_spec(program)}
                 if absent:
                     missing |= absent
                     continue
