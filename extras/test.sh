@@ -428,6 +428,26 @@ for script in extras/vcdkit-*; do
             "$(said=$("$name" "${words[@]}" 2>&1 > /dev/full); echo "$? $said")"
 done
 
+# A caller in C and one in Python, where `make library` has left the library, and there is a C
+# compiler.
+if [[ -e libvcd_c.a && -e libvcd_c.so ]] && command -v cc > /dev/null; then
+    cc -std=c99 -Wall -Wextra -Werror -Iextras/c -o "$folder/variables" \
+        extras/c/variables.c libvcd_c.a
+    for dump in samples/*.vcd; do
+        wanted=$(grep -c '\$var' "$dump")
+        same "$dump: variables by C" "$wanted" "$("$folder/variables" < "$dump")"
+        same "$dump: variables by Python" "$wanted" \
+            "$(python3 extras/c/variables.py ./libvcd_c.so "$dump")"
+    done
+    same 'C: the fault of a header' 'fault 7
+1' "$(printf '$var wire 0 ! q $end\n' | "$folder/variables" 2>&1; echo $?)"
+    same 'Python: the fault of a header' 'fault 2
+1' "$(python3 extras/c/variables.py ./libvcd_c.so /dev/null 2>&1; echo $?)"
+else
+    echo 'the callers in C and Python are not tried:' \
+        'there is no libvcd_c.a (make library), or no cc'
+fi
+
 # sampled DUMP PATH: what sample says of a variable at the times of $folder/values
 sampled() {
     local times

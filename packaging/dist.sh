@@ -105,6 +105,10 @@ if command -v dpkg-deb > /dev/null; then
         chmod 755 "$python/usr/bin/${script##*/}"
         rm "$script"
     done
+    # It is static so that it runs on any machine; NOTICE.md says what that asks.
+    mkdir -p "$tree/usr/share/lintian/overrides"
+    echo 'vcdkit: statically-linked-binary [usr/bin/vcdkit]' \
+        > "$tree/usr/share/lintian/overrides/vcdkit"
     deb vcdkit amd64 <<'END'
 Section: electronics
 Priority: optional

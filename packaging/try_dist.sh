@@ -62,7 +62,7 @@ tries 'the program alone in a root' bash -c '"$@" | grep -qx "last 1220"' - \
 installed() {
     find . ! -type d | sed 's/\.1$/&.gz/' | grep -vE '/include/|/lib/(libvcdkit|pkgconfig)'
 }
-added='/licences/|/copyright$|/changelog\.gz$'
+added='/licences/|/copyright$|/changelog\.gz$|/lintian/'
 
 if [[ -n $package ]]; then
     tries 'the packages are unpacked' bash -c 'for package in "${@:2}"; do

@@ -62,7 +62,7 @@ def _library() -> ctypes.CDLL:
             number, size, at = ctypes.POINTER(ctypes.c_uint64), ctypes.c_size_t, ctypes.c_void_p
             library.vcdkit_run.restype = library.vcdkit_changes.restype = ctypes.c_uint8
             library.vcdkit_run.argtypes = [
-                ctypes.POINTER(_Lent), size, at, size, ctypes.POINTER(_File), size,
+                ctypes.POINTER(_Lent), size, at, size, ctypes.POINTER(_File), size, ctypes.c_uint64,
                 at, size, number, at, size, number]
             library.vcdkit_changes.argtypes = [at, size, at, size, at, size, at, size, at, size,
                                                number]
@@ -106,24 +106,23 @@ def run(words: Sequence[str], given: Data = b"", files: Sequence[Tuple[bytes, Da
     with _Lender() as lender:
         lent = [lender.lend(word.encode("utf-8", "surrogateescape")) for word in words]
         named = [(lender.lend(name), lender.lend(data)) for name, data in files]
-        words_array = (_Lent * max(len(lent), 1))(*lent)
-        files_array = (_File * max(len(named), 1))(*[(_Lent(*a), _Lent(*b)) for a, b in named])
-        text = lender.lend(given)
-        used, said, said_room = ctypes.c_uint64(0), ctypes.c_uint64(0), 1 << 16
+        seed = int.from_bytes(os.urandom(8), "little")  # of the hash of codes
+        asked = ((_Lent * max(len(lent), 1))(*lent), len(lent), *lender.lend(given),
+                 (_File * max(len(named), 1))(*[(_Lent(*a), _Lent(*b)) for a, b in named]),
+                 len(named), seed)
+        used, said_used, said_room = ctypes.c_uint64(0), ctypes.c_uint64(0), 1 << 16
         while True:
-            # Pages of a map are taken only as they are written.
-            with mmap.mmap(-1, room) as out, _Lender() as of_call:
-                said_bytes = ctypes.create_string_buffer(said_room)
-                status = _library().vcdkit_run(
-                    words_array, len(lent), *text, files_array, len(named), *of_call.lend(out),
-                    ctypes.byref(used), ctypes.addressof(said_bytes), said_room, ctypes.byref(said))
+            said = ctypes.create_string_buffer(said_room)
+            with mmap.mmap(-1, room) as out:  # of which a page is taken once it is written
+                with _Lender() as of_call:
+                    status = _library().vcdkit_run(
+                        *asked, *of_call.lend(out), ctypes.byref(used), ctypes.addressof(said),
+                        said_room, ctypes.byref(said_used))
                 if status == OUT_OF_MEMORY:
                     raise RunFailed("out of memory")
-                of_call.__exit__()
-                of_call.buffers.clear()
-                if used.value <= room and said.value <= said_room:
-                    return status, out[:used.value], said_bytes.raw[:said.value]
-            room, said_room = max(room, used.value), max(said_room, said.value)
+                if used.value <= room and said_used.value <= said_room:
+                    return status, out[:used.value], said.raw[:said_used.value]
+            room, said_room = max(room, used.value), max(said_room, said_used.value)
 
 
 def changes(text: Text, code: bytes, room: int = 1 << 20) -> Optional[Tuple[array, array, array]]:
