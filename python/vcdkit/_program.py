@@ -13,13 +13,13 @@ from .errors import RunFailed, UnknownName, VcdkitError, error_of
 
 
 def path() -> Optional[str]:
-    """Returns the program that VCDKIT names, else the one on the PATH or beside the running script;
-    None where there is none."""
+    """Returns the program that VCDKIT names, else the one on the PATH, or beside the running
+    command (bin) or above it (a tarball); None where there is none."""
     named = os.environ.get("VCDKIT")
-    script = os.path.abspath(sys.argv[0]) if sys.argv and sys.argv[0] else ""
-    beside = os.path.join(os.path.dirname(script), "vcdkit")
-    is_command = os.path.basename(script).startswith("vcdkit-") and not named
-    return shutil.which(named or "vcdkit") or (shutil.which(beside) if is_command else None)
+    script = os.path.realpath(sys.argv[0]) if sys.argv and sys.argv[0] else ""
+    near = [] if named or not os.path.basename(sys.argv[0]).startswith("vcdkit-") else [
+        os.path.join(os.path.dirname(script), above, "vcdkit") for above in ("", "..")]
+    return next(filter(None, map(shutil.which, [named or "vcdkit", *near])), None)
 
 
 def refusal() -> str:

@@ -6,7 +6,7 @@ import os
 import re
 from typing import Any, BinaryIO, Dict, Iterable, Iterator, List, Optional, Sequence, Tuple, Union
 
-from . import _body, _library, _program
+from . import _body, _library, _program, _rows
 from ._body import Header
 from ._texts import Bytes, File, Made, Text
 from .errors import NoTimescale, RunFailed, UnknownName, UsageError, VcdkitError
@@ -225,7 +225,7 @@ class Dump:
         signal = chosen[0]
         if (way() is _library and not digits and not signal.is_real and signal.size <= 64
                 and signal.type != "event"):
-            found = _library.changes(self._text, signal.code.encode("utf-8", "surrogateescape"))
+            found = _library.changes(self._text, signal.code.encode())
             if found is not None:
                 return _columns(*found)
             self.check()  # it says the fault
@@ -247,34 +247,16 @@ class Dump:
             for time, values in self.sample(at, paths).items():
                 yield self.ticks(time), [values[path] for path in paths]
             return
-        clock = rise or fall
-        edge = (b"0", b"1") if rise else (b"1", b"0")
-        codes = [one.code.encode("utf-8", "surrogateescape") for one in columns]
-        clock_code = b""
-        if clock:
-            chosen = self.select(clock)
-            if len(chosen) > 1:
-                raise UsageError("%s: is no clock: it selects %d signals" % (clock, len(chosen)))
-            clock_code = chosen[0].code.encode("utf-8", "surrogateescape")
-        shown: Dict[bytes, Any] = {}
-        wanted, sizes = set(codes), dict(zip(codes, columns))
-        last: Optional[bytes] = None
-        with self.pick([*_list(names), *([clock] if clock else [])]).open() as out:
+        clocks = self.select(rise or fall or [])
+        if len(clocks) > 1:
+            raise UsageError("%s: is no clock: it selects %d signals" % (rise or fall, len(clocks)))
+        with self.pick([*_list(names), *[one.path for one in clocks]]).open() as out:
             _body.skip_header(out)
-            for time, found in _body.steps(out):
-                is_due, now = not clock and any(code in wanted for code, _ in found), last
-                if clock:
-                    for code, value in found:
-                        if code == clock_code:
-                            is_due, now = is_due or (now, value) == edge, value
-                    last = now
-                    if is_due:
-                        yield time, [shown.get(code) for code in codes]
-                for code, value in found:
-                    if code in wanted:
-                        shown[code] = _body.value(value, sizes[code])
-                if is_due and not clock:
-                    yield time, [shown.get(code) for code in codes]
+            if clocks:
+                edge = (b"0", b"1") if rise else (b"1", b"0")
+                yield from _rows.at_edges(_body.steps(out), columns, clocks[0], *edge)
+            else:
+                yield from _rows.at_changes(_body.steps(out), columns)
 
     def table(self, names: Names, digits: bool = False, **which) -> Dict[str, List[Any]]:
         """Returns the rows() as columns: "time", in ticks, and each path. Values are numbers, None

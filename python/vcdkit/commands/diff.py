@@ -22,7 +22,7 @@ from collections import Counter
 from concurrent.futures import ThreadPoolExecutor
 from math import gcd, inf
 
-from .. import Dump, _body, merge
+from .. import Dump, RunFailed, _body, merge
 from . import command, parser
 from .find import names_for
 
@@ -208,8 +208,7 @@ def first_of_any(dumps, pairs, factors, until):
     of_code, state = [{}, {}], [{}, {}]
     for pair in pairs:
         for side in (0, 1):
-            of_code[side].setdefault(pair[side].code.encode("utf-8", "surrogateescape"),
-                                     []).append(pair)
+            of_code[side].setdefault(pair[side].code.encode(), []).append(pair)
     with dumps[0].open() as one, dumps[1].open() as other:
         steps = []
         for out in one, other:
@@ -231,7 +230,7 @@ def first_of_any(dumps, pairs, factors, until):
                     heads[side] = next(steps[side], None)
             found = []
             for pair in touched:
-                codes = [one.code.encode("utf-8", "surrogateescape") for one in pair]
+                codes = [one.code.encode() for one in pair]
                 both = [state[side].get(codes[side]) if pair[0].type != "event" else
                         b"1" if codes[side] in triggered[side] else None for side in (0, 1)]
                 if not same(*both):
@@ -280,7 +279,7 @@ def first_difference(sides, pairs, factors):
         return found and (found[0], [(pair[0], *both) for pair, *both in found[1]])
     codes = {}
     for one, _ in pairs:
-        codes.setdefault(one.code.encode("utf-8", "surrogateescape"), []).append(one)
+        codes.setdefault(one.code.encode(), []).append(one)
     dumps = [dump.cut() for dump in dumps] if dumps[0] is sides[0].dump else dumps
     events = {code for code, of in codes.items() if of[0].type == "event"}
     found = Alike(dumps, events).first(until // factors[0])
@@ -296,11 +295,49 @@ def at_most(lines, of, asked):
 
 def write_window(sides, ticks, asked):
     """Writes the cuts around a time of both, and says where they are."""
+    try:
+        os.makedirs(asked.into, exist_ok=True)
+    except OSError as error:
+        raise RunFailed("%s: %s" % (asked.into, error.strerror)) from error
     for letter, side, at in zip("ab", sides, ticks):
         span = side.dump.ticks(asked.window)
         path = os.path.join(asked.into, "diff.%s.vcd" % letter)
         side.dump.cut(max(at - span, 0), at + span).save(path)
         print("window", path)
+
+
+def of_headers(sides, pairs_apart, asked):
+    """Returns the lines of what the headers do not have in common."""
+    scales = [side.scale for side in sides]
+    if scales[0] != scales[1]:
+        yield "timescale %s %s" % tuple(scale or "-" for scale in scales)
+    for letter, side, other in ("A", *sides), ("B", *sides[::-1]):
+        yield from at_most(["alone %s %s %d" % (letter, *one) for one in side.alone(other)],
+                           "alone " + letter, asked)
+    for mine, its in pairs_apart:
+        yield "size %s %s %s" % (mine.path, kind(mine), kind(its))
+
+
+def of_bodies(sides, found, ticks, factors, asked):
+    """Returns the lines of the first difference, and of the ends."""
+    if found:
+        rows = sorted("%s %s %s" % (signal.path, shown(mine, signal), shown(its, signal))
+                      for signal, mine, its in found[1])
+        at = sides[0].dump.time(ticks[0])
+        yield from at_most(["differs %s %s" % (at, row) for row in rows], "differs", asked)
+    ends = [side.report.last for side in sides]
+    if len({end if end is None else end * factor for end, factor in zip(ends, factors)}) > 1:
+        yield "ends %s %s" % tuple("-" if end is None else side.dump.time(end)
+                                   for side, end in zip(sides, ends))
+
+
+def say(lines):
+    """Writes lines; whether there were any."""
+    lines = list(lines)
+    for line in lines:
+        print(line)
+    sys.stdout.flush()
+    return bool(lines)
 
 
 @command
@@ -318,33 +355,12 @@ def main(words):
     asked = of.parse_args(words)
     with ThreadPoolExecutor(2) as pool:
         sides = list(pool.map(lambda file: Side(file, asked.names), (asked.one, asked.other)))
-    lines, scales = [], [side.scale for side in sides]
-    if scales[0] != scales[1]:
-        lines.append("timescale %s %s" % tuple(scale or "-" for scale in scales))
-    for letter, side, other in ("A", *sides), ("B", *sides[::-1]):
-        lines += at_most(["alone %s %s %d" % (letter, *one) for one in side.alone(other)],
-                         "alone " + letter, asked)
     pairs, apart = in_common(sides)
-    lines += ["size %s %s %s" % (mine.path, kind(mine), kind(its)) for mine, its in apart]
-    for line in lines:
-        print(line)
-    sys.stdout.flush()
-    count = len(lines)
-    factors = factors_of(scales)
+    differs = say(of_headers(sides, apart, asked))
+    factors = factors_of([side.scale for side in sides])
     found = first_difference(sides, pairs, factors) if pairs else None
-    if found:
-        ticks = [found[0] // factor for factor in factors]
-        rows = sorted("%s %s %s" % (signal.path, shown(mine, signal), shown(its, signal))
-                      for signal, mine, its in found[1])
-        lines += at_most(["differs %s %s" % (sides[0].dump.time(ticks[0]), row) for row in rows],
-                         "differs", asked)
-    ends = [side.report.last for side in sides]
-    if (ends[0] or 0) * factors[0] != (ends[1] or 0) * factors[1] or None in ends and ends != [
-            None, None]:
-        lines.append("ends %s %s" % tuple("-" if end is None else side.dump.time(end)
-                                          for side, end in zip(sides, ends)))
-    for line in lines[count:]:
-        print(line)
+    ticks = [found[0] // factor for factor in factors] if found else []
+    differs |= say(of_bodies(sides, found, ticks, factors, asked))
     if found and asked.window:
         write_window(sides, ticks, asked)
-    return 1 if lines else 0
+    return 1 if differs else 0

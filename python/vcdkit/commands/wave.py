@@ -26,7 +26,7 @@ class Window:
 
     def __init__(self, dump, names, begin, end):
         self.dump, self.changes, self.begin, self.end = dump, {}, None, 0
-        signals = {one.code.encode("utf-8", "surrogateescape"): one for one in dump.select(names)}
+        signals = {one.code.encode(): one for one in dump.select(names)}
         with dump.pick(names).cut(begin, end).open() as out:
             _body.skip_header(out)
             for line in out:
@@ -152,7 +152,7 @@ class Picture:
 
     def row(self, y, signal, form):
         """Draws a signal."""
-        changes = self.window.changes.get(signal.code.encode("utf-8", "surrogateescape"), [])
+        changes = self.window.changes.get(signal.code.encode(), [])
         self.text(self.left - PAD, y + HIGH - 4, signal.path, "name", "end")
         if signal.type == "event":
             for time, _ in changes:

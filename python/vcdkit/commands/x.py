@@ -24,7 +24,7 @@ def main(words):
     paths = {}
     for one in dump.select(asked.names) if asked.names else dump.signals:
         if not one.is_real and one.type != "event":
-            paths.setdefault(one.code.encode("utf-8", "surrogateescape"), []).append(one)
+            paths.setdefault(one.code.encode(), []).append(one)
     part = dump.pick(asked.names) if asked.names else dump
     letters, status = (b"x", b"z") if asked.z else (b"x",), 0
     with part.cut(asked.begin, asked.end).open() as out:
