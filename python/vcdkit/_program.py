@@ -16,9 +16,10 @@ def path() -> Optional[str]:
     """Returns the program that VCDKIT names, else the one on the PATH, or beside the running
     command (bin) or above it (a tarball); None where there is none."""
     named = os.environ.get("VCDKIT")
-    script = os.path.realpath(sys.argv[0]) if sys.argv and sys.argv[0] else ""
-    near = [] if named or not os.path.basename(sys.argv[0]).startswith("vcdkit-") else [
-        os.path.join(os.path.dirname(script), above, "vcdkit") for above in ("", "..")]
+    script = sys.argv[0] if sys.argv else ""
+    folder = os.path.dirname(os.path.realpath(script))
+    is_command = os.path.basename(script).startswith("vcdkit-") and not named
+    near = [os.path.join(folder, above, "vcdkit") for above in ("", "..")] if is_command else []
     return next(filter(None, map(shutil.which, [named or "vcdkit", *near])), None)
 
 

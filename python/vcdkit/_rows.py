@@ -1,11 +1,60 @@
-"""Rows of a table, from the steps of a body (_body.steps)."""
-from typing import Any, Dict, Iterable, Iterator, List, Sequence, Tuple
+"""Rows: those that vcdkit writes, and those of a table, from the steps of a body (_body.steps)."""
+import gc
+import itertools
+from typing import Any, Dict, Iterable, Iterator, List, Optional, Sequence, Tuple
 
 from . import _body
 from .values import Signal
 
 Step = Tuple[int, List[Tuple[bytes, bytes]]]
 Row = Tuple[int, List[Any]]
+
+
+def words_of(rows: str) -> List[str]:
+    """Returns the words of rows; no word has white space."""
+    words = rows.replace("\n", " ").split(" ")
+    words.pop()
+    return words
+
+
+def tuples(kind, *columns: Iterable) -> List[Any]:
+    """Returns a NamedTuple of this kind for each row of columns."""
+    was_enabled = gc.isenabled()
+    gc.disable()  # else it looks through all of them many times
+    try:
+        return list(map(tuple.__new__, itertools.repeat(kind), zip(*columns)))
+    finally:
+        if was_enabled:
+            gc.enable()
+
+
+class Signals(Sequence[Signal]):
+    """The variables of a header, in the order of declaration. The rows of `list` are taken apart
+    when the first one is asked for."""
+
+    def __init__(self, rows: str):
+        self._rows, self._count = rows, rows.count("\n")
+        self._signals: Optional[List[Signal]] = None
+
+    def _all(self) -> List[Signal]:
+        if self._signals is None:
+            words = words_of(self._rows)
+            self._signals = tuples(Signal, words[0::4], words[1::4], map(int, words[2::4]),
+                                   words[3::4])
+            self._rows = ""
+        return self._signals
+
+    def __len__(self) -> int:
+        return self._count
+
+    def __getitem__(self, at):
+        return self._all()[at]
+
+    def __iter__(self) -> Iterator[Signal]:
+        return iter(self._all())
+
+    def __repr__(self) -> str:
+        return "<%d signals>" % self._count
 
 
 class _Values:

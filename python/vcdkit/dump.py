@@ -1,6 +1,5 @@
 """Dump: questions about one dump."""
 import contextlib
-import itertools
 import numbers
 import os
 import re
@@ -20,7 +19,6 @@ except ImportError:  # lists in place of arrays
 
 Names = Union[str, Iterable[str]]
 TIMES_OF_A_CALL = 5000  # a word of Linux has at most 131,071 bytes
-_new = tuple.__new__
 
 
 def way():
@@ -114,10 +112,8 @@ class Dump:
             return out.read().decode("utf-8", "surrogateescape")
 
     def _words(self, command: str, words: Sequence[str] = ()) -> List[str]:
-        """Returns the words of all rows that a command writes; no word has white space."""
-        words_found = self._answer(command, words).replace("\n", " ").split(" ")
-        words_found.pop()
-        return words_found
+        """Returns the words of all rows that a command writes."""
+        return _rows.words_of(self._answer(command, words))
 
     # The header.
 
@@ -125,9 +121,7 @@ class Dump:
     def signals(self) -> Sequence[Signal]:
         """The variables of the header, in the order of declaration."""
         if self._signals is None:
-            words = self._words("list")
-            self._signals = tuple(map(_new, itertools.repeat(Signal), zip(
-                words[0::4], words[1::4], map(int, words[2::4]), words[3::4])))
+            self._signals = _rows.Signals(self._answer("list"))
         return self._signals
 
     def find(self, pattern: str, flags: int = 0) -> List[Signal]:
@@ -207,8 +201,8 @@ class Dump:
         """Returns of each path how often its value changes, and its least significant bit rises and
         falls; of an event its triggers. Without names of all signals."""
         words = self._words("edges", ["--", *_list(names)])
-        return dict(zip(words[0::4], map(_new, itertools.repeat(Edges), zip(
-            map(int, words[1::4]), map(int, words[2::4]), map(int, words[3::4])))))
+        counts = (map(int, words[at::4]) for at in (1, 2, 3))
+        return dict(zip(words[0::4], _rows.tuples(Edges, *counts)))
 
     def changes(self, name: str, digits: bool = False) -> Tuple[Any, Any]:
         """Returns the times, in ticks, and the values of one signal: one for each value that the
