@@ -48,6 +48,8 @@ else
 fi
 [[ -n $library ]] || echo 'the package is not tried over the library: no libvcdkit.so'
 
+same 'the version of the package' "$("$VCDKIT" --version)" "$(vcdkit-find --version |
+    sed 's/-find//')"
 same 'vcdkit-find: paths' 'bench.\data+flags reg 8 &
 bench.lane[0].count wire 2 *
 bench.lane[1].count wire 2 -' "$(vcdkit-find $dump '\\data' '^bench\.lane.[01]..count$')"

@@ -10,7 +10,7 @@ import subprocess
 from array import array
 from typing import BinaryIO, Dict, Iterator, List, Optional, Sequence, Tuple, Union
 
-from ._program import no_program
+from ._program import not_started
 from ._texts import Bytes, File, Made, Text
 from .errors import RunFailed, UnknownName, VcdkitError, error_of
 
@@ -186,7 +186,7 @@ def _bytes_of(file: File) -> Data:
             done = subprocess.run(unpacker, stdin=source, stdout=subprocess.PIPE,
                                   stderr=subprocess.PIPE)
         except OSError as error:
-            raise no_program(unpacker[0], error) from error
+            raise not_started(unpacker[0], error) from error
     if done.returncode:
         said = done.stderr.decode(errors="backslashreplace").strip()
         raise RunFailed("%s: %s" % (file.name, said or "%s: status %d" % (

@@ -1,5 +1,6 @@
 """Answers by the program vcdkit, over pipes."""
 import contextlib
+import errno
 import os
 import shutil
 import signal
@@ -30,11 +31,13 @@ def refusal() -> str:
             "there is no program vcdkit on the PATH: install it, or name it by VCDKIT=FILE")
 
 
-def no_program(program: str, error: OSError) -> RunFailed:
+def not_started(program: str, error: OSError) -> RunFailed:
     """Returns the exception where a program cannot be started."""
-    said = "there is no program %s on the PATH to unpack it" % program
-    return RunFailed(said if isinstance(error, FileNotFoundError) else
-                     "%s: %s" % (program, error.strerror))
+    if error.errno == errno.ENOENT:
+        return RunFailed("there is no program %s on the PATH to unpack it" % program)
+    if error.errno == errno.E2BIG:
+        return RunFailed("too many names for a command line: name scopes")
+    return RunFailed("%s: %s" % (program, error.strerror))
 
 
 class _Part:
@@ -47,7 +50,7 @@ class _Part:
             self.process = subprocess.Popen(words, stdin=stdin, stdout=subprocess.PIPE,
                                             stderr=subprocess.PIPE, pass_fds=pass_fds)
         except OSError as error:
-            raise no_program(words[0], error) from error
+            raise not_started(words[0], error) from error
 
     def finish(self) -> None:
         """Waits for it, and keeps what it says."""

@@ -132,15 +132,19 @@ class Dump:
     def select(self, names: Names) -> List[Signal]:
         """Returns the signals that names select, each once, in the order of the names. UnknownName
         where one selects nothing."""
-        found: Dict[int, Signal] = {}
-        for name in _list(names):
-            chosen = {at: one for at, one in enumerate(self.signals)
-                      if one.path == name or one.path.startswith(name + ".")}
-            if not chosen:
+        found: Dict[str, Dict[int, Signal]] = {name: {} for name in _list(names)}
+        for at, one in enumerate(self.signals):
+            path = one.path
+            while path:
+                if path in found:
+                    found[path][at] = one
+                path = path.rpartition(".")[0]
+        chosen: Dict[int, Signal] = {}
+        for name, its in found.items():
+            if not its:
                 raise UnknownName(name, _hint(name, self.signals))
-            for at, one in chosen.items():
-                found.setdefault(at, one)
-        return list(found.values())
+            chosen.update(its)
+        return list(chosen.values())
 
     @property
     def header(self) -> Header:

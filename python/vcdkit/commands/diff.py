@@ -18,7 +18,6 @@ examples:
   vcdkit-diff --window 20ns --into /tmp golden.vcd sim.vcd tb.dut"""
 import os
 import sys
-from collections import Counter
 from concurrent.futures import ThreadPoolExecutor
 from math import gcd, inf
 
@@ -44,13 +43,12 @@ class Side:
     def alone(self, other):
         """Returns the names of what the other does not have, and how many variables each has."""
         paths = [path for path in self.of_path if path not in other.of_path]
-        names = names_for(paths, self.signals)
-        count = Counter()
+        count = dict.fromkeys(names_for(paths, self.signals), 0)
         for path in paths:
-            while path not in names and "." in path:
+            while path not in count:
                 path = path.rpartition(".")[0]
             count[path] += 1
-        return [(name, count[name]) for name in names]
+        return list(count.items())
 
     def picked(self, paths):
         """Returns the dump of these paths, with codes in the order of declaration."""
