@@ -72,28 +72,43 @@ def in_common(sides):
     return pairs, apart
 
 
-def blocks(out):
-    """Returns batches of what stands between timestamps: the time, and lines after it."""
-    _body.skip_header(out)
-    rest = b"\n"
+def read_alike(one, other):
+    """Reads two bodies while their texts are alike. Returns the rest of what was read of each, from
+    the line feed before the last timestamp before the first difference."""
+    tail = bytearray(b"\n")
+    while True:
+        mine, its = one.read(BLOCK), other.read(BLOCK)
+        if mine != its or not mine:
+            return tail + mine, tail + its
+        at = mine.rfind(b"\n#")
+        tail = bytearray(mine[at:]) if at >= 0 else tail + mine
+
+
+def blocks(out, rest):
+    """Returns batches of what a body has between timestamps: the time, and the lines after it.
+    `rest` was read before; what comes before the first timestamp is at 0."""
+    if not rest.startswith(b"\n#"):
+        rest = bytearray(b"\n#0") + rest
+    before = 2
     while True:
         chunk = out.read(BLOCK)
-        found = (rest + chunk).split(b"\n#")
-        if rest == b"\n" and chunk:  # what comes before the first timestamp is at 0
-            found[0] = b"0" + found[0] if found[0].strip() else b""
-            found = found if found[0] else found[1:]
+        rest += chunk
+        if chunk and rest.find(b"\n#", before - 1) < 0:
+            before = len(rest)
+            continue
+        found = bytes(rest).split(b"\n#")[1:]
         if not chunk:
-            yield [one.rstrip(b"\n") for one in found if one.strip()]
+            yield [one.rstrip(b"\n") for one in found]
             return
-        rest = b"\n#" + found.pop()
+        rest, before = bytearray(b"\n#" + found.pop()), 2
         yield found
 
 
 class Reader:
     """The blocks of a dump, in order."""
 
-    def __init__(self, out):
-        self.batches, self.batch, self.at = blocks(out), [], 0
+    def __init__(self, out, rest):
+        self.batches, self.batch, self.at = blocks(out, rest), [], 0
 
     def left(self):
         """Returns how many blocks of a batch are left: 0 at the end of the dump alone."""
@@ -181,7 +196,9 @@ class Alike:
     def first(self, until):
         """Returns the first time at which values differ, and the codes."""
         with self.dumps[0].open() as one, self.dumps[1].open() as other:
-            readers = Reader(one), Reader(other)
+            _body.skip_header(one)
+            _body.skip_header(other)
+            readers = [Reader(*pair) for pair in zip((one, other), read_alike(one, other))]
             while True:
                 same_blocks = alike(*readers)
                 if same_blocks:
