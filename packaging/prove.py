@@ -1,48 +1,148 @@
 #!/usr/bin/env python3
-"""prove.py CRATE COMMAND [WORD ..]: runs `rt COMMAND WORD ..` in crates/CRATE, and shows how far it
-is.
+"""prove.py CRATE COMMAND [WORD ..]: proves each crate below crates/CRATE, runs
+`rt COMMAND WORD ..` in it, and shows how far it is.
+
+Crates that do not need each other are proved at the same time, on as many processors as there are,
+and as 4 GB of available memory for each allow. rt locks the folders of a crate and of those below
+it while it works. So what is proved beside another crate is proved in a copy in the temporary
+folder (TMPDIR), most of it links, and what rt built and kept there is moved back.
 
 What rt and the prover write goes to the file make.log of the top folder, with what the program
-writes. The screen has a line for each crate that was proved: 'crate k of n, NAME: so many functions
-proved, so many minutes'; on a terminal also a line that says what is being proved. Standard input
-is handed on. The exit status is that of rt; where it is not 0, the last lines of the log are
-shown."""
+writes, each line after its crate's name. The screen has a line for each crate that was proved:
+'crate k of n, NAME: so many functions proved, so many minutes'; on a terminal also a line that says
+what is being proved. Standard input is handed on. The first failure ends the other proofs: the exit
+status is that of rt, and the last lines of that crate are shown."""
+import collections
 import os
+import queue
 import re
+import shutil
+import signal
 import subprocess
 import sys
+import tempfile
+import threading
 import time
 
 TOP = os.path.dirname(os.path.dirname(os.path.abspath(__file__)))
 LOG = os.path.join(TOP, "make.log")
 LAST_LINES = 20
-STARTS = re.compile(r"rt: chose --jobs \d+ for (\w+)")
+MEMORY_EACH = 4_000_000_000
+# rt replaces files with these ends and writes to none, so a copy may have links to them.
+LINKED = (".oantt", ".a")
+SOURCES, BUILT, KEPT = ("src", "specs", "proofs"), "out/rlib", "out/incremental"
 SO_FAR = re.compile(r"so far: (\d+) of (\d+) functions")
-PROVED = re.compile(r"fn (\w+)::\S+: proved")
-CRATE = re.compile(r"crate (\w+): modules ")
 VERDICT = re.compile(r"logic=proved functions=(\d+)")
 
 
 def crates_below(crate):
-    """The crates of crates.txt that a crate stands on, and it, each after those that it stands
-    on."""
+    """Returns, for a crate of crates.txt and each below it, all that it stands on; each crate comes
+    after those that it stands on."""
     needs = {}
     with open(os.path.join(TOP, "crates.txt"), encoding="utf-8") as lines:
         for line in lines:
             name, colon, below = line.partition("#")[0].partition(":")
             if colon:
                 needs[name.split()[0]] = below.split()
-    order = []
+    found = {}
 
     def visit(name):
-        for below in needs[name]:
-            if below in needs:
-                visit(below)
-        if name not in order:
-            order.append(name)
+        direct = [below for below in needs[name] if below in needs]
+        for below in direct:
+            visit(below)
+        found.setdefault(name, set(direct).union(*(found[below] for below in direct)))
 
     visit(crate)
-    return order
+    return found
+
+
+def lanes():
+    """Returns how many processors there are with enough memory for each, at least one."""
+    with open("/proc/meminfo", encoding="utf-8") as lines:
+        available = 1024 * int(re.search(r"MemAvailable:\s+(\d+)", lines.read())[1])
+    return max(1, min(len(os.sched_getaffinity(0)), available // MEMORY_EACH))
+
+
+def lines_of(crate):
+    """Returns how many lines of code, definitions and proofs a crate has."""
+    count = 0
+    for part in SOURCES:
+        for folder, _, names in os.walk(os.path.join(TOP, "crates", crate, part)):
+            for name in names:
+                with open(os.path.join(folder, name), "rb") as text:
+                    count += text.read().count(b"\n")
+    return count
+
+
+def copied(crates, part, to):
+    """Copies a part of the folders of these crates, where they have it, below another top folder."""
+
+    def copy(one, other):
+        if one.endswith(LINKED):
+            try:
+                return os.link(one, other)
+            except OSError:
+                pass
+        return shutil.copy2(one, other)
+
+    for crate in crates:
+        path = os.path.join("crates", crate, part)
+        if os.path.isdir(os.path.join(TOP, path)):
+            shutil.copytree(os.path.join(TOP, path), os.path.join(to, path), copy_function=copy)
+
+
+class Run:
+    """rt at work in a crate: its lines are put into a queue, and None after the last."""
+
+    def __init__(self, crate, words, said, below=None, **how):
+        """With the crates below it rt works in a copy of these crates, else where they lie."""
+        self.crate, self.room, self.began = crate, None, time.monotonic()
+        self.so_far, self.functions = "", None
+        self.last = collections.deque(maxlen=LAST_LINES)
+        if below is not None:
+            self.room = tempfile.mkdtemp(prefix="vcdkit-prove-")
+            shutil.copy(os.path.join(TOP, "crates.txt"), self.room)
+            for part in SOURCES:
+                copied([*below, crate], part, self.room)
+            copied(below, BUILT, self.room)
+            copied([crate], KEPT, self.room)
+        self.rt = subprocess.Popen(["rt", *words], stdout=subprocess.PIPE, stderr=subprocess.STDOUT,
+                                   cwd=os.path.join(self.room or TOP, "crates", crate),
+                                   encoding="utf-8", errors="replace", **how)
+        threading.Thread(target=self.read, args=[said], daemon=True).start()
+
+    def read(self, said):
+        for line in self.rt.stdout:
+            said.put((self, line))
+        said.put((self, None))
+
+    def note(self, line):
+        """Takes what a line says of the proof."""
+        self.last.append(line)
+        far, verdict = SO_FAR.match(line), VERDICT.match(line)
+        if far:
+            self.so_far = " %s of %s" % far.groups()
+        if verdict:
+            self.functions = int(verdict.group(1))
+
+    def minutes(self):
+        return (time.monotonic() - self.began) / 60
+
+    def end(self):
+        """Ends rt if it still works, moves what it made in a copy to its place, and returns its
+        status."""
+        if self.rt.poll() is None:
+            self.rt.terminate()
+        status = self.rt.wait()
+        for part in (BUILT, KEPT) if self.room else ():
+            made, place = (os.path.join(top, "crates", self.crate, part)
+                           for top in (self.room, TOP))
+            if os.path.isdir(made):
+                shutil.rmtree(place, ignore_errors=True)
+                os.makedirs(os.path.dirname(place), exist_ok=True)
+                shutil.move(made, place)
+        shutil.rmtree(self.room or "", ignore_errors=True)
+        return status if status >= 0 else 128 - status
 
 
 class Screen:
@@ -53,6 +153,7 @@ class Screen:
 
     def now(self, text):
         if self.is_terminal:
+            text = text[:shutil.get_terminal_size().columns - 1]
             print("\r" + text.ljust(self.width), end="", flush=True)
             self.width = len(text)
 
@@ -63,57 +164,106 @@ class Screen:
         print(text, flush=True)
 
 
-def follow(lines, log, order, screen):
-    """Copies the lines to the log, and shows the crates; returns how many functions were proved in
-    how many crates."""
-    began, crate, functions, crates = time.monotonic(), "", 0, 0
-    screen.now("reading the sources ..")
-    for line in lines:
-        log.write(line)
-        log.flush()
-        named = STARTS.match(line) or PROVED.match(line) or CRATE.match(line)
-        if named and named.group(1) in order and named.group(1) != crate:
-            crate = named.group(1)
-        place = "crate %d of %d, %s" % (order.index(crate) + 1, len(order), crate) if crate else ""
-        far, verdict = SO_FAR.match(line), VERDICT.match(line)
-        if far and crate:
-            screen.now("%s: %s of %s functions proved .." % (place, far.group(1), far.group(2)))
-        elif named and crate:
-            screen.now("%s .." % place)
-        elif verdict and crate:
-            minutes = (time.monotonic() - began) / 60
-            screen.line("%s: %s functions proved, %.1f minutes"
-                        % (place, verdict.group(1), minutes))
-            functions, crates = functions + int(verdict.group(1)), crates + 1
-            crate, began = "", time.monotonic()
-    return functions, crates
+class Proof:
+    """The proof of a crate and of those below it."""
+
+    def __init__(self, crate, log):
+        self.below, self.log, self.screen = crates_below(crate), log, Screen()
+        self.order, self.left, self.said = [*self.below], [*self.below], queue.Queue()
+        self.running, self.done = [], []
+        self.lanes, lines = lanes(), {name: lines_of(name) for name in self.order}
+        self.chain = {name: lines[name] for name in self.order}
+        for name in reversed(self.order):
+            above = [other for other in self.order if name in self.below[other]]
+            self.chain[name] += max((self.chain[other] for other in above), default=0)
+
+    def jobs(self, crate):
+        """Returns the processors for a crate: half of them, or all if no other can be proved beside
+        it."""
+        is_alone = all(other == crate or other in self.below[crate] or crate in self.below[other]
+                       for other in self.order)
+        return self.lanes if is_alone else max(self.lanes // 2, 1)
+
+    def start(self, crate, words, **how):
+        is_free = all(run.room for run in self.running)
+        self.log.write("== rt %s in crates/%s, %s\n"
+                       % (" ".join(words), crate, time.strftime("%Y-%m-%d %H:%M:%S")))
+        self.log.flush()
+        self.left.remove(crate)
+        self.running.append(
+            Run(crate, words, self.said, None if is_free else self.below[crate], **how))
+
+    def start_libraries(self):
+        """Starts the proofs of the libraries that can start now, those with most above them first.
+        Where one is proved at a time, rt chooses by itself how many processors it uses."""
+        proved = {run.crate for run in self.done}
+        for crate in sorted(self.left[:-1], key=self.chain.get, reverse=True):
+            free = self.lanes - sum(self.jobs(run.crate) for run in self.running)
+            if self.below[crate] <= proved and self.jobs(crate) <= free:
+                flags = ["--jobs", str(self.jobs(crate))] if self.lanes > 1 else []
+                self.start(crate, ["lib", *flags], stdin=subprocess.DEVNULL)
+
+    def follow(self):
+        """Copies a line to the log, and shows it; returns the status of rt that failed, else 0."""
+        run, line = self.said.get()
+        if line is not None:
+            self.log.write("%s: %s" % (run.crate, line))
+            self.log.flush()
+            run.note(line)
+            self.screen.now(", ".join(it.crate + it.so_far for it in self.running) + " ..")
+            return 0
+        run.rt.wait()
+        status = run.end()
+        self.running.remove(run)
+        self.done.append(run)
+        if status:
+            self.screen.line("rt ended with status %d in crates/%s. Its last lines in make.log:"
+                             % (status, run.crate))
+            print("".join(run.last), end="")
+        elif run.functions is not None:
+            self.screen.line("crate %d of %d, %s: %d functions proved, %.1f minutes"
+                             % (self.order.index(run.crate) + 1, len(self.order), run.crate,
+                                run.functions, run.minutes()))
+        return status
+
+    def prove(self, words):
+        """Proves the libraries and runs rt with the words in the last crate; returns the first
+        status that is not 0, else 0."""
+        status = 0
+        try:
+            while not status and len(self.done) < len(self.order):
+                self.start_libraries()
+                if len(self.left) == 1 and not self.running:
+                    self.start(self.order[-1], words)
+                status = self.follow()
+        finally:
+            for run in self.running:
+                run.end()
+        return status
 
 
 def main(words):
     if len(words) < 2 or words[0].startswith("-"):
         print(__doc__, file=sys.stdout if words[:1] == ["--help"] else sys.stderr)
         return 0 if words[:1] == ["--help"] else 2
-    crate, began, screen = words[0], time.monotonic(), Screen()
+    for number in (signal.SIGHUP, signal.SIGTERM):
+        signal.signal(number, lambda number, _: sys.exit(128 + number))
+    began = time.monotonic()
     with open(LOG, "a", encoding="utf-8") as log:
-        log.write("== rt %s in crates/%s, %s\n"
-                  % (" ".join(words[1:]), crate, time.strftime("%Y-%m-%d %H:%M:%S")))
-        log.flush()
-        ran = subprocess.Popen(["rt"] + words[1:], cwd=os.path.join(TOP, "crates", crate),
-                               stdout=subprocess.PIPE,
-                               stderr=subprocess.STDOUT, encoding="utf-8", errors="replace")
-        functions, crates = follow(ran.stdout, log, crates_below(crate), screen)
-        status = ran.wait()
-    if status:
-        screen.line("rt ended with status %d. The last lines of make.log:" % status)
-        with open(LOG, encoding="utf-8") as log:
-            print("".join(log.readlines()[-LAST_LINES:]), end="")
-    elif crates:
-        screen.line("%d functions in %d crates proved, %.1f minutes;"
-                    " the prover's notes are in make.log"
-                    % (functions, crates, (time.monotonic() - began) / 60))
-    else:
-        screen.line("nothing has changed since the last proof")
-    return status if status >= 0 else 128 - status
+        proof = Proof(words[0], log)
+        try:
+            status = proof.prove(words[1:])
+        except KeyboardInterrupt:
+            proof.screen.line("interrupted; what is proved is kept")
+            return 128 + signal.SIGINT
+    proved = [run.functions for run in proof.done if run.functions is not None]
+    if proved and not status:
+        proof.screen.line("%d functions in %d crates proved, %.1f minutes;"
+                          " the prover's notes are in make.log"
+                          % (sum(proved), len(proved), (time.monotonic() - began) / 60))
+    elif not status:
+        proof.screen.line("nothing has changed since the last proof")
+    return status
 
 
 if __name__ == "__main__":
