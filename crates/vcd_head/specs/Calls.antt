@@ -81,3 +81,7 @@ ReadsAny most old before new after r = (i : Input) → DraftsBehind most i old b
 -- behind a phrase, those that lie whole ahead were read
 abbrev pub ReadsAhead : {X A : Type 0} {g : Ghosts X} → ℕ → (old : Draft) → Feed X g → (new : Draft) → Feed X g → Result A HeadFault → Type 0
 ReadsAhead most old before new after r = (i : Input) → DraftsUpTo most i old before → OrFails most i after (λ _. DraftsBehind most i new after) r
+
+-- all phrases were read, up to the one that ends the header
+abbrev pub ReadsAll : {X A : Type 0} {g : Ghosts X} → ℕ → (old : Draft) → Feed X g → (new : Draft) → Feed X g → Result A HeadFault → Type 0
+ReadsAll most old before new after r = (i : Input) → DraftsBehind most i old before → OrFails most i after (λ _. DraftsAll most i new after) r

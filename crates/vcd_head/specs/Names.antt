@@ -29,7 +29,7 @@ pub use Rattle.vcd_view.specs.Views.{AreHeld, IsIndex, IsSize, IsViewOf, Views, 
 pub use Rattle.vcd_view.specs.declared.view.Code.{Code}
 pub use Rattle.vcd_view.specs.declared.view.Scale.{Scale}
 pub use Rattle.vcd_head.specs.Ahead.{DraftsAhead, DraftsNext, EndsBefore, Gives, GivesToken, GoesOnWithin, IsReference, IsScope, IsUpscope, IsVariable, LooksOn, MovesAhead, PassesOn, PassesTokens, TakesNext}
-pub use Rattle.vcd_head.specs.Calls.{MovesFurther, MovesOn, OrFails, ReadsAhead, ReadsAny, ReadsEnd, ReadsNext, ReadsOne, ReadsOther, ReadsPhrase, ReadsReference, ReadsRest, ReadsText, ReadsToEnd, ReadsWord}
+pub use Rattle.vcd_head.specs.Calls.{MovesFurther, MovesOn, OrFails, ReadsAhead, ReadsAll, ReadsAny, ReadsEnd, ReadsNext, ReadsOne, ReadsOther, ReadsPhrase, ReadsReference, ReadsRest, ReadsText, ReadsToEnd, ReadsWord}
 pub use Rattle.vcd_head.specs.Codes.{HasNone, Rises, is_of, keys_of}
 pub use Rattle.vcd_head.specs.Declares.{DeclaresVariable, IsBarred, MayStart, Takes as TakesPhrase}
 pub use Rattle.vcd_head.specs.Draft.{IsDraftOf, IsNew, goes_on}
@@ -53,7 +53,7 @@ pub use Rattle.vcd_head.specs.ScopesLeft.{GivesNext, LeavesScopes, Walks, scopes
 pub use Rattle.vcd_head.specs.Selects.{IsBehind as GoesOnAfter, selects_after}
 pub use Rattle.vcd_head.specs.Shown.{shown}
 pub use Rattle.vcd_head.specs.Texts.{spaced}
-pub use Rattle.vcd_head.specs.Variables.{ReadsCode, ReadsSize}
+pub use Rattle.vcd_head.specs.Variables.{ReadsCode, ReadsFront, ReadsSize}
 pub use Rattle.vcd_head.specs.Words.{power_in, size_in, unit_in}
 pub use Rattle.vcd_head.specs.Written.{TakesHeader, TakesRow}
 pub use Rattle.vcd_head.specs.declared.fault.HeadFault.TheVariants.{OutOfMemory}

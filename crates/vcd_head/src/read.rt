@@ -1,6 +1,6 @@
 // The whole header.
 ghost use Rattle.std.specs.Prelude.{◌-◌, ◌^◌, ◌<◌, ◌≤◌};
-ghost use Rattle.vcd_head.specs.Names.{ReadsHead, source_of};
+ghost use Rattle.vcd_head.specs.Names.{MovesOn, ReadsAll, ReadsHead, source_of};
 
 use crate::ahead::read_ahead;
 use crate::draft::Draft;
@@ -54,10 +54,25 @@ pub fn read_head_with_hasher<S: Source, B: BuildHasher>(
     ensures { ReadsHead S.failures most feed.old feed.new result }
 {
     let mut draft = Draft::new(alloc, CodeSeed::of(hasher));
+    read_phrases(alloc, feed, most, &mut draft)?;
+    finish(alloc, draft)
+}
+
+/// Reads the phrases of a header, up to the one that ends it.
+fn read_phrases<S: Source>(
+    alloc: Global,
+    feed: &mut Feed<'_, '_, '_, '_, S>,
+    most: u64,
+    draft: &mut Draft,
+) -> Result<(), HeadFault>
+    requires { S.failures (source_of feed.old) < 2 ^ 64 - 1 }
+    ensures reads { ReadsAll most draft.old feed.old draft.new feed.new result }
+    ensures advances { MovesOn S.failures feed.old feed.new result }
+{
     'phrases: loop {
-        if !read_phrase(alloc, feed, most, &mut draft)? {
-            return finish(alloc, draft);
+        if !read_phrase(alloc, feed, most, draft)? {
+            return Ok(());
         }
-        read_ahead(alloc, feed, most, &mut draft)?;
+        read_ahead(alloc, feed, most, draft)?;
     }
 }

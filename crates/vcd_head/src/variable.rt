@@ -1,6 +1,6 @@
 // The phrase of a variable, after its keyword.
 ghost use Rattle.std.specs.Prelude.{◌-◌, ◌^◌, ◌<◌};
-ghost use Rattle.vcd_head.specs.Names.{Keyword, MovesOn, ReadsCode, ReadsPhrase, ReadsSize, source_of};
+ghost use Rattle.vcd_head.specs.Names.{Keyword, MovesOn, ReadsCode, ReadsFront, ReadsPhrase, ReadsSize, source_of};
 
 use crate::codes::Codes;
 use crate::declarations::{Reference, VariablePhrase, check_start, declare};
@@ -49,6 +49,35 @@ fn read_code<S: Source>(
     Ok(Vec::from_slice(alloc, token)?)
 }
 
+/// The first tokens of a variable.
+#[derive(Drop)]
+struct VariableFront {
+    /// Its type.
+    word: Vec<u8>,
+    /// Its bits.
+    size: usize,
+    code: Vec<u8>,
+}
+
+/// Reads the type, the size and the code of a variable, beside these codes.
+fn read_front<S: Source>(
+    alloc: Global,
+    feed: &mut Feed<'_, '_, '_, '_, S>,
+    known: &Codes,
+) -> Result<VariableFront, HeadFault>
+    requires { S.failures (source_of feed.old) < 2 ^ 64 - 1 }
+    ensures reads { ReadsFront known.now feed.old feed.new result }
+    ensures advances { MovesOn S.failures feed.old feed.new result }
+{
+    let Some(word) = next_word(alloc, feed)? else {
+        return Err(HeadFault::BadVariable);
+    };
+    let size = read_size(feed)?;
+    let event = is_event(&word);
+    let code = read_code(alloc, feed, known, size, event)?;
+    Ok(VariableFront { word, size, code })
+}
+
 /// Reads a variable: type, size, code, one or more tokens of reference, and `$end`.
 pub(crate) fn read_variable<S: Source>(
     alloc: Global,
@@ -61,20 +90,15 @@ pub(crate) fn read_variable<S: Source>(
     ensures advances { MovesOn S.failures feed.old feed.new result }
 {
     check_start(draft, most, Kind::Var)?;
-    let Some(word) = next_word(alloc, feed)? else {
-        return Err(HeadFault::BadVariable);
-    };
-    let size = read_size(feed)?;
-    let event = is_event(&word);
-    let code = read_code(alloc, feed, &draft.codes, size, event)?;
+    let front = read_front(alloc, feed, &draft.codes)?;
     let mut text = Vec::new(alloc);
     let Some(name) = append_reference(feed, &mut text)? else {
         return Err(HeadFault::BadVariable);
     };
     let variable = VariablePhrase {
-        word: &word,
-        size,
-        code: &code,
+        word: &front.word,
+        size: front.size,
+        code: &front.code,
         reference: Reference { name, text: &text },
     };
     if !declare(alloc, draft, variable)? {

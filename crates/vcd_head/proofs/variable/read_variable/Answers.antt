@@ -1,4 +1,4 @@
-use Rattle.std.proofs.Common.{◌≡◌, [], ◌∷◌, ◌++◌, bytes_eq, codes, refl, sym, ap, subst, ◌∙◌, arith}
+use Rattle.std.proofs.Common.{◌≡◌, [], ◌∷◌, ◌++◌, refl, sym, ap, subst, ◌∙◌, arith}
 use Rattle.std.specs.List.{join_with_byte}
 use Rattle.std.proofs.lemmas.Bool.{false≢true, MatchBool-at_true}
 use Rattle.std.proofs.lemmas.Result.{err_from_is_err_and}
@@ -16,10 +16,10 @@ use Rattle.vcd_head.specs.declared.declarations.VariablePhrase.{VariablePhrase}
 use Rattle.vcd_head.specs.Draft.{IsDraftOf}
 use Rattle.vcd_head.specs.Texts.{spaced}
 use Rattle.vcd_head.proofs.CodeChecks.{not_some}
-use Rattle.vcd_head.proofs.TokenSteps.{faultless_phrase, stays, word_some, word_none}
+use Rattle.vcd_head.proofs.TokenSteps.{faultless_phrase, stays}
 use Rattle.vcd_head.proofs.TextSteps.{joined}
 use Rattle.vcd_head.proofs.WordLemmas.{size_found, size_parts}
-use Rattle.vcd_head.proofs.PhraseLemmas.{barred, begun, ended, refused_inside, var_welcomes_type, var_welcomes_reference, var_runs, var_whole}
+use Rattle.vcd_head.proofs.PhraseLemmas.{barred, begun, ended, refused_inside, var_welcomes_reference, var_runs, var_whole}
 use Rattle.vcd_head.proofs.DraftSteps.{carried, failed_not}
 use Rattle.vcd_head.proofs.DraftLemmas.{some_token}
 use Rattle.vcd_head.proofs.variable.read_variable.Goals as goal
@@ -35,47 +35,13 @@ returns-in_err-check_start-clause-reads g c =
     rw (p.1, p.2) (λ i b.
     barred c.args.most i b.placed kind.Var c.args.feed.now c.in_err-check_start.field-0.0 b.keyword (c.in_err-check_start.ensures.checks (phrases_of b.placed) b.holds) b.token_read)
 
-pub returns-in_err-word-clause-reads : goal.returns-in_err-word-clause-reads
-returns-in_err-word-clause-reads g c =
-    let p = err_from_is_err_and c.from_residual-in_err-word.result c.from_residual-in_err-word.ensures.1 in
+pub returns-in_err-front-clause-reads : goal.returns-in_err-front-clause-reads
+returns-in_err-front-clause-reads g c =
+    let p = err_from_is_err_and c.from_residual-in_err-front.result c.from_residual-in_err-front.ensures.1 in
     rw (p.1, p.2) (λ i b.
     let start = c.in_ok-check_start.ensures.checks (phrases_of b.placed) b.holds in
     let r0 = begun c.args.most i b.placed Keyword.Var c.args.feed.now b.keyword start refl b.token_read in
-    c.in_err-word.ensures.reads c.args.most i b.placed (keyword_text Keyword.Var ∷ []) (var_welcomes_type c.args.most b.placed) r0)
-
-pub returns-in_default-clause-reads : goal.returns-in_default-clause-reads
-returns-in_default-clause-reads g c = λ i b.
-    let start = c.in_ok-check_start.ensures.checks (phrases_of b.placed) b.holds in
-    let r0 = begun c.args.most i b.placed Keyword.Var c.args.feed.now b.keyword start refl b.token_read in
-    let w1 = c.in_ok-word.ensures.reads c.args.most i b.placed (keyword_text Keyword.Var ∷ []) (var_welcomes_type c.args.most b.placed) r0 in
-    let e = word_none c.args.most i b.placed (keyword_text Keyword.Var ∷ []) c.next_word.new.feed c.in_ok-word.field-0 c.in_default.not-Some w1 in
-    refused_inside c.args.most i b.placed Keyword.Var c.next_word.new.feed [] 7 (failed_not _ 7 e.1) e.0
-
-pub returns-in_err-size-clause-reads : goal.returns-in_err-size-clause-reads
-returns-in_err-size-clause-reads g c =
-    let p = err_from_is_err_and c.from_residual-in_err-size.result c.from_residual-in_err-size.ensures.1 in
-    rw (p.1, p.2) (λ i b.
-    let start = c.in_ok-check_start.ensures.checks (phrases_of b.placed) b.holds in
-    let r0 = begun c.args.most i b.placed Keyword.Var c.args.feed.now b.keyword start refl b.token_read in
-    let w1 = c.in_ok-word.ensures.reads c.args.most i b.placed (keyword_text Keyword.Var ∷ []) (var_welcomes_type c.args.most b.placed) r0 in
-    let type = c.in-Some.word.items in
-    let r1 = (word_some c.args.most i b.placed (keyword_text Keyword.Var ∷ []) c.next_word.new.feed c.in_ok-word.field-0 c.in-Some.word c.in-Some.is w1).0 in
-    c.in_err-size.ensures.reads c.args.most i b.placed type r1)
-
-pub returns-in_err-code-clause-reads : goal.returns-in_err-code-clause-reads
-returns-in_err-code-clause-reads g c =
-    let p = err_from_is_err_and c.from_residual-in_err-code.result c.from_residual-in_err-code.ensures.1 in
-    rw (p.1, p.2) (λ i b.
-    let start = c.in_ok-check_start.ensures.checks (phrases_of b.placed) b.holds in
-    let r0 = begun c.args.most i b.placed Keyword.Var c.args.feed.now b.keyword start refl b.token_read in
-    let w1 = c.in_ok-word.ensures.reads c.args.most i b.placed (keyword_text Keyword.Var ∷ []) (var_welcomes_type c.args.most b.placed) r0 in
-    let type = c.in-Some.word.items in
-    let r1 = (word_some c.args.most i b.placed (keyword_text Keyword.Var ∷ []) c.next_word.new.feed c.in_ok-word.field-0 c.in-Some.word c.in-Some.is w1).0 in
-    let s1 = c.in_ok-size.ensures.reads c.args.most i b.placed type r1 in
-    let digits = (token_of c.read_size.new.feed).bytes in
-    let sf = size_found digits c.in_ok-size.size s1.size_is in
-    let ev : bytes_eq (codes "event") type ≡ c.is_event-event.result = sym (c.is_event-event.ensures ∙ ap (bytes_eq (codes "event")) c.deref.ensures.value) in
-    c.in_err-code.ensures.reads c.args.most i b.placed type digits c.args.draft.now.text.items b.holds.declares.codes sf.1 ev s1.reads)
+    c.in_err-front.ensures.reads c.args.most i b.placed c.args.draft.now.text.items b.holds.declares.codes r0)
 
 pub returns-in_err-name-clause-reads : goal.returns-in_err-name-clause-reads
 returns-in_err-name-clause-reads g c =
@@ -83,32 +49,26 @@ returns-in_err-name-clause-reads g c =
     rw (p.1, p.2) (λ i b.
     let start = c.in_ok-check_start.ensures.checks (phrases_of b.placed) b.holds in
     let r0 = begun c.args.most i b.placed Keyword.Var c.args.feed.now b.keyword start refl b.token_read in
-    let w1 = c.in_ok-word.ensures.reads c.args.most i b.placed (keyword_text Keyword.Var ∷ []) (var_welcomes_type c.args.most b.placed) r0 in
-    let type = c.in-Some.word.items in
-    let r1 = (word_some c.args.most i b.placed (keyword_text Keyword.Var ∷ []) c.next_word.new.feed c.in_ok-word.field-0 c.in-Some.word c.in-Some.is w1).0 in
-    let s1 = c.in_ok-size.ensures.reads c.args.most i b.placed type r1 in
-    let digits = (token_of c.read_size.new.feed).bytes in
-    let sf = size_found digits c.in_ok-size.size s1.size_is in
-    let ev : bytes_eq (codes "event") type ≡ c.is_event-event.result = sym (c.is_event-event.ensures ∙ ap (bytes_eq (codes "event")) c.deref.ensures.value) in
-    let k1 = c.in_ok-code.ensures.reads c.args.most i b.placed type digits c.args.draft.now.text.items b.holds.declares.codes sf.1 ev s1.reads in
-    let code = c.in_ok-code.code.items in
-    c.in_err-name.ensures.reads c.args.most i b.placed (keyword_text Keyword.Var ∷ type ∷ digits ∷ code ∷ []) (var_welcomes_reference c.args.most b.placed type digits code) (λ t n. var_runs c.args.most b.placed type digits code t n) k1.reads)
+    let f1 = c.in_ok-front.ensures.reads c.args.most i b.placed c.args.draft.now.text.items b.holds.declares.codes r0 in
+    let front = c.in_ok-front.front in
+    let type = front.word.items in
+    let digits = f1.digits in
+    let sf = size_found digits front.size f1.size_is in
+    let code = front.code.items in
+    c.in_err-name.ensures.reads c.args.most i b.placed (keyword_text Keyword.Var ∷ type ∷ digits ∷ code ∷ []) (var_welcomes_reference c.args.most b.placed type digits code) (λ t n. var_runs c.args.most b.placed type digits code t n) f1.reads)
 
-pub returns-in_default-2-clause-reads : goal.returns-in_default-2-clause-reads
-returns-in_default-2-clause-reads g c = λ i b.
+pub returns-in_default-clause-reads : goal.returns-in_default-clause-reads
+returns-in_default-clause-reads g c = λ i b.
     let start = c.in_ok-check_start.ensures.checks (phrases_of b.placed) b.holds in
     let r0 = begun c.args.most i b.placed Keyword.Var c.args.feed.now b.keyword start refl b.token_read in
-    let w1 = c.in_ok-word.ensures.reads c.args.most i b.placed (keyword_text Keyword.Var ∷ []) (var_welcomes_type c.args.most b.placed) r0 in
-    let type = c.in-Some.word.items in
-    let r1 = (word_some c.args.most i b.placed (keyword_text Keyword.Var ∷ []) c.next_word.new.feed c.in_ok-word.field-0 c.in-Some.word c.in-Some.is w1).0 in
-    let s1 = c.in_ok-size.ensures.reads c.args.most i b.placed type r1 in
-    let digits = (token_of c.read_size.new.feed).bytes in
-    let sf = size_found digits c.in_ok-size.size s1.size_is in
-    let ev : bytes_eq (codes "event") type ≡ c.is_event-event.result = sym (c.is_event-event.ensures ∙ ap (bytes_eq (codes "event")) c.deref.ensures.value) in
-    let k1 = c.in_ok-code.ensures.reads c.args.most i b.placed type digits c.args.draft.now.text.items b.holds.declares.codes sf.1 ev s1.reads in
-    let code = c.in_ok-code.code.items in
-    let put = c.in_ok-name.ensures.reads c.args.most i b.placed (keyword_text Keyword.Var ∷ type ∷ digits ∷ code ∷ []) (var_welcomes_reference c.args.most b.placed type digits code) (λ t n. var_runs c.args.most b.placed type digits code t n) k1.reads in
-    let e = (rw (not_some c.in_ok-name.field-0 c.in_default-2.not-Some) at put) in
+    let f1 = c.in_ok-front.ensures.reads c.args.most i b.placed c.args.draft.now.text.items b.holds.declares.codes r0 in
+    let front = c.in_ok-front.front in
+    let type = front.word.items in
+    let digits = f1.digits in
+    let sf = size_found digits front.size f1.size_is in
+    let code = front.code.items in
+    let put = c.in_ok-name.ensures.reads c.args.most i b.placed (keyword_text Keyword.Var ∷ type ∷ digits ∷ code ∷ []) (var_welcomes_reference c.args.most b.placed type digits code) (λ t n. var_runs c.args.most b.placed type digits code t n) f1.reads in
+    let e = (rw (not_some c.in_ok-name.field-0 c.in_default.not-Some) at put) in
     refused_inside c.args.most i b.placed Keyword.Var c.append_reference.new.feed (type ∷ digits ∷ code ∷ []) 7 (failed_not _ 7 e.1) e.0
 
 pub returns-in_err-declare-clause-reads : goal.returns-in_err-declare-clause-reads
@@ -117,18 +77,15 @@ returns-in_err-declare-clause-reads g c =
     rw (p.1, p.2, c.in_err-declare.ensures.memory) (λ i b.
     let start = c.in_ok-check_start.ensures.checks (phrases_of b.placed) b.holds in
     let r0 = begun c.args.most i b.placed Keyword.Var c.args.feed.now b.keyword start refl b.token_read in
-    let w1 = c.in_ok-word.ensures.reads c.args.most i b.placed (keyword_text Keyword.Var ∷ []) (var_welcomes_type c.args.most b.placed) r0 in
-    let type = c.in-Some.word.items in
-    let r1 = (word_some c.args.most i b.placed (keyword_text Keyword.Var ∷ []) c.next_word.new.feed c.in_ok-word.field-0 c.in-Some.word c.in-Some.is w1).0 in
-    let s1 = c.in_ok-size.ensures.reads c.args.most i b.placed type r1 in
-    let digits = (token_of c.read_size.new.feed).bytes in
-    let sf = size_found digits c.in_ok-size.size s1.size_is in
-    let ev : bytes_eq (codes "event") type ≡ c.is_event-event.result = sym (c.is_event-event.ensures ∙ ap (bytes_eq (codes "event")) c.deref.ensures.value) in
-    let k1 = c.in_ok-code.ensures.reads c.args.most i b.placed type digits c.args.draft.now.text.items b.holds.declares.codes sf.1 ev s1.reads in
-    let code = c.in_ok-code.code.items in
+    let f1 = c.in_ok-front.ensures.reads c.args.most i b.placed c.args.draft.now.text.items b.holds.declares.codes r0 in
+    let front = c.in_ok-front.front in
+    let type = front.word.items in
+    let digits = f1.digits in
+    let sf = size_found digits front.size f1.size_is in
+    let code = front.code.items in
     let sp = size_parts digits sf.0 in
-    let put = c.in_ok-name.ensures.reads c.args.most i b.placed (keyword_text Keyword.Var ∷ type ∷ digits ∷ code ∷ []) (var_welcomes_reference c.args.most b.placed type digits code) (λ t n. var_runs c.args.most b.placed type digits code t n) k1.reads in
-    let e5 = (rw c.in-Some-2.is at put) in
+    let put = c.in_ok-name.ensures.reads c.args.most i b.placed (keyword_text Keyword.Var ∷ type ∷ digits ∷ code ∷ []) (var_welcomes_reference c.args.most b.placed type digits code) (λ t n. var_runs c.args.most b.placed type digits code t n) f1.reads in
+    let e5 = (rw c.in-Some.is at put) in
     let first = e5.first in
     let inner = e5.ends_there.inner in
     let v : Variable = record { type = type; size = decimal_value digits; code = code; reference = first ∷ inner } in
@@ -139,54 +96,48 @@ pub returns-then-not-branch-clause-reads : goal.returns-then-not-branch-clause-r
 returns-then-not-branch-clause-reads g c = λ i b.
     let start = c.in_ok-check_start.ensures.checks (phrases_of b.placed) b.holds in
     let r0 = begun c.args.most i b.placed Keyword.Var c.args.feed.now b.keyword start refl b.token_read in
-    let w1 = c.in_ok-word.ensures.reads c.args.most i b.placed (keyword_text Keyword.Var ∷ []) (var_welcomes_type c.args.most b.placed) r0 in
-    let type = c.in-Some.word.items in
-    let r1 = (word_some c.args.most i b.placed (keyword_text Keyword.Var ∷ []) c.next_word.new.feed c.in_ok-word.field-0 c.in-Some.word c.in-Some.is w1).0 in
-    let s1 = c.in_ok-size.ensures.reads c.args.most i b.placed type r1 in
-    let digits = (token_of c.read_size.new.feed).bytes in
-    let sf = size_found digits c.in_ok-size.size s1.size_is in
-    let ev : bytes_eq (codes "event") type ≡ c.is_event-event.result = sym (c.is_event-event.ensures ∙ ap (bytes_eq (codes "event")) c.deref.ensures.value) in
-    let k1 = c.in_ok-code.ensures.reads c.args.most i b.placed type digits c.args.draft.now.text.items b.holds.declares.codes sf.1 ev s1.reads in
-    let code = c.in_ok-code.code.items in
+    let f1 = c.in_ok-front.ensures.reads c.args.most i b.placed c.args.draft.now.text.items b.holds.declares.codes r0 in
+    let front = c.in_ok-front.front in
+    let type = front.word.items in
+    let digits = f1.digits in
+    let sf = size_found digits front.size f1.size_is in
+    let code = front.code.items in
     let sp = size_parts digits sf.0 in
-    let put = c.in_ok-name.ensures.reads c.args.most i b.placed (keyword_text Keyword.Var ∷ type ∷ digits ∷ code ∷ []) (var_welcomes_reference c.args.most b.placed type digits code) (λ t n. var_runs c.args.most b.placed type digits code t n) k1.reads in
-    let e5 = (rw c.in-Some-2.is at put) in
+    let put = c.in_ok-name.ensures.reads c.args.most i b.placed (keyword_text Keyword.Var ∷ type ∷ digits ∷ code ∷ []) (var_welcomes_reference c.args.most b.placed type digits code) (λ t n. var_runs c.args.most b.placed type digits code t n) f1.reads in
+    let e5 = (rw c.in-Some.is at put) in
     let first = e5.first in
     let inner = e5.ends_there.inner in
     let v : Variable = record { type = type; size = decimal_value digits; code = code; reference = first ∷ inner } in
     let ds = declarations_of (phrases_of b.placed) in
-    let size : IsSize c.in_ok-size.size = record { some = omega (arith, sp.1, sf.1); most = omega (arith, sp.2, sf.1) } in
-    let text_is : c.deref-4.result.now ≡ join_with_byte 32 (first ∷ inner) = c.deref-4.ensures.value ∙ e5.ends_there.grows ∙ ap (λ l. l ++ (first ++ spaced inner)) c.new-text.ensures.items ∙ sym (joined first inner) in
-    let said : VariablePhrase = record { word = c.deref-2.result; size = c.in_ok-size.size; code = c.deref-3.result; reference = record { name = c.in-Some-2.name; text = c.deref-4.result } } in
-    let is : spelled said (first ∷ inner) ≡ v = λ j. record { type = c.deref-2.ensures.value j; size = sym sf.1 j; code = c.deref-3.ensures.value j; reference = first ∷ inner } in
+    let size : IsSize front.size = record { some = omega (arith, sp.1, sf.1); most = omega (arith, sp.2, sf.1) } in
+    let text_is : c.deref-3.result.now ≡ join_with_byte 32 (first ∷ inner) = c.deref-3.ensures.value ∙ e5.ends_there.grows ∙ ap (λ l. l ++ (first ++ spaced inner)) c.new-text.ensures.items ∙ sym (joined first inner) in
+    let said : VariablePhrase = record { word = c.deref.result; size = front.size; code = c.deref-2.result; reference = record { name = c.in-Some.name; text = c.deref-3.result } } in
+    let is : spelled said (first ∷ inner) ≡ v = λ j. record { type = c.deref.ensures.value j; size = sym sf.1 j; code = c.deref-2.ensures.value j; reference = first ∷ inner } in
     let takes = c.in_ok-declare.ensures.declares (first ∷ inner) size (record { named = some_token first inner; text_is = text_is; name_is = e5.name_is }) c.args.most (phrases_of b.placed) b.holds start in
-    absurd (false≢true (sym c.if-not-branch.true ∙ takes.0 ∙ ap (agrees ds) is ∙ k1.allowed))
+    absurd (false≢true (sym c.if-not-branch.true ∙ takes.0 ∙ ap (agrees ds) is ∙ f1.allowed))
 
 pub returns-clause-reads : goal.returns-clause-reads
 returns-clause-reads g c = λ i b.
     let start = c.in_ok-check_start.ensures.checks (phrases_of b.placed) b.holds in
     let r0 = begun c.args.most i b.placed Keyword.Var c.args.feed.now b.keyword start refl b.token_read in
-    let w1 = c.in_ok-word.ensures.reads c.args.most i b.placed (keyword_text Keyword.Var ∷ []) (var_welcomes_type c.args.most b.placed) r0 in
-    let type = c.in-Some.word.items in
-    let r1 = (word_some c.args.most i b.placed (keyword_text Keyword.Var ∷ []) c.next_word.new.feed c.in_ok-word.field-0 c.in-Some.word c.in-Some.is w1).0 in
-    let s1 = c.in_ok-size.ensures.reads c.args.most i b.placed type r1 in
-    let digits = (token_of c.read_size.new.feed).bytes in
-    let sf = size_found digits c.in_ok-size.size s1.size_is in
-    let ev : bytes_eq (codes "event") type ≡ c.is_event-event.result = sym (c.is_event-event.ensures ∙ ap (bytes_eq (codes "event")) c.deref.ensures.value) in
-    let k1 = c.in_ok-code.ensures.reads c.args.most i b.placed type digits c.args.draft.now.text.items b.holds.declares.codes sf.1 ev s1.reads in
-    let code = c.in_ok-code.code.items in
+    let f1 = c.in_ok-front.ensures.reads c.args.most i b.placed c.args.draft.now.text.items b.holds.declares.codes r0 in
+    let front = c.in_ok-front.front in
+    let type = front.word.items in
+    let digits = f1.digits in
+    let sf = size_found digits front.size f1.size_is in
+    let code = front.code.items in
     let sp = size_parts digits sf.0 in
-    let put = c.in_ok-name.ensures.reads c.args.most i b.placed (keyword_text Keyword.Var ∷ type ∷ digits ∷ code ∷ []) (var_welcomes_reference c.args.most b.placed type digits code) (λ t n. var_runs c.args.most b.placed type digits code t n) k1.reads in
-    let e5 = (rw c.in-Some-2.is at put) in
+    let put = c.in_ok-name.ensures.reads c.args.most i b.placed (keyword_text Keyword.Var ∷ type ∷ digits ∷ code ∷ []) (var_welcomes_reference c.args.most b.placed type digits code) (λ t n. var_runs c.args.most b.placed type digits code t n) f1.reads in
+    let e5 = (rw c.in-Some.is at put) in
     let first = e5.first in
     let inner = e5.ends_there.inner in
     let v : Variable = record { type = type; size = decimal_value digits; code = code; reference = first ∷ inner } in
     let r5 = ended c.args.most i b.placed Keyword.Var c.append_reference.new.feed (type ∷ digits ∷ code ∷ first ∷ inner) (HeaderPhrase.Declares (Declaration.Var v)) refl (var_whole type digits code first inner (token_of c.append_reference.new.feed).bytes e5.is_token e5.ends_there.none e5.ends_there.ends sp.0) refl e5.ends_there.token_read in
     let ds = declarations_of (phrases_of b.placed) in
-    let size : IsSize c.in_ok-size.size = record { some = omega (arith, sp.1, sf.1); most = omega (arith, sp.2, sf.1) } in
-    let text_is : c.deref-4.result.now ≡ join_with_byte 32 (first ∷ inner) = c.deref-4.ensures.value ∙ e5.ends_there.grows ∙ ap (λ l. l ++ (first ++ spaced inner)) c.new-text.ensures.items ∙ sym (joined first inner) in
-    let said : VariablePhrase = record { word = c.deref-2.result; size = c.in_ok-size.size; code = c.deref-3.result; reference = record { name = c.in-Some-2.name; text = c.deref-4.result } } in
-    let is : spelled said (first ∷ inner) ≡ v = λ j. record { type = c.deref-2.ensures.value j; size = sym sf.1 j; code = c.deref-3.ensures.value j; reference = first ∷ inner } in
+    let size : IsSize front.size = record { some = omega (arith, sp.1, sf.1); most = omega (arith, sp.2, sf.1) } in
+    let text_is : c.deref-3.result.now ≡ join_with_byte 32 (first ∷ inner) = c.deref-3.ensures.value ∙ e5.ends_there.grows ∙ ap (λ l. l ++ (first ++ spaced inner)) c.new-text.ensures.items ∙ sym (joined first inner) in
+    let said : VariablePhrase = record { word = c.deref.result; size = front.size; code = c.deref-2.result; reference = record { name = c.in-Some.name; text = c.deref-3.result } } in
+    let is : spelled said (first ∷ inner) ≡ v = λ j. record { type = c.deref.ensures.value j; size = sym sf.1 j; code = c.deref-2.ensures.value j; reference = first ∷ inner } in
     let takes = c.in_ok-declare.ensures.declares (first ∷ inner) size (record { named = some_token first inner; text_is = text_is; name_is = e5.name_is }) c.args.most (phrases_of b.placed) b.holds start in
     carried c.args.most i _ c.append_reference.new.feed b.placed (record { phrase = HeaderPhrase.Declares (Declaration.Var v); line = (token_of c.append_reference.new.feed).line }) r5
     (subst (λ (u : Variable). IsDraftOf c.args.most c.declare.new.draft (phrases_of b.placed ++ HeaderPhrase.Declares (Declaration.Var u) ∷ [])) is (MatchBool-at_true _ _ c.if-not-branch.false takes.1))
