@@ -63,15 +63,20 @@ def lanes():
     return max(1, min(len(os.sched_getaffinity(0)), available // MEMORY_EACH))
 
 
-def lines_of(crate):
-    """Returns how many lines of code, definitions and proofs a crate has."""
-    count = 0
-    for part in SOURCES:
-        for folder, _, names in os.walk(os.path.join(TOP, "crates", crate, part)):
-            for name in names:
-                with open(os.path.join(folder, name), "rb") as text:
-                    count += text.read().count(b"\n")
-    return count
+def sources_of(crate):
+    """Returns the files of code, definitions and proofs of a crate."""
+    return [os.path.join(folder, name) for part in SOURCES
+            for folder, _, names in os.walk(os.path.join(TOP, "crates", crate, part))
+            for name in names]
+
+
+def is_built(crates, crate):
+    """Returns whether rt built the crate after the last change of these crates, of their list and
+    of rt. Where that is wrong, rt builds it with the last crate, only not beside others."""
+    files = [os.path.join(TOP, "crates.txt"), os.path.realpath(shutil.which("rt") or TOP)]
+    files += [file for it in crates for file in sources_of(it)]
+    stamp = os.path.join(TOP, "crates", crate, BUILT, "stamp")
+    return os.path.isfile(stamp) and max(map(os.path.getmtime, files)) < os.path.getmtime(stamp)
 
 
 def copied(crates, part, to):
@@ -102,9 +107,8 @@ class Run:
         if below is not None:
             self.room = tempfile.mkdtemp(prefix="vcdkit-prove-")
             shutil.copy(os.path.join(TOP, "crates.txt"), self.room)
-            for part in SOURCES:
+            for part in (*SOURCES, BUILT):
                 copied([*below, crate], part, self.room)
-            copied(below, BUILT, self.room)
             copied([crate], KEPT, self.room)
         self.rt = subprocess.Popen(["rt", *words], stdout=subprocess.PIPE, stderr=subprocess.STDOUT,
                                    cwd=os.path.join(self.room or TOP, "crates", crate),
@@ -169,13 +173,13 @@ class Proof:
 
     def __init__(self, crate, log):
         self.below, self.log, self.screen = crates_below(crate), log, Screen()
-        self.order, self.left, self.said = [*self.below], [*self.below], queue.Queue()
-        self.running, self.done = [], []
-        self.lanes, lines = lanes(), {name: lines_of(name) for name in self.order}
-        self.chain = {name: lines[name] for name in self.order}
+        self.order, self.said = [*self.below], queue.Queue()
+        self.left = [it for it in self.order
+                     if it == crate or not is_built([*self.below[it], it], it)]
+        self.running, self.done, self.lanes, self.chain = [], [], lanes(), {}
         for name in reversed(self.order):
-            above = [other for other in self.order if name in self.below[other]]
-            self.chain[name] += max((self.chain[other] for other in above), default=0)
+            above = [self.chain[it] for it in self.order if name in self.below[it]]
+            self.chain[name] = sum(map(os.path.getsize, sources_of(name))) + max(above, default=0)
 
     def jobs(self, crate):
         """Returns the processors for a crate: half of them, or all if no other can be proved beside
@@ -196,10 +200,10 @@ class Proof:
     def start_libraries(self):
         """Starts the proofs of the libraries that can start now, those with most above them first.
         Where one is proved at a time, rt chooses by itself how many processors it uses."""
-        proved = {run.crate for run in self.done}
+        lacking = {*self.left, *(run.crate for run in self.running)}
         for crate in sorted(self.left[:-1], key=self.chain.get, reverse=True):
             free = self.lanes - sum(self.jobs(run.crate) for run in self.running)
-            if self.below[crate] <= proved and self.jobs(crate) <= free:
+            if not lacking & self.below[crate] and self.jobs(crate) <= free:
                 flags = ["--jobs", str(self.jobs(crate))] if self.lanes > 1 else []
                 self.start(crate, ["lib", *flags], stdin=subprocess.DEVNULL)
 
@@ -231,7 +235,7 @@ class Proof:
         status that is not 0, else 0."""
         status = 0
         try:
-            while not status and len(self.done) < len(self.order):
+            while not status and (self.left or self.running):
                 self.start_libraries()
                 if len(self.left) == 1 and not self.running:
                     self.start(self.order[-1], words)
