@@ -35,19 +35,21 @@ SO_FAR = re.compile(r"so far: (\d+) of (\d+) functions")
 VERDICT = re.compile(r"logic=proved functions=(\d+)")
 
 
+def listed():
+    """Returns the lines of crates.txt, by the names of their crates."""
+    with open(os.path.join(TOP, "crates.txt"), encoding="utf-8") as lines:
+        return {line.split()[0].rstrip(":"): line for line in lines
+                if ":" in line.partition("#")[0]}
+
+
 def crates_below(crate):
     """Returns, for a crate of crates.txt and each below it, all that it stands on; each crate comes
     after those that it stands on."""
-    needs = {}
-    with open(os.path.join(TOP, "crates.txt"), encoding="utf-8") as lines:
-        for line in lines:
-            name, colon, below = line.partition("#")[0].partition(":")
-            if colon:
-                needs[name.split()[0]] = below.split()
-    found = {}
+    lines, found = listed(), {}
 
     def visit(name):
-        direct = [below for below in needs[name] if below in needs]
+        needs = lines[name].partition("#")[0].partition(":")[2].split()
+        direct = [below for below in needs if below in lines]
         for below in direct:
             visit(below)
         found.setdefault(name, set(direct).union(*(found[below] for below in direct)))
@@ -80,7 +82,7 @@ def is_built(crates, crate):
 
 
 def copied(crates, part, to):
-    """Copies a part of the folders of these crates, where they have it, below another top folder."""
+    """Copies a part of these crates, where they have it, below another top folder."""
 
     def copy(one, other):
         if one.endswith(LINKED):
@@ -106,7 +108,8 @@ class Run:
         self.last = collections.deque(maxlen=LAST_LINES)
         if below is not None:
             self.room = tempfile.mkdtemp(prefix="vcdkit-prove-")
-            shutil.copy(os.path.join(TOP, "crates.txt"), self.room)
+            with open(os.path.join(self.room, "crates.txt"), "w", encoding="utf-8") as lines:
+                lines.writelines(line for name, line in listed().items() if name in {*below, crate})
             for part in (*SOURCES, BUILT):
                 copied([*below, crate], part, self.room)
             copied([crate], KEPT, self.room)
