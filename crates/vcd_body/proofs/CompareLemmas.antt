@@ -15,8 +15,6 @@ use Rattle.vcd_body.specs.Packed.{held_digit}
 use Rattle.vcd_body.specs.Stored.{digits_held, held_by, one_digit, some_by, used_by}
 use Rattle.vcd_body.specs.declared.slot.State.{State}
 use Rattle.vcd_body.specs.declared.slot.State.TheVariants as state
-use Rattle.std.specs.Prelude.{option_map}
-use Rattle.std.proofs.lemmas.Option.{slice_get-get_or, slice_get-map}
 use Rattle.vcd_body.proofs.BinaryLemmas.{length_binary}
 use Rattle.vcd_body.proofs.HeldLemmas.{digit_behind, length_held}
 use Rattle.vcd_body.proofs.Shortest.{extend_wide, extension_again}
@@ -104,29 +102,6 @@ same_from_last xs ys size back few less e =
     sym (digit_behind (size - length xs) (extension xs) i xs (omega arith) ∙ ap (slice_get xs) x)
     ∙ ap (λ l. slice_get l i) e
     ∙ digit_behind (size - length ys) (extension ys) i ys (omega (arith, l, a, b)) ∙ ap (slice_get ys) y
-
--- one digit of each that are not the same
-pub differ_where : (share text : List ℕ) (back : ℕ) → back < length share → back < length text → held_digit (get_or share (length share - 1 - back) 0) ≢ to_ascii_lowercase (get_or text (length text - 1 - back) 0) → (size : ℕ) → extend (map held_digit share) size ≢ extend (str_to_ascii_lowercase text) size
-differ_where share text back few less other size e =
-    let l = length-map share held_digit in
-    let m = length-map text to_ascii_lowercase in
-    let s = same_from_last (map held_digit share) (str_to_ascii_lowercase text) size back (omega (arith, l, few)) (omega (arith, m, less)) e in
-    let i : length (map held_digit share) - 1 - back ≡ length share - 1 - back = omega (arith, l) in
-    let j : length (str_to_ascii_lowercase text) - 1 - back ≡ length text - 1 - back = omega (arith, m) in
-    let x = ap (slice_get (map held_digit share)) i ∙ slice_get-map held_digit share (length share - 1 - back) ∙ ap (option_map held_digit) (slice_get-get_or share (length share - 1 - back) 0 (omega (arith, few))) in
-    let y = ap (slice_get (str_to_ascii_lowercase text)) j ∙ slice_get-map to_ascii_lowercase text (length text - 1 - back) ∙ ap (option_map to_ascii_lowercase) (slice_get-get_or text (length text - 1 - back) 0 (omega (arith, less))) in
-    let same : Some (held_digit (get_or share (length share - 1 - back) 0)) ≡ Some (to_ascii_lowercase (get_or text (length text - 1 - back) 0)) = sym x ∙ s ∙ y in
-    other (cc same)
-
--- the same of digits that are held
-pub differ_held : (xs text : List ℕ) (back d : ℕ) → back < length xs → back < length text → Some d ≡ slice_get xs (length xs - 1 - back) → d ≢ to_ascii_lowercase (get_or text (length text - 1 - back) 0) → (size : ℕ) → extend xs size ≢ extend (str_to_ascii_lowercase text) size
-differ_held xs text back d few less at other size e =
-    let m = length-map text to_ascii_lowercase in
-    let s = same_from_last xs (str_to_ascii_lowercase text) size back few (omega (arith, m, less)) e in
-    let j : length (str_to_ascii_lowercase text) - 1 - back ≡ length text - 1 - back = omega (arith, m) in
-    let y = ap (slice_get (str_to_ascii_lowercase text)) j ∙ slice_get-map to_ascii_lowercase text (length text - 1 - back) ∙ ap (option_map to_ascii_lowercase) (slice_get-get_or text (length text - 1 - back) 0 (omega (arith, less))) in
-    let same : Some d ≡ Some (to_ascii_lowercase (get_or text (length text - 1 - back) 0)) = at ∙ s ∙ y in
-    other (cc same)
 
 -- one digit each
 pub differ_in_digit : (x y size : ℕ) (r : Bool) → Decides r (x ≡ y) → not r ≡ not (bytes_eq (extend (x ∷ []) size) (extend (y ∷ []) size))

@@ -1,3 +1,4 @@
+pub mod WalkLemmas
 pub mod WordLemmas
 pub mod TokenLemmas
 pub mod PhraseLemmas
@@ -14,7 +15,6 @@ pub mod OnesLemmas
 pub mod PackedLemmas
 pub mod CodeLanes
 pub mod BinaryLemmas
-pub mod BinaryShort
 pub mod StoreLemmas
 pub mod LayoutLemmas
 pub mod HeldLemmas

@@ -1,10 +1,9 @@
 -- The shortest digits of a value are those from which no digit can be left out on the left.
-use Rattle.std.proofs.Common.{◌≡◌, ◌≢◌, ◌⊎◌, inl, inr, ℕ, zero, suc, ◌+◌, ◌-◌, ◌/◌, ◌%◌, ◌^◌, max, ◌≤◌, ◌<◌, Bool, true, false, cond, ◌==◌, List, [], ◌∷◌, ◌++◌, length, replicate, take, drop, get_or, refl, sym, ap, subst, ◌∙◌, arith}
+use Rattle.std.proofs.Common.{◌≡◌, ◌≢◌, ◌⊎◌, inl, inr, ℕ, zero, suc, ◌+◌, ◌-◌, ◌/◌, ◌%◌, ◌^◌, max, ◌≤◌, ◌<◌, Bool, true, false, cond, ◌==◌, List, [], ◌∷◌, ◌++◌, length, replicate, drop, get_or, refl, sym, ap, subst, ◌∙◌, arith}
 use Rattle.std.specs.Char.{to_ascii_lowercase}
 use Rattle.std.specs.Str.{str_to_ascii_lowercase}
 use Rattle.std.proofs.lemmas.Bool.{cases_lt, eqb-true}
-use Rattle.std.proofs.lemmas.List.{get_or-take, length-append, length-drop, length-map, length-replicate, length-take-le}
-use Rattle.std.proofs.Math.Seq.{take-length}
+use Rattle.std.proofs.lemmas.List.{length-append, length-map, length-replicate}
 use Rattle.vcd_model.specs.Values.{extend, extension, short}
 use Rattle.vcd_body.specs.Binary.{binary_digits, bit_of}
 use Rattle.vcd_model.proofs.ShortLemmas.{short_is_shortest}
@@ -125,26 +124,6 @@ one_out l rest digits e more same (some, few, value) =
     length_drop : (l : List ℕ) → length (drop 1 l) ≡ length l - 1
     length_drop [] = omega arith
     length_drop (x ∷ l) = omega arith
-
--- so are some first zeros that another zero stands behind
-pub zeros_out : (n : ℕ) (l digits : List ℕ) → n < length l → get_or l n 0 ≡ 48 → ((k : ℕ) → k < n → get_or l k 0 ≡ 48) → Suffices l digits → Suffices (drop n l) digits
-zeros_out zero l digits more last zeros s = s
-zeros_out (suc n) [] digits more last zeros s = absurd (omega arith)
-zeros_out (suc n) (x ∷ l) digits more last zeros s =
-    let same = ap to_ascii_lowercase (zeros 0 (omega arith)) ∙ sym (ap (λ d. extension (to_ascii_lowercase d ∷ [])) (second n last (λ k few. zeros (suc k) (omega arith)))) in
-    zeros_out n l digits (omega arith) last (λ k few. zeros (suc k) (omega arith)) (one_out (x ∷ l) l digits refl (omega arith) same s)
-  where
-    second : (n : ℕ) → get_or l n 0 ≡ 48 → ((k : ℕ) → k < n → get_or l k 0 ≡ 48) → get_or l 0 0 ≡ 48
-    second zero last zeros = last
-    second (suc n) last zeros = zeros 0 (omega arith)
-
--- as a slice from there on has them
-pub zeros_cut : (n : ℕ) (l digits : List ℕ) → n < length l → get_or l n 0 ≡ 48 → ((k : ℕ) → k < length (take n l) → get_or (take n l) k 0 ≡ 48) → Suffices l digits → Suffices (take (length l - n) (drop n l)) digits
-zeros_cut n l digits more last zeros s =
-    let size = length-take-le n l (omega arith) in
-    let at : (k : ℕ) → k < n → get_or l k 0 ≡ 48 = λ k few. sym (get_or-take n l k 0 few) ∙ zeros k (omega arith) in
-    let all : take (length l - n) (drop n l) ≡ drop n l = ap (λ m. take m (drop n l)) (sym (length-drop n l)) ∙ take-length (drop n l) in
-    subst (λ r. Suffices r digits) (sym all) (zeros_out n l digits more last at s)
 
 -- ---- digits that are 0 and 1 alone
 

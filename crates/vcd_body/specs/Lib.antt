@@ -22,3 +22,4 @@ pub mod Lines
 pub mod Taken
 pub mod Answer
 pub mod Device
+pub mod Walk

@@ -1,5 +1,5 @@
 -- What is taken ahead: a token where a phrase begins, and then the whole item.
-use Rattle.std.specs.Prelude.{◌≡◌, ℕ, ◌-◌, ◌^◌, ◌<◌, ◌≤◌, true, List, [], ◌∷◌, ◌++◌, IfSome, MatchOption, Option, drop, length, take}
+use Rattle.std.specs.Prelude.{◌≡◌, ℕ, ◌-◌, ◌^◌, ◌<◌, ◌≤◌, true, List, [], ◌∷◌, ◌++◌, MatchOption, Option, drop, length, take}
 use Rattle.vcd_model.specs.BodyPhrases.{BodyPhrase}
 use Rattle.vcd_model.specs.Bytes.{decimal_value, is_decimal}
 use Rattle.vcd_model.specs.Header.{Header}
@@ -13,7 +13,6 @@ use Rattle.vcd_view.specs.declared.view.HeadView.{HeadView}
 use Rattle.vcd_view.specs.Finds.{IsSized}
 use Rattle.vcd_view.specs.declared.look_up.Found.{Found}
 use Rattle.vcd_body.specs.Ahead.{GaveAhead, GivesBoth, HasBits, IsPlain, IsSizedItem, LooksOver}
-use Rattle.vcd_body.specs.Binary.{binary_digits}
 use Rattle.vcd_body.specs.Given.{HasGoodText, IsGoodText, IsItem}
 use Rattle.vcd_body.specs.Items.{AreRegsAfter, model_form, regs_after}
 use Rattle.vcd_body.specs.Reads.{PassesScalar}
@@ -32,13 +31,12 @@ use Rattle.vcd_body.specs.declared.words.First.TheVariants as first
 pub record Opens (a a' : Ahead) (o : Opening) : Type 0 where
   pub token : TakesToken a a' o.token.now
   pub begins : Begins o.token.now o.first
-  pub at : o.at ≡ passed_of a' - 1 - length o.token.now
 
 -- a mark's digits spell this time
 abbrev pub HasTime : Opening → ℕ → Type 0
 HasTime o time = (is_decimal (drop 1 o.token.now) ≡ true) × (decimal_value (drop 1 o.token.now) ≡ time) × (time < 2 ^ 64)
 
--- the tokens of a vector's change were taken, where they begin, and what is known of the digits
+-- the tokens of a vector's change were taken, and where they begin
 pub record OpensVector (a a' : Ahead) (t : VectorTokens) : Type 0 where
   pub middle : Ahead
   pub token : TakesToken a middle t.token.now
@@ -46,7 +44,6 @@ pub record OpensVector (a a' : Ahead) (t : VectorTokens) : Type 0 where
   pub code : TakesToken middle a' t.code.now
   pub at : t.at ≡ passed_of middle - 1 - length t.token.now
   pub code_at : t.code_at ≡ passed_of a' - 1 - length t.code.now
-  pub bits : IfSome t.bits (λ b. drop 1 t.token.now ≡ binary_digits b.len b.number)
 
 -- the code behind a digit was found: the token is the change of this code, which may have the digit
 pub record IsFoundScalar (v : HeadView) (token : List ℕ) (found : Found) : Type 0 where

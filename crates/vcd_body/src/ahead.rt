@@ -1,5 +1,5 @@
 // Items whose tokens are whole ahead in the chunk: most cost no change of the feed.
-ghost use Rattle.std.specs.Prelude.{◌≡◌, ◌⊎◌, ℕ, ◌+◌, ◌^◌, ◌<◌, ◌≤◌, List, [], drop, length, slice_get, slice_range, true, is_some, None, Some, IfSome};
+ghost use Rattle.std.specs.Prelude.{◌≡◌, ◌⊎◌, ℕ, ◌+◌, ◌-◌, ◌^◌, ◌<◌, ◌≤◌, List, [], drop, length, slice_get, slice_range, true, is_some, None, Some, IfSome};
 ghost use Rattle.vcd_body.specs.Names.{Advances, AreWhite, Begins, CallEnd, GivesAhead, GivesToLast, HasMark, HasTime, IsChangeBy, IsFound, IsFoundScalar, IsRun, IsScalar, LeavesRegs, Opens, OpensVector, Passed, TakesItem, TakesOpened, TakesOpenedMark, Token, ahead_of, binary_digits, byte, bytes_of, limit_of, lines_of, longest_of, passed_of, seen, source_of};
 ghost use Rattle.vcd_body.specs.declared.item.Form.TheVariants as form;
 ghost use Rattle.vcd_body.specs.declared.item.Item.TheVariants as item;
@@ -116,17 +116,6 @@ fn vector_code(token: &[u8], code: &[u8], view: HeadView<'_>, bits: Option<Bits>
     None
 }
 
-/// Returns the digits of a vector as a number, where they are few, and `0` and `1` alone.
-#[inline(always)]
-fn vector_bits(bytes: &[u8], at: usize, token: &[u8]) -> Option<Bits>
-    requires within { at + length token.now ≤ length bytes.now }
-    requires place { token.now ≡ slice_range bytes.now at (at + length token.now) }
-    requires begins { Begins token.now first.Vector }
-    ensures { IfSome result (λ b. drop 1 token.now ≡ binary_digits b.len b.number) }
-{
-    bits_at(bytes, at + 1, after_first(token))
-}
-
 /// Returns the code after the text of a real number, if the text has 1 to 64 bytes.
 // Not inlined, so that the function that takes the other forms stays small enough to be inlined.
 #[inline(never)]
@@ -142,26 +131,23 @@ fn real_code(token: &[u8], code: &[u8], view: HeadView<'_>) -> Option<Found>
 
 /// A token that was taken ahead, where a phrase begins.
 #[derive(Clone, Copy)]
-pub struct Opening<'a> {
+pub(crate) struct Opening<'a> {
     /// What the token begins.
-    pub first: First,
+    pub(crate) first: First,
     pub(crate) token: &'a [u8],
-    // Where the token begins.
-    pub(crate) at: usize,
     // Whether `near_mark` gave it, in a loop that is to make no call for a mark.
     pub(crate) near: bool,
 }
 
-/// Returns the next token ahead, with what it begins; none where `item_ahead` gives none.
+/// Returns the next token ahead, with what it begins; none where the look-ahead gives none.
 #[inline(always)]
-pub fn opening_ahead<'a>(ahead: &mut Ahead<'a>) -> Option<Opening<'a>>
+pub(crate) fn opening_ahead<'a>(ahead: &mut Ahead<'a>) -> Option<Opening<'a>>
     ensures opens { IfSome result (λ o. Opens ahead.old ahead.new o) }
     ensures stays { result ≡ None → ahead.new ≡ ahead.old }
 {
     let token = ahead.next()?;
     Some(Opening {
         first: first_by(token[0]),
-        at: ahead.passed() - 1 - token.len(),
         token,
         near: false,
     })
@@ -177,7 +163,6 @@ fn short_opening<'a>(ahead: &mut Ahead<'a>) -> Option<Opening<'a>>
     let token = ahead.next_short()?;
     Some(Opening {
         first: first_by(token[0]),
-        at: ahead.passed() - 1 - token.len(),
         token,
         near: false,
     })
@@ -186,12 +171,11 @@ fn short_opening<'a>(ahead: &mut Ahead<'a>) -> Option<Opening<'a>>
 /// Returns the next token ahead where it begins a time mark, if it comes at once, has at most 15
 /// bytes and a line feed after them. Else `opening_ahead` may give one, and nothing has changed.
 #[inline(always)]
-pub fn near_mark<'a>(ahead: &mut Ahead<'a>) -> Option<Opening<'a>>
+pub(crate) fn near_mark<'a>(ahead: &mut Ahead<'a>) -> Option<Opening<'a>>
     ensures opens { IfSome result (λ o. Opens ahead.old ahead.new o) }
     ensures first { IfSome result (λ o. o.first ≡ first.Mark) }
     ensures stays { result ≡ None → ahead.new ≡ ahead.old }
 {
-    let at = ahead.passed();
     let mut next = *ahead;
     let token = next.next_near()?;
     let first = first_by(token[0]);
@@ -201,16 +185,24 @@ pub fn near_mark<'a>(ahead: &mut Ahead<'a>) -> Option<Opening<'a>>
     *ahead = next;
     Some(Opening {
         first,
-        at,
         token,
         near: true,
     })
 }
 
+/// Returns where the token begins that the look-ahead is right after.
+#[inline(always)]
+fn begin_of(token: &[u8], ahead: Ahead<'_>) -> usize
+    requires { length token.now + 1 ≤ passed_of ahead }
+    ensures { result ≡ passed_of ahead.entry - 1 - length token.now }
+{
+    ahead.passed() - 1 - token.len()
+}
+
 /// Returns the change that a digit begins, with its code at once. The place is that after the
 /// token; none where it is no such change.
 #[inline(always)]
-pub fn scalar_ahead<'a>(
+pub(crate) fn scalar_ahead<'a>(
     opening: Opening<'a>,
     ahead: Ahead<'a>,
     view: HeadView<'_>,
@@ -223,7 +215,7 @@ pub fn scalar_ahead<'a>(
     let token = opening.token;
     let found = scalar_code(token, view).ok()?;
     let text = first_byte_of(token);
-    let at = opening.at;
+    let at = begin_of(token, ahead);
     Some(change_of(found, Form::Scalar, text, None, at, at + 1))
 }
 
@@ -246,7 +238,7 @@ fn short_code(token: &[u8], view: HeadView<'_>) -> Option<Found>
 /// nothing has changed.
 // No call is made, so that a loop over such changes keeps all that it needs in registers.
 #[inline(always)]
-pub fn short_ahead<'a>(ahead: &mut Ahead<'a>, view: HeadView<'_>) -> Option<Plain<'a>>
+pub(crate) fn short_ahead<'a>(ahead: &mut Ahead<'a>, view: HeadView<'_>) -> Option<Plain<'a>>
     ensures takes { IfSome result
         (λ plain. (r : Regs) → TakesItem view.entry ahead.old ahead.new r plain) }
     ensures form { IfSome result (IsChangeBy form.Scalar) }
@@ -260,14 +252,14 @@ pub fn short_ahead<'a>(ahead: &mut Ahead<'a>, view: HeadView<'_>) -> Option<Plai
     let token = opening.token;
     let found = short_code(token, view)?;
     let text = first_byte_of(token);
-    let at = opening.at;
+    let at = begin_of(token, next);
     *ahead = next;
     Some(change_of(found, Form::Scalar, text, None, at, at + 1))
 }
 
 /// Returns whether two lines of two bytes come at once: the begin of a run for `short_ahead`.
 #[inline(always)]
-pub fn has_run(ahead: Ahead<'_>) -> bool
+pub(crate) fn has_run(ahead: Ahead<'_>) -> bool
     ensures { result ≡ true
         → IsRun (longest_of ahead.entry) (bytes_of ahead.entry) (passed_of ahead.entry) 2 }
 {
@@ -277,6 +269,16 @@ pub fn has_run(ahead: Ahead<'_>) -> bool
     let mut next = ahead;
     let _ = next.next_short();
     next.has_short()
+}
+
+/// Returns whether a short line comes, and then another one or a time mark.
+#[inline(always)]
+pub(crate) fn has_short_run(ahead: Ahead<'_>) -> bool
+    ensures { result ≡ true
+        → IsRun (longest_of ahead.entry) (bytes_of ahead.entry) (passed_of ahead.entry) 2 }
+{
+    let rest = &ahead.bytes()[ahead.passed()..];
+    has_run(ahead) || (ahead.has_short() && matches!(rest.get(3), Some(b'#')))
 }
 
 /// Returns whether the next token ahead begins with `$`, as a keyword does. Then no item lies ahead
@@ -293,10 +295,7 @@ pub fn keyword_comes(ahead: Ahead<'_>) -> bool
 /// The tokens of a vector's change, which were taken ahead: one that a `b` and digits begin, and
 /// the code.
 #[derive(Clone, Copy)]
-pub struct VectorTokens<'a> {
-    /// The digits as a number, where they are few, and `0` and `1` alone. With none nothing is
-    /// known of them.
-    pub bits: Option<Bits>,
+pub(crate) struct VectorTokens<'a> {
     pub(crate) token: &'a [u8],
     pub(crate) code: &'a [u8],
     // Where the digits begin.
@@ -305,9 +304,9 @@ pub struct VectorTokens<'a> {
 }
 
 /// Returns the token that a `b` and digits begin, with the code that is the next one. The place is
-/// that after the digits, and then that after the code; none where `item_ahead` gives none.
+/// that after the digits, and then that after the code; none where the look-ahead gives none.
 #[inline(always)]
-pub fn vector_tokens_ahead<'a>(
+pub(crate) fn vector_tokens_ahead<'a>(
     opening: Opening<'a>,
     ahead: &mut Ahead<'a>,
 ) -> Option<VectorTokens<'a>>
@@ -317,13 +316,10 @@ pub fn vector_tokens_ahead<'a>(
         → OpensVector a ahead.new tokens) }
 {
     let token = opening.token;
-    let at = opening.at;
-    let bytes = ahead.bytes();
+    let at = begin_of(token, *ahead);
     let code = ahead.next()?;
-    let bits = vector_bits(bytes, at, token);
-    let code_at = ahead.passed() - 1 - code.len();
+    let code_at = begin_of(code, *ahead);
     Some(VectorTokens {
-        bits,
         token,
         code,
         at,
@@ -331,18 +327,30 @@ pub fn vector_tokens_ahead<'a>(
     })
 }
 
-/// Returns the change that these tokens are, where the number of its digits is known or not. The
-/// place is that after them; none where they are no such change.
-// What is known is asked before it, so that what is done with the change need not ask again.
+/// Returns the digits of these tokens as a number, if they are at most 32, and `0` and `1` alone.
+/// The tokens are in these bytes.
 #[inline(always)]
-pub fn vector_ahead<'a>(
+pub(crate) fn vector_bits(tokens: VectorTokens<'_>, bytes: &[u8]) -> Option<Bits>
+    requires within { tokens.at + length tokens.token.now ≤ length bytes.now }
+    requires place { tokens.token.now
+        ≡ slice_range bytes.now tokens.at (tokens.at + length tokens.token.now) }
+    requires begins { Begins tokens.token.now first.Vector }
+    ensures { IfSome result (λ b. drop 1 tokens.entry.token.now ≡ binary_digits b.len b.number) }
+{
+    bits_at(bytes, tokens.at + 1, after_first(tokens.token))
+}
+
+/// Returns the change that these tokens are, with the number of the digits where it is known. The
+/// look-ahead is that after the tokens; none where they are no such change.
+#[inline(always)]
+pub(crate) fn vector_ahead<'a>(
     tokens: VectorTokens<'a>,
     bits: Option<Bits>,
     ahead: Ahead<'a>,
     view: HeadView<'_>,
 ) -> Option<Plain<'a>>
     requires opens { (a : Ahead) × OpensVector a ahead tokens }
-    requires bits { bits ≡ tokens.bits }
+    requires bits { IfSome bits (λ b. drop 1 tokens.token.now ≡ binary_digits b.len b.number) }
     ensures takes { IfSome result (λ plain. (a : Ahead) (r : Regs)
         → OpensVector a ahead.entry tokens.entry → TakesItem view.entry a ahead.entry r plain) }
     ensures form { IfSome result (IsChangeBy form.Vector) }
@@ -362,7 +370,7 @@ pub fn vector_ahead<'a>(
 /// Returns the change that an `r` and the text of a real number begin, as `vector_tokens_ahead` and
 /// `vector_ahead` do.
 #[inline(always)]
-pub fn real_ahead<'a>(
+pub(crate) fn real_ahead<'a>(
     opening: Opening<'a>,
     ahead: &mut Ahead<'a>,
     view: HeadView<'_>,
@@ -373,22 +381,16 @@ pub fn real_ahead<'a>(
     ensures form { IfSome result (IsChangeBy form.RealText) }
 {
     let token = opening.token;
+    let at = begin_of(token, *ahead);
     let code = ahead.next()?;
     let found = real_code(token, code, view)?;
-    let code_at = ahead.passed() - 1 - code.len();
-    Some(change_of(
-        found,
-        Form::RealText,
-        rest_of(token),
-        None,
-        opening.at + 1,
-        code_at,
-    ))
+    let code_at = begin_of(code, *ahead);
+    Some(change_of(found, Form::RealText, rest_of(token), None, at + 1, code_at))
 }
 
 /// Returns the time of the mark that a token is; none where it spells none.
 #[inline(always)]
-pub fn time_ahead(opening: Opening<'_>) -> Option<u64>
+pub(crate) fn time_ahead(opening: Opening<'_>) -> Option<u64>
     ensures time { IfSome result (λ time. HasTime opening.entry time) }
     ensures all { (time : ℕ) → HasTime opening.entry time → result ≡ Some time }
 {
@@ -398,7 +400,7 @@ pub fn time_ahead(opening: Opening<'_>) -> Option<u64>
 /// Returns the time mark that a token spells, and sets the registers to those after it. None where
 /// no such mark may come here; then nothing has changed.
 #[inline(always)]
-pub fn mark_ahead<'a>(
+pub(crate) fn mark_ahead<'a>(
     opening: Opening<'a>,
     time: u64,
     ahead: Ahead<'a>,
@@ -418,41 +420,12 @@ pub fn mark_ahead<'a>(
     ensures regs { LeavesRegs regs.old regs.new result }
 {
     match regs.take_mark_by(time, !opening.near) {
-        Ok(()) => Some(mark_of(time, opening.at + 1)),
+        Ok(()) => {
+            let at = begin_of(opening.token, ahead);
+            Some(mark_of(time, at + 1))
+        }
         Err(_) => None,
     }
-}
-
-/// Returns the next item, where it is a time mark or a change, and its tokens lie whole ahead. Else
-/// none, and then nothing has changed: `next_item` gives it, or its fault.
-#[inline(always)]
-pub fn item_ahead<'a>(
-    ahead: &mut Ahead<'a>,
-    view: HeadView<'_>,
-    regs: &mut Regs,
-) -> Option<Plain<'a>>
-    ensures takes { IfSome result (TakesItem view.entry ahead.old ahead.new regs.old) }
-    ensures regs { LeavesRegs regs.old regs.new result }
-    ensures stays { result ≡ None → ahead.new ≡ ahead.old }
-    ensures within { passed_of ahead.new ≤ length (bytes_of ahead.new) }
-{
-    let mut next = *ahead;
-    let opening = opening_ahead(&mut next)?;
-    let plain = match opening.first {
-        First::Bit | First::Scalar => scalar_ahead(opening, next, view)?,
-        First::Vector => {
-            let tokens = vector_tokens_ahead(opening, &mut next)?;
-            vector_ahead(tokens, tokens.bits, next, view)?
-        }
-        First::Mark => {
-            let time = time_ahead(opening)?;
-            mark_ahead(opening, time, next, regs)?
-        }
-        First::Real => real_ahead(opening, &mut next, view)?,
-        First::Other => return None,
-    };
-    *ahead = next;
-    Some(plain)
 }
 
 /// Moves the feed past the items that were taken ahead, which are in so many bytes.

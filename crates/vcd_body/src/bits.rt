@@ -2,7 +2,7 @@
 ghost use Rattle.std.specs.Prelude.{◌≡◌, ◌-◌, ◌<◌, ◌≤◌, ◌^◌, ◌≢◌, IfSome, None, get_or, length, max, slice_get, true, ℕ};
 ghost use Rattle.vcd_body.specs.Stored.{State, binary_digits, count_in, held_bits, is_proper, len_in, len_of, number_in, state_in};
 
-use crate::slot::{Holding, Slot};
+use crate::slot::{BITS, Holding, Slot};
 
 /// One to 32 binary digits, as the number that they write.
 #[derive(Clone, Copy, PartialEq, Eq, Debug)]
@@ -39,7 +39,7 @@ pub(crate) fn held_bits(bits: Bits) -> (u32, u8)
     ensures number { (upper : ℕ) → number_in (len_in result.1 result.0 upper) ≡ bits.number }
     ensures state { state_in result.1 ≡ State.Bits }
 {
-    (bits.number as u32, bits.len as u8 + 8)
+    (bits.number as u32, bits.len as u8 + BITS)
 }
 
 /// Returns how many binary digits are held.
@@ -120,5 +120,5 @@ pub(crate) fn is_number_step(slot: &Slot, size: usize, bits: Bits) -> bool
     ensures long { result ≡ true → (upper : ℕ)
         → max size (count_in (len_in slot.now.how slot.now.number upper)) ≡ max size bits.len }
 {
-    slot.how >= 8 && usize::from(slot.how - 8) <= size && bits.len <= size
+    slot.how >= BITS && usize::from(slot.how - BITS) <= size && bits.len <= size
 }

@@ -1,8 +1,7 @@
 // Value changes as they are written.
-ghost use Rattle.std.specs.Prelude.{◌≡◌, ◌≢◌, ℕ, ◌-◌, ◌^◌, ◌<◌, ◌≤◌, ◌++◌, ◌∷◌, ◌==◌, List, [], false, take, drop, length, slice_index};
-ghost use Rattle.vcd_body.specs.Names.{Puts, PutsTo, PutsWhere, binary_digits, extended, extension, line_under, short, str_to_ascii_lowercase, to_ascii_lowercase as lower};
+ghost use Rattle.std.specs.Prelude.{◌≡◌, ◌≢◌, ℕ, ◌-◌, ◌^◌, ◌<◌, ◌≤◌, ◌++◌, ◌∷◌, ◌==◌, List, [], false, take, length, slice_index};
+ghost use Rattle.vcd_body.specs.Names.{Puts, PutsTo, PutsWhere, extended, extension, line_under, short, str_to_ascii_lowercase, to_ascii_lowercase as lower};
 
-use crate::bits::Bits;
 use crate::item::Form;
 use crate::words::rest_of;
 use vcd_text::{Sink, WriteFailed, put};
@@ -21,40 +20,12 @@ pub(crate) fn extended_by(digit: u8) -> u8
     extension_of(digit.to_ascii_lowercase())
 }
 
-// Returns whether some digit is not a zero.
-#[inline(always)]
-fn has_other(digits: &[u8]) -> bool
-    ensures { result ≡ false → (k : ℕ) → k < length digits.now → slice_index digits.now k ≡ 48 }
-{
-    let mut found = false;
-    for digit in digits {
-        found |= *digit != b'0';
-    }
-    found
-}
-
-// Leaves out leading zeros that come before another zero, eight at a time.
-fn cut_blocks(digits: &[u8]) -> &[u8]
-    requires { 0 < length digits.now }
-    ensures some { 0 < length result.now }
-    ensures fewer { length result.now ≤ length digits.now }
-    ensures value { (size : ℕ) → length digits.now ≤ size
-        → extended result.now size ≡ extended digits.now size }
-{
-    let mut rest = digits;
-    'eights: while rest.len() > 8 && rest[8] == b'0' && !has_other(&rest[..8]) {
-        rest = &rest[8..];
-    }
-    rest
-}
-
 // Returns the shortest digits that extend to the same value.
 pub(crate) fn shortest(digits: &[u8]) -> &[u8]
     requires { 0 < length digits.now }
     ensures { (size : ℕ) → str_to_ascii_lowercase result.now ≡ short (extended digits.now size) }
 {
-    // Values in full width begin with many zeros.
-    let mut rest = cut_blocks(digits);
+    let mut rest = digits;
     'digits: while rest.len() > 1 {
         if rest[0].to_ascii_lowercase() != extended_by(rest[1]) {
             return rest;
@@ -115,40 +86,15 @@ fn put_lower<W: Sink>(w: &mut W, bytes: &[u8]) -> Result<(), WriteFailed>
     put(w, bytes)
 }
 
-// Writes a byte, a code and a line feed, one after the other.
-#[cold]
+// Writes a byte, a code and a line feed.
 #[inline(never)]
-pub(crate) fn put_long_end<W: Sink>(w: &mut W, first: u8, id: &[u8]) -> Result<(), WriteFailed>
+pub(crate) fn put_end<W: Sink>(w: &mut W, first: u8, id: &[u8]) -> Result<(), WriteFailed>
     requires { (W.device w.old).failures < 2 ^ 64 - 1 }
     ensures { Puts (W.device w.old) (W.device w.new) (first ∷ id.now ++ 10 ∷ []) result }
 {
     put(w, &[first])?;
     put(w, id)?;
     put(w, b"\n")
-}
-
-// Returns these bytes, brought together in a number, so that a copy of some of them is not delayed
-// by writes of single ones.
-#[inline(always)]
-fn together(bytes: [u8; 8]) -> [u8; 8]
-    ensures { result ≡ bytes }
-{
-    u64::from_le_bytes(bytes).to_le_bytes()
-}
-
-// Writes a byte, a code and a line feed, with a short code by one write of a known length.
-#[inline(always)]
-pub(crate) fn put_end<W: Sink>(w: &mut W, first: u8, id: &[u8]) -> Result<(), WriteFailed>
-    requires { (W.device w.old).failures < 2 ^ 64 - 1 }
-    ensures { Puts (W.device w.old) (W.device w.new) (first ∷ id.now ++ 10 ∷ []) result }
-{
-    match id {
-        [a] => put(w, &together([first, *a, b'\n', 0, 0, 0, 0, 0])[..3]),
-        [a, b] => put(w, &together([first, *a, *b, b'\n', 0, 0, 0, 0])[..4]),
-        [a, b, c] => put(w, &together([first, *a, *b, *c, b'\n', 0, 0, 0])[..5]),
-        [a, b, c, d] => put(w, &together([first, *a, *b, *c, *d, b'\n', 0, 0])[..6]),
-        _ => put_long_end(w, first, id),
-    }
 }
 
 // Writes a change of all of these digits, as of a code of one bit.
@@ -173,27 +119,6 @@ pub(crate) fn put_real<W: Sink>(w: &mut W, text: &[u8], id: &[u8]) -> Result<(),
     put(w, b"r")?;
     put(w, text)?;
     put_end(w, b' ', id)
-}
-
-// Returns how many digits the shortest ones of a number are.
-#[inline(always)]
-pub(crate) fn needed(bits: Bits) -> usize
-    ensures some { 1 ≤ result }
-    ensures few { result ≤ bits.len }
-    ensures shortest { (digits : List ℕ) → digits ≡ binary_digits bits.len bits.number
-        → (size : ℕ) → drop (length digits - result) digits ≡ short (extended digits size) }
-{
-    64 - bits.number.max(1).leading_zeros() as usize
-}
-
-// Returns the shortest digits that extend to the same value, where the number of all of them is
-// known.
-#[inline(always)]
-pub(crate) fn shortest_known(digits: &[u8], bits: Bits) -> &[u8]
-    requires { digits.now ≡ binary_digits bits.len bits.number }
-    ensures { (size : ℕ) → result.now ≡ short (extended digits.now size) }
-{
-    &digits[digits.len() - needed(bits)..]
 }
 
 // Writes a `b` and the shortest digits of the same value.

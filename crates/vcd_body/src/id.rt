@@ -30,5 +30,5 @@ pub fn put_change<W: Sink>(
     requires digits { event ≡ false → form ≢ Form.RealText → 0 < length text.now }
     ensures { PutsTo W.device w.old w.new (id_line id.entry size event form text.now) result }
 {
-    put_line(size, event, form, text, None, id, w)
+    put_line(size, event, form, text, id, w)
 }

@@ -3,11 +3,12 @@
 //! `next_item` reads the next item from a feed that is after a header: a time mark, the begin or
 //! end of a section, a value change, or the end of the body (`Finish`). `change_text` is the text
 //! of the change that was read last, and `put_change` writes one as its line. Most items are time
-//! marks and changes that are whole in the chunk: a loop takes these with `item_ahead`, which
-//! leaves the feed where it is, and then takes the feed past all of them with `pass_items`. Where
-//! the bytes of such a change are the line that `put_change` would write, but for digits that it
-//! does not need (`left_out` counts them), the line may be copied from the chunk, and many such
-//! lines in a row at once. A `Table` keeps of each code its current value, three counters, and
+//! marks and changes that are whole in the chunk: `walk_ahead` takes these one after the other, and
+//! leaves the feed where it is; `pass_items` takes the feed past all of them. A `Visit` says what
+//! is done with each, which marks are left, and when the walk is over. Where the bytes of such a
+//! change are the line that `put_change` would write, but for digits that it does not need
+//! (`left_out` counts them), the line may be copied from the chunk, and many such lines in a row
+//! at once. A `Table` keeps of each code its current value, three counters, and
 //! whether it is chosen. What is done with all items ends with a `Done` or a `Stop`; `put_time`
 //! writes the line of a time. None of them takes memory.
 //!
@@ -21,13 +22,14 @@
 //! view's codes and has a text that this code may have (`IsGoodChange`).
 //!
 //! `GaveAhead codes limit lines bytes n before items`: the first n bytes ahead are phrases with
-//! these items, which follow those with the items before. `item_ahead` takes it to one item more;
-//! `pass_items` takes `GaveItems` to all of them, and at the last of them to `GaveLast`, which says
-//! how much was read. `opening_ahead` takes the token that an item begins with (`Opens`), and
-//! `scalar_ahead` and `real_ahead` the item that it begins (`TakesItem`), as `vector_tokens_ahead`
-//! (`OpensVector`) and `vector_ahead` do, and `time_ahead` (`HasTime`) and `mark_ahead`, so that a
-//! loop which does something else with each asks once what it is; `item_ahead` is those seven.
-//! `short_ahead` and `near_mark` do the same for short lines, after `has_run`.
+//! these items, which follow those with the items before. An item takes it to one item more
+//! (`TakesItem`); `pass_items` takes `GaveItems` to all of them, and at the last of them to
+//! `GaveLast`, which says how much was read.
+//!
+//! `Walks takes stands over shows begin end ended` is what `walk_ahead` leaves: a trail of items
+//! from where it began (`Trail`), at each of which the visit did what its `takes` says, and how it
+//! ended. Who calls it folds the trail into a relation of its own.
+//!
 //! `HasSpelled view bytes from to text item` says by which bytes a change that was taken ahead is
 //! spelled; `left_out` asks for it, and `put_renamed_ahead` for what it says of a change.
 //!
@@ -37,8 +39,8 @@
 //! # The modules
 //!
 //! - `read`: `next_item`, `change_text`
-//! - `ahead`: `item_ahead`, and its parts, by what an item begins with; `pass_items`, `Plain`,
-//!   `Opening`, `VectorTokens`
+//! - `walk`: `walk_ahead`, `Visit`, `Viewed`: the loop over the items ahead
+//! - `ahead`: an item ahead, by what it begins with; `pass_items`, `Plain`
 //! - `phrases`, `tokens`, `words`: phrases by what they begin with; the next token; what a token
 //!   is, by its first byte
 //! - `item`, `fault`: `Item`, `Form`, `Section`, `Regs`; `BodyFault`
@@ -58,9 +60,9 @@
 //!   change gives another one
 //! - `laws`: each function has a law over bodies and values as its contract
 //!
-//! In `specs/` callers read `Items`, `Reads`, `Given`, `Ahead`, `Taken`, `Spelled` and `Fault`; of
-//! a run's end `Answer`, and of what was written `Device` and `Id`; for the table `Contents` and
-//! `Kept`.
+//! In `specs/` callers read `Items`, `Reads`, `Given`, `Ahead`, `Taken`, `Walk`, `Spelled` and
+//! `Fault`; of a run's end `Answer`, and of what was written `Device` and `Id`; for the table
+//! `Contents` and `Kept`.
 //!
 //! # Limits
 //!
@@ -98,13 +100,10 @@ mod table_text;
 mod time_line;
 mod tokens;
 mod value;
+mod walk;
 mod words;
 
-pub use ahead::{
-    Opening, Plain, VectorTokens, has_run, item_ahead, keyword_comes, mark_ahead, near_mark,
-    opening_ahead, pass_items, real_ahead, scalar_ahead, short_ahead, time_ahead, vector_ahead,
-    vector_tokens_ahead,
-};
+pub use ahead::{Plain, keyword_comes, pass_items};
 pub use answer::{Done, More, Stop};
 pub use bits::Bits;
 pub use fault::BodyFault;
@@ -112,11 +111,11 @@ pub use id::{Id, put_change};
 pub use item::{Form, Item, Regs, Section};
 pub use lines::{is_mark_line, left_out};
 pub use read::{change_text, next_item};
-pub use renamed::{put_renamed_ahead, put_renamed_bits};
+pub use renamed::{put_renamed, put_renamed_ahead};
 pub use slot::{Share, Shown, Slot};
 pub use step::Step;
 pub use table::Table;
 pub use table_text::{put_full, put_short};
 pub use time_line::{put_time, put_time_unless};
 pub use value::Value;
-pub use words::First;
+pub use walk::{Viewed, Visit, Walked, walk_ahead};

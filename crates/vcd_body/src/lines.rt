@@ -1,12 +1,11 @@
 // Changes whose bytes in the chunk are the line that would be written.
 ghost use Rattle.std.specs.Prelude.{◌≡◌, ◌≢◌, ℕ, ◌+◌, ◌-◌, ◌^◌, ◌<◌, ◌≤◌, List, [], true, false, drop, length, slice_index, slice_range, Some, IfSome};
-ghost use Rattle.vcd_body.specs.Names.{AreBitsAt, BodyItem, HasBits, HasChange, HasMark, HasPlaces, HeadView, Header, IsBinaryAt, IsDigitLine, IsItem, IsLowerAt, IsNeedless, IsSizedItem, IsTextLine, IsViewOf, LeavesFront, LeavesLine, LeavesShortest, LeavesText, MayBe, SpellsPlain, StandsAt, binary_digits, bit_at, byte, bytes_without, extend, extended, is_white_space, item_line, short, str_to_ascii_lowercase, time_line, to_ascii_lowercase as lower};
+ghost use Rattle.vcd_body.specs.Names.{BodyItem, HasBits, HasChange, HasMark, HasPlaces, HeadView, Header, IsBinaryAt, IsDigitLine, IsItem, IsLowerAt, IsNeedless, IsSizedItem, IsTextLine, IsViewOf, LeavesFront, LeavesLine, LeavesShortest, LeavesText, MayBe, SpellsPlain, StandsAt, binary_digits, bit_at, byte, bytes_without, extend, extended, is_white_space, item_line, short, str_to_ascii_lowercase, time_line, to_ascii_lowercase as lower};
 
 use crate::ahead::Plain;
 use crate::bits::Bits;
 use crate::change::{extension_of, may_have_capital, shortest};
 use crate::item::{Form, Item};
-use crate::words::{are_binary_at, other_32};
 use std::simd::prelude::*;
 
 /// Returns a mask: bit k is set where byte `at + k` may be a capital letter: of letters and digits
@@ -166,37 +165,10 @@ fn others_than_bits_64(bytes: &[u8], at: usize) -> u64
     v.simd_ne(u8x64::splat(b'0')).to_bitmask()
 }
 
-/// Returns whether so many bytes from a place on are `0` and `1` alone. Those after them are looked
-/// at too.
-#[inline(always)]
-fn are_many_binary_at(bytes: &[u8], at: usize, n: usize) -> bool
-    requires room { at + 64 ≤ length bytes.now }
-    requires many { 32 ≤ n }
-    requires few { n ≤ 64 }
-    ensures { result ≡ true → AreBitsAt bytes.now at n }
-{
-    other_32(bytes, at) == 0 && are_binary_at(bytes, at + 32, n - 32)
-}
-
-/// Returns how many digits on the left the shortest ones leave out, where these are in lower case.
-/// The digits begin at a place of these bytes. Most that come here are 33 to 64, and `0` and `1`:
-/// they are looked at at once, without a branch on how many zeros lead.
+/// Returns how many digits on the left the shortest ones leave out, or `None` where these are not
+/// in lower case or there is no digit. The digits begin at this offset of the bytes.
 #[inline(never)]
 fn needless(bytes: &[u8], at: usize, digits: &[u8]) -> Option<usize>
-    requires { StandsAt bytes.now at digits.now }
-    ensures { IfSome result (IsNeedless digits.now) }
-{
-    let n = digits.len();
-    if 32 < n && n <= 64 && bytes.len() - at >= 64 && are_many_binary_at(bytes, at, n) {
-        return Some(clear_bits(others_64(bytes, at), n));
-    }
-    needless_slowly(bytes, at, digits)
-}
-
-/// Returns how many digits on the left the shortest ones leave out, or `None` where these are not
-/// in lower case or there is no digit. It looks at the digits one by one.
-#[inline(never)]
-fn needless_slowly(bytes: &[u8], at: usize, digits: &[u8]) -> Option<usize>
     requires { StandsAt bytes.now at digits.now }
     ensures { IfSome result (IsNeedless digits.now) }
 {

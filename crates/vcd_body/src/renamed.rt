@@ -3,8 +3,7 @@ ghost use Rattle.std.specs.Prelude.{◌≡◌, ◌≢◌, ℕ, ◌+◌, ◌-◌,
 ghost use Rattle.vcd_body.specs.Names.{Puts, PutsTo, binary_digits, bytes_without, line_under, new_code, HasChange, HasPlaces};
 
 use crate::ahead::Plain;
-use crate::bits::Bits;
-use crate::change::put_long_end;
+use crate::change::put_end;
 use crate::id::Id;
 use crate::item::Form;
 use crate::lines::{is_lower, left_out_of_front};
@@ -71,7 +70,7 @@ fn put_any_code<W: Sink>(first: u8, number: u64, w: &mut W) -> Result<(), WriteF
     requires { (W.device w.old).failures < 2 ^ 64 - 1 }
     ensures { Puts (W.device w.old) (W.device w.new) (first ∷ new_code number ++ 10 ∷ []) result }
 {
-    put_long_end(w, first, NewCode::of(number).text())
+    put_end(w, first, NewCode::of(number).text())
 }
 
 /// Writes a byte, the code of a number and a line feed. A code of up to three bytes, as most are,
@@ -87,24 +86,21 @@ pub(crate) fn put_code_line<W: Sink>(first: u8, number: u64, w: &mut W) -> Resul
     }
 }
 
-/// Writes a change as `put_change` does, under the new code of this number. The number of the
-/// text's digits may be known: then none of them is looked at.
+/// Writes a change as `put_change` does, under the new code of this number.
 #[inline(always)]
-pub fn put_renamed_bits<W: Sink>(
+pub fn put_renamed<W: Sink>(
     size: usize,
     event: bool,
     form: Form,
     text: &[u8],
-    bits: Option<Bits>,
     number: u64,
     w: &mut W,
 ) -> Result<(), WriteFailed>
     requires failures { (W.device w.old).failures < 2 ^ 64 - 1 }
     requires digits { event ≡ false → form ≢ Form.RealText → 0 < length text.now }
-    requires bits { IfSome bits (λ b. text.now ≡ binary_digits b.len b.number) }
     ensures { PutsTo W.device w.old w.new (line_under (new_code number) size event form text.now) result }
 {
-    put_line(size, event, form, text, bits, Id::Number(number), w)
+    put_line(size, event, form, text, Id::Number(number), w)
 }
 
 /// Writes the bytes from `from` up to `end`, without so many after the first one, a blank, the code
@@ -180,7 +176,7 @@ fn put_renamed_text<W: Sink>(
     ensures { Puts (W.device w.old) (W.device w.new)
         (line_under (new_code number) size false form text.now) result }
 {
-    put_renamed_bits(size, false, form, text, None, number, w)
+    put_renamed(size, false, form, text, number, w)
 }
 
 /// Writes a change that was taken ahead under the new code of this number. The bytes from `from` up

@@ -28,6 +28,9 @@ pub(crate) enum State {
     Bits,
 }
 
+/// The number of `State::Bits` with no digit. With some digits it is so many more.
+pub(crate) const BITS: u8 = 8;
+
 /// What each change of a code looks at: its value where it is short, and how it is held. It is
 /// split from what few changes look at, and takes 8 bytes, so that many slots fit in the L1 cache.
 #[derive(Clone, Copy, PartialEq, Eq, Debug)]
@@ -35,8 +38,8 @@ pub struct Slot {
     // The number of the binary digits; else the lowest 32 bits of how many digits, or bytes of a
     // text, are held in the share.
     pub(crate) number: u32,
-    // The number of the state that holds the value; and from 8 on, by how many binary digits it is
-    // above 8.
+    // The number of the state that holds the value; from `BITS` on it is more by as many as the
+    // binary digits are.
     pub(crate) how: u8,
     // How many steps came since the share had the counters: those that fall, those that do not
     // turn, and those that rise. So most steps are counted here, by one byte.
@@ -212,8 +215,8 @@ pub(crate) fn state_in(how: u8) -> State
 pub(crate) fn holding_of(slot: Slot, share: Share) -> Holding
     ensures { result ≡ holding_of slot share }
 {
-    let upper = if slot.how >= 8 {
-        u32::from(slot.how - 8)
+    let upper = if slot.how >= BITS {
+        u32::from(slot.how - BITS)
     } else {
         share.upper
     };

@@ -140,7 +140,7 @@ fn is_value_digit(byte: u8) -> bool
 
 /// Returns a mask: bit k is set where byte `at + k` is neither `0` nor `1`.
 #[inline(always)]
-pub(crate) fn other_32(bytes: &[u8], at: usize) -> u64
+fn other_32(bytes: &[u8], at: usize) -> u64
     requires { at + 32 ≤ length bytes.now }
     ensures digits { (k : ℕ) → k < 32 → bit_at result k ≡ 0 → IsDigitAt bytes.now (at + k) }
     ensures binary { (k : ℕ) → k < 32 → bit_at result k ≡ 0 → IsBinaryAt bytes.now (at + k) }
@@ -152,7 +152,7 @@ pub(crate) fn other_32(bytes: &[u8], at: usize) -> u64
 /// Returns whether so many bytes from a place on are `0` and `1` alone. Those after them are looked
 /// at too.
 #[inline(always)]
-pub(crate) fn are_binary_at(bytes: &[u8], at: usize, n: usize) -> bool
+fn are_binary_at(bytes: &[u8], at: usize, n: usize) -> bool
     requires room { at + 32 ≤ length bytes.now }
     requires few { n ≤ 32 }
     ensures digits { result ≡ true → (k : ℕ) → k < n → IsDigitAt bytes.now (at + k) }

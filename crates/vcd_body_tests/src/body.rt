@@ -2,16 +2,18 @@
 // are written.
 ghost use Rattle.std.specs.Prelude.{◌≡◌, ◌+◌, ◌<◌, ◌≤◌, IfOk, OnOk, true};
 ghost use Rattle.vcd_text.specs.Feed.{source_of};
+ghost use Rattle.vcd_body.specs.Names.{HeadView, TakesItem};
+ghost use Rattle.vcd_body.specs.declared.item.Regs.{Regs};
 
 use std::alloc::{AllocError, Global};
 use std::test::Fail;
 use vcd_body::{
-    Bits, Form, Id, Item, Regs, change_text, item_ahead, left_out, next_item, pass_items,
-    put_change,
+    Bits, Form, Id, Item, Plain, Regs, Visit, change_text, left_out, next_item, pass_items,
+    put_change, walk_ahead,
 };
 use vcd_head::{Head, HeadFault, HeadView, read_head};
 use vcd_text::doubles::{Narrow, Pieces};
-use vcd_text::{Feed, Sink, Source, Watch, WriteFailed};
+use vcd_text::{Ahead, Feed, Sink, Source, Watch, WriteFailed};
 
 // Variables of 1 and of 4 bits, in six lines.
 const HEAD: &[u8] = b"$timescale 1ns $end\n$scope module tb $end\n$var wire 1 ! clk $end\n\
@@ -211,6 +213,96 @@ fn source_that_fails(rt: HostRuntime) -> Result<(), Fail> {
     Ok(())
 }
 
+// What is taken ahead: the items, which of them have their lines as bytes (`=`), which but for so
+// many digits, and which do not (`.`), and the number that is given for the digits of the last.
+#[derive(Drop)]
+struct Noted {
+    alloc: Global,
+    items: String,
+    marks: String,
+    bits: Option<Bits>,
+    noted: Result<(), AllocError>,
+}
+
+impl Noted {
+    fn new(alloc: Global) -> Noted {
+        Noted {
+            alloc,
+            items: String::new(alloc),
+            marks: String::new(alloc),
+            bits: None,
+            noted: Ok(()),
+        }
+    }
+
+    fn note(&mut self, item: Plain<'_>, needless: Option<usize>) -> Result<(), AllocError> {
+        self.items
+            .push_str(&shown(self.alloc, item.item, item.text)?)?;
+        self.bits = item.bits;
+        match needless {
+            Some(0) => self.marks.push_str("="),
+            Some(n) => self.marks.push_str(&format!(in self.alloc; "{n}")?),
+            None => self.marks.push_str("."),
+        }
+    }
+
+    fn take(&mut self, item: Plain<'_>, ahead: Ahead<'_>, next: Ahead<'_>)
+        requires { (view : HeadView) × (r : Regs) × TakesItem view ahead next r item }
+    {
+        let needless = left_out(item, next.bytes(), ahead.passed(), next.passed());
+        if self.noted.is_ok() {
+            self.noted = self.note(item, needless);
+        }
+    }
+}
+
+impl Visit<()> for Noted {
+    ghost use Rattle.std.specs.Prelude.{false};
+
+    ghost stands = { λ _ _ _ _. Unit {0} };
+
+    ghost takes = { λ _ _ _ _. Unit {0} };
+
+    ghost is_left = { λ _ _ _. false };
+
+    ghost over = { λ _. false };
+
+    fn leaves(&self, _command: &(), _time: u64) -> bool {
+        false
+    }
+
+    fn is_over(&self) -> bool {
+        false
+    }
+
+    fn take_mark(
+        &mut self,
+        _command: &mut (),
+        _view: HeadView<'_>,
+        _regs: Regs,
+        _time: u64,
+        mark: Plain<'_>,
+        ahead: Ahead<'_>,
+        next: Ahead<'_>,
+    ) {
+        self.take(mark, ahead, next);
+    }
+
+    fn take_change<W: Sink>(
+        &mut self,
+        _command: &mut (),
+        _view: HeadView<'_>,
+        _regs: Regs,
+        change: Plain<'_>,
+        ahead: Ahead<'_>,
+        next: Ahead<'_>,
+        _out: &mut W,
+    ) -> Result<(), WriteFailed> {
+        self.take(change, ahead, next);
+        Ok(())
+    }
+}
+
 // The items that are taken ahead, and then the next one.
 fn taken_from<S: Source>(
     alloc: Global,
@@ -219,14 +311,15 @@ fn taken_from<S: Source>(
 ) -> Result<String, AllocError>
     requires { S.failures (source_of feed.old) ≡ 0 }
 {
-    let mut items = String::new(alloc);
-    let mut regs = Regs::new();
-    let mut ahead = feed.ahead();
-    while let Some(plain) = item_ahead(&mut ahead, view, &mut regs) {
-        items.push_str(&shown(alloc, plain.item, plain.text)?)?;
-    }
-    let passed = ahead.passed();
+    let mut page = Watch::new(Narrow::new(0));
+    let visit = Noted::new(alloc);
+    let walked = walk_ahead(&mut (), visit, view, Regs::new(), feed.ahead(), &mut page);
+    let passed = walked.ahead.passed();
+    let mut regs = walked.regs;
+    let noted = walked.visit;
     pass_items(feed, passed);
+    noted.noted?;
+    let mut items = noted.items;
     let next = next_shown(alloc, feed, view, &mut regs)?;
     items.push_str("then ")?;
     items.push_str(&next.0)?;
@@ -262,27 +355,19 @@ const CODES: &[u8] =
     b"$var wire 1 ! clk $end $var reg 4 \" q $end $var reg 40 & w $end $var event 1 % go $end \
         $enddefinitions $end\n";
 
-// Which of the items that are taken ahead have their lines as bytes (`=`), which but for so many
-// digits, and which do not (`.`).
-fn standing_from<S: Source>(
+// What is noted of the items that are taken ahead.
+fn noted_from<S: Source>(
     alloc: Global,
     feed: &mut Feed<'_, '_, '_, '_, S>,
     view: HeadView<'_>,
-) -> Result<String, AllocError> {
-    let mut marks = String::new(alloc);
-    let mut regs = Regs::new();
-    let mut ahead = feed.ahead();
-    let mut from = ahead.passed();
-    while let Some(plain) = item_ahead(&mut ahead, view, &mut regs) {
-        let to = ahead.passed();
-        match left_out(plain, ahead.bytes(), from, to) {
-            Some(0) => marks.push_str("=")?,
-            Some(n) => marks.push_str(&format!(in alloc; "{n}")?)?,
-            None => marks.push_str(".")?,
-        }
-        from = to;
+) -> Result<Noted, AllocError> {
+    let mut page = Watch::new(Narrow::new(0));
+    let visit = Noted::new(alloc);
+    let noted = walk_ahead(&mut (), visit, view, Regs::new(), feed.ahead(), &mut page).visit;
+    match noted.noted {
+        Ok(()) => Ok(noted),
+        Err(failed) => Err(failed),
     }
-    Ok(marks)
 }
 
 // Which of the items that are taken ahead, from the body's first on, have their lines as bytes.
@@ -294,7 +379,7 @@ fn standing(alloc: Global, body: &[u8]) -> Result<String, Fail> {
     let mut value = [0u8; 72];
     let mut feed = Feed::new(&mut source, &mut chunk, &mut token, &mut value);
     let head = head_of(alloc, &mut feed)?;
-    Ok(standing_from(alloc, &mut feed, head.view())?)
+    Ok(noted_from(alloc, &mut feed, head.view())?.marks)
 }
 
 // Changes, and which of them have their lines as bytes: single digits, vectors of a few digits,
@@ -428,10 +513,7 @@ fn bits_told(alloc: Global, body: &[u8]) -> Result<Option<Bits>, Fail> {
     let mut value = [0u8; 72];
     let mut feed = Feed::new(&mut source, &mut chunk, &mut token, &mut value);
     let head = head_of(alloc, &mut feed)?;
-    match item_ahead(&mut feed.ahead(), head.view(), &mut Regs::new()) {
-        Some(plain) => Ok(plain.bits),
-        None => Ok(None),
-    }
+    Ok(noted_from(alloc, &mut feed, head.view())?.bits)
 }
 
 // Changes, and how many digits of which number are given: 1 to 32 binary ones, wherever they end.

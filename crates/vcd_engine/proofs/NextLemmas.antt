@@ -25,7 +25,7 @@ use Rattle.vcd_body.specs.declared.item.Item.TheVariants.{Change}
 use Rattle.vcd_body.specs.declared.item.Regs.{Regs}
 use Rattle.vcd_engine.specs.Ahead.{GaveOneAhead, StandsAhead}
 use Rattle.vcd_engine.specs.Engine.{Keeps, request_in}
-use Rattle.vcd_engine.specs.Next.{HasFound, HasLine, TakesMore, TakesNext, Walk}
+use Rattle.vcd_engine.specs.Next.{TakesMore, TakesNext, Walk}
 use Rattle.vcd_engine.specs.Pieces.{GrowsBut, LiesBetween, PutsOn, held_in}
 use Rattle.vcd_engine.specs.Quiet.{TakesQuietly}
 use Rattle.vcd_engine.specs.declared.machine.Machine.{Machine}
@@ -37,19 +37,6 @@ use Rattle.vcd_engine.proofs.PieceLemmas.{but_failed, but_on, none_on}
 -- an item with which nothing is due
 pub more_quietly : {A E : Type 0} (v : A) (holds : Type 0) (task : Request) (h : Header) (items : List BodyItem) (x : BodyItem) (held : List ℕ) (out : Device) → TakesQuietly holds task h items x → TakesMore {A = A} {E = E} (λ due. PutsOn {A = A} {E = E} held held out out due (Ok v)) holds task h items x (Ok v)
 more_quietly v holds task h items x held out q = record { due = ([], q.due, none_on held out); on = q.on; keeps = q.keeps }
-
--- another result will do that is no failure either
-pub next_as : {A B E : Type 0} (v : HeadView) (w w' : Walk) (p p' : Pieces) (out out' : Device) (m m' : Machine) (a : A) (b : B) → TakesNext {A = A} {E = E} v w w' p p' out out' m m' (Ok a) → TakesNext {A = B} {E = E} v w w' p p' out out' m m' (Ok b)
-next_as v w w' p p' out out' m m' a b n = record {
-  plain = n.plain;
-  item = n.item;
-  regs = n.regs;
-  line = n.line;
-  one = λ h items x views known is few keeps. let one = n.one h items x views known is few keeps in record { due = one.due; on = one.on; keeps = one.keeps };
-  counts = n.counts;
-  part = n.part;
-  same = n.same;
-}
 
 -- a change ends no run
 change_goes_on : (t : Request) (y : Changed) → ends_early t (BodyItem.Changes y) ≡ false
@@ -65,21 +52,6 @@ pub goes_on_change : (t : Request) (codes : List IdCode) (text : List ℕ) (item
 goes_on_change t codes text item place form x e is =
     let read = subst (λ (i : Item). IsItem codes text i x) e is in
     subst (λ (y : BodyItem). ends_early t y ≡ false) (sym read.2) (change_goes_on t _)
-
--- a change was found there
-pub found_there : (v : HeadView) (w : Walk) (a : Ahead) (p : Plain) (c : InPlace) (place : ℕ) (form : Form) → TakesItem v w.ahead a w.regs p → p.item ≡ Change place form → HasLine w → c.plain ≡ p → LiesBetween w.ahead a c → HasFound v w a c
-found_there v w a p c place form item change line is there = record {
-  item = subst (λ (q : Plain). TakesItem v w.ahead a w.regs q) (sym is) item;
-  change = (place, form, subst (λ (q : Plain). q.item ≡ Change place form) (sym is) change);
-  place = there;
-  line = line;
-}
-
--- whole tokens were passed
-pub next_passes : (limit lines : ℕ) (bytes : List ℕ) (v : HeadView) (a a' : Ahead) (r : Regs) (p : Plain) → TakesItem v a a' r p → LooksOver limit bytes a → (ts before : List Token) → Passed limit lines bytes (passed_of a) (ts ++ before) → (more : List Token) × Passed limit lines bytes (passed_of a') (ts ++ more)
-next_passes limit lines bytes v a a' r p item over ts before passed =
-    let more = item.passes limit lines bytes (ts ++ before) over passed in
-    (before ++ more.0, subst (Passed limit lines bytes (passed_of a')) (append_assoc ts before more.0) more.1)
 
 module _ {A E : Type 0} (t : Request) (h : Header) (limit lines : ℕ) (bytes : List ℕ) (before : List BodyItem) (v : HeadView) (views : IsViewOf v h) (few : length before + length bytes < 2 ^ 63) (w w' : Walk) (p p' : Pieces) (out out' : Device) (m m' : Machine) (result : Result A E) (n : TakesNext v w w' p p' out out' m m' result)
     (items : List BodyItem) (over : LooksOver limit bytes w.ahead) (same : request_in m ≡ t) (within : passed_of w.ahead ≤ length bytes) (s : StandsAhead t h limit lines bytes before (passed_of w.ahead) items m w.regs) where

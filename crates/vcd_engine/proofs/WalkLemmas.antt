@@ -1,22 +1,32 @@
 -- The loop over the items ahead, step by step.
-use Rattle.std.proofs.Common.{◌≡◌, ℕ, ◌+◌, ◌≤◌, ◌<◌, List, [], ◌∷◌, ◌++◌, length, Result, Ok, Err, refl, sym, ap, subst, ◌∙◌, append-nil}
+use Rattle.std.proofs.Common.{◌≡◌, ℕ, ◌+◌, ◌≤◌, ◌<◌, Bool, true, false, List, [], ◌∷◌, ◌++◌, length, Result, Ok, Err, refl, sym, ap, subst, ◌∙◌, append-nil}
 use Rattle.std.specs.Prelude.{IfErr, IfOk}
+use Rattle.vcd_model.specs.Tokens.{Token}
 use Rattle.vcd_text.specs.Ahead.{bytes_of, longest_of, passed_of}
+use Rattle.vcd_text.specs.Passed.{Passed}
 use Rattle.vcd_text.specs.Device.{Counts, Device, Puts, failures_after}
 use Rattle.vcd_text.specs.declared.ahead.Ahead.{Ahead}
+use Rattle.vcd_text.specs.declared.device.WriteFailed.{WriteFailed}
 use Rattle.vcd_view.specs.declared.view.HeadView.{HeadView}
+use Rattle.vcd_body.specs.Walk.{Again, Begins, Further, HasCome, Stage, TakesShown, Trail, Walks}
 use Rattle.vcd_body.specs.declared.item.Regs.{Regs}
+use Rattle.vcd_body.proofs.WalkLemmas.{walk_passes}
 use Rattle.vcd_engine.specs.Ahead.{RunsOver}
 use Rattle.vcd_engine.specs.Engine.{request_in}
 use Rattle.vcd_engine.specs.Next.{TakesNext, Walk, walk_at}
 use Rattle.vcd_engine.specs.Pieces.{IsLine, IsPart, held_in}
-use Rattle.vcd_engine.specs.Walks.{HasWalked}
+use Rattle.vcd_engine.specs.Walks.{CanTake, HasWalked, TakesHeld, walk_of}
 use Rattle.vcd_engine.specs.declared.machine.Machine.{Machine}
+use Rattle.vcd_engine.specs.declared.machine.walk.Held.{Held}
 use Rattle.vcd_engine.specs.declared.machine.walk.Taken.{Taken}
 use Rattle.vcd_engine.specs.declared.pieces.Pieces.{Pieces}
 use Rattle.vcd_engine.proofs.AheadLemmas.{ends_before}
-use Rattle.vcd_engine.proofs.NextLemmas.{next, next_fails, next_given, next_grows, next_passes, next_stands}
+use Rattle.vcd_engine.proofs.NextLemmas.{next, next_fails, next_given, next_grows, next_stands}
 use Rattle.vcd_engine.proofs.PieceLemmas.{but_none}
+
+-- whole tokens were passed, up to there
+abbrev PassesTo : Ahead → ℕ → Type 0
+PassesTo a to = (lines : ℕ) (ts : List Token) → Passed (longest_of a) lines (bytes_of a) (passed_of a) ts → (more : List Token) × Passed (longest_of a) lines (bytes_of a) to (ts ++ more)
 
 -- it begins with no item, and with nothing that is held
 pub walk_begins : (v : HeadView) (a : Ahead) (r : Regs) (m : Machine) (out : Device) (line : ℕ × ℕ) (p : Pieces) → passed_of a ≤ length (bytes_of a) → ((bytes : List ℕ) (time : ℕ) → IsLine bytes line time) → IsPart (bytes_of a) p → held_in (bytes_of a) p ≡ [] → HasWalked v a r m out (walk_at a r line) p out m
@@ -27,7 +37,6 @@ walk_begins v a r m out line p within unknown part none = record {
   same = (refl, refl);
   part = part;
   line = unknown (bytes_of a) r.time;
-  passes = λ lines ts passed. ([], rw append-nil passed);
   stands = λ h lines before views few s. ([], s, rw append-nil (but_none _ _ _ none));
 }
 
@@ -41,7 +50,6 @@ module _ (v : HeadView) (a : Ahead) (r : Regs) (m : Machine) (begin : Device) (w
     same = walked.same;
     part = rw same.1 walked.part;
     line = rw same.1 walked.line;
-    passes = rw same.0 walked.passes;
     stands = rw same.0 walked.stands;
   }
 
@@ -63,7 +71,6 @@ module _ (v : HeadView) (a : Ahead) (r : Regs) (m : Machine) (begin : Device) (w
           same = (n.same.0 ∙ walked.same.0, n.same.1 ∙ walked.same.1);
           part = subst (λ (bs : List ℕ). IsPart bs p') (sym n.item.same.0) part;
           line = n.line;
-          passes = λ lines ts passed. let so_far = walked.passes lines ts passed in next_passes limit lines bytes v _ _ _ _ n.item walked.over ts so_far.0 so_far.1;
           stands = λ h lines before views few s.
               let all = walked.stands h lines before views few s in (
                 all.0 ++ next t h limit lines bytes before v views few _ _ _ _ _ _ _ _ _ n all.0 walked.over walked.same.0 within_all all.1 ∷ [],
@@ -73,8 +80,8 @@ module _ (v : HeadView) (a : Ahead) (r : Regs) (m : Machine) (begin : Device) (w
         }
 
     -- or a write of what is due with it failed
-    pub walk_fails : (t : Taken) (failed : E) → result ≡ Err failed → t.passed ≡ passed_of w'.ahead → t.regs ≡ w'.regs → (told : _) → t.written ≡ Err told → RunsOver v a r m m'' begin out' t
-    walk_fails t failed e passed_is regs_is told written_is =
+    pub walk_fails : (t : Taken) (failed : E) → result ≡ Err failed → t.passed ≡ passed_of w'.ahead → t.regs ≡ w'.regs → (told : _) → t.written ≡ Err told → PassesTo a (passed_of w'.ahead) → RunsOver v a r m m'' begin out' t
+    walk_fails t failed e passed_is regs_is told written_is passes =
         let task = request_in m in
         let limit = longest_of a in
         let bytes = bytes_of a in
@@ -90,30 +97,46 @@ module _ (v : HeadView) (a : Ahead) (r : Regs) (m : Machine) (begin : Device) (w
                   next_fails task h limit lines bytes before v views few _ _ _ _ _ _ _ _ _ n all.0 walked.over walked.same.0 within_all all.1 begin all.2 failed e,
                 );
               };
-          passes = λ lines ts passed. let so_far = walked.passes lines ts passed in next_passes limit lines bytes v _ _ _ _ n.item walked.over ts so_far.0 so_far.1;
+          passes = passes;
           counts = subst (λ (q : Result A E). Counts out out' q) e n.counts ∙ ap (λ (k : ℕ). k + 1) walked.failures;
           same = (n.same.0 ∙ walked.same.0, n.same.1 ∙ walked.same.1);
         })
 
   -- it ends, and what is held is written
-  pub walk_ends : (out' : Device) (t : Taken) → t.passed ≡ passed_of w.ahead → t.regs ≡ w.regs → Puts out out' (held_in (bytes_of w.ahead) p) t.written → IfErr t.written (λ _. 0 < length (held_in (bytes_of w.ahead) p)) → RunsOver v a r m m' begin out' t
-  walk_ends out' t passed_is regs_is puts some =
+  pub walk_ends : (out' : Device) (t : Taken) → t.passed ≡ passed_of w.ahead → t.regs ≡ w.regs → PassesTo a (passed_of w.ahead) → Puts out out' (held_in (bytes_of w.ahead) p) t.written → IfErr t.written (λ _. 0 < length (held_in (bytes_of w.ahead) p)) → RunsOver v a r m m' begin out' t
+  walk_ends out' t passed_is regs_is passes puts some =
       let here = subst (λ (bs : List ℕ). Puts out out' (held_in bs p) t.written) walked.over.1 puts in
       let more = subst (λ (bs : List ℕ). IfErr t.written (λ _. 0 < length (held_in bs p))) walked.over.1 some in
       record {
         gives = λ h lines before views few s.
             let all = walked.stands h lines before views few s in
             rw (passed_is, regs_is) (ends_before (request_in m) h _ lines (bytes_of a) before p begin out out' t.written more here _ all.0 _ _ all.1 all.2);
-        passes = rw passed_is walked.passes;
+        passes = rw passed_is passes;
         counts = subst (λ (k : ℕ). out'.failures ≡ failures_after k t.written) walked.failures puts.1;
         same = walked.same;
       }
 
--- what is left is told by these three
-pub runs_as : (v : HeadView) (a : Ahead) (r : Regs) (m m' : Machine) (begin out : Device) (t t' : Taken) → t'.passed ≡ t.passed → t'.regs ≡ t.regs → t'.written ≡ t.written → RunsOver v a r m m' begin out t → RunsOver v a r m m' begin out t'
-runs_as v a r m m' begin out t t' passed_is regs_is written_is runs = record {
-  gives = rw (passed_is, regs_is, written_is) runs.gives;
-  passes = rw passed_is runs.passes;
-  counts = rw written_is runs.counts;
-  same = runs.same;
-}
+module _ {L C : Type 0} (line : L → ℕ × ℕ) (is_ready : C → Bool) (machine : C → Machine) (v : HeadView) (s : Stage (Held L) C) where
+  abbrev On : Stage (Held L) C → Result Bool WriteFailed → Type 0
+  On z ended = Walks (TakesHeld line machine) (CanTake line is_ready) (λ _. false) (λ w. w ≡ v) s z ended
+
+  one_did : (b c : Stage (Held L) C) (result : Result (Unit {0}) WriteFailed) → TakesShown (TakesHeld line machine) (CanTake line is_ready) (λ w. w ≡ v) b c result → TakesHeld line machine v b c result
+  one_did b c result one = subst (λ (w : HeadView). TakesHeld line machine w b c result) one.1 one.2.did
+
+  pub passed_to : (z : Stage (Held L) C) (ended : Result Bool WriteFailed) → On z ended → PassesTo s.ahead (passed_of z.ahead)
+  passed_to z ended on lines ts passed = (walk_passes _ _ _ _ s (longest_of s.ahead) lines (bytes_of s.ahead) ts (refl, refl) passed z ended on).1
+
+  module _ (r : Regs) (m : Machine) (begin : Device) (walked : HasWalked v s.ahead r m begin (walk_of line s) s.visit.pieces s.out (machine s.command)) where
+    along : (z : Stage (Held L) C) → Trail (TakesHeld line machine) (CanTake line is_ready) (λ _. false) (λ w. w ≡ v) s z → HasWalked v s.ahead r m begin (walk_of line z) z.visit.pieces z.out (machine z.command)
+    along z Begins = walked
+    along _ (Further b c so_far one on) = walk_on v s.ahead r m begin _ _ _ _ (along b so_far) _ _ _ _ _ (one_did b c (Ok tt) one) tt refl
+    along _ (Again b c so_far there same is) = rw is (walk_same v s.ahead r m begin _ _ _ _ (along b so_far) there same)
+
+    -- no other item was taken
+    pub walk_over : (z : Stage (Held L) C) (b : Bool) → On z (Ok b) → HasWalked v s.ahead r m begin (walk_of line z) z.visit.pieces z.out (machine z.command)
+    walk_over z false on = along z on.trail
+    walk_over z true on = let e = on.3 in absurd (cc)
+
+    -- or a write of what is due with one more failed
+    pub walk_wrong : (z : Stage (Held L) C) (e : WriteFailed) → On z (Err e) → (t : Taken) → t.passed ≡ passed_of z.ahead → t.regs ≡ z.regs → t.written ≡ Err e → RunsOver v s.ahead r m (machine z.command) begin z.out t
+    walk_wrong z e on t passed_is regs_is written_is = walk_fails v s.ahead r m begin _ _ _ _ (along on.0 on.1.trail) _ _ _ _ _ (one_did on.0 z (Err e) on.2) t e refl passed_is regs_is e written_is (passed_to z (Err e) on)

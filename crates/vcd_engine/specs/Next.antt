@@ -39,13 +39,6 @@ walk_at a r line = record { ahead = a; regs = r; line = line }
 abbrev pub HasLine : Walk → Type 0
 HasLine w = IsLine (bytes_of w.ahead) w.line w.regs.time
 
--- the next item is a change, and lies there up to this place
-pub record HasFound (v : HeadView) (w : Walk) (a : Ahead) (c : InPlace) : Type 0 where
-  pub item : TakesItem v w.ahead a w.regs c.plain
-  pub change : (place : ℕ) × (form : Form) × (c.plain.item ≡ Change place form)
-  pub place : LiesBetween w.ahead a c
-  pub line : HasLine w
-
 -- a mark with which nothing is due was taken
 abbrev pub TakesMark : ℕ → Machine → Machine → Type 0
 TakesMark time m m' = (h : Header) (items : List BodyItem) → length items < 2 ^ 63 → Keeps m h items → TakesQuietly (Keeps m' h (items ++ BodyItem.Time time ∷ [])) (request_in m) h items (BodyItem.Time time)
@@ -72,15 +65,3 @@ pub record TakesNext {A E : Type 0} (v : HeadView) (w w' : Walk) (p p' : Pieces)
   pub counts : Counts out out' result
   pub part : IfOk result (λ _. IsPart (bytes_of w.ahead) p')
   pub same : SameTask m m'
-
--- so, where there is a result; else nothing has changed
-abbrev pub MayTakeNext : {C A E : Type 0} → HeadView → Walk → Walk → Pieces → Pieces → Device → Device → (C → Machine) → C → C → Option (Result A E) → Type 0
-MayTakeNext v w w' p p' out out' machine c c' result = MatchOption result
-    ((c' ≡ c) × (w'.regs ≡ w.regs) × (w'.ahead ≡ w.ahead) × (p' ≡ p) × (out' ≡ out) × (w'.line ≡ w.line))
-    (TakesNext v w w' p p' out out' (machine c) (machine c'))
-
--- a mark with which nothing is due was taken ahead, where there is a result; else nothing has changed
-abbrev pub MayTakeMark : {C : Type 0} → Walk → Walk → (C → Machine) → C → C → Option Unit → Type 0
-MayTakeMark w w' machine c c' result = MatchOption result
-    ((c' ≡ c) × (w'.regs ≡ w.regs) × (w'.ahead ≡ w.ahead) × (w'.line ≡ w.line))
-    (λ _. (v : HeadView) (p : Pieces) (out : Device) → IsPart (bytes_of w.ahead) p → TakesNext {A = Unit} {E = WriteFailed} v w w' p p out out (machine c) (machine c') (Ok tt))

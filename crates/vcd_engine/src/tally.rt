@@ -36,7 +36,7 @@ pub(crate) fn take_value(
 
 /// Counts a trigger of the event at a place.
 #[inline(always)]
-pub(crate) fn take_mark(table: &mut Table<'_>, code: usize, inside: bool)
+pub(crate) fn count_trigger(table: &mut Table<'_>, code: usize, inside: bool)
     ensures takes { (view : HeadView) (h : Header) (items : List BodyItem) (c : IdCode) (d : Change)
         → IsViewOf view h → slice_get h.codes code ≡ Some c → c.event ≡ true → d.code ≡ c
         → inside ≡ leaves_open items → length items < 2 ^ 63 → AreTallied table.old h items

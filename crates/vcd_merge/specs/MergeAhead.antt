@@ -19,47 +19,42 @@ use Rattle.vcd_view.specs.declared.view.HeadView.{HeadView}
 use Rattle.vcd_body.specs.Ahead.{GaveAhead}
 use Rattle.vcd_body.specs.Given.{IsItem}
 use Rattle.vcd_body.specs.Items.{AreRegsAfter, regs_after}
-use Rattle.vcd_body.specs.Taken.{Opens, TakesItem}
-use Rattle.vcd_body.specs.declared.ahead.Opening.{Opening}
+use Rattle.vcd_body.specs.Taken.{TakesItem}
+use Rattle.vcd_body.specs.Walk.{Stage}
 use Rattle.vcd_body.specs.declared.ahead.Plain.{Plain}
 use Rattle.vcd_body.specs.declared.item.Item.{Item}
 use Rattle.vcd_body.specs.declared.item.Regs.{Regs}
-use Rattle.vcd_merge.specs.declared.merging.Taken.{Taken}
+use Rattle.vcd_merge.specs.declared.merging.Merging.{Merging}
 use Rattle.vcd_merge.specs.declared.seat.Seat.{Seat}
-use Rattle.vcd_merge.specs.declared.seat.Track.{Track}
 
 -- the seat with these registers and this time
 abbrev pub seat_with : Seat → Regs → ℕ → Seat
 seat_with s r time = record { parked = s.parked; regs = r; factor = s.factor; time = time; first = s.first; finished = s.finished }
 
--- what its items are taken by, and that with these registers and this time
-abbrev pub track_of : Seat → Track
-track_of s = record { regs = s.regs; factor = s.factor; time = s.time; first = s.first }
-
-abbrev pub track_with : Track → Regs → ℕ → Track
-track_with t r time = record { regs = r; factor = t.factor; time = time; first = t.first }
-
 -- what is due with an item here was written, or a prefix of it where a write failed
-abbrev pub PutsDue : {A E : Type 0} → List Code → List ℕ → Item → Track → Option ℕ → Option ℕ → Device → Device → Result A E → Type 0
-PutsDue codes text item s written written' out out' result = (v : HeadView) (scale first : ℕ) (h : Header) (items : List BodyItem) (x : BodyItem) → v.codes.now ≡ codes → IsViewOf v h → AreRegsAfter items s.regs → s.time ≡ scale * time_after items → s.first ≡ first → first + length h.codes < 2 ^ 64 → IsItem h.codes text item x
+abbrev pub PutsDue : {A E : Type 0} → List Code → List ℕ → Item → Regs → ℕ → ℕ → Option ℕ → Option ℕ → Device → Device → Result A E → Type 0
+PutsDue codes text item r time number written written' out out' result = (v : HeadView) (scale first : ℕ) (h : Header) (items : List BodyItem) (x : BodyItem) → v.codes.now ≡ codes → IsViewOf v h → AreRegsAfter items r → time ≡ scale * time_after items → number ≡ first → first + length h.codes < 2 ^ 64 → IsItem h.codes text item x
     → Takes out out' (due_with written (entry_for scale first h items x)) result × IfOk result (λ _. written' ≡ written_with written (entry_for scale first h items x))
 
+-- where a walk over the items of an input stands
+abbrev pub MergeStage : Type 0
+MergeStage = Stage Merging (Unit {0})
+
+-- of the same input, and for the same run
+pub record SameMerging (m m' : Merging) : Type 0 where
+  pub factor : m'.factor ≡ m.factor
+  pub first : m'.first ≡ m.first
+  pub before : m'.before ≡ m.before
+
 -- an item was taken ahead, whose time is not too large, and what is due with it was put
-pub record TakesNext {E : Type 0} (v : HeadView) (a a' : Ahead) (s s' : Track) (written written' : Option ℕ) (out out' : Device) (result : Result (Unit {0}) E) : Type 0 where
+pub record TakesNext (v : HeadView) (s t : MergeStage) (result : Result (Unit {0}) WriteFailed) : Type 0 where
   pub plain : Plain
-  pub item : TakesItem v a a' s.regs plain
-  pub track : s' ≡ track_with s (regs_after s.regs plain.item) s'.time
-  pub time : (scale : ℕ) → s.factor ≡ scale → s.time ≡ scale * s.regs.time → s'.time ≡ scale * s'.regs.time
-  pub small : (codes : List IdCode) (text : List ℕ) (x : BodyItem) → IsItem codes text plain.item x → is_too_large s.factor x ≡ false
-  pub puts : PutsDue v.codes.now plain.text.now plain.item s written written' out out' result
-
--- the next item was taken, or none, and then nothing has changed
-abbrev pub MayTakeNext : {E : Type 0} → HeadView → Ahead → Ahead → Track → Track → Option ℕ → Option ℕ → Device → Device → Option (Result (Unit {0}) E) → Type 0
-MayTakeNext v a a' s s' written written' out out' result = MatchOption result ((s' ≡ s) × (written' ≡ written) × (a' ≡ a) × (out' ≡ out)) (λ put. TakesNext v a a' s s' written written' out out' put)
-
--- the time mark that a token ahead is was taken, whose time is not too large: nothing is due with it
-abbrev pub TakesMark : Opening → Ahead → Track → Track → Type 0
-TakesMark o a' s s' = (v : HeadView) (a : Ahead) (written : Option ℕ) (out : Device) → Opens a a' o → TakesNext {E = WriteFailed} v a a' s s' written written out out (Ok tt)
+  pub item : TakesItem v s.ahead t.ahead s.regs plain
+  pub regs : t.regs ≡ regs_after s.regs plain.item
+  pub same : SameMerging s.visit t.visit
+  pub time : (scale : ℕ) → s.visit.factor ≡ scale → s.visit.time ≡ scale * s.regs.time → t.visit.time ≡ scale * t.regs.time
+  pub small : (codes : List IdCode) (text : List ℕ) (x : BodyItem) → IsItem codes text plain.item x → is_too_large s.visit.factor x ≡ false
+  pub puts : PutsDue v.codes.now plain.text.now plain.item s.regs s.visit.time s.visit.first s.visit.written t.visit.written s.out t.out result
 
 -- behind some of the items ahead: the bytes in which they lie, what is known after them, the time
 -- of the input, and the output
@@ -104,21 +99,3 @@ module _ (scale first : ℕ) (h : Header) (limit lines : ℕ) (bytes : List ℕ)
     pub mid : StageAhead
     pub trail : TrailAhead before a mid
     pub ends : EndsAhead mid n r time written out result
-
--- whole tokens of the same bytes were passed
-pub record PassesAhead (a a' : Ahead) : Type 0 where
-  pub same : (bytes_of a' ≡ bytes_of a) × (longest_of a' ≡ longest_of a)
-  pub further : passed_of a ≤ passed_of a'
-  pub within : passed_of a' ≤ length (bytes_of a)
-  pub passes : (lines : ℕ) (ts : List Token) → Passed (longest_of a) lines (bytes_of a) (passed_of a) ts → (more : List Token) × Passed (longest_of a) lines (bytes_of a) (passed_of a') (ts ++ more)
-
--- where a run goes on, more items are taken, and it goes on after them or ends, over the same bytes
--- and for the same input
-pub record GoesAhead (shown : HeadShown) (before : ℕ) (s : Track) (written : Option ℕ) (a : Ahead) (out out' : Device) (t : Taken) : Type 0 where
-  pub runs : (scale first lines : ℕ) (h : Header) (behind : List BodyItem) (start : StageAhead) → Views shown h → s.factor ≡ scale → s.first ≡ first → first + length h.codes < 2 ^ 64
-      → RunsAhead scale first h (longest_of a) lines (bytes_of a) behind {E = WriteFailed} before start (passed_of a) s.regs s.time written out (Ok false)
-      → RunsAhead scale first h (longest_of a) lines (bytes_of a) behind before start (passed_of t.ahead) t.track.regs t.track.time t.written out' t.ended
-  pub passes : PassesAhead a t.ahead
-  pub some : t.ended ≡ Ok true → passed_of a < passed_of t.ahead
-  pub same : t.track ≡ track_with s t.track.regs t.track.time
-  pub counts : Counts out out' t.ended

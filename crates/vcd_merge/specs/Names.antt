@@ -18,8 +18,8 @@ pub use Rattle.vcd_head.specs.Merged.{ShowHeaders}
 pub use Rattle.vcd_head.specs.Shown.{shown}
 pub use Rattle.vcd_body.specs.Answer.{goes_on, NamesInput, reads_failed}
 pub use Rattle.vcd_body.specs.Given.{IsGoodText}
-pub use Rattle.vcd_body.specs.Taken.{Opens, TakesItem}
-pub use Rattle.vcd_merge.specs.MergeAhead.{GoesAhead, MayTakeNext, PutsDue, seat_with, TakesMark, TakesNext, track_with}
+pub use Rattle.vcd_body.specs.Taken.{TakesItem}
+pub use Rattle.vcd_merge.specs.MergeAhead.{PutsDue, seat_with, TakesNext}
 pub use Rattle.vcd_merge.specs.MergeOrder.{greatest_time, IsNext}
 pub use Rattle.vcd_merge.specs.MergeParts.{AreParts, AreSeated, part, part_len, SameLengths, spot_at}
 pub use Rattle.vcd_merge.specs.MergeRoom.{MergeIsWithinBound, no_windows, windows_size}

@@ -25,7 +25,7 @@
 //! - `merge_steps`: the begin of a merge, a step of it over all inputs, and the loop over its steps
 //! - `merging`: the steps of one input, over its source and its parts of the windows alone
 //! - `order`: whose turn it is, and in which order the others wait
-//! - `seat`: `Seat`, and what of it the items ahead are taken by
+//! - `seat`: `Seat`
 //!
 //! In `specs/` callers read `MergeRun` (`Follows`), `MergeStart`, `MergeStep`, `MergeParts`,
 //! `MergeRoom`, `MergeOrder` and `Seat`. `Names` has what the clauses of this crate speak of under

@@ -22,19 +22,6 @@ pub struct Seat {
     pub(crate) finished: bool,
 }
 
-/// What the items of an input are taken by, apart from its feed.
-#[derive(Clone, Copy)]
-pub(crate) struct Track {
-    /// What is known after the items that were taken.
-    pub(crate) regs: Regs,
-    /// By how much times are scaled.
-    pub(crate) factor: u64,
-    /// The time, scaled.
-    pub(crate) time: u64,
-    /// The number of the first code.
-    pub(crate) first: u64,
-}
-
 impl Seat {
     /// Returns the seat of an input whose feed is after its header. The rest is set where the merge
     /// begins.
@@ -50,24 +37,6 @@ impl Seat {
             time: 0,
             first: 0,
             finished: false,
-        }
-    }
-
-    /// Returns what its items are taken by.
-    #[inline(always)]
-    pub(crate) fn track(&self) -> Track
-        ensures { result ≡ record {
-          regs = self.now.regs;
-          factor = self.now.factor;
-          time = self.now.time;
-          first = self.now.first;
-        } }
-    {
-        Track {
-            regs: self.regs,
-            factor: self.factor,
-            time: self.time,
-            first: self.first,
         }
     }
 }

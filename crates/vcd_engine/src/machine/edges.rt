@@ -5,7 +5,7 @@ ghost use Rattle.vcd_engine.specs.declared.task.Task.TheVariants as task;
 
 use crate::machine::walk::{Command, Keeping};
 use crate::pieces::{InPlace, Pieces};
-use crate::tally::{put_rows, take_mark, take_value};
+use crate::tally::{count_trigger, put_rows, take_value};
 use crate::task::Room;
 use vcd_body::{Form, Item, Regs, Stop, Table};
 use vcd_head::select;
@@ -79,7 +79,7 @@ impl<'n, 'r> Edges<'n, 'r> {
             return;
         };
         if declared.event {
-            take_mark(&mut self.table, code, inside);
+            count_trigger(&mut self.table, code, inside);
         } else {
             take_value(&mut self.table, code, declared.size, form, text, None);
         }

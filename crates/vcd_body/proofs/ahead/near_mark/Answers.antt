@@ -1,4 +1,4 @@
-use Rattle.std.proofs.Common.{arith, drop, subst}
+use Rattle.std.proofs.Common.{drop, subst}
 use Rattle.vcd_body.specs.Words.{Begins}
 use Rattle.vcd_body.proofs.WordLemmas.{first_rest}
 use Rattle.vcd_body.proofs.ahead.near_mark.Goals as goal
@@ -10,5 +10,4 @@ returns-clause-opens c =
     record {
       token = n.takes;
       begins = subst (λ t. Begins t c.first_by-first.result) (first_rest token n.takes.some) (c.first_by-first.ensures (drop 1 token));
-      at = omega (arith, n.start, c.passed-at.ensures.passed);
     }

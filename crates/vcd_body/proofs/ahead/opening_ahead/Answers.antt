@@ -1,4 +1,4 @@
-use Rattle.std.proofs.Common.{◌-◌, ap, drop, length, subst}
+use Rattle.std.proofs.Common.{drop, subst}
 use Rattle.vcd_body.specs.Words.{Begins}
 use Rattle.vcd_body.proofs.WordLemmas.{first_rest}
 use Rattle.vcd_body.proofs.ahead.opening_ahead.Goals as goal
@@ -10,5 +10,4 @@ returns-clause-opens c =
     record {
       token = t;
       begins = subst (λ t. Begins t c.first_by.result) (first_rest token t.some) (c.first_by.ensures (drop 1 token));
-      at = ap (λ n. n - 1 - length token) c.passed.ensures.passed;
     }

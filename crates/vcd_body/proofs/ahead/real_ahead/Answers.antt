@@ -24,7 +24,7 @@ returns-clause-takes c = λ a r o.
     let first = token_there bytes (passed_of a) (passed_of mid) token t.further t.within t.before t.place in
     let second = token_there (bytes_of mid) (passed_of mid) (passed_of new) code m.further m.within m.before m.place in
     let text = c.rest_of.ensures in
-    rw (c.change_of.ensures, o.at, c.passed.ensures.passed) (record {
+    rw (c.change_of.ensures, c.begin_of-at.ensures, c.begin_of-code_at.ensures) (record {
       gives = λ h limit lines bytes before items v over k g.
           let line = line_ahead lines bytes (start_of mid token) in
           let one = passes_same limit (longest_of a) lines bytes (bytes_of a) (passed_of a) (passed_of mid) (start_of mid token) token over.0 over.1 (t.gives lines) g.tokens g.passed in

@@ -15,7 +15,7 @@ pub vector_code-requires-clause-begins : goal.vector_code-requires-clause-begins
 vector_code-requires-clause-begins c = c.requires.opens.1.begins
 
 pub vector_code-requires-clause-bits : goal.vector_code-requires-clause-bits
-vector_code-requires-clause-bits c = rw c.requires.bits c.requires.opens.1.bits
+vector_code-requires-clause-bits c = c.requires.bits
 
 pub returns-clause-takes : goal.returns-clause-takes
 returns-clause-takes c = λ a r v.
@@ -49,7 +49,7 @@ returns-clause-takes c = λ a r v.
       sound = rw text c.in_ok-found.ensures.sound;
       plain = tt;
       sized = c.in_ok-found.ensures.sized;
-      bits = rw (text, c.requires.bits) (has_bits c.in_ok-found.found.place (drop 1 token) c.args.tokens.bits v.bits);
+      bits = rw text (has_bits c.in_ok-found.found.place (drop 1 token) c.args.bits c.requires.bits);
       spelled = (code, both_there bytes (bytes_of mid) _ _ _ token _ _ begins.0 begins.1 begins.3 text o.same.0 first second, c.in_ok-found.ensures.names, both_places bytes (bytes_of mid) _ _ _ token _ _ begins.0 begins.1 begins.3 text o.same.0 first second);
       further = less;
       within = subst (λ (bs : _). passed_of new ≤ length bs) (sym m.same.0) m.within;

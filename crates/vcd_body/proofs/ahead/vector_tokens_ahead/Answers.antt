@@ -1,4 +1,4 @@
-use Rattle.std.proofs.Common.{◌-◌, ap, length, subst}
+use Rattle.std.proofs.Common.{subst}
 use Rattle.vcd_body.specs.Words.{Begins}
 use Rattle.vcd_body.proofs.ahead.vector_tokens_ahead.Goals as goal
 
@@ -11,8 +11,7 @@ returns c = record {
         token = o.token;
         begins = subst (Begins token) c.requires.first o.begins;
         code = c.in_ok-code.ensures.takes;
-        at = o.at;
-        code_at = ap (λ n. n - 1 - length c.in_ok-code.code.now) c.passed.ensures.passed;
-        bits = c.vector_bits-bits.ensures;
+        at = c.begin_of-at.ensures;
+        code_at = c.begin_of-code_at.ensures;
       };
 }

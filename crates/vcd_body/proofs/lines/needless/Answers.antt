@@ -1,20 +1,17 @@
-use Rattle.std.proofs.Common.{◌≡◌, ◌<◌, ◌+◌, ◌∙◌, ℕ, length, arith, ap, sym}
-use Rattle.std.specs.Prelude.{slice_index}
-use Rattle.vcd_body.specs.Binary.{bit_of}
-use Rattle.vcd_body.proofs.Shortest.{short_behind_zeros}
-use Rattle.vcd_body.proofs.WordLemmas.{byte_there}
+use Rattle.std.proofs.Common.{◌≡◌, ℕ, ◌-◌, ap, length, length-drop, length-take, arith, sym, subst, ◌∙◌}
+use Rattle.std.specs.Str.{str_to_ascii_lowercase}
+use Rattle.vcd_body.proofs.LeftOut.{shortest_end, end_is, end_place}
 use Rattle.vcd_body.proofs.lines.needless.Goals as goal
 
-pub returns-then-are_many_binary_at : goal.returns-then-are_many_binary_at
-returns-then-are_many_binary_at c =
+pub overflow_sub-k : goal.overflow_sub-k
+overflow_sub-k c = (shortest_end c.args.digits.now c.shortest.result.now c.shortest.ensures (sym c.is_empty.ensures ∙ c.if-is_empty.false)).0
+
+pub are_lower-requires : goal.are_lower-requires
+are_lower-requires c = record { within = (let long = ap length c.requires.place in omega (arith, long, length-take {A = ℕ}, length-drop {A = ℕ})); place = end_place c.args.bytes.now c.args.digits.now c.args.at (length c.args.digits.now - length c.shortest.result.now) (omega arith) c.requires.place }
+
+pub returns : goal.returns
+returns c =
     let l = c.args.digits.now in
-    let k = c.clear_bits.result in
-    let z = c.clear_bits.ensures in
-    let less = z.less in
-    let there : (j : ℕ) → j < length l → slice_index l j ≡ slice_index c.args.bytes.now (c.args.at + j) = λ j few. byte_there l c.args.bytes.now c.args.at (length l) j few c.requires.place in (
-      omega (arith, less),
-      short_behind_zeros k l less
-          (λ j few. there j (omega (arith, few, less)) ∙ c.others_64.ensures.zero j (omega (arith, few, less)) (z.clear j few))
-          (λ more e. c.others_64.ensures.other k (omega (arith, less)) (z.set more) (sym (there k less) ∙ e))
-          (λ j few. there j few ∙ c.are_many_binary_at.ensures c.if-are_many_binary_at.true j few ∙ ap (λ d. 48 + bit_of d) (sym (there j few))),
-    )
+    let k = length l - length c.shortest.result.now in
+    let p = shortest_end l c.shortest.result.now c.shortest.ensures (sym c.is_empty.ensures ∙ c.if-is_empty.false) in
+    (omega arith, λ size. sym (subst (λ r. str_to_ascii_lowercase r ≡ r) (end_is l k) (c.are_lower.ensures c.if-not-are_lower.false)) ∙ p.1 size)

@@ -16,7 +16,7 @@ pub returns-in_default : goal.returns-in_default
 returns-in_default g c =
     let (size, event, form) = c.is_vector.ensures.vector c.if-is_vector.true in
     let line = vector_line c.args.text.now (id_text c.args.id) c.args.size c.args.event c.args.form size event form in
-    subst (λ l. Puts (g.W.Sink.device c.args.w.now) (g.W.Sink.device c.put_vector.new.w) l c.put_vector.result) (sym line) (c.put_vector.ensures.0 c.args.size, c.put_vector.ensures.1)
+    subst (λ l. Puts (g.W.Sink.device c.args.w.now) (g.W.Sink.device c.put_shortened.new.w) l c.put_shortened.result) (sym line) (c.put_shortened.ensures.0 c.args.size, c.put_shortened.ensures.1)
 
 pub returns-in_default-2 : goal.returns-in_default-2
 returns-in_default-2 g c = c.put_other.ensures c.args.size (c.is_vector.ensures.other c.if-is_vector.false)

@@ -37,7 +37,7 @@ returns-in_err-put_unsized-in-Change-clause-turns g c = λ scale first l items s
     let x = BodyItem.Changes (record { code = gives.0; form = model_form c.in-Change.form; text = text_of c.in-Change.form c.next_item.new.feed }) in
     let known = subst (AreRegsAfter items) (sym same) at.gave.known in
     let e : c.from_residual.result ≡ Err Write = search rules in
-    let puts = rw c.track.ensures at c.in_err-put_unsized-in-Change.ensures.takes in
+    let puts = c.in_err-put_unsized-in-Change.ensures.takes r c.is_some-inside.ensures in
     let takes = puts c.view-view.result scale first l.header items x refl views known at.time_is at.first_is at.few (gives.0, gives.1, ap (λ (text : List ℕ). BodyItem.Changes (record { code = gives.0; form = model_form c.in-Change.form; text = text })) (sym c.change_text-text.ensures)) in
     rw e (x, turned scale first l items s r s.time s.finished c.args.feed.now c.next_item.new.feed x at gives.2.gave refl (timed scale items s r at.gave.known (ap (λ (q : Regs). q.time) same) at.time_is) c.requires.unfinished, (takes.0, c.in_err-put_unsized-in-Change.ensures.counts), no_more_at_item l l.input items c.next_item.new.feed x r gives.2)
 
@@ -67,7 +67,7 @@ returns-in_ok-put_unsized-in-Change-clause-turns g c = λ scale first l items sh
     let same : r ≡ s.regs = rw c.in-Change.is at c.in-Ok.ensures.regs in
     let x = BodyItem.Changes (record { code = gives.0; form = model_form c.in-Change.form; text = text_of c.in-Change.form c.next_item.new.feed }) in
     let known = subst (AreRegsAfter items) (sym same) at.gave.known in
-    let puts = rw c.track.ensures at c.in_ok-put_unsized-in-Change.ensures.takes in
+    let puts = c.in_ok-put_unsized-in-Change.ensures.takes r c.is_some-inside.ensures in
     let takes = puts c.view-view.result scale first l.header items x refl views known at.time_is at.first_is at.few (gives.0, gives.1, ap (λ (text : List ℕ). BodyItem.Changes (record { code = gives.0; form = model_form c.in-Change.form; text = text })) (sym c.change_text-text.ensures)) in
     (inl (x, (c.requires.unfinished, turned scale first l items s r s.time s.finished c.args.feed.now c.next_item.new.feed x at gives.2.gave refl (timed scale items s r at.gave.known (ap (λ (q : Regs). q.time) same) at.time_is) c.requires.unfinished, takes.1, no_more_at_item l l.input items c.next_item.new.feed x r gives.2), (takes.0, c.in_ok-put_unsized-in-Change.ensures.counts)))
 

@@ -13,7 +13,7 @@ returns-then-declared-clause-takes c = λ v h items k same views there opens few
     let shown = shown_there v h place c.in-Some.declared k views (ap (λ (l : List Code). slice_get l place) same ∙ sym c.code_in.ensures ∙ c.in-Some.is) there in
     let mark : Change = record { code = k; form = model_form c.args.form; text = c.args.text.now } in record {
       marks_are = is.marks_are;
-      tallied = c.take_mark.ensures.takes v h items k mark views there (shown.1 ∙ c.if-declared.true) refl opens few is.tallied;
+      tallied = c.count_trigger.ensures.takes v h items k mark views there (shown.1 ∙ c.if-declared.true) refl opens few is.tallied;
     }
 
 pub returns-else-declared-clause-takes : goal.returns-else-declared-clause-takes

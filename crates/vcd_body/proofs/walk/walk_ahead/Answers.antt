@@ -1,0 +1,33 @@
+use Rattle.std.proofs.Common.{◌≡◌, ◌∙◌, Ok, false, rules, sym}
+use Rattle.vcd_body.proofs.WalkLemmas.{come_on, walks_further}
+use Rattle.vcd_body.proofs.walk.walk_ahead.Goals as goal
+
+pub items-init : goal.items-init
+items-init g c =
+    let ended : c.begin_lines-lines.result.ended ≡ Ok false = search rules in
+    record { come = rw ended at c.begin_lines-lines.ensures }
+
+pub returns-in-Err : goal.returns-in-Err
+returns-in-Err g c = rw c.until-in-Err.ensures (_, c.items.invariant.come, (_, c.view-view.ensures, rw c.in-Err.is at c.in-Some.ensures.next))
+
+pub returns-then-is_over : goal.returns-then-is_over
+returns-then-is_over g c = rw c.until-then-is_over.ensures (_, c.items.invariant.come, (_, c.view-view.ensures, rw c.in-Ok.is at c.in-Some.ensures.next), sym c.is_over.ensures ∙ c.if-is_over.true)
+
+pub items-preserved : goal.items-preserved
+items-preserved g c = record { come = come_on _ _ _ _ _ _ _ c.items.invariant.come (_, c.view-view.ensures, rw c.in-Ok.is at c.in-Some.ensures.next) (sym c.is_over.ensures ∙ c.if-is_over.false) }
+
+pub returns-in-Ok-true-ended : goal.returns-in-Ok-true-ended
+returns-in-Ok-true-ended g c =
+    let w = come_on _ _ _ _ _ _ _ c.items.invariant.come (_, c.view-view.ensures, rw c.in-Ok.is at c.in-Some.ensures.next) (sym c.is_over.ensures ∙ c.if-is_over.false) in
+    walks_further _ _ _ _ _ _ _ _ w c.take_lines-run.ensures
+
+pub returns-in-Ok-true-ended-2 : goal.returns-in-Ok-true-ended-2
+returns-in-Ok-true-ended-2 g c =
+    let w = come_on _ _ _ _ _ _ _ c.items.invariant.come (_, c.view-view.ensures, rw c.in-Ok.is at c.in-Some.ensures.next) (sym c.is_over.ensures ∙ c.if-is_over.false) in
+    walks_further _ _ _ _ _ _ _ _ w c.take_lines-run.ensures
+
+pub items-preserved-then-has_run : goal.items-preserved-then-has_run
+items-preserved-then-has_run g c =
+    let w = come_on _ _ _ _ _ _ _ c.items.invariant.come (_, c.view-view.ensures, rw c.in-Ok.is at c.in-Some.ensures.next) (sym c.is_over.ensures ∙ c.if-is_over.false) in
+    let ended : c.take_lines-run.result.ended ≡ Ok false = search rules in
+    record { come = walks_further _ _ _ _ _ _ _ (Ok false) w (rw ended at c.take_lines-run.ensures) }

@@ -1,0 +1,80 @@
+-- How far a walk over the items ahead has come, whoever takes them.
+use Rattle.std.specs.Prelude.{◌≡◌, ℕ, ◌≤◌, Bool, true, false, List, length, Option, MatchOption, Result, Ok, Err, IfOk}
+use Rattle.vcd_text.specs.Ahead.{bytes_of, longest_of, passed_of}
+use Rattle.vcd_text.specs.Device.{Counts, Device}
+use Rattle.vcd_text.specs.declared.ahead.Ahead.{Ahead}
+use Rattle.vcd_text.specs.declared.device.WriteFailed.{WriteFailed}
+use Rattle.vcd_view.specs.declared.view.HeadView.{HeadView}
+use Rattle.vcd_body.specs.Taken.{TakesItem}
+use Rattle.vcd_body.specs.declared.ahead.Plain.{Plain}
+use Rattle.vcd_body.specs.declared.item.Regs.{Regs}
+
+-- where a walk stands: its place, the registers after the items so far, the visit and what it works
+-- on, and the output
+pub record Stage (V C : Type 0) : Type 0 where
+  pub ahead : Ahead
+  pub regs : Regs
+  pub visit : V
+  pub command : C
+  pub out : Device
+
+abbrev pub stage_at : {V C : Type 0} → Ahead → Regs → V → C → Device → Stage V C
+stage_at a r visit command out = record { ahead = a; regs = r; visit = visit; command = command; out = out }
+
+-- a look-ahead at the same place
+abbrev pub IsSamePlace : Ahead → Ahead → Type 0
+IsSamePlace a a' = (passed_of a' ≡ passed_of a) × (bytes_of a' ≡ bytes_of a) × (longest_of a' ≡ longest_of a)
+
+-- a result, without what it gives
+abbrev pub as_done : {A E : Type 0} → Result A E → Result (Unit {0}) E
+as_done (Ok v) = Ok tt
+as_done (Err e) = Err e
+
+module _ {V C : Type 0} (takes : HeadView → Stage V C → Stage V C → Result (Unit {0}) WriteFailed → Type 0) (stands : V → C → List ℕ → Regs → Type 0) where
+  -- the walk can go on from there
+  abbrev pub CanGoOn : Stage V C → Type 0
+  CanGoOn s = stands s.visit s.command (bytes_of s.ahead) s.regs
+
+  -- one item more was taken ahead, and the visit has done with it what it does
+  pub record TakesOne (v : HeadView) (s s' : Stage V C) (result : Result (Unit {0}) WriteFailed) : Type 0 where
+    pub plain : Plain
+    pub item : TakesItem v s.ahead s'.ahead s.regs plain
+    pub did : takes v s s' result
+    pub counts : Counts s.out s'.out result
+    pub on : IfOk result (λ _. CanGoOn s')
+
+  -- so, where there is a result; else nothing has changed
+  abbrev pub MayTakeNext : {A : Type 0} → HeadView → Stage V C → Stage V C → Option (Result A WriteFailed) → Type 0
+  MayTakeNext v s s' result = MatchOption result (s' ≡ s) (λ one. TakesOne v s s' (as_done one))
+
+  -- a mark was taken, with which nothing is written, where there is a result; else nothing has
+  -- changed
+  abbrev pub MayTakeMark : HeadView → (Device → Stage V C) → (Device → Stage V C) → Option (Unit {0}) → Type 0
+  MayTakeMark v s s' result = MatchOption result ((out : Device) → s' out ≡ s out) (λ _. (out : Device) → TakesOne v (s out) (s' out) (Ok tt))
+
+  -- one item more was taken, by a view of the header
+  abbrev pub TakesShown : (HeadView → Type 0) → Stage V C → Stage V C → Result (Unit {0}) WriteFailed → Type 0
+  TakesShown shows s s' result = (v : HeadView) × shows v × TakesOne v s s' result
+
+  module _ (over : V → Bool) (shows : HeadView → Type 0) where
+    -- items were taken one after the other, and the visit was not over after any of them
+    pub data Trail (a : Stage V C) : Stage V C → Type 0 where
+      Begins : Trail a a
+      Further : (b c : Stage V C) (so_far : Trail a b) (one : TakesShown shows b c (Ok tt)) (on : over c.visit ≡ false) → Trail a c
+      Again : (b c : Stage V C) (so_far : Trail a b) (there : Ahead) (same : IsSamePlace b.ahead there) (is : c ≡ stage_at there b.regs b.visit b.command b.out) → Trail a c
+
+    -- how far it has come from where it began; it can go on
+    pub record HasCome (a z : Stage V C) : Type 0 where
+      pub trail : Trail a z
+      pub on : CanGoOn z
+      pub failures : z.out.failures ≡ a.out.failures
+      pub same : bytes_of z.ahead ≡ bytes_of a.ahead
+      pub further : passed_of a.ahead ≤ passed_of z.ahead
+      pub within : passed_of z.ahead ≤ length (bytes_of z.ahead)
+
+    -- how it ends: no other item was taken; the visit is over after one more; or a write of what is
+    -- due with one more failed
+    abbrev pub Walks : Stage V C → Stage V C → Result Bool WriteFailed → Type 0
+    Walks a z (Ok false) = HasCome a z
+    Walks a z (Ok true) = (m : Stage V C) × HasCome a m × TakesShown shows m z (Ok tt) × (over z.visit ≡ true)
+    Walks a z (Err e) = (m : Stage V C) × HasCome a m × TakesShown shows m z (Err e)

@@ -1,0 +1,457 @@
+//! The loop over the items that lie whole ahead in a feed's chunk: one for whoever takes them.
+ghost use Rattle.std.specs.Prelude.{◌≡◌, ◌⊎◌, ℕ, ◌-◌, ◌^◌, ◌<◌, ◌≤◌, Bool, List, length, false, true, IfOk, Result, Ok};
+ghost use Rattle.vcd_text.specs.Ahead.{bytes_of, passed_of};
+ghost use Rattle.vcd_text.specs.Device.{Counts, Device};
+ghost use Rattle.vcd_text.specs.declared.ahead.Ahead.{Ahead};
+ghost use Rattle.vcd_text.specs.declared.device.WriteFailed.{WriteFailed};
+ghost use Rattle.vcd_view.specs.declared.view.HeadView.{HeadView};
+ghost use Rattle.vcd_body.specs.Items.{regs_after};
+ghost use Rattle.vcd_body.specs.Taken.{IsChangeBy, Opens, TakesItem};
+ghost use Rattle.vcd_body.specs.Walk.{MayTakeMark, MayTakeNext, Stage, TakesOne, Walks, as_done, stage_at};
+ghost use Rattle.vcd_body.specs.declared.item.Form.{Form};
+ghost use Rattle.vcd_body.specs.declared.item.Item.TheVariants as item;
+ghost use Rattle.vcd_body.specs.declared.item.Regs.{Regs};
+ghost use Rattle.vcd_body.specs.declared.words.First.TheVariants as first;
+
+use crate::ahead::{
+    Opening, Plain, has_run, has_short_run, mark_ahead, near_mark, opening_ahead, real_ahead,
+    scalar_ahead, short_ahead, time_ahead, vector_ahead, vector_bits, vector_tokens_ahead,
+};
+use crate::item::Regs;
+use crate::words::First;
+use vcd_text::{Ahead, Sink, WriteFailed};
+use vcd_view::HeadView;
+
+/// What the view of a header is made from, where it is used.
+pub trait Viewed: Copy {
+    // Whether this is such a view.
+    ghost shows: { Self → HeadView → Type 0 };
+
+    /// Returns the view of the header.
+    fn view(&self) -> HeadView<'_>
+        ensures { shows self.now result };
+}
+
+impl Viewed for HeadView<'_> {
+    ghost shows = { λ own view. view ≡ own };
+
+    #[inline(always)]
+    fn view(&self) -> HeadView<'_> {
+        *self
+    }
+}
+
+/// What is done with the items ahead, in a command that is lent. What a loop is to keep in
+/// registers is in the visit, which comes and goes by value.
+pub trait Visit<C>: Drop {
+    // Whether it can go on in these bytes, with these registers after the items so far.
+    ghost stands: { Self → C → List ℕ → Regs → Type 0 };
+
+    // Whether this is what it does with an item, from one stage of the walk to another, and what a
+    // write of what is due with it gives.
+    ghost takes: { HeadView → Stage Self C → Stage Self C → Result (Unit {0}) WriteFailed → Type 0 };
+
+    // Whether the walk leaves a time mark with this time.
+    ghost is_left: { Self → C → ℕ → Bool };
+
+    // Whether no other item is to be taken.
+    ghost over: { Self → Bool };
+
+    /// Returns whether a time mark with this time is left, and so ends the walk before it.
+    fn leaves(&self, command: &C, time: u64) -> bool
+        ensures { result ≡ is_left self.now command.now time };
+
+    /// Returns whether no other item is to be taken.
+    fn is_over(&self) -> bool
+        ensures { result ≡ over self.now };
+
+    /// Takes a time mark, from one place ahead to another. The registers are those before it.
+    fn take_mark(
+        &mut self,
+        command: &mut C,
+        view: HeadView<'_>,
+        regs: Regs,
+        time: u64,
+        mark: Plain<'_>,
+        ahead: Ahead<'_>,
+        next: Ahead<'_>,
+    )
+        requires stands { stands self.old command.old (bytes_of ahead) regs }
+        requires left { is_left self.old command.old time ≡ false }
+        requires item { TakesItem view ahead next regs mark }
+        requires time { mark.item ≡ item.Time time }
+        ensures takes { (out : Device) → takes view.entry
+            (stage_at ahead.entry regs self.old command.old out)
+            (stage_at next.entry (regs_after regs mark.entry.item) self.new command.new out) (Ok tt) }
+        ensures stands { stands self.new command.new (bytes_of next.entry)
+            (regs_after regs mark.entry.item) };
+
+    /// Takes a change, from one place ahead to another, and puts what is due with it. The registers
+    /// are those after it, as before it.
+    fn take_change<W: Sink>(
+        &mut self,
+        command: &mut C,
+        view: HeadView<'_>,
+        regs: Regs,
+        change: Plain<'_>,
+        ahead: Ahead<'_>,
+        next: Ahead<'_>,
+        out: &mut W,
+    ) -> Result<(), WriteFailed>
+        requires failures { (W.device out.old).failures < 2 ^ 64 - 1 }
+        requires stands { stands self.old command.old (bytes_of ahead) regs }
+        requires item { TakesItem view ahead next regs change }
+        requires form { (form : Form) × IsChangeBy form change }
+        ensures takes { takes view.entry
+            (stage_at ahead.entry regs self.old command.old (W.device out.old))
+            (stage_at next.entry regs self.new command.new (W.device out.new)) result }
+        ensures counts { Counts (W.device out.old) (W.device out.new) result }
+        ensures stands { IfOk result (λ _. stands self.new command.new (bytes_of next.entry) regs) }
+        ensures over { over self.new ≡ over self.old };
+}
+
+/// How a walk has ended.
+#[derive(Drop)]
+pub struct Walked<'a, V> {
+    /// After the items that were taken.
+    pub ahead: Ahead<'a>,
+    /// The registers after these items.
+    pub regs: Regs,
+    /// The visit after these items.
+    pub visit: V,
+    /// Whether the visit is over after the last of these items; or that a write of what is due with
+    /// it failed.
+    pub ended: Result<bool, WriteFailed>,
+}
+
+impl<'a, V> Walked<'a, V> {
+    #[inline(always)]
+    fn until(
+        ahead: Ahead<'a>,
+        regs: Regs,
+        visit: V,
+        ended: Result<bool, WriteFailed>,
+    ) -> Walked<'a, V>
+        ensures { result ≡ record {
+          ahead = ahead.entry;
+          regs = regs;
+          visit = visit;
+          ended = ended;
+        } }
+    {
+        Walked {
+            ahead,
+            regs,
+            visit,
+            ended,
+        }
+    }
+}
+
+/// Takes a change that was found ahead, and returns that it was no mark.
+#[inline(always)]
+fn take_change<C, V: Visit<C>, W: Sink>(
+    command: &mut C,
+    visit: &mut V,
+    view: HeadView<'_>,
+    regs: Regs,
+    change: Plain<'_>,
+    ahead: Ahead<'_>,
+    next: Ahead<'_>,
+    out: &mut W,
+) -> Result<bool, WriteFailed>
+    requires failures { (W.device out.old).failures < 2 ^ 64 - 1 }
+    requires stands { V.stands visit.old command.old (bytes_of ahead) regs }
+    requires item { TakesItem view ahead next regs change }
+    requires form { (form : Form) × IsChangeBy form change }
+    ensures next { TakesOne V.takes V.stands view.entry
+        (stage_at ahead.entry regs visit.old command.old (W.device out.old))
+        (stage_at next.entry regs visit.new command.new (W.device out.new)) (as_done result) }
+    ensures over { V.over visit.new ≡ V.over visit.old }
+{
+    visit.take_change(command, view, regs, change, ahead, next, out)?;
+    Ok(false)
+}
+
+/// Takes the time mark that a token is, from one place up to another. None where it takes none, and
+/// then nothing has changed.
+#[inline(always)]
+fn take_mark<'a, C, V: Visit<C>>(
+    command: &mut C,
+    visit: &mut V,
+    view: HeadView<'_>,
+    opening: Opening<'_>,
+    regs: &mut Regs,
+    ahead: &mut Ahead<'a>,
+    next: Ahead<'a>,
+) -> Option<()>
+    requires stands { V.stands visit.old command.old (bytes_of ahead.old) regs.old }
+    requires opens { Opens ahead.old next opening }
+    requires first { opening.first ≡ first.Mark }
+    ensures { MayTakeMark V.takes V.stands view.entry
+        (stage_at ahead.old regs.old visit.old command.old)
+        (stage_at ahead.new regs.new visit.new command.new) result }
+{
+    let time = time_ahead(opening)?;
+    if visit.leaves(command, time) {
+        return None;
+    }
+    let before = *regs;
+    let mark = mark_ahead(opening, time, next, regs)?;
+    visit.take_mark(command, view, before, time, mark, *ahead, next);
+    *ahead = next;
+    Some(())
+}
+
+/// Takes the next item that lies ahead, and returns whether it was a mark. None where it takes
+/// none, and then nothing has changed.
+// What begins the item is asked once, and whether digits have a number: what is done with it
+// follows in each arm.
+#[inline(always)]
+fn take_next<C, V: Visit<C>, W: Sink>(
+    command: &mut C,
+    visit: &mut V,
+    view: HeadView<'_>,
+    regs: &mut Regs,
+    ahead: &mut Ahead<'_>,
+    out: &mut W,
+) -> Option<Result<bool, WriteFailed>>
+    requires failures { (W.device out.old).failures < 2 ^ 64 - 1 }
+    requires stands { V.stands visit.old command.old (bytes_of ahead.old) regs.old }
+    ensures next { MayTakeNext V.takes V.stands view.entry
+        (stage_at ahead.old regs.old visit.old command.old (W.device out.old))
+        (stage_at ahead.new regs.new visit.new command.new (W.device out.new)) result }
+{
+    let mut next = *ahead;
+    let opening = opening_ahead(&mut next)?;
+    let taken = match opening.first {
+        First::Bit | First::Scalar => {
+            let change = scalar_ahead(opening, next, view)?;
+            take_change(command, visit, view, *regs, change, *ahead, next, out)
+        }
+        First::Vector => {
+            let tokens = vector_tokens_ahead(opening, &mut next)?;
+            match vector_bits(tokens, next.bytes()) {
+                Some(bits) => {
+                    let change = vector_ahead(tokens, Some(bits), next, view)?;
+                    take_change(command, visit, view, *regs, change, *ahead, next, out)
+                }
+                None => {
+                    let change = vector_ahead(tokens, None, next, view)?;
+                    take_change(command, visit, view, *regs, change, *ahead, next, out)
+                }
+            }
+        }
+        First::Mark => {
+            take_mark(command, visit, view, opening, regs, ahead, next)?;
+            return Some(Ok(true));
+        }
+        First::Real => {
+            let change = real_ahead(opening, &mut next, view)?;
+            take_change(command, visit, view, *regs, change, *ahead, next, out)
+        }
+        First::Other => return None,
+    };
+    *ahead = next;
+    Some(taken)
+}
+
+/// Takes the next item that lies ahead, where it is a change by `0` or `1` with a code of one byte
+/// on a line of its own, and returns that it was no mark. None where it takes none, and then
+/// nothing has changed.
+#[inline(always)]
+fn take_short<C, V: Visit<C>, W: Sink>(
+    command: &mut C,
+    visit: &mut V,
+    view: HeadView<'_>,
+    regs: Regs,
+    ahead: &mut Ahead<'_>,
+    out: &mut W,
+) -> Option<Result<bool, WriteFailed>>
+    requires failures { (W.device out.old).failures < 2 ^ 64 - 1 }
+    requires stands { V.stands visit.old command.old (bytes_of ahead.old) regs }
+    ensures next { MayTakeNext V.takes V.stands view.entry
+        (stage_at ahead.old regs visit.old command.old (W.device out.old))
+        (stage_at ahead.new regs visit.new command.new (W.device out.new)) result }
+    ensures over { V.over visit.new ≡ V.over visit.old }
+{
+    let mut next = *ahead;
+    let change = short_ahead(&mut next, view)?;
+    let taken = take_change(command, visit, view, regs, change, *ahead, next, out);
+    *ahead = next;
+    Some(taken)
+}
+
+/// Takes the changes that come next, as long as each is a `0` or a `1` with a code of one byte on a
+/// line of its own.
+#[inline(always)]
+fn take_shorts<'a, C, V: Visit<C>, H: Viewed, W: Sink>(
+    command: &mut C,
+    mut visit: V,
+    head: H,
+    regs: Regs,
+    mut ahead: Ahead<'a>,
+    out: &mut W,
+) -> Walked<'a, V>
+    requires failures { (W.device out.old).failures < 2 ^ 64 - 1 }
+    requires stands { V.stands visit command.old (bytes_of ahead) regs }
+    requires within { passed_of ahead ≤ length (bytes_of ahead) }
+    requires on { V.over visit ≡ false }
+    ensures { Walks V.takes V.stands V.over (H.shows head)
+        (stage_at ahead.entry regs visit command.old (W.device out.old))
+        (stage_at result.ahead result.regs result.visit command.new (W.device out.new)) result.ended }
+{
+    let view = head.view();
+    'items: loop {
+        let Some(taken) = take_short(command, &mut visit, view, regs, &mut ahead, out) else {
+            return Walked::until(ahead, regs, visit, Ok(false));
+        };
+        match taken {
+            Ok(_) => {}
+            Err(failed) => return Walked::until(ahead, regs, visit, Err(failed)),
+        }
+    }
+}
+
+/// Takes the next item that lies ahead, where it is a time mark on a line of its own. None where it
+/// takes none, and then nothing has changed.
+#[inline(always)]
+fn take_near<C, V: Visit<C>>(
+    command: &mut C,
+    visit: &mut V,
+    view: HeadView<'_>,
+    regs: &mut Regs,
+    ahead: &mut Ahead<'_>,
+) -> Option<()>
+    requires stands { V.stands visit.old command.old (bytes_of ahead.old) regs.old }
+    ensures { MayTakeMark V.takes V.stands view.entry
+        (stage_at ahead.old regs.old visit.old command.old)
+        (stage_at ahead.new regs.new visit.new command.new) result }
+{
+    let mut next = *ahead;
+    let opening = near_mark(&mut next)?;
+    take_mark(command, visit, view, opening, regs, ahead, next)
+}
+
+/// Takes the items that come next, as long as each is a short change or a time mark on a line of
+/// its own.
+// It is not inlined, so that it has all registers, and the other loop has none less for it. The
+// loop of changes in it is one of its own, so that no change pays for what a mark needs.
+#[inline(never)]
+fn take_lines<'a, C, V: Visit<C>, H: Viewed, W: Sink>(
+    command: &mut C,
+    mut visit: V,
+    head: H,
+    mut regs: Regs,
+    mut ahead: Ahead<'a>,
+    out: &mut W,
+) -> Walked<'a, V>
+    requires failures { (W.device out.old).failures < 2 ^ 64 - 1 }
+    requires stands { V.stands visit command.old (bytes_of ahead) regs }
+    requires within { passed_of ahead ≤ length (bytes_of ahead) }
+    requires on { V.over visit ≡ false }
+    ensures { Walks V.takes V.stands V.over (H.shows head)
+        (stage_at ahead.entry regs visit command.old (W.device out.old))
+        (stage_at result.ahead result.regs result.visit command.new (W.device out.new)) result.ended }
+{
+    let view = head.view();
+    // What is known from here on is not asked again for each line.
+    if view.entries.is_empty() || !ahead.has_short() {
+        return Walked::until(ahead, regs, visit, Ok(false));
+    }
+    ahead.forget();
+    'runs: loop {
+        let run = take_shorts(command, visit, head, regs, ahead, out);
+        match run.ended {
+            Ok(false) => {}
+            Ok(true) | Err(_) => return run,
+        }
+        ahead = run.ahead;
+        regs = run.regs;
+        visit = run.visit;
+        let Some(()) = take_near(command, &mut visit, view, &mut regs, &mut ahead) else {
+            return Walked::until(ahead, regs, visit, Ok(false));
+        };
+        if visit.is_over() {
+            return Walked::until(ahead, regs, visit, Ok(true));
+        }
+    }
+}
+
+/// Takes the items that come next as `take_lines` does, where short lines come and the visit is not
+/// over. Else it takes none.
+#[inline(always)]
+fn begin_lines<'a, C, V: Visit<C>, H: Viewed, W: Sink>(
+    command: &mut C,
+    visit: V,
+    head: H,
+    regs: Regs,
+    ahead: Ahead<'a>,
+    out: &mut W,
+) -> Walked<'a, V>
+    requires failures { (W.device out.old).failures < 2 ^ 64 - 1 }
+    requires stands { V.stands visit command.old (bytes_of ahead) regs }
+    requires within { passed_of ahead ≤ length (bytes_of ahead) }
+    ensures { Walks V.takes V.stands V.over (H.shows head)
+        (stage_at ahead.entry regs visit command.old (W.device out.old))
+        (stage_at result.ahead result.regs result.visit command.new (W.device out.new)) result.ended }
+{
+    if !visit.is_over() && has_short_run(ahead) {
+        return take_lines(command, visit, head, regs, ahead, out);
+    }
+    Walked::until(ahead, regs, visit, Ok(false))
+}
+
+/// Takes the items that lie ahead, one after the other, as long as the visit is not over: the first
+/// one in any case. A mark that it leaves ends the walk, and so does a failed write.
+// Registers, offset and visit come and go by value, so that the loop keeps them out of memory. The
+// view is made here and in `take_lines`: its words would be copied for each call. In each arm of an
+// item the compiler knows whether it was a mark.
+#[inline(always)]
+pub fn walk_ahead<'a, C, V: Visit<C>, H: Viewed, W: Sink>(
+    command: &mut C,
+    visit: V,
+    head: H,
+    regs: Regs,
+    ahead: Ahead<'a>,
+    out: &mut W,
+) -> Walked<'a, V>
+    requires failures { (W.device out.old).failures < 2 ^ 64 - 1 }
+    requires stands { V.stands visit command.old (bytes_of ahead) regs }
+    requires within { passed_of ahead ≤ length (bytes_of ahead) }
+    ensures { Walks V.takes V.stands V.over (H.shows head)
+        (stage_at ahead.entry regs visit command.old (W.device out.old))
+        (stage_at result.ahead result.regs result.visit command.new (W.device out.new)) result.ended }
+{
+    let lines = begin_lines(command, visit, head, regs, ahead, out);
+    match lines.ended {
+        Ok(false) => {}
+        Ok(true) | Err(_) => return lines,
+    }
+    let view = head.view();
+    let mut ahead = lines.ahead;
+    let mut regs = lines.regs;
+    let mut visit = lines.visit;
+    'items: loop {
+        let Some(taken) = take_next(command, &mut visit, view, &mut regs, &mut ahead, out) else {
+            return Walked::until(ahead, regs, visit, Ok(false));
+        };
+        let was_mark = match taken {
+            Ok(was_mark) => was_mark,
+            Err(failed) => return Walked::until(ahead, regs, visit, Err(failed)),
+        };
+        if visit.is_over() {
+            return Walked::until(ahead, regs, visit, Ok(true));
+        }
+        if was_mark && has_run(ahead) {
+            let run = take_lines(command, visit, head, regs, ahead, out);
+            match run.ended {
+                Ok(false) => {}
+                Ok(true) | Err(_) => return run,
+            }
+            ahead = run.ahead;
+            regs = run.regs;
+            visit = run.visit;
+        }
+    }
+}
