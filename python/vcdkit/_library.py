@@ -73,7 +73,7 @@ def _library() -> ctypes.CDLL:
 
 
 class _Lender:
-    """What keeps lent bytes in their place until the call is over."""
+    """Keeps lent bytes alive until the call is over."""
 
     def __init__(self):
         self.kept: List[object] = []
@@ -174,7 +174,7 @@ def _made(text: Made) -> Tuple[bytes, Optional[VcdkitError]]:
 
 
 def _bytes_of(file: File) -> Data:
-    """Returns the bytes of a file: a map of it, or what its packed bytes stand for."""
+    """Returns the bytes of a file: a map of it, or what they unpack to."""
     unpacker = file.unpacker()
     with file.open() as source:
         if not unpacker:

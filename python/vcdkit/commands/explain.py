@@ -42,7 +42,7 @@ BINARY = [
     (rb"(?s)\A.{0,1024}?[\x00-\x06\x0e-\x1a]", "a binary file, no text of VCD: FSDB, WLF, SHM, or "
      "damaged", "convert it by a tool of its producer: fsdb2vcd, wlf2vcd, simvisdbutil"),
 ]
-# Of a fault: its name, what its line matches, what stands before that, the cause and what helps.
+# Of a fault: its name, what its line matches, what the text up to it has, the cause and what helps.
 # The first that fits is shown; an empty pattern fits all.
 CAUSES = [
     ("", rb"", rb"(?im)^(?![br]\S+\s)(.*\s)?\$(?!end\s)(ned|edn|en|nd|end[a-z;.,]?)\s*$",
