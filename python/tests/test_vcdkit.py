@@ -276,6 +276,7 @@ class Questions:
                 (lambda: dump.changes("bench.slow"), UsageError, "selects 4 signals"),
                 (lambda: no_scale.sample("5ns"), NoTimescale, "give times in ticks"),
                 (lambda: no_scale.cut("5ns").check(), NoTimescale, "n.vcd: no timescale"),
+                (lambda: dump.pick([]), UsageError, "needs a name"),
                 (lambda: dump.cut("x"), UsageError, "bad time: x"),
                 (lambda: dump.cut(1.5), UsageError, '"1.5ns"'),
                 (lambda: dump.cut(-1), UsageError, "from 0"),
@@ -325,6 +326,9 @@ class ByLibrary(Questions, unittest.TestCase):
         for room in 1, 2, len(whole) - 1, len(whole), len(whole) + 1:
             self.assertEqual(vcdkit._library.run(["cut", "--from", "0", "--to", "900"], text, (),
                                                  room), (0, whole, b""))
+        found = vcdkit._library.changes(Dump(NESTED)._text, b"1")
+        for room in (1, 2, 5, len(found) // 3, len(found) // 3 + 1) if found else ():
+            self.assertEqual(vcdkit._library.changes(Dump(NESTED)._text, b"1", room), found)
 
 
 class Times(unittest.TestCase):

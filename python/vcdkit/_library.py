@@ -15,7 +15,8 @@ from ._texts import Bytes, File, Made, Text
 from .errors import RunFailed, UnknownName, VcdkitError, error_of
 
 Data = Union[bytes, mmap.mmap]
-OUT_OF_MEMORY = 4
+OUT_OF_MEMORY = 4  # of vcdkit_run
+FULL = 4  # of vcdkit_changes
 
 
 class _Lent(ctypes.Structure):
@@ -24,6 +25,11 @@ class _Lent(ctypes.Structure):
 
 class _File(ctypes.Structure):
     _fields_ = [("name", _Lent), ("bytes", _Lent)]
+
+
+class _Reading(ctypes.Structure):
+    _fields_ = [("place", ctypes.c_uint64 * 8), ("count", ctypes.c_uint64),
+                ("fault", ctypes.c_uint64), ("line", ctypes.c_uint64)]
 
 
 class _Buffer(ctypes.Structure):
@@ -60,12 +66,14 @@ def _library() -> ctypes.CDLL:
         try:
             library = ctypes.CDLL(name)
             number, size, at = ctypes.POINTER(ctypes.c_uint64), ctypes.c_size_t, ctypes.c_void_p
-            library.vcdkit_run.restype = library.vcdkit_changes.restype = ctypes.c_uint8
+            library.vcdkit_run.restype = ctypes.c_uint8
             library.vcdkit_run.argtypes = [
                 ctypes.POINTER(_Lent), size, at, size, ctypes.POINTER(_File), size, ctypes.c_uint64,
                 at, size, number, at, size, number]
-            library.vcdkit_changes.argtypes = [at, size, at, size, at, size, at, size, at, size,
-                                               number]
+            if hasattr(library, "vcdkit_changes"):
+                library.vcdkit_changes.restype = ctypes.c_uint8
+                library.vcdkit_changes.argtypes = [at, size, at, size, ctypes.c_uint64,
+                                                   ctypes.POINTER(_Reading), at, size]
         except (OSError, AttributeError) as error:
             raise RunFailed("%s: %s" % (name, error)) from error
         _loaded[name] = library
@@ -125,21 +133,21 @@ def run(words: Sequence[str], given: Data = b"", files: Sequence[Tuple[bytes, Da
             room, said_room = max(room, used.value), max(said_room, said_used.value)
 
 
-def changes(text: Text, code: bytes, room: int = 1 << 20) -> Optional[Tuple[array, array, array]]:
-    """Returns the times, values and masks of known digits of the changes of a code, arrays of
-    uint64; None where the dump has a fault or no such code."""
+def changes(text: Text, code: bytes, room: int = 1 << 18) -> Optional[array]:
+    """Returns the changes of a code, three uint64 each: a time, a value, and ones where its digits
+    are 0 or 1. None where the dump has a fault or no such code, or the library cannot say."""
+    if not hasattr(_library(), "vcdkit_changes"):
+        return None
+    found, reading, seed = array("Q"), _Reading(), int.from_bytes(os.urandom(8), "little")
     with _Lender() as lender:
         data, name = lender.lend(_data(text)), lender.lend(code)
-        found = ctypes.c_uint64(0)
-        while True:
-            columns = tuple(array("Q", bytes(8 * room)) for _ in range(3))
-            places = [word for column in columns for word in (column.buffer_info()[0], room)]
-            status = _library().vcdkit_changes(*data, *name, *places, ctypes.byref(found))
-            if status:
-                return None
-            if found.value <= room:
-                return tuple(column[:found.value] for column in columns)
-            room = found.value
+        some = array("Q", bytes(3 * 8 * room))
+        status = FULL
+        while status == FULL:
+            status = _library().vcdkit_changes(*data, *name, seed, ctypes.byref(reading),
+                                               some.buffer_info()[0], room)
+            found += some if reading.count == room else some[:3 * reading.count]
+    return None if status else found
 
 
 def _data(text: Text) -> Data:

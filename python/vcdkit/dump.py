@@ -225,8 +225,7 @@ class Dump:
                 and signal.type != "event"):
             found = _library.changes(self._text, signal.code.encode())
             if found is not None:
-                return _columns(*found)
-            self.check()  # it says the fault
+                return _columns(found)
         with self.pick(name).open() as out:
             return _body.changes(out, signal, digits, numpy)
 
@@ -271,7 +270,10 @@ class Dump:
 
     def pick(self, names: Names) -> "Dump":
         """Returns the dump of some signals, or scopes."""
-        return self._made("pick", ["--", *_list(names)])
+        chosen = _list(names)
+        if not chosen:
+            raise UsageError("pick() needs a name")
+        return self._made("pick", ["--", *chosen])
 
     def cut(self, begin: Time = 0, end: Time = LAST_TICK) -> "Dump":
         """Returns the dump from one time to another: the values just before `begin`, and what
@@ -298,14 +300,13 @@ def _list(names: Names) -> List[str]:
     return [names] if isinstance(names, str) else list(names)
 
 
-def _columns(times, values, known):
-    """Returns the columns of the library as changes() gives them."""
+def _columns(found):
+    """Returns the changes of the library as changes() gives them."""
     every = 2**64 - 1
     if numpy is None:
-        return list(times), [value if mask == every else None
-                             for value, mask in zip(values, known)]
-    times, values, known = (numpy.array(column, dtype=numpy.uint64)
-                            for column in (times, values, known))
+        return list(found[0::3]), [value if known == every else None
+                                   for value, known in zip(found[1::3], found[2::3])]
+    times, values, known = numpy.array(found, dtype=numpy.uint64).reshape(-1, 3).T.copy()
     unknown = known != numpy.uint64(every)
     values[unknown] = 0
     return times, numpy.ma.masked_array(values, mask=unknown)
