@@ -23,6 +23,28 @@ impl White {
         White { bits: 0, next: 0 }
     }
 
+    /// Returns the white space after the byte at `at`, if that is the next white byte.
+    #[inline(always)]
+    fn past(self, at: usize) -> Option<White>
+        requires some { self.bits ≢ 0 }
+        requires next { self.next + 64 < 2 ^ 64 }
+        requires ahead { (k : ℕ) → bit_at self.bits k ≡ 1 → at + 64 ≤ self.next + k }
+        ensures next { IfSome result (λ rest. rest.next ≡ self.next) }
+        ensures steps { IfSome result (λ rest. (chunk : List ℕ) (stop : ℕ) → Marks chunk at stop self
+            → (at < self.next) × (is_white_space (slice_index chunk at) ≡ true)
+            × Marks chunk (at + 1) stop rest) }
+        ensures none { result ≡ None → (k : ℕ) → bit_at self.bits k ≡ 1 → at + 64 < self.next + k }
+    {
+        let bit = lowest(self.bits);
+        if self.next + bit - 64 != at {
+            return None;
+        }
+        Some(White {
+            bits: without(self.bits, bit),
+            next: self.next,
+        })
+    }
+
     /// Returns that the byte before this place is white.
     #[inline(always)]
     fn before(next: usize) -> Self
@@ -95,14 +117,11 @@ impl<'a> Ahead<'a> {
         ensures none { result ≡ None → self.new ≡ self.old }
         ensures needed { result ≡ None → IsNearEnd self.old }
     {
-        let white = white_ahead(self.bytes, self.white)?;
-        if !stands_at(white, self.at) {
-            return self.take(self.at, white);
-        }
-        let start = past_white(self.bytes, self.at);
-        let white = look_ahead(self.bytes, start);
-        if white.bits == 0 {
-            return None;
+        let mut start = self.at;
+        let mut white = white_ahead(self.bytes, self.white)?;
+        while let Some(rest) = white.past(start) {
+            white = white_ahead(self.bytes, rest)?;
+            start += 1;
         }
         self.take(start, white)
     }
@@ -231,17 +250,6 @@ fn has_short(bytes: &[u8], at: usize) -> bool
     ensures white { result ≡ true → is_white_space (slice_index bytes.now (at + 2)) ≡ true }
 {
     bytes.len() - at >= 3 && bytes[at + 2] == b'\n' && bytes[at] > b' ' && bytes[at + 1] > b' '
-}
-
-/// Returns whether the lowest bit is that of the byte at a place.
-#[inline(always)]
-fn stands_at(white: White, at: usize) -> bool
-    requires some { white.bits ≢ 0 }
-    requires next { white.next + 64 < 2 ^ 64 }
-    requires ahead { (k : ℕ) → bit_at white.bits k ≡ 1 → at + 64 ≤ white.next + k }
-    ensures beyond { result ≡ false → (k : ℕ) → bit_at white.bits k ≡ 1 → at + 64 < white.next + k }
-{
-    white.next + lowest(white.bits) - 64 == at
 }
 
 /// Returns where the white bytes from a place on end.

@@ -1,10 +1,19 @@
-use Rattle.std.proofs.Common.{◌≡◌, ◌+◌, ◌-◌, true, inl, inr, arith, refl, subst}
+use Rattle.std.proofs.Common.{◌≡◌, ℕ, ◌+◌, List, length, true, inl, inr, arith, refl, subst}
 use Rattle.std.specs.Prelude.{slice_index}
 use Rattle.std.proofs.lemmas.Bool.{cases_lt}
 use Rattle.vcd_model.specs.Bytes.{is_white_space}
+use Rattle.vcd_text.specs.Passed.{AreWhite}
 use Rattle.vcd_text.proofs.PassedLemmas.{run_behind, run_past}
-use Rattle.vcd_text.proofs.Steps.{true-false}
 use Rattle.vcd_text.proofs.ahead.Ahead.next.Goals as goal
+
+one_more : (bytes : List ℕ) (from at : ℕ) → AreWhite bytes from at → is_white_space (slice_index bytes at) ≡ true → AreWhite bytes from (at + 1)
+one_more bytes from at before here = record {
+  order = omega (arith, before.order);
+  white = λ k a b. elim (cases_lt k at) [
+    | inl lt ↦ before.white k a lt
+    | inr le ↦ (let same : at ≡ k = omega arith in subst (λ i. is_white_space (slice_index bytes i) ≡ true) same here)
+  ];
+}
 
 pub returns-in_err-white-clause-needed : goal.returns-in_err-white-clause-needed
 returns-in_err-white-clause-needed c = λ _ start n front r.
@@ -14,42 +23,48 @@ returns-in_err-white-clause-needed c = λ _ start n front r.
     let end = none.1 in
     omega (arith, far, end)
 
-pub stands_at-requires-clause-ahead : goal.stands_at-requires-clause-ahead
-stands_at-requires-clause-ahead c =
+pub loop-rest-init : goal.loop-rest-init
+loop-rest-init c =
     let a = c.args.self.now in
-    let m = c.in_ok-white.ensures.marks a.at a.order a.marks in m.ahead
+    record {
+      some = c.in_ok-white.ensures.some;
+      order = omega (arith, a.order, c.in_ok-white.ensures.next);
+      within = omega (arith, c.in_ok-white.ensures.next);
+      before = record { order = omega arith; white = λ k x y. absurd (omega (arith, x, y)) };
+      marks = c.in_ok-white.ensures.marks a.at a.order a.marks;
+    }
 
-pub take-requires-clause-marks : goal.take-requires-clause-marks
-take-requires-clause-marks c =
+pub returns-in_err-white-2-clause-needed : goal.returns-in_err-white-2-clause-needed
+returns-in_err-white-2-clause-needed c = λ _ start n front r.
     let a = c.args.self.now in
-    c.in_ok-white.ensures.marks a.at a.order a.marks
+    let inv = c.loop-rest.invariant in
+    let at = c.loop-rest.start in
+    let step = c.in-Some.ensures.steps a.bytes.now (length a.bytes.now) inv.marks in
+    let none = c.in_err-white-2.ensures.none refl in
+    let le = run_behind a.limit a.bytes.now a.at (at + 1) start n (one_more a.bytes.now a.at at inv.before step.1) front r in
+    let far = run_past a.limit a.bytes.now (at + 1) none.0 start n le (none.2 (at + 1) (omega (arith, step.0, c.in-Some.ensures.next)) step.2) r in
+    let end = none.1 in
+    omega (arith, far, end)
 
-pub returns-then-white-eq0-clause-needed : goal.returns-then-white-eq0-clause-needed
-returns-then-white-eq0-clause-needed c = λ _ start n front r.
+pub loop-rest-smaller : goal.loop-rest-smaller
+loop-rest-smaller c =
     let a = c.args.self.now in
-    let at = c.past_white-start.result in
-    let le = run_behind a.limit a.bytes.now a.at at start n c.past_white-start.ensures.white front r in
-    let none = c.look_ahead-white.ensures.none c.if-white-eq0.true in
-    let far = run_past a.limit a.bytes.now at c.look_ahead-white.result.next start n le none.1 r in
-    omega (arith, far, none.0)
+    let inv = c.loop-rest.invariant in
+    let step = c.in-Some.ensures.steps a.bytes.now (length a.bytes.now) inv.marks in
+    omega (arith, step.0, inv.within)
 
-pub take-requires-2-clause-marks : goal.take-requires-2-clause-marks
-take-requires-2-clause-marks c =
-    let at = c.past_white-start.result in
-    c.look_ahead-white.ensures.marks c.if-white-eq0.false at (omega arith) (λ j from below. absurd (omega (arith, from, below)))
-
-pub take-requires-2-clause-token : goal.take-requires-2-clause-token
-take-requires-2-clause-token c = λ k set.
-    let bytes = c.args.self.now.bytes.now in
-    let at = c.past_white-start.result in
-    let m = c.look_ahead-white.ensures.marks c.if-white-eq0.false at (omega arith) (λ j from below. absurd (omega (arith, from, below))) in
-    let far = m.ahead k set in
-    let few = m.inside k set in
-    let end = m.within in
-    let other = c.past_white-start.ensures.stops in
-    elim (cases_lt (at + 64) (c.look_ahead-white.result.next + k)) [
-      | inl lt ↦ lt
-      | inr le ↦ (let here : c.look_ahead-white.result.next + k - 64 ≡ at = omega arith in
-          let white = subst (λ n. is_white_space (slice_index bytes n) ≡ true) here (m.white k set) in
-          true-false (is_white_space (slice_index bytes at)) white (other (omega arith)))
-    ]
+pub loop-rest-preserved : goal.loop-rest-preserved
+loop-rest-preserved c =
+    let a = c.args.self.now in
+    let inv = c.loop-rest.invariant in
+    let at = c.loop-rest.start in
+    let step = c.in-Some.ensures.steps a.bytes.now (length a.bytes.now) inv.marks in
+    let next = c.in_ok-white-2.ensures.next in
+    let same = c.in-Some.ensures.next in
+    record {
+      some = c.in_ok-white-2.ensures.some;
+      order = omega (arith, step.0, same, next);
+      within = omega (arith, next);
+      before = one_more a.bytes.now a.at at inv.before step.1;
+      marks = c.in_ok-white-2.ensures.marks (at + 1) (omega (arith, step.0, same)) step.2;
+    }
