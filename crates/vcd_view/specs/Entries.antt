@@ -34,9 +34,9 @@ KeepsRight text codes old new = are_right text codes old ≡ true → are_right 
 
 -- the number with a lower digit after it, in 64 bits
 abbrev pub above : ℕ → ℕ → ℕ
-above n b = ((n * 94) % 2 ^ 64 + (b + (2 ^ 64 - 32)) % 2 ^ 64) % 2 ^ 64
+above n b = ((n * 99) % 2 ^ 64 + (b + (2 ^ 64 - 32)) % 2 ^ 64) % 2 ^ 64
 
--- the number whose digits are the bytes of a code, the first one lowest
+-- the number whose digits in base 99 are the bytes of a code, the first one lowest
 abbrev pub number_in : List ℕ → ℕ
 number_in [] = 0
 number_in (b ∷ bs) = above (number_in bs) b

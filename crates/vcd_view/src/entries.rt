@@ -11,7 +11,8 @@ use crate::view::{Code, Entry, code_in, text_in};
 /// Returns where the entry of a code is among so many, a power of two.
 ///
 /// Simulators number codes from `!` on in base 94, the lowest digit first, in the order of
-/// declaration. Read back as such a number, neighbours have entries of their own.
+/// declaration. Read as a number in base 99, nearly all of these have entries of their own, side by
+/// side. As 99 is odd, each byte of any other code decides on the lowest bits too.
 #[inline(always)]
 pub fn entry_of(code: &[u8], entries: usize) -> usize
     ensures { result ≡ entry_in code.now entries }
@@ -27,7 +28,7 @@ pub fn entry_for(number: usize, entries: usize) -> usize
     number & entries.wrapping_sub(1)
 }
 
-/// Returns the number whose digits are the bytes of a code, the first one lowest.
+/// Returns the number whose digits in base 99 are the bytes of a code, the first one lowest.
 #[inline(always)]
 pub fn code_number(code: &[u8]) -> usize
     ensures { result ≡ number_in code.now }
@@ -50,7 +51,7 @@ fn above(number: usize, byte: u8) -> usize
     ensures { result ≡ above number byte }
 {
     number
-        .wrapping_mul(94)
+        .wrapping_mul(99)
         .wrapping_add(usize::from(byte).wrapping_sub(32))
 }
 
