@@ -14,7 +14,7 @@ pub use Rattle.vcd_model.specs.HeaderChecks.{begins_change}
 pub use Rattle.vcd_model.specs.HeaderPhrases.{HeaderPhrase}
 pub use Rattle.vcd_model.specs.Keywords.{Keyword, is_command, is_end, keyword_text}
 pub use Rattle.vcd_model.specs.Scales.{exponent_of, scale_text}
-pub use Rattle.vcd_model.specs.Selection.{first_unmatched, is_selected, marked_places, selects_path}
+pub use Rattle.vcd_model.specs.Selection.{first_unmatched, is_selected, is_variable, marked_places, selects_path}
 pub use Rattle.vcd_model.specs.Ticks.{moment_ticks, ticks}
 pub use Rattle.vcd_text.specs.Advances.{CallEnd}
 pub use Rattle.vcd_text.specs.Ahead.{TakesToken, bytes_of}

@@ -1,11 +1,11 @@
 //! Selection of variables by their paths (profile).
-ghost use Rattle.std.specs.Prelude.{◌≡◌, ◌≢◌, false, ◌+◌, ◌<◌, ◌≤◌, ◌∷◌, ◌++◌, ℕ, List, take, length, map, string_bytes, IfOk, IfSome};
-ghost use Rattle.vcd_head.specs.Names.{AllMarked, AnyHeader, AnyRow, AnyVariable, Declaration, GoesOnAfter, Header, IsFirstFalse, IsViewOf, Marked, RefusesUnmatched, counted_from_one, first_unmatched, marked_places, marks_of, parent, row_and_scopes, row_path, scopes_at, selects_after, selects_path};
+ghost use Rattle.std.specs.Prelude.{◌≡◌, ◌≢◌, false, ◌+◌, ◌<◌, ◌≤◌, ◌∷◌, ◌++◌, ℕ, List, take, length, map, string_bytes, [], IfOk, IfSome};
+ghost use Rattle.vcd_head.specs.Names.{AllMarked, AnyDeclared, AnyHeader, AnyRow, AnyVariable, Declaration, GoesOnAfter, Header, IsFirstFalse, IsViewOf, Marked, RefusesUnmatched, counted_from_one, first_unmatched, is_variable, marked_places, marks_of, parent, row_and_scopes, row_path, scopes_at, selects_after, selects_path};
 
 use crate::enclosing::Enclosing;
 use crate::inside::Open;
 use crate::names::{Group, TOGETHER};
-use vcd_view::HeadView;
+use vcd_view::{HeadView, Kind};
 
 // What a name says of a path whose prefix it was compared with.
 pub(crate) enum Match<'n> {
@@ -104,8 +104,38 @@ fn parent_of(view: HeadView<'_>, row: usize) -> usize
     }
 }
 
-/// Sets the marks of the variables that some name selects, of all where there are no names, and of
-/// the scopes around them; returns the place of the first name that selects nothing.
+/// Sets the marks of all variables and of the scopes around them.
+fn mark_all(view: HeadView<'_>, marks: &mut [u8])
+    requires { length marks.old ≡ length view.rows.now }
+    ensures marks { (h : Header) → IsViewOf view.entry h
+        → Marked (marked_places [] h.declarations) marks.old marks.new }
+    ensures len { length marks.new ≡ length marks.old }
+{
+    // As in `mark_selected`.
+    let mut marked = 0;
+    for row in 0..view.rows.len() {
+        if is_variable(view, row) {
+            marked = mark_behind(view, row, marked, marks);
+        }
+    }
+}
+
+/// Returns whether a row declares a variable.
+fn is_variable(view: HeadView<'_>, row: usize) -> bool
+    ensures { AnyDeclared view.entry row (λ _ d. result ≡ is_variable d) }
+{
+    let Some(declared) = view.row_at(row) else {
+        return false;
+    };
+    match declared.kind {
+        Kind::Var => true,
+        Kind::Scope => false,
+        Kind::Up => false,
+    }
+}
+
+/// Sets the marks of the variables that some name selects and of the scopes around them; returns
+/// the place of the first name that selects nothing.
 fn mark_selected(view: HeadView<'_>, names: &[String], marks: &mut [u8]) -> Option<usize>
     requires len { length marks.old ≡ length view.rows.now }
     requires few { length names.now ≤ 16384 }
@@ -153,6 +183,10 @@ pub fn select(view: HeadView<'_>, names: &[String], marks: &mut [u8]) -> Result<
         RefusesUnmatched (map string_bytes names.now) h result) }
 {
     marks.fill(0);
+    if names.is_empty() {
+        mark_all(view, marks);
+        return Ok(());
+    }
     let mut done = names.len().min(TOGETHER);
     if let Some(place) = mark_selected(view, &names[..done], marks) {
         return Err(place);

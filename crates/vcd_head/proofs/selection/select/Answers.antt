@@ -1,4 +1,5 @@
-use Rattle.std.proofs.Common.{◌≡◌, None, Some, [], ◌++◌, map, take, drop, length, slice_range, string_bytes, refl, sym, ap, subst, ◌∙◌, ◌+◌, List, ℕ, arith}
+use Rattle.std.proofs.Common.{◌≡◌, None, Some, true, ◌==◌, [], ◌∷◌, ◌++◌, map, take, drop, length, slice_range, string_bytes, refl, sym, ap, subst, ◌∙◌, ◌+◌, List, ℕ, arith}
+use Rattle.std.proofs.lemmas.Bool.{eqb-true}
 use Rattle.std.proofs.lemmas.List.{length-map, length-take-le, map-append, take-append-drop, take_all}
 use Rattle.vcd_model.specs.Selection.{first_unmatched, marked_places}
 use Rattle.vcd_head.specs.Marks.{Marked, marks_of}
@@ -29,6 +30,20 @@ loop-done-preserved c =
           (some_taken string_bytes from names (c.loop-done.invariant.some c.loop-done-test.true) (omega arith)) (some_grouped string_bytes from to names (omega arith) (omega arith))
           (c.loop-done.invariant.marks h zeros v first) (c.mark_selected-in-loop-done.ensures.marks h v));
     }
+
+no_element : {X : Type 0} (xs : List X) → (length xs == 0) ≡ true → xs ≡ []
+no_element [] e = refl
+no_element (x ∷ xs) e = absurd (omega (arith, eqb-true (length (x ∷ xs)) 0 e))
+
+pub returns-then-is_empty-clause-marks : goal.returns-then-is_empty-clause-marks
+unfolding marks_of
+returns-then-is_empty-clause-marks c = λ h v.
+    let ds = h.declarations in
+    let zeros = c.fill.new.self in
+    let rows = rows_len c.args.view.text.now h.codes [] c.args.view.rows.now h.declarations v.rows in
+    let none = no_element c.args.names.now (sym c.is_empty.ensures ∙ c.if-is_empty.true) in
+    subst (λ ns. c.mark_all.new.marks ≡ marks_of (map string_bytes ns) ds) (sym none)
+    (marked_all (marked_places [] ds) zeros c.mark_all.new.marks (length ds) (omega (arith, rows, c.fill.ensures.len)) (λ i l. c.fill.ensures.clones i 0 (omega (arith, rows)) refl) (c.mark_all.ensures.marks h v))
 
 pub returns-clause-marks : goal.returns-clause-marks
 unfolding marks_of
