@@ -1,19 +1,24 @@
 -- Rows on what `cut` wrote, read again: that the premises of the laws can be met.
-use Rattle.std.proofs.Common.{◌≡◌, ◌<◌, [], ◌∷◌, length, map, refl, arith, zero, suc, flat_map}
+use Rattle.std.proofs.Common.{◌≡◌, ◌<◌, true, false, [], ◌∷◌, ◌++◌, length, map, refl, arith, zero, suc, flat_map}
 use Rattle.std.specs.List.Sorted.{IsStrictlyIncreasing}
+use Rattle.vcd_model.specs.Declarations.{Declaration}
 use Rattle.vcd_model.specs.Selection.{selected}
+use Rattle.vcd_model.specs.Cut.{within, cut_kept}
 use Rattle.vcd_laws.proofs.CutUses.{sample_of_cut}
 use Rattle.vcd_laws.proofs.CutTwice.{cut_twice}
 use Rattle.vcd_laws.proofs.EdgesOfCut.{edges_of_cut}
 use Rattle.vcd_laws.proofs.SampleOfCut.{sample_of_cut_anywhere}
+use Rattle.vcd_laws.proofs.KeepsAll.{cut_keeps_all}
 use Rattle.vcd_laws.proofs.Computing.{model}
 use Rattle.vcd_model.proofs.FoundCodes.{at_contained}
 use Rattle.vcd_laws.proofs.RowText.{clean, limit, gives, on, cut, sample, at, time}
 use Rattle.vcd_model.specs.Outcome.{clean_outcome, items_in}
 use Rattle.vcd_model.specs.Job.{Want, IsJob}
+use Rattle.vcd_laws.specs.KeptValues.{written_by}
 use Rattle.vcd_laws.specs.Dumps.{over_written, IsReadable}
+use Rattle.vcd_laws.specs.Whole.{declarations_kept, given, given_before, IsWholeDump}
 use Rattle.vcd_laws.specs.OverCut.{line_of_cut, cut_row}
-use Rattle.vcd_laws.proofs.DumpBase.{stdin, aliased, some_names, opened, over_cut, rising_alone}
+use Rattle.vcd_laws.proofs.DumpBase.{stdin, aliased, some_names, opened, over_cut, rising_alone, bit}
 
 -- the premises of the laws of `cut` are met
 cut_asked : IsJob (cut "1" "5")
@@ -68,6 +73,26 @@ unfolding model
 cut_sample_anywhere = sample_of_cut_anywhere limit stdin (time "1") (time "5")
     (map at (0 ∷ 5 ∷ [])) some_names (clean aliased) opened 1 5 (0 ∷ 5 ∷ []) cut_asked
     asked_outside cut_within refl refl refl refl
+
+-- all declarations and changes, with the law's premises met
+cut_declarations : declarations_kept [] opened.header.declarations
+    ≡ opened.header.declarations ++ Declaration.Up ∷ []
+unfolding model
+cut_declarations = refl
+
+cut_changes : given_before opened.header 1 (within 5 (items_in opened))
+    ++ given (cut_kept 1 5 (items_in opened))
+    ≡ bit 1 true "x" 48 ∷ bit 1 true "y" 49 ∷ bit 5 false "x" 49 ∷ []
+unfolding model
+cut_changes = refl
+
+cut_all : IsWholeDump limit (written_by (cut "1" "5") limit stdin (clean aliased))
+    (declarations_kept [] opened.header.declarations)
+    (given_before opened.header 1 (within 5 (items_in opened))
+    ++ given (cut_kept 1 5 (items_in opened)))
+unfolding model
+cut_all = cut_keeps_all limit stdin (time "1") (time "5") (clean aliased) opened 1 5 cut_asked
+    cut_within refl refl
 
 -- the law on samples of a cut, with all its premises met
 rising_in_cut : IsStrictlyIncreasing (1 ∷ 5 ∷ [])

@@ -1,8 +1,11 @@
 -- What the rows on written dumps share.
-use Rattle.std.proofs.Common.{ℕ, List, [], ◌∷◌, codes, Result, Ok, arith, zero, suc}
+use Rattle.std.proofs.Common.{ℕ, Bool, false, Some, List, [], ◌∷◌, codes, Result, Ok, arith, zero, suc}
 use Rattle.std.specs.List.Sorted.{IsStrictlyIncreasing}
 use Rattle.vcd_laws.proofs.RowText.{clean, limit, cut}
 use Prim.Native.String.{String}
+use Rattle.vcd_model.specs.Declarations.{Variable}
+use Rattle.vcd_model.specs.Values.{Value}
+use Rattle.vcd_laws.specs.Whole.{Given}
 use Rattle.vcd_model.specs.Header.{header_of}
 use Rattle.vcd_model.specs.Reading.{Fault}
 use Rattle.vcd_model.specs.Outcome.{Outcome, Opened, open_from}
@@ -27,6 +30,24 @@ opened = first_or (open_from limit [] (clean aliased ∷ []))
     first_or : Result (List Opened) (ℕ × Fault) → Opened
     first_or (Ok (o ∷ os)) = o
     first_or r = record { header = header_of []; stream = stream_over []; rest = [] }
+
+-- a variable of one bit
+abbrev pub wire : String → String → Variable
+wire code name = record {
+  type = codes "wire";
+  size = 1;
+  code = codes code;
+  reference = codes name ∷ [];
+}
+
+-- what a change of one bit gives, inside a section or not
+abbrev pub bit : ℕ → Bool → String → ℕ → Given
+bit t inside code digit = record {
+  time = t;
+  inside = inside;
+  code = record { text = codes code; size = 1; event = false };
+  value = Some (Value.Bits (digit ∷ []));
+}
 
 -- what a job gives for what a pick wrote
 abbrev pub over_pick : Want → Outcome

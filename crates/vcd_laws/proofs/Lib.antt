@@ -31,6 +31,7 @@ pub mod FewDeclarations
 pub mod SafeMerge
 pub mod MergeFaults
 pub mod SettlingMerge
+pub mod SettledAlone
 pub mod HeadersGood
 pub mod WrittenDeclared
 pub mod WrittenCodes
@@ -74,3 +75,4 @@ pub mod CutAgain
 pub mod CutTwice
 pub mod EdgesOfCut
 pub mod SampleOfCut
+pub mod KeepsAll

@@ -1,6 +1,10 @@
 -- Rows on what `pick` wrote, read again: that the premises of the laws can be met.
-use Rattle.std.proofs.Common.{◌≡◌, ℕ, ◌<◌, List, [], ◌∷◌, length, map, codes, None, Contains, inl, inr, refl, arith}
+use Rattle.std.proofs.Common.{◌≡◌, ℕ, ◌<◌, false, List, [], ◌∷◌, length, map, codes, None, Contains, inl, inr, refl, arith}
 use Rattle.vcd_model.specs.Selection.{Selected, selected}
+use Rattle.vcd_model.specs.Declarations.{Declaration}
+use Rattle.vcd_model.specs.Pick.{pick_kept}
+use Rattle.vcd_model.specs.Outcome.{items_in}
+use Rattle.vcd_laws.proofs.KeepsAll.{pick_keeps_all}
 use Rattle.vcd_laws.proofs.PickedAlone.{sample_of_all_picked, edges_of_all_picked, edges_of_some_picked}
 use Rattle.vcd_laws.proofs.PickOfPick.{pick_of_pick}
 use Rattle.vcd_laws.proofs.WrittenCodes.{from_contained, to_contained}
@@ -12,9 +16,10 @@ use Rattle.vcd_model.specs.Tokens.{first_halt}
 use Rattle.vcd_model.specs.Job.{Want, IsJob}
 use Rattle.vcd_laws.specs.KeptValues.{written_by}
 use Rattle.vcd_laws.specs.Dumps.{input_of, over_written, IsReadable}
+use Rattle.vcd_laws.specs.Whole.{declarations_kept, given, IsWholeDump}
 use Rattle.vcd_laws.specs.OverPick.{SelectBoth}
 use Rattle.vcd_laws.specs.Counted.{distinct}
-use Rattle.vcd_laws.proofs.DumpBase.{stdin, aliased, some_names, opened, over_pick, rising_alone}
+use Rattle.vcd_laws.proofs.DumpBase.{stdin, aliased, some_names, opened, over_pick, rising_alone, wire, bit}
 
 abbrev picked_text : String
 picked_text =
@@ -63,6 +68,23 @@ picked_sampled = refl
 sampled : on (sample (0 ∷ 5 ∷ []) some_names) aliased ≡ gives "0 b 1;0 m.c 0;5 b 1;5 m.c 1;" "" 0
 unfolding model
 sampled = refl
+
+-- all declarations and changes that are kept, with the law's premises met
+picked_declarations : declarations_kept some_names opened.header.declarations
+    ≡ Declaration.Var (wire "y" "b") ∷ Declaration.Scope (codes "module") (codes "m")
+    ∷ Declaration.Var (wire "x" "c") ∷ Declaration.Up ∷ []
+unfolding model
+picked_declarations = refl
+
+picked_changes : given (pick_kept opened.header some_names (items_in opened))
+    ≡ bit 0 false "x" 48 ∷ bit 0 false "y" 49 ∷ bit 5 false "x" 49 ∷ []
+unfolding model
+picked_changes = refl
+
+pick_all : IsWholeDump limit (written_by (Want.Pick some_names) limit stdin (clean aliased))
+    (declarations_kept some_names opened.header.declarations)
+    (given (pick_kept opened.header some_names (items_in opened)))
+pick_all = pick_keeps_all limit stdin some_names (clean aliased) opened picked_within
 
 -- without names all that was picked is sampled and counted
 picked_sampled_alone : over_pick (sample (0 ∷ 5 ∷ []) [])

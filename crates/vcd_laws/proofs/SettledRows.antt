@@ -8,6 +8,7 @@ use Rattle.vcd_laws.proofs.Computing.{model}
 use Rattle.vcd_laws.proofs.RowText.{clean, limit, written, at}
 use Rattle.vcd_laws.proofs.Settling.{settled_is_final}
 use Rattle.vcd_laws.proofs.SettlingMerge.{settled_merge_is_final}
+use Rattle.vcd_laws.proofs.SettledAlone.{settled_alone_settles_merge}
 use Rattle.vcd_laws.proofs.Unsettled.{unsettled_is_open}
 use Rattle.vcd_laws.proofs.UnsettledMerge.{unsettled_merge_is_open}
 use Rattle.vcd_model.specs.Input.{Input, Mark}
@@ -187,6 +188,14 @@ ends_before_it = refl
 equal_times : map is_settled_merge ((first 4 (written "$enddefinitions $end #5 ?") ∷ first 3 (written "$enddefinitions $end #5 #6") ∷ []) ∷ (first 3 (written "$enddefinitions $end #5 #6") ∷ first 4 (written "$enddefinitions $end #5 ?") ∷ []) ∷ []) ≡ true ∷ false ∷ []
 unfolding model
 equal_times = refl
+
+-- each of two inputs has a fault, and so settles what it adds; the law, with its premises met
+abbrev wrong : List ℕ
+wrong = written "$var wire 1 ! a $end $enddefinitions $end #5 ? #6"
+
+one_by_one : is_settled_merge (first 10 wrong ∷ first 10 wrong ∷ []) ≡ true
+unfolding model
+one_by_one = settled_alone_settles_merge (first 10 wrong ∷ first 10 wrong ∷ []) (refl, (refl, tt))
 
 -- a fault of a header settles all, once the headers before it are whole
 header_of_the_second : map (λ n. is_settled_merge (first n fine ∷ first 1 (written "$upscope") ∷ first 0 fine ∷ [])) (11 ∷ 12 ∷ []) ≡ false ∷ true ∷ []

@@ -306,7 +306,7 @@ pub no_marks : (items : List BodyItem) → list_any (ends_early Request.Merge) i
 no_marks [] = refl
 no_marks (item ∷ items) = no_marks items
 
-merge_faulty : (h : Header) (ts : List Token) → is_settled_behind Request.Merge h ts ≡ true
+pub merge_faulty : (h : Header) (ts : List Token) → is_settled_behind Request.Merge h ts ≡ true
     → is_faulty (read_body h.codes ts).ending ≡ true
 merge_faulty h ts e =
     by_fault (is_faulty (read_body h.codes ts).ending) (sym (ap (λ b. is_faulty (read_body h.codes ts).ending || b) (no_marks (body_items (read_body h.codes ts)))) ∙ e)

@@ -1,28 +1,34 @@
 -- Rows on outputs that are not as their inputs were: why the laws have their premises.
-use Rattle.std.proofs.Common.{◌≡◌, ℕ, List, [], ◌∷◌, map, replicate, codes, Option, Some, None, Result, Ok, Err, refl}
+use Rattle.std.proofs.Common.{◌≡◌, ℕ, false, List, [], ◌∷◌, map, replicate, codes, Option, Some, None, Result, Ok, Err, refl}
 use Rattle.vcd_laws.proofs.Computing.{model}
-use Rattle.vcd_laws.proofs.RowText.{clean, limit, gives, on, cut}
+use Rattle.vcd_laws.proofs.RowText.{clean, limit, gives, on, cut, sample}
 use Prim.Native.String.{String}
 use Rattle.vcd_model.specs.Declarations.{Declaration}
 use Rattle.vcd_model.specs.Header.{Header}
+use Rattle.vcd_model.specs.Items.{entries}
+use Rattle.vcd_model.specs.Selection.{selected}
 use Rattle.vcd_model.specs.Checks.{first_failed}
 use Rattle.vcd_model.specs.HeaderChecks.{start_checks}
 use Rattle.vcd_model.specs.HeaderReading.{read_header, header_fault_of}
 use Rattle.vcd_model.specs.HeadText.{head_for}
 use Rattle.vcd_model.specs.Keywords.{Keyword}
 use Rattle.vcd_model.specs.Reading.{Fault}
-use Rattle.vcd_model.specs.Outcome.{Opened, declarations_allowed, open_from}
+use Rattle.vcd_model.specs.Outcome.{Opened, declarations_allowed, open_from, items_in}
 use Rattle.vcd_model.specs.Job.{Want, outcome}
 use Rattle.vcd_model.specs.Laws.{stream_over}
 use Rattle.vcd_laws.specs.KeptValues.{written_by}
 use Rattle.vcd_laws.specs.Heads.{most_declared, input_scope}
 use Rattle.vcd_laws.specs.Dumps.{input_of, over_written}
-use Rattle.vcd_laws.proofs.DumpBase.{stdin, aliased, some_names, over_pick, over_cut}
+use Rattle.vcd_laws.specs.Whole.{declarations_kept, Given, given}
+use Rattle.vcd_laws.proofs.DumpBase.{stdin, aliased, some_names, over_pick, over_cut, wire, bit}
 
 -- an input that is opened
+abbrev all_of : Result (List Opened) (ℕ × Fault) → List Opened
+all_of (Err e) = []
+all_of (Ok os) = os
+
 abbrev first_of : Result (List Opened) (ℕ × Fault) → List Header
-first_of (Err e) = []
-first_of (Ok os) = map (λ o. o.header) os
+first_of r = map (λ o. o.header) (all_of r)
 
 abbrev code_texts : List ℕ → List (List (List ℕ))
 code_texts text = map (λ h. map (λ c. c.text) h.codes)
@@ -49,6 +55,47 @@ cut_then_pick : over_cut (Want.Pick some_names)
     ≡ gives "$date;^$scope today;$end;$timescale;^1ns;$end;$var wire 1 y b $end;$scope module m $end;$var wire 1 x c $end;$upscope $end;$enddefinitions $end;#1;$dumpvars;0x;1y;$end;#5;1x;" "" 0
 unfolding model
 cut_then_pick = refl
+
+-- A path does not say how scopes are nested: a point may be in a name. The declarations do.
+abbrev dotted : List Declaration
+dotted = Declaration.Scope (codes "module") (codes "a.b") ∷ Declaration.Var (wire "x" "v")
+    ∷ Declaration.Up ∷ []
+
+abbrev nested : List Declaration
+nested = Declaration.Scope (codes "module") (codes "a") ∷ Declaration.Scope (codes "task") (codes "b")
+    ∷ Declaration.Var (wire "x" "v") ∷ Declaration.Up ∷ Declaration.Up ∷ []
+
+same_paths : selected [] dotted ≡ selected [] nested
+unfolding model
+same_paths = refl
+
+each_as_it_was : map (declarations_kept []) (dotted ∷ nested ∷ []) ≡ dotted ∷ nested ∷ []
+unfolding model
+each_as_it_was = refl
+
+-- Nor do values at times say what changes there were: one may be repeated, or change again at its
+-- time.
+abbrev once : String
+once = "$var wire 1 x a $end $enddefinitions $end #5 1x"
+
+abbrev often : String
+often = "$var wire 1 x a $end $enddefinitions $end #5 0x 1x #6 1x"
+
+same_values : on (sample (4 ∷ 5 ∷ 6 ∷ []) []) once ≡ on (sample (4 ∷ 5 ∷ 6 ∷ []) []) often
+unfolding model
+same_values = refl
+
+abbrev changes_of : String → List (List Given)
+changes_of text = map (λ o. given (entries (items_in o))) (all_of (open_from limit [] (clean text ∷ [])))
+
+changes_once : changes_of once ≡ (bit 5 false "x" 49 ∷ []) ∷ []
+unfolding model
+changes_once = refl
+
+changes_often : changes_of often
+    ≡ (bit 5 false "x" 48 ∷ bit 5 false "x" 49 ∷ bit 6 false "x" 49 ∷ []) ∷ []
+unfolding model
+changes_often = refl
 
 -- Without a time mark in the input, a pick of less than was picked may have one for changes that it
 -- leaves out.

@@ -1,12 +1,15 @@
 -- What settles a run is final, and less leaves it open.
-use Rattle.std.specs.Prelude.{◌≡◌, ◌≢◌, ℕ, ◌≤◌, ◌+◌, IsTrue, IsFalse, List, [], ◌∷◌, ◌++◌, length, map, ◌^◌, ◌<◌, Some, take}
+use Rattle.std.specs.Prelude.{◌≡◌, ◌≢◌, ℕ, ◌≤◌, ◌+◌, IsTrue, IsFalse, Bool, true, List, [], ◌∷◌, ◌++◌, length, map, ◌^◌, ◌<◌, Some, take}
 use Rattle.std.specs.List.{AllByRecursion}
 use Rattle.vcd_model.specs.Input.{Input}
 use Rattle.vcd_model.specs.Tokens.{Token, tokens_of, stream_of}
 use Rattle.vcd_model.specs.Outcome.{Opened, declarations_allowed, allowed_after}
+use Rattle.vcd_model.specs.Header.{Header, header_of}
+use Rattle.vcd_model.specs.HeaderReading.{header_grammar}
+use Rattle.vcd_model.specs.Reading.{phrases_of, reading_of}
 use Rattle.vcd_model.specs.Job.{Want, outcome}
 use Rattle.vcd_model.specs.Settled.{is_settled}
-use Rattle.vcd_laws.specs.SettledMerge.{Seen, is_settled_merge}
+use Rattle.vcd_laws.specs.SettledMerge.{Seen, tokens_seen, is_settled_merge}
 use Rattle.vcd_model.specs.Laws.{IsPrefixOf}
 use Rattle.vcd_laws.specs.KeptValues.{OpenAll}
 use Rattle.vcd_laws.specs.Checked.{run_of}
@@ -53,6 +56,28 @@ SettledMergeIsFinal = (limit : ℕ) (names : List (List ℕ)) (seen : List Seen)
     (inputs others : List Input)
     → IsTrue (is_settled_merge seen) → AreSeen limit seen inputs → AreSeen limit seen others
     → outcome Want.Merge limit names inputs ≡ outcome Want.Merge limit names others
+
+-- the header of an input as far as it is known, after inputs with these headers
+abbrev pub header_seen : List Header → Seen → Header
+header_seen hs s =
+    header_of (phrases_of (reading_of (header_grammar (allowed_after hs)) (tokens_seen s)).placed)
+
+-- what is known of one input of a merge settles what it adds: its first tokens do, with this number
+-- of declarations allowed, or all of it is known
+abbrev pub is_settled_alone : ℕ → Seen → Bool
+is_settled_alone most (Seen.First ts) = is_settled Want.Merge most ts
+is_settled_alone most (Seen.All stream) = true
+
+-- the same of each of these inputs, in order
+abbrev pub AreSettledAlone : List Header → List Seen → Type 0
+AreSettledAlone hs [] = Unit {0}
+AreSettledAlone hs (s ∷ ss) = IsTrue (is_settled_alone (allowed_after hs) s)
+    × AreSettledAlone (hs ++ header_seen hs s ∷ []) ss
+
+-- where what is known of each input settles what it adds, what is known of all settles the merge
+abbrev pub SettledAloneSettlesMerge : Type 0
+SettledAloneSettlesMerge = (seen : List Seen) → AreSettledAlone [] seen
+    → IsTrue (is_settled_merge seen)
 
 -- a text, and how many of its first tokens are known
 pub record Front : Type 0 where

@@ -2,6 +2,7 @@ pub mod Jobs
 pub mod KeptValues
 pub mod Heads
 pub mod Dumps
+pub mod Whole
 pub mod OverPick
 pub mod OverCut
 pub mod OverMerge

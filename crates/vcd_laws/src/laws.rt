@@ -5,12 +5,13 @@ ghost use Rattle.vcd_laws.specs.Jobs.{JobsAreValid};
 ghost use Rattle.vcd_laws.specs.KeptValues.{PickKeeps, CutKeeps, MergeKeepsChanges, MergeKeepsChangesBefore, MergeKeeps, PickRunKeeps, CutRunKeeps, MergeRunKeeps};
 ghost use Rattle.vcd_laws.specs.Heads.{HeadIsReadBack, MergedHeadIsReadBack};
 ghost use Rattle.vcd_laws.specs.Dumps.{PickIsADump, CutIsADump, MergeIsADump};
+ghost use Rattle.vcd_laws.specs.Whole.{PickKeepsAll, CutKeepsAll};
 ghost use Rattle.vcd_laws.specs.OverPick.{ListOfPick, SampleOfPick, EdgesOfPick, SampleOfAllPicked, EdgesOfAllPicked, SampleOfSomePicked, EdgesOfSomePicked, PickTwice, PickOfPick};
 ghost use Rattle.vcd_laws.specs.OverCut.{ListOfCut, SampleOfCut, SampleOfCutAnywhere, EdgesOfCut, CutTwice, CutPastEnd, CutOfCut, CutOfPick, PickOfCut};
 ghost use Rattle.vcd_laws.specs.OverMerge.{ListOfMerge, SampleOfMerge, EdgesOfMerge, SampleOfOneMerged, SampleOfAllMerged, EdgesOfOneMerged, EdgesOfAllMerged, SampleOfAnyMerged, EdgesOfAnyMerged};
 ghost use Rattle.vcd_laws.specs.Counted.{CheckOfPick, CheckOfCut, CheckOfMerge};
 ghost use Rattle.vcd_laws.specs.Checked.{CheckedIsSafe, CheckNamesTheFault, CleanIsChecked, CheckedMergeIsSafe, MergeNamesTheFault};
-ghost use Rattle.vcd_laws.specs.Final.{SettledIsFinal, SettledIsFinalInMerge, SettledMergeIsFinal, UnsettledIsOpen, UnsettledMergeIsOpen};
+ghost use Rattle.vcd_laws.specs.Final.{SettledIsFinal, SettledIsFinalInMerge, SettledMergeIsFinal, SettledAloneSettlesMerge, UnsettledIsOpen, UnsettledMergeIsOpen};
 
 pub use vcd_model::laws::{
     body_reading, codes_differ, header_reading, merge_fits, nothing_revised,
@@ -85,6 +86,18 @@ pub fn cut_is_a_dump()
 /// The output of a run of `merge` with status 0 is a dump of all variables.
 pub fn merge_is_a_dump()
     ensures { MergeIsADump }
+{}
+
+/// What `pick` wrote has the selected variables in their scopes and all their changes, events too,
+/// in order and at their times.
+pub fn pick_keeps_all()
+    ensures { PickKeepsAll }
+{}
+
+/// What `cut` wrote has all variables in their scopes, the values before its first time, and all
+/// changes between its times, events too, in order.
+pub fn cut_keeps_all()
+    ensures { CutKeepsAll }
 {}
 
 /// `list` of what `pick` wrote has the rows of the selected variables.
@@ -285,6 +298,11 @@ pub fn settled_is_final_in_merge()
 /// Whatever follows what is known of all inputs and settles their merge, its outcome is the same.
 pub fn settled_merge_is_final()
     ensures { SettledMergeIsFinal }
+{}
+
+/// What settles each input of a merge alone settles the merge.
+pub fn settled_alone_settles_merge()
+    ensures { SettledAloneSettlesMerge }
 {}
 
 /// First tokens that do not settle a run leave it open: two inputs begin with them, and end in
