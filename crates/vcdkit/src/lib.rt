@@ -9,7 +9,8 @@
 //!
 //! # The modules
 //!
-//! - `tasks`: what is wanted, as a task over the items of a body, its times in ticks
+//! - `tasks`: what is wanted, as a task over the items of a body, its times in ticks, and the
+//!   memory of its room
 //! - `inputs`: the memory of windows; the header of an input, and those of several in order
 //! - `whole_run`: a job over readers: windows, headers, then `list` over the view or `run_task` or
 //!   `merge` in room that is taken for it

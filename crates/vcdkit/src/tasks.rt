@@ -1,7 +1,9 @@
-//! What is wanted, as a task over the items of a body.
-ghost use Rattle.std.specs.Prelude.{◌≡◌, IfOk, IfSome, true};
+//! What is wanted, as a task over the items of a body, and the memory that it works in.
+ghost use Rattle.std.specs.Prelude.{◌≡◌, IfOk, IfSome, true, vec_len};
 ghost use Rattle.vcdkit.specs.Names.{AnyRoom, asked, cut_request, HasTicks, Header, is_asked, IsEnough, IsValid, IsViewOf, KeepsBound, model_want, ModelWant, request_of, request_of_task, task_request};
 
+use std::alloc::{AllocError, Global};
+use vcd_body::{Share, Slot};
 use vcd_engine::Task;
 use vcd_head::{Moment, ticks};
 use vcd_view::{HeadView, Need};
@@ -61,4 +63,28 @@ pub(crate) fn need_of(task: Option<Task<'_>>, view: HeadView<'_>) -> Need
             marks: 0,
         },
     }
+}
+
+/// What the room of a task is made of.
+#[derive(Drop)]
+pub(crate) struct RoomMemory {
+    pub values: Vec<u8>,
+    pub slots: Vec<Slot>,
+    pub shares: Vec<Share>,
+    pub marks: Vec<u8>,
+}
+
+/// Returns the memory of a room with these lengths.
+pub(crate) fn room_for(alloc: Global, need: Need) -> Result<RoomMemory, AllocError>
+    ensures { IfOk result (λ memory. (vec_len memory.values ≡ need.values)
+        × (vec_len memory.slots ≡ need.slots)
+        × (vec_len memory.shares ≡ need.slots)
+        × (vec_len memory.marks ≡ need.marks)) }
+{
+    Ok(RoomMemory {
+        values: vec![in alloc; 0u8; need.values]?,
+        slots: vec![in alloc; Slot::new(); need.slots]?,
+        shares: vec![in alloc; Share::new(); need.slots]?,
+        marks: vec![in alloc; 0u8; need.marks]?,
+    })
 }

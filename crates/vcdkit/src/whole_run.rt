@@ -5,10 +5,10 @@ ghost use Rattle.vcdkit.specs.Names.{AreReaders, AreWithinBound, chunk_len_of, C
 use crate::failure::Failure;
 use crate::inputs::{MOST_DECLARATIONS, Reading, open_input, open_inputs, windows_for};
 use crate::message::report;
-use crate::tasks::{need_of, task_of};
+use crate::tasks::{need_of, room_for, task_of};
 use std::alloc::Global;
 use std::hash::{BuildHasher, BuildHasherDefault, FoldHasher};
-use vcd_body::{Done, Share, Slot, Stop};
+use vcd_body::{Done, Stop};
 use vcd_engine::{Room, Task, list, run_task};
 use vcd_merge::{Windows, merge};
 use vcd_text::{Feed, Sink, Source};
@@ -89,15 +89,12 @@ fn run_want<S: Source, W: Sink>(
     want.write_ticks(view)?;
     let task = task_of(want, view)?;
     let need = need_of(task, view);
-    let mut values = vec![in alloc; 0u8; need.values]?;
-    let mut slots = vec![in alloc; Slot::new(); need.slots]?;
-    let mut shares = vec![in alloc; Share::new(); need.slots]?;
-    let mut marks = vec![in alloc; 0u8; need.marks]?;
+    let mut memory = room_for(alloc, need)?;
     let mut room = Room {
-        values: &mut values,
-        slots: &mut slots,
-        shares: &mut shares,
-        marks: &mut marks,
+        values: &mut memory.values,
+        slots: &mut memory.slots,
+        shares: &mut memory.shares,
+        marks: &mut memory.marks,
     };
     ended(run_in(task, view, feed, &mut room, out), 0)
 }

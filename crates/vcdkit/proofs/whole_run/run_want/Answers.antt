@@ -19,24 +19,9 @@ returns-in_err-task-clause-ends g c = λ h i front name v st.
     let why : request_of h.scale (model_want c.args.want.now) ≡ Err (model_refusal c.in_err-task.field-0.0) = sym (c.in_ok-write_ticks.ensures.same h v) ∙ c.in_err-task.ensures.request h v in
     rw e (no_ticks c.args.want.now _ _ i front h name _ c.args.feed.now _ refl st c.in_err-task.field-0.0 why)
 
-pub returns-in_err-marks-clause-ends : goal.returns-in_err-marks-clause-ends
-returns-in_err-marks-clause-ends g c = λ h i front name v st.
-    let e : c.from_residual-in_err-marks.result ≡ Err OutOfMemory = search rules in
-    rw e (no_room c.args.want.now _ _ i front h name _ c.args.feed.now _ refl st)
-
-pub returns-in_err-values-clause-ends : goal.returns-in_err-values-clause-ends
-returns-in_err-values-clause-ends g c = λ h i front name v st.
-    let e : c.from_residual-in_err-values.result ≡ Err OutOfMemory = search rules in
-    rw e (no_room c.args.want.now _ _ i front h name _ c.args.feed.now _ refl st)
-
-pub returns-in_err-slots-clause-ends : goal.returns-in_err-slots-clause-ends
-returns-in_err-slots-clause-ends g c = λ h i front name v st.
-    let e : c.from_residual-in_err-slots.result ≡ Err OutOfMemory = search rules in
-    rw e (no_room c.args.want.now _ _ i front h name _ c.args.feed.now _ refl st)
-
-pub returns-in_err-shares-clause-ends : goal.returns-in_err-shares-clause-ends
-returns-in_err-shares-clause-ends g c = λ h i front name v st.
-    let e : c.from_residual-in_err-shares.result ≡ Err OutOfMemory = search rules in
+pub returns-in_err-memory-clause-ends : goal.returns-in_err-memory-clause-ends
+returns-in_err-memory-clause-ends g c = λ h i front name v st.
+    let e : c.from_residual-in_err-memory.result ≡ Err OutOfMemory = search rules in
     rw e (no_room c.args.want.now _ _ i front h name _ c.args.feed.now _ refl st)
 
 pub returns-clause-ends : goal.returns-clause-ends
