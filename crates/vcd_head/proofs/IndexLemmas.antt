@@ -1,5 +1,5 @@
--- The order of codes by their numbers.
-use Rattle.std.proofs.Common.{◌≡◌, ◌⊎◌, inl, inr, ℕ, zero, suc, ◌+◌, ◌*◌, ◌^◌, ◌<◌, ◌≤◌, Bool, true, false, List, [], ◌∷◌, ◌++◌, length, map, get_or, bytes_eq, option_map, unwrap_or, refl, sym, ap, ap₂, subst, ◌∙◌, arith, zero-add, add-one, pow-suc}
+-- The order of codes by their bytes.
+use Rattle.std.proofs.Common.{◌≡◌, ◌⊎◌, inl, inr, ℕ, zero, suc, ◌+◌, ◌*◌, ◌^◌, ◌<◌, ◌≤◌, Bool, true, false, List, [], ◌∷◌, ◌++◌, length, map, get_or, bytes_eq, option_map, unwrap_or, refl, sym, ap, subst, ◌∙◌, arith, zero-add, add-one, pow-suc}
 use Rattle.std.specs.Prelude.{IsPermutation}
 use Rattle.std.specs.Cmp.{IsTotalOrder, IsStrictWeakOrder, nat_cmp_is}
 use Rattle.std.specs.List.{AllByRecursion, All, IsDistinct, range_with_len}
@@ -20,17 +20,70 @@ use Rattle.std.proofs.lemmas.Map.Text.{is_eq-slice_cmp}
 use Rattle.std.proofs.lemmas.Option.{slice_get-get_or}
 use Rattle.vcd_model.specs.Declarations.{IdCode}
 use Rattle.vcd_view.specs.declared.view.Code.{Code}
-use Rattle.vcd_head.specs.declared.index.Numbered.{Numbered}
+use Rattle.vcd_head.specs.declared.index.Front.{Front}
 use Rattle.vcd_view.specs.Views.{AreHeld, IsIndex, code_text}
 use Rattle.vcd_view.specs.Entries.{text_in}
-use Rattle.vcd_head.specs.Numbered.{AreNumbered, bytes_at, order_of}
-use Rattle.vcd_view.specs.Keys.{code_cmp, key_in}
+use Rattle.vcd_head.specs.Fronts.{AreFronts, bytes_at, front_in, order_of}
+use Rattle.vcd_view.specs.Keys.{AreBytes}
 use Rattle.vcd_view.proofs.ListLemmas.{bytes_flip, to_all}
 use Rattle.vcd_view.proofs.EntryLemmas.{code_found}
-use Rattle.vcd_view.proofs.LookUpLemmas.{code_cmp_total, codes_len, is_eq-code_cmp, text_at, texts_range}
+use Rattle.vcd_view.proofs.LookUpLemmas.{codes_len, text_at, texts_range}
 use Rattle.vcd_view.proofs.RowLemmas.{text_within}
 
--- ---- the numbers of codes
+-- ---- fronts
+
+-- a byte more
+pub front_grown : (f n b : ℕ) → f < 256 ^ n → b < 256 → f * 256 + b < 256 ^ (n + 1)
+front_grown f n b l s = rw (add-one n, pow-suc 256 n) (omega (arith, l, s))
+
+-- eight bytes fit
+pub front_fits : (f n b : ℕ) → f < 256 ^ n → n < 8 → b < 256 → f * 256 + b < 2 ^ 64
+front_fits f n b l s k =
+    let most : 256 ^ n ≤ 256 ^ 7 = (let few : n ≤ 7 = omega (arith, s) in pow-le-pow_right (omega arith) few) in
+    omega (arith, l, k, most)
+
+byte_small : (bs : List ℕ) (i : ℕ) → AreBytes bs → get_or bs i 0 < 256
+byte_small [] i h = omega arith
+byte_small (b ∷ bs) zero h = h.0
+byte_small (b ∷ bs) (suc i) h = byte_small bs i h.1
+
+-- two texts with the same front have the same first bytes
+pub same_front : (n : ℕ) (x y : List ℕ) → AreBytes x → AreBytes y → front_in n x ≡ front_in n y → (i : ℕ) → i < n → get_or x i 0 ≡ get_or y i 0
+same_front zero x y f g e i l = absurd (omega arith)
+same_front (suc n) x y f g e i l =
+    let a = byte_small x n f in
+    let b = byte_small y n g in
+    let last : get_or x n 0 ≡ get_or y n 0 = omega (arith, e) in
+    let rest : front_in n x ≡ front_in n y = omega (arith, e) in
+    by_place (cases_lt i n) last (same_front n x y f g rest i)
+  where
+    by_place : (i < n) ⊎ (n ≤ i) → get_or x n 0 ≡ get_or y n 0 → (i < n → get_or x i 0 ≡ get_or y i 0) → get_or x i 0 ≡ get_or y i 0
+    by_place (inl a) last rest = rest a
+    by_place (inr a) last rest = let s : n ≡ i = omega arith in subst (λ k. get_or x k 0 ≡ get_or y k 0) s last
+
+-- the first bytes that differ decide
+less_at : (i : ℕ) (x y : List ℕ) → ((j : ℕ) → j < i → get_or x j 0 ≡ get_or y j 0) → get_or x i 0 < get_or y i 0 → slice_cmp nat_cmp x y ≡ Less
+less_at i [] [] h l = absurd (omega arith)
+less_at i [] (b ∷ bs) h l = refl
+less_at i (a ∷ as') [] h l = absurd (omega arith)
+less_at zero (a ∷ xs) (b ∷ bs) h l = rw (sym (nat_cmp_is a b Less l)) refl
+less_at (suc i) (a ∷ xs) (b ∷ bs) h l = rw (sym (nat_cmp_is a b Equal (h 0 (omega arith)))) (less_at i xs bs (λ j k. h (suc j) (omega arith)) l)
+
+-- a text with the lower front comes first
+pub front_less : (n : ℕ) (x y : List ℕ) → AreBytes x → AreBytes y → front_in n x < front_in n y → slice_cmp nat_cmp x y ≡ Less
+front_less zero x y f g l = absurd (omega arith)
+front_less (suc n) x y f g l =
+    let a = byte_small x n f in
+    let b = byte_small y n g in
+    by_rest (cases_lt (front_in n x) (front_in n y)) a b (front_less n x y f g)
+  where
+    by_rest : (front_in n x < front_in n y) ⊎ (front_in n y ≤ front_in n x) → get_or x n 0 < 256 → get_or y n 0 < 256 → (front_in n x < front_in n y → slice_cmp nat_cmp x y ≡ Less) → slice_cmp nat_cmp x y ≡ Less
+    by_rest (inl a) b c rest = rest a
+    by_rest (inr a) b c _ =
+        let same : front_in n x ≡ front_in n y = omega (arith, l) in
+        less_at n x y (same_front n x y f g same) (omega (arith, l))
+
+-- ---- the fronts of codes
 
 pub range_push : (a n : ℕ) → range_with_len a (suc n) ≡ range_with_len a n ++ (a + n) ∷ []
 range_push a zero = ap (λ k. k ∷ []) (none_more a)
@@ -42,15 +95,15 @@ range_push a (suc n) = ap (λ l. a ∷ l) (range_push (a + 1) n ∙ ap (λ k. ra
     one_more : (a n : ℕ) → (a + 1) + n ≡ a + suc n
     one_more a n = omega arith
 
--- the places of one code more
-pub places_more : (fs : List Numbered) (c : Numbered) (n : ℕ) → map (λ (x : Numbered). x.place) fs ≡ range_with_len 0 n → c.place ≡ n → map (λ (x : Numbered). x.place) (fs ++ c ∷ []) ≡ range_with_len 0 (n + 1)
-places_more fs c n h e = map-append (λ (x : Numbered). x.place) fs (c ∷ []) ∙ ap (λ l. l ++ c.place ∷ []) h ∙ ap (λ k. range_with_len 0 n ++ k ∷ []) (e ∙ sym (zero-add n)) ∙ sym (range_push 0 n) ∙ ap (range_with_len 0) (sym (add-one n))
+-- the places of one front more
+pub places_more : (fs : List Front) (f : Front) (n : ℕ) → map (λ (x : Front). x.place) fs ≡ range_with_len 0 n → f.place ≡ n → map (λ (x : Front). x.place) (fs ++ f ∷ []) ≡ range_with_len 0 (n + 1)
+places_more fs f n h e = map-append (λ (x : Front). x.place) fs (f ∷ []) ∙ ap (λ l. l ++ f.place ∷ []) h ∙ ap (λ k. range_with_len 0 n ++ k ∷ []) (e ∙ sym (zero-add n)) ∙ sym (range_push 0 n) ∙ ap (range_with_len 0) (sym (add-one n))
 
 -- ---- the order
 
 order_total : (text : List ℕ) (codes : List Code) → IsTotalOrder (order_of text codes)
 order_total text codes = then_total
-    {R = λ (a b : Numbered). nat_cmp a.number b.number} {S = λ (a b : Numbered). slice_cmp nat_cmp (bytes_at text codes a.place) (bytes_at text codes b.place)}
+    {R = λ (a b : Front). nat_cmp a.number b.number} {S = λ (a b : Front). slice_cmp nat_cmp (bytes_at text codes a.place) (bytes_at text codes b.place)}
     (record { antisymm = λ a b. nat_cmp_total.antisymm a.number b.number; trans = λ a b c. nat_cmp_total.trans a.number b.number c.number; congr = λ a b c. nat_cmp_total.congr a.number b.number c.number })
     (record {
       antisymm = λ a b. nat_list_cmp_total.antisymm (bytes_at text codes a.place) (bytes_at text codes b.place);
@@ -58,16 +111,16 @@ order_total text codes = then_total
       congr = λ a b c. nat_list_cmp_total.congr (bytes_at text codes a.place) (bytes_at text codes b.place) (bytes_at text codes c.place);
     })
 
-abbrev pub before : List ℕ → List Code → Numbered → Numbered → Bool
+abbrev pub before : List ℕ → List Code → Front → Front → Bool
 before text codes a b = is_lt (order_of text codes a b)
 
 pub before_weak : (text : List ℕ) (codes : List Code) → IsStrictWeakOrder (before text codes)
-before_weak text codes = ranks_by (order_total text codes) (λ (c : Numbered). c)
+before_weak text codes = ranks_by (order_total text codes) (λ (f : Front). f)
 
--- where a code is not after another, and they differ, it comes first
-rises : (text : List ℕ) (codes : List Code) (a b : Numbered) → a.number ≡ key_in (bytes_at text codes a.place) → b.number ≡ key_in (bytes_at text codes b.place) → before text codes b a ≡ false → bytes_eq (bytes_at text codes a.place) (bytes_at text codes b.place) ≡ false
-    → code_cmp (bytes_at text codes a.place) (bytes_at text codes b.place) ≡ Less
-rises text codes a b f g not_after apart = by_order (code_cmp ta tb) refl
+-- where a front is not after another, and their texts differ, its text comes first
+rises : (text : List ℕ) (codes : List Code) (a b : Front) → a.number ≡ front_in 8 (bytes_at text codes a.place) → b.number ≡ front_in 8 (bytes_at text codes b.place) → AreBytes (bytes_at text codes a.place) → AreBytes (bytes_at text codes b.place)
+    → before text codes b a ≡ false → bytes_eq (bytes_at text codes a.place) (bytes_at text codes b.place) ≡ false → slice_cmp nat_cmp (bytes_at text codes a.place) (bytes_at text codes b.place) ≡ Less
+rises text codes a b f g x y not_after apart = by_front (cases_lt a.number b.number)
   where
     ta : List ℕ
     ta = bytes_at text codes a.place
@@ -75,13 +128,18 @@ rises text codes a b f g not_after apart = by_order (code_cmp ta tb) refl
     tb : List ℕ
     tb = bytes_at text codes b.place
 
-    same : order_of text codes b a ≡ code_cmp tb ta
-    same = ap₂ (λ m n. ordering_then (nat_cmp m n) (slice_cmp nat_cmp tb ta)) g f
+    by_text : (o : Ordering) → slice_cmp nat_cmp ta tb ≡ o → is_lt (slice_cmp nat_cmp tb ta) ≡ false → slice_cmp nat_cmp ta tb ≡ Less
+    by_text Less q k = q
+    by_text Equal q k = let e : bytes_eq ta tb ≡ true = sym (is_eq-slice_cmp ta tb) ∙ ap is_eq q in cc
+    by_text Greater q k = let e : slice_cmp nat_cmp tb ta ≡ Less = nat_list_cmp_total.antisymm tb ta ∙ ap ordering_reverse q in let z = ap is_lt e in cc
 
-    by_order : (o : Ordering) → code_cmp ta tb ≡ o → code_cmp ta tb ≡ Less
-    by_order Less q = q
-    by_order Equal q = let e : bytes_eq ta tb ≡ true = sym (is_eq-code_cmp ta tb) ∙ ap is_eq q in cc
-    by_order Greater q = let e : code_cmp tb ta ≡ Less = code_cmp_total.antisymm tb ta ∙ ap ordering_reverse q in let z : is_lt (order_of text codes b a) ≡ true = ap is_lt (same ∙ e) in cc
+    by_equal : (b.number < a.number) ⊎ (a.number ≤ b.number) → b.number ≤ a.number → slice_cmp nat_cmp ta tb ≡ Less
+    by_equal (inl l) k = let e : nat_cmp b.number a.number ≡ Less = sym (nat_cmp_is b.number a.number Less l) in let z : is_lt (order_of text codes b a) ≡ true = ap (λ o. is_lt (ordering_then o (slice_cmp nat_cmp tb ta))) e in cc
+    by_equal (inr l) k = let e : nat_cmp b.number a.number ≡ Equal = sym (nat_cmp_is b.number a.number Equal (omega arith)) in by_text (slice_cmp nat_cmp ta tb) refl (sym (ap (λ o. is_lt (ordering_then o (slice_cmp nat_cmp tb ta))) e) ∙ not_after)
+
+    by_front : (a.number < b.number) ⊎ (b.number ≤ a.number) → slice_cmp nat_cmp ta tb ≡ Less
+    by_front (inl l) = front_less 8 ta tb x y (omega (arith, f, g))
+    by_front (inr l) = by_equal (cases_lt b.number a.number) l
 
 -- ---- the index
 
@@ -96,13 +154,18 @@ bytes_are text list cs p h l =
     none : Code
     none = record { start = 0; len = 0; size = 0; event = false }
 
+pub texts_are : (cs : List IdCode) (p : ℕ) → AllByRecursion (λ (c : IdCode). AreBytes c.text) cs → AreBytes (code_text cs p)
+texts_are [] p h = tt
+texts_are (c ∷ cs) zero h = h.0
+texts_are (c ∷ cs) (suc p) h = texts_are cs p h.1
+
 -- texts that rise at each pair of places are in order
-pub sorted_from : {X : Type 0} (f : X → List ℕ) (xs : List X) → ((i j : ℕ) (d : X) → i < j → j < length xs → code_cmp (f (get_or xs i d)) (f (get_or xs j d)) ≡ Less) → IsStrictlySortedBy code_cmp (map f xs)
+pub sorted_from : {X : Type 0} (f : X → List ℕ) (xs : List X) → ((i j : ℕ) (d : X) → i < j → j < length xs → slice_cmp nat_cmp (f (get_or xs i d)) (f (get_or xs j d)) ≡ Less) → IsStrictlySortedBy (slice_cmp nat_cmp) (map f xs)
 unfolding IsStrictlySortedBy
 sorted_from f [] h = tt
 sorted_from f (x ∷ xs) h = (above xs (λ j d l. h 0 (suc j) d (omega arith) (omega arith)), sorted_from f xs (λ i j d a b. h (suc i) (suc j) d (omega arith) (omega arith)))
   where
-    above : (ys : List _) → ((j : ℕ) (d : _) → j < length ys → code_cmp (f x) (f (get_or ys j d)) ≡ Less) → AllByRecursion (λ t. code_cmp (f x) t ≡ Less) (map f ys)
+    above : (ys : List _) → ((j : ℕ) (d : _) → j < length ys → slice_cmp nat_cmp (f x) (f (get_or ys j d)) ≡ Less) → AllByRecursion (λ t. slice_cmp nat_cmp (f x) t ≡ Less) (map f ys)
     above [] k = tt
     above (y ∷ ys) k = (k 0 y (omega arith), above ys (λ j d l. k (suc j) d (omega arith)))
 
@@ -110,36 +173,36 @@ pub map_map : {X Y Z : Type 0} (f : X → Y) (g : Y → Z) (xs : List X) → map
 map_map f g [] = refl
 map_map f g (x ∷ xs) = ap (λ l. g (f x) ∷ l) (map_map f g xs)
 
-pub index_made : (text : List ℕ) (list : List Code) (cs : List IdCode) (old new : List Numbered) → AreHeld text list cs → AreNumbered text list old → IsPermutation old new → IsSortedBy (before text list) new → IsIndex cs (map (λ (c : Numbered). c.place) new)
-index_made text list cs old new h numbered moved sorted =
+pub index_made : (text : List ℕ) (list : List Code) (cs : List IdCode) (old new : List Front) → AreHeld text list cs → AreFronts text list old → IsPermutation old new → IsSortedBy (before text list) new → IsIndex cs (map (λ (f : Front). f.place) new)
+index_made text list cs old new h fronts moved sorted =
     let n = codes_len text list cs h.stand in
-    let places : IsPermutation (range_with_len 0 (length cs)) (map (λ (c : Numbered). c.place) new) = subst (λ l. IsPermutation l (map (λ (c : Numbered). c.place) new)) (numbered.places ∙ ap (range_with_len 0) n) (IsPermutation-map (λ (c : Numbered). c.place) old new moved) in
+    let places : IsPermutation (range_with_len 0 (length cs)) (map (λ (f : Front). f.place) new) = subst (λ l. IsPermutation l (map (λ (f : Front). f.place) new)) (fronts.places ∙ ap (range_with_len 0) n) (IsPermutation-map (λ (f : Front). f.place) old new moved) in
     let texts = map (λ (k : IdCode). k.text) cs in
-    let ordered = map (code_text cs) (map (λ (c : Numbered). c.place) new) in
-    let same : IsPermutation texts ordered = subst (λ l. IsPermutation l ordered) (texts_range [] cs) (IsPermutation-map (code_text cs) (range_with_len 0 (length cs)) (map (λ (c : Numbered). c.place) new) places) in
+    let ordered = map (code_text cs) (map (λ (f : Front). f.place) new) in
+    let same : IsPermutation texts ordered = subst (λ l. IsPermutation l ordered) (texts_range [] cs) (IsPermutation-map (code_text cs) (range_with_len 0 (length cs)) (map (λ (f : Front). f.place) new) places) in
     let apart : IsDistinct bytes_eq ordered = IsDistinct-IsPermutation bytes_eq bytes_flip texts ordered same h.distinct in
-    let within : All (λ (c : Numbered). c.place < length cs) new = All-permutation (λ (c : Numbered). c.place < length cs) old new moved (places_within old (numbered.places ∙ ap (range_with_len 0) n)) in
-    let numbers : All (λ (c : Numbered). c.number ≡ key_in (bytes_at text list c.place)) new = All-permutation (λ (c : Numbered). c.number ≡ key_in (bytes_at text list c.place)) old new moved (to_all (λ (c : Numbered). c.number ≡ key_in (bytes_at text list c.place)) old numbered.numbers) in
+    let within : All (λ (f : Front). f.place < length cs) new = All-permutation (λ (f : Front). f.place < length cs) old new moved (places_within old (fronts.places ∙ ap (range_with_len 0) n)) in
+    let numbers : All (λ (f : Front). f.number ≡ front_in 8 (bytes_at text list f.place)) new = All-permutation (λ (f : Front). f.number ≡ front_in 8 (bytes_at text list f.place)) old new moved (to_all (λ (f : Front). f.number ≡ front_in 8 (bytes_at text list f.place)) old fronts.numbers) in
     record {
       places = places;
-      rising = subst (IsStrictlySortedBy code_cmp) (sym (map_map (λ (c : Numbered). c.place) (code_text cs) new)) (sorted_from (λ (c : Numbered). code_text cs c.place) new (λ i j d a b.
+      rising = subst (IsStrictlySortedBy (slice_cmp nat_cmp)) (sym (map_map (λ (f : Front). f.place) (code_text cs) new)) (sorted_from (λ (f : Front). code_text cs f.place) new (λ i j d a b.
           let x = get_or new i d in
           let y = get_or new j d in
           let il : i < length new = omega arith in
           let bx = bytes_are text list cs x.place h (within i d il) in
           let by = bytes_are text list cs y.place h (within j d b) in
-          let len = length-map new (λ (c : Numbered). code_text cs c.place) in
-          let differ0 = apart_from_distinct bytes_eq (map (λ (c : Numbered). code_text cs c.place) new) i j [] (subst (IsDistinct bytes_eq) (map_map (λ (c : Numbered). c.place) (code_text cs) new) apart) a (omega arith) in
-          let differ : bytes_eq (code_text cs x.place) (code_text cs y.place) ≡ false = rw (sym (get_or-map (λ (c : Numbered). code_text cs c.place) new i d [] il), sym (get_or-map (λ (c : Numbered). code_text cs c.place) new j d [] b)) differ0 in
-          rw (sym bx, sym by) (rises text list x y (numbers i d il) (numbers j d b)
+          let len = length-map new (λ (f : Front). code_text cs f.place) in
+          let differ0 = apart_from_distinct bytes_eq (map (λ (f : Front). code_text cs f.place) new) i j [] (subst (IsDistinct bytes_eq) (map_map (λ (f : Front). f.place) (code_text cs) new) apart) a (omega arith) in
+          let differ : bytes_eq (code_text cs x.place) (code_text cs y.place) ≡ false = rw (sym (get_or-map (λ (f : Front). code_text cs f.place) new i d [] il), sym (get_or-map (λ (f : Front). code_text cs f.place) new j d [] b)) differ0 in
+          rw (sym bx, sym by) (rises text list x y (numbers i d il) (numbers j d b) (subst AreBytes (sym bx) (texts_are cs x.place h.texts)) (subst AreBytes (sym by) (texts_are cs y.place h.texts))
           (sorted_far (before text list) (before_weak text list) new sorted i j d (omega arith) b) (rw (bx, by) differ))));
     }
   where
-    places_within : (fs : List Numbered) → map (λ (c : Numbered). c.place) fs ≡ range_with_len 0 (length cs) → All (λ (c : Numbered). c.place < length cs) fs
+    places_within : (fs : List Front) → map (λ (f : Front). f.place) fs ≡ range_with_len 0 (length cs) → All (λ (f : Front). f.place < length cs) fs
     places_within fs e k d l =
-        let n = length-map fs (λ (c : Numbered). c.place) in
+        let n = length-map fs (λ (f : Front). f.place) in
         let m = length-range_with_len 0 (length cs) in
         let s = ap length e in
         let r = get_or-range_with_len 0 (length cs) k 0 (omega arith) in
-        let g = get_or-map (λ (c : Numbered). c.place) fs k d 0 l in
+        let g = get_or-map (λ (f : Front). f.place) fs k d 0 l in
         omega (arith, ap (λ xs. get_or xs k 0) e)

@@ -26,6 +26,7 @@ pub mod CodesLemmas
 pub mod CodeKeys
 pub mod RisingLemmas
 pub mod IndexLemmas
+pub mod RankLemmas
 pub mod CodeChecks
 pub mod EnteredLemmas
 pub mod ScaleLemmas

@@ -1,5 +1,4 @@
 pub mod Fault
-pub mod Numbered
 pub mod Shown
 pub mod Moments
 pub mod Paths
@@ -9,6 +8,7 @@ pub mod Words
 pub mod Texts
 pub mod Keys
 pub mod Codes
+pub mod Fronts
 pub mod Draft
 pub mod Declares
 pub mod Entered

@@ -1,55 +1,133 @@
-// The order of codes, in which one that its entry does not give is searched.
-ghost use Rattle.std.specs.Prelude.{◌≡◌, List, map, IfOk};
-ghost use Rattle.vcd_head.specs.Names.{AnyHeld, AreNumbered, IsIndex, bytes_at, order_of};
+// The order of codes by their bytes.
+ghost use Rattle.std.specs.Prelude.{◌≡◌, ◌^◌, ◌<◌, ◌≤◌, List, length, map, get_or, IfOk, IfSome};
+ghost use Rattle.vcd_head.specs.Names.{AnyHeld, AreFronts, AreRanks, IsIndex, bytes_at, front_in, order_of, place_in_rank, rank_of};
 
 use std::alloc::{AllocError, Global};
 use std::cmp::Ordering;
-use vcd_view::{Code, code_in, key_of, text_in};
+use vcd_view::{Code, code_in, text_in};
 
-// The number of a code, 0 for one of 8 bytes or more, and its place.
+// The bytes of a code that a front has.
+const FRONT_BYTES: usize = 8;
+
+// The most bytes of a code that a rank has.
+const RANK_BYTES: usize = 4;
+
+// How many places a rank can distinguish.
+const PLACES: usize = 16_777_216;
+
+// The first bytes of a code as a number, which is less where they come before others, and its
+// place.
 #[derive(Clone, Copy)]
-pub(crate) struct Numbered {
+pub(crate) struct Front {
     pub(crate) number: u64,
     pub(crate) place: usize,
 }
 
-/// Returns the places of the codes, whose bytes lie in the text, in the order of their numbers, and
-/// of their bytes where these are the same.
-// Simulators number codes in the order of declaration. The sort then looks at each once.
+/// Returns the places of the codes in the order of their bytes, which lie in the text.
 pub(crate) fn index_of(alloc: Global, text: &[u8], codes: &[Code]) -> Result<Vec<usize>, AllocError>
     ensures { AnyHeld text.now codes.now (λ cs. IfOk result (λ index. IsIndex cs index.items)) }
 {
-    let mut numbered = numbers_of(alloc, text, codes)?;
-    numbered.sort_unstable_by(|a, b| order_of(text, codes, *a, *b));
-    places_of(alloc, &numbered)
-}
-
-/// Returns the numbers of the codes, in their order of declaration.
-fn numbers_of(alloc: Global, text: &[u8], codes: &[Code]) -> Result<Vec<Numbered>, AllocError>
-    ensures { IfOk result (λ numbered. AreNumbered text.now codes.now numbered.items) }
-{
-    let mut numbered = Vec::with_capacity(alloc, codes.len())?;
-    for place in 0..codes.len() {
-        let number = key_of(bytes_at(text, codes, place));
-        numbered.push(Numbered { number, place })?;
+    match index_by_ranks(alloc, text, codes)? {
+        Some(index) => Ok(index),
+        None => index_by_fronts(alloc, text, codes),
     }
-    Ok(numbered)
 }
 
-/// Returns the places of these codes.
-fn places_of(alloc: Global, numbered: &[Numbered]) -> Result<Vec<usize>, AllocError>
-    ensures { IfOk result (λ places. places.items ≡ map (λ c. c.place) numbered.now) }
+/// Returns the places of short codes in the order of their bytes; none where some are long. Ranks
+/// are sorted, and the places left in their stead, so nothing is held beside the index.
+fn index_by_ranks(
+    alloc: Global,
+    text: &[u8],
+    codes: &[Code],
+) -> Result<Option<Vec<usize>>, AllocError>
+    ensures { AnyHeld text.now codes.now (λ cs.
+        IfOk result (λ found. IfSome found (λ index. IsIndex cs index.items))) }
 {
-    let mut places = Vec::with_capacity(alloc, numbered.len())?;
-    for code in numbered {
-        places.push(code.place)?;
+    let Some(ranks) = ranks_of(alloc, text, codes)? else {
+        return Ok(None);
+    };
+    let mut index = ranks;
+    index.sort_unstable();
+    leave_places(&mut index);
+    Ok(Some(index))
+}
+
+/// Returns the ranks of the codes, in their order of declaration, if a rank has all of the bytes
+/// and the place of each.
+fn ranks_of(alloc: Global, text: &[u8], codes: &[Code]) -> Result<Option<Vec<usize>>, AllocError>
+    ensures { IfOk result (λ some. IfSome some (λ ranks. AreRanks text.now codes.now ranks.items)) }
+{
+    if codes.len() > PLACES {
+        return Ok(None);
+    }
+    let mut ranks = Vec::with_capacity(alloc, codes.len())?;
+    for place in 0..codes.len() {
+        let bytes = bytes_at(text, codes, place);
+        if bytes.len() > RANK_BYTES {
+            return Ok(None);
+        }
+        ranks.push(rank_of(bytes, place))?;
+    }
+    Ok(Some(ranks))
+}
+
+/// Returns the bytes of a code, their number and its place as one number, which is less where the
+/// bytes come before others.
+#[inline(always)]
+fn rank_of(bytes: &[u8], place: usize) -> usize
+    requires short { length bytes.now ≤ 4 }
+    requires place { place < 16777216 }
+    ensures { result ≡ rank_of bytes.now place }
+{
+    let front = front_of(bytes, RANK_BYTES);
+    (front as usize * 8 + bytes.len()) * PLACES + place
+}
+
+/// Reduces each rank to its place.
+fn leave_places(ranks: &mut [usize])
+    ensures { ranks.new ≡ map place_in_rank ranks.old }
+{
+    for rank in ranks.iter_mut() {
+        *rank %= PLACES;
+    }
+}
+
+/// Returns the places of codes of any length in the order of their bytes.
+fn index_by_fronts(alloc: Global, text: &[u8], codes: &[Code]) -> Result<Vec<usize>, AllocError>
+    ensures { AnyHeld text.now codes.now (λ cs. IfOk result (λ index. IsIndex cs index.items)) }
+{
+    let mut fronts = fronts_of(alloc, text, codes)?;
+    fronts.sort_unstable_by(|a, b| order_of(text, codes, *a, *b));
+    places_of(alloc, &fronts)
+}
+
+/// Returns the fronts of the codes, in their order of declaration.
+fn fronts_of(alloc: Global, text: &[u8], codes: &[Code]) -> Result<Vec<Front>, AllocError>
+    ensures { IfOk result (λ fronts. AreFronts text.now codes.now fronts.items) }
+{
+    let mut fronts = Vec::with_capacity(alloc, codes.len())?;
+    for place in 0..codes.len() {
+        let number = front_of(bytes_at(text, codes, place), FRONT_BYTES);
+        fronts.push(Front { number, place })?;
+    }
+    Ok(fronts)
+}
+
+/// Returns the places of the fronts.
+fn places_of(alloc: Global, fronts: &[Front]) -> Result<Vec<usize>, AllocError>
+    ensures { IfOk result (λ places. places.items ≡ map (λ f. f.place) fronts.now) }
+{
+    let mut places = Vec::with_capacity(alloc, fronts.len())?;
+    for front in fronts {
+        places.push(front.place)?;
     }
     Ok(places)
 }
 
-/// Returns the order of two codes. Their bytes are looked at only where their numbers are the same.
+/// Returns the order of two codes by their bytes, which are looked at only where their fronts are
+/// the same.
 #[inline(always)]
-fn order_of(text: &[u8], codes: &[Code], a: Numbered, b: Numbered) -> Ordering
+fn order_of(text: &[u8], codes: &[Code], a: Front, b: Front) -> Ordering
     ensures { result ≡ order_of text.now codes.now a b }
 {
     match a.number.cmp(&b.number) {
@@ -66,5 +144,31 @@ fn bytes_at<'a>(text: &'a [u8], codes: &[Code], place: usize) -> &'a [u8]
     match code_in(codes, place) {
         Some(code) => text_in(text, code.start, code.len as usize),
         None => &[],
+    }
+}
+
+/// Returns so many first bytes as the digits of a number, the first one highest, followed by zeros.
+#[inline(always)]
+fn front_of(bytes: &[u8], count: usize) -> u64
+    requires { count ≤ 8 }
+    ensures front { result ≡ front_in count bytes.now }
+    ensures small { result < 256 ^ count }
+{
+    let mut number = 0;
+    for place in 0..count {
+        number = number * 256 + byte_at(bytes, place);
+    }
+    number
+}
+
+/// Returns the byte at a place, zero where there is none.
+#[inline(always)]
+fn byte_at(bytes: &[u8], place: usize) -> u64
+    ensures byte { result ≡ get_or bytes.now place 0 }
+    ensures small { result < 256 }
+{
+    match bytes.get(place) {
+        Some(byte) => u64::from(*byte),
+        None => 0,
     }
 }

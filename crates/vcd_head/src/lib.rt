@@ -32,7 +32,7 @@
 //! - `draft`, `codes`, `rising`, `code_key`, `finish`: a header while it is read, its codes, the
 //!   numbers and the keys by which they are found; the head that it becomes
 //! - `head`, `fault`: `Head`; `HeadFault`
-//! - `entries`, `index`: how the entries are filled; the order of the codes by their numbers
+//! - `entries`, `index`: how the entries are filled; the order of the codes by their bytes
 //! - `enclosing`, `path`: the scopes around a declaration, outermost first; paths
 //! - `selection`, `inside`, `names`: which variables names select; the names that go on inside open
 //!   scopes; names in the order of their bytes

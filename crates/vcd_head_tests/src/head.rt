@@ -130,7 +130,7 @@ fn has_nested_codes(view: HeadView<'_>) -> bool {
     view.rows.len() == 7
         && view.codes.len() == 3
         && view.codes.last().copied() == Some(NESTED_LAST)
-        && view.index == [1, 0, 2].as_slice()
+        && view.index == [1, 2, 0].as_slice()
 }
 
 #[test]
@@ -324,7 +324,7 @@ const FOUND: [(&[u8], Option<usize>); 8] = [
 #[test]
 fn codes_are_found(rt: HostRuntime) -> Result<(), Fail> {
     let head = read_good(rt.alloc(), FOUR)?;
-    assert_eq!(rt; head.view().index, [1, 3, 0, 2].as_slice());
+    assert_eq!(rt; head.view().index, [1, 2, 3, 0].as_slice());
     for (code, place) in FOUND {
         assert_eq!(rt; found(&head, code), [place; 2], "of {code:?}");
     }

@@ -1,16 +1,15 @@
 -- A code that is looked up.
-use Rattle.std.proofs.Common.{◌≡◌, ◌⊎◌, inl, inr, ℕ, Bool, zero, suc, ◌+◌, ◌/◌, ◌<◌, ◌≤◌, true, false, List, [], ◌∷◌, ◌++◌, length, map, get_or, bytes_eq, Option, Some, None, option_map, unwrap_or, refl, sym, ap, subst, ◌∙◌, arith, arith, below_more, zero-add}
+use Rattle.std.proofs.Common.{◌≡◌, ◌⊎◌, inl, inr, ℕ, zero, suc, ◌+◌, ◌/◌, ◌<◌, ◌≤◌, true, false, List, [], ◌∷◌, ◌++◌, length, map, get_or, bytes_eq, Option, Some, None, option_map, unwrap_or, refl, sym, ap, subst, ◌∙◌, arith, arith, below_more, zero-add}
 use Rattle.std.specs.Prelude.{find, slice_get, IsPermutation}
 use Rattle.std.specs.List.{AllByRecursion, AllZip, All, IsDistinct, position_or_len, range_with_len}
 use Rattle.std.specs.List.Sorted.{IsStrictlySortedBy}
-use Rattle.std.specs.Ordering.{nat_cmp, is_eq, ordering_reverse, ordering_then}
-use Rattle.std.specs.Cmp.{IsTotalOrder, nat_cmp_is}
+use Rattle.std.specs.Ordering.{nat_cmp, is_eq, ordering_reverse}
 use Rattle.std.specs.declared.cmp.Ordering.{Ordering}
 use Rattle.std.specs.declared.cmp.Ordering.TheVariants.{Less, Equal, Greater}
 use Rattle.std.specs.Cmp.Lexicographic.{slice_cmp}
 use Rattle.std.specs.Int.Digits.{digits_of}
 use Rattle.std.proofs.lemmas.Bool.{cases_lt}
-use Rattle.std.proofs.lemmas.Cmp.{nat_cmp_total, nat_list_cmp_total, on_total, then_total}
+use Rattle.std.proofs.lemmas.Cmp.{nat_list_cmp_total}
 use Rattle.std.proofs.lemmas.Option.{none-some, same_Some, slice_get-get_or}
 use Rattle.std.proofs.lemmas.Slice.Eq.{bytes_eq-Decides}
 use Rattle.std.proofs.lemmas.Grind.{get_or_default_zero}
@@ -24,30 +23,7 @@ use Rattle.vcd_model.specs.Declarations.{IdCode, has_text}
 use Rattle.vcd_view.specs.declared.view.Code.{Code}
 use Rattle.vcd_view.specs.Views.{IsCode, IsIndex, code_text}
 use Rattle.vcd_view.specs.Finds.{Finds}
-use Rattle.vcd_view.specs.Keys.{code_cmp, key_in}
 use Rattle.vcd_view.proofs.ListLemmas.{slice_get-seam, bytes_flip, to_all}
-
--- ---- the order of codes
-
-pub code_cmp_total : IsTotalOrder code_cmp
-code_cmp_total = then_total (on_total key_in nat_cmp_total) nat_list_cmp_total
-
-pub is_eq-code_cmp : (x y : List ℕ) → is_eq (code_cmp x y) ≡ bytes_eq x y
-is_eq-code_cmp x y = by_number (nat_cmp (key_in x) (key_in y)) refl
-  where
-    apart : (o : Ordering) → nat_cmp (key_in x) (key_in y) ≡ o → is_eq o ≡ false → false ≡ bytes_eq x y
-    apart o e other = by_bytes (bytes_eq x y) refl
-      where
-        by_bytes : (b : Bool) → bytes_eq x y ≡ b → false ≡ b
-        by_bytes false f = refl
-        by_bytes true f =
-            let same = nat_cmp_is (key_in x) (key_in y) Equal (ap key_in ((bytes_eq-Decides x y).0 f)) in
-            sym other ∙ ap is_eq (sym e ∙ sym same)
-
-    by_number : (o : Ordering) → nat_cmp (key_in x) (key_in y) ≡ o → is_eq (ordering_then o (slice_cmp nat_cmp x y)) ≡ bytes_eq x y
-    by_number Equal e = is_eq-slice_cmp x y
-    by_number Less e = apart Less e refl
-    by_number Greater e = apart Greater e refl
 
 -- ---- the codes of a view
 
@@ -89,7 +65,7 @@ pub distinct : (ks : List IdCode) (index : List ℕ) → IsIndex ks index → Is
 distinct ks index h =
     let texts = map (λ (k : IdCode). k.text) ks in
     let moved : IsPermutation texts (map (code_text ks) index) = subst (λ l. IsPermutation l (map (code_text ks) index)) (texts_range [] ks) (IsPermutation-map (code_text ks) (range_with_len 0 (length ks)) index h.places) in
-    let apart : IsDistinct bytes_eq (map (code_text ks) index) = subst (λ e. IsDistinct e (map (code_text ks) index)) (λ j x y. is_eq-code_cmp x y j) (IsDistinct-from_sorted code_cmp (map (code_text ks) index) h.rising) in
+    let apart : IsDistinct bytes_eq (map (code_text ks) index) = subst (λ e. IsDistinct e (map (code_text ks) index)) (λ j x y. is_eq-slice_cmp x y j) (IsDistinct-from_sorted (slice_cmp nat_cmp) (map (code_text ks) index) h.rising) in
     IsDistinct-IsPermutation bytes_eq bytes_flip (map (code_text ks) index) texts (IsPermutation-sym texts (map (code_text ks) index) moved) apart
 
 -- a code with this text is the first with it
@@ -130,7 +106,7 @@ none_with (k ∷ ks) t h = rw (h 0 (omega arith)) (none_with ks t (λ p l. h (su
 
 -- the order of the code that the index has at a place and the one that is looked up
 abbrev pub order_at : List IdCode → List ℕ → List ℕ → ℕ → Ordering
-order_at ks index t i = code_cmp (code_text ks (get_or index i 0)) t
+order_at ks index t i = slice_cmp nat_cmp (code_text ks (get_or index i 0)) t
 
 -- what is looked up lies between: it comes behind all below `low`, and before all from `high` on
 pub record IsBetween (ks : List IdCode) (index : List ℕ) (t : List ℕ) (low high : ℕ) : Type 0 where
@@ -146,14 +122,14 @@ place_below ks index i h l = All-permutation (λ p. p < length ks) (range_with_l
     in_range : All (λ p. p < length ks) (range_with_len 0 (length ks))
     in_range k d b = let n = length-range_with_len 0 (length ks) in let l : k < length ks = omega arith in omega (arith, get_or-range_with_len 0 (length ks) k d l)
 
-sorted_at : (xs : List (List ℕ)) (i j : ℕ) (d : List ℕ) → IsStrictlySortedBy code_cmp xs → i < j → j < length xs → code_cmp (get_or xs i d) (get_or xs j d) ≡ Less
+sorted_at : (xs : List (List ℕ)) (i j : ℕ) (d : List ℕ) → IsStrictlySortedBy (slice_cmp nat_cmp) xs → i < j → j < length xs → slice_cmp nat_cmp (get_or xs i d) (get_or xs j d) ≡ Less
 unfolding IsStrictlySortedBy
 sorted_at [] i j d s a b = absurd (omega arith)
 sorted_at (x ∷ xs) i zero d s a b = absurd (omega arith)
-sorted_at (x ∷ xs) zero (suc j) d s a b = to_all (λ y. code_cmp x y ≡ Less) xs s.0 j d (omega arith)
+sorted_at (x ∷ xs) zero (suc j) d s a b = to_all (λ y. slice_cmp nat_cmp x y ≡ Less) xs s.0 j d (omega arith)
 sorted_at (x ∷ xs) (suc i) (suc j) d s a b = sorted_at xs i j d s.1 (omega arith) (omega arith)
 
-rises : (ks : List IdCode) (index : List ℕ) (i j : ℕ) → IsIndex ks index → i < j → j < length index → code_cmp (code_text ks (get_or index i 0)) (code_text ks (get_or index j 0)) ≡ Less
+rises : (ks : List IdCode) (index : List ℕ) (i j : ℕ) → IsIndex ks index → i < j → j < length index → slice_cmp nat_cmp (code_text ks (get_or index i 0)) (code_text ks (get_or index j 0)) ≡ Less
 rises ks index i j h a b =
     let n = length-map index (code_text ks) in
     let l : i < length index = omega arith in
@@ -164,7 +140,7 @@ between_all ks index t = record { below = λ i l. absurd (omega arith); above = 
 
 pub between_above : (ks : List IdCode) (index t : List ℕ) (low high m : ℕ) → IsIndex ks index → IsBetween ks index t low high → m < length index → order_at ks index t m ≡ Less → IsBetween ks index t (m + 1) high
 between_above ks index t low high m h b l e = record {
-  below = below_more (λ i. order_at ks index t i ≡ Less) m (λ i a. code_cmp_total.trans (code_text ks (get_or index i 0)) (code_text ks (get_or index m 0)) t (rises ks index i m h a l) e) e;
+  below = below_more (λ i. order_at ks index t i ≡ Less) m (λ i a. nat_list_cmp_total.trans (code_text ks (get_or index i 0)) (code_text ks (get_or index m 0)) t (rises ks index i m h a l) e) e;
   above = b.above;
 }
 
@@ -175,11 +151,11 @@ between_below ks index t low high m h b e = record {
 }
   where
     greater : (i : ℕ) → (m < i) ⊎ (i ≤ m) → m ≤ i → i < length index → order_at ks index t i ≡ Greater
-    greater i (inl a) q l = code_cmp_total.antisymm (code_text ks (get_or index i 0)) t ∙ ap ordering_reverse (code_cmp_total.trans t (code_text ks (get_or index m 0)) (code_text ks (get_or index i 0)) (code_cmp_total.antisymm t (code_text ks (get_or index m 0)) ∙ ap ordering_reverse e) (rises ks index m i h a l))
+    greater i (inl a) q l = nat_list_cmp_total.antisymm (code_text ks (get_or index i 0)) t ∙ ap ordering_reverse (nat_list_cmp_total.trans t (code_text ks (get_or index m 0)) (code_text ks (get_or index i 0)) (nat_list_cmp_total.antisymm t (code_text ks (get_or index m 0)) ∙ ap ordering_reverse e) (rises ks index m i h a l))
     greater i (inr a) q l = let same : m ≡ i = omega arith in subst (λ x. order_at ks index t x ≡ Greater) same e
 
-apart_from : (x t : List ℕ) (o : Ordering) → code_cmp x t ≡ o → is_eq o ≡ false → bytes_eq t x ≡ false
-apart_from x t o e d = bytes_flip t x ∙ sym (is_eq-code_cmp x t) ∙ ap is_eq e ∙ d
+apart_from : (x t : List ℕ) (o : Ordering) → slice_cmp nat_cmp x t ≡ o → is_eq o ≡ false → bytes_eq t x ≡ false
+apart_from x t o e d = bytes_flip t x ∙ sym (is_eq-slice_cmp x t) ∙ ap is_eq e ∙ d
 
 -- where nothing is left between, no code has the text
 pub none_between : (ks : List IdCode) (index t : List ℕ) (low : ℕ) → IsIndex ks index → IsBetween ks index t low low → Finds ks t None
@@ -196,7 +172,7 @@ pub found_equal : (ks : List IdCode) (index t : List ℕ) (m : ℕ) → IsIndex 
 found_equal ks index t m h l e =
     let p = get_or index m 0 in
     let there = slice_get-get_or ks p none (place_below ks index m h l) in
-    let same : bytes_eq (code_text ks p) t ≡ true = sym (is_eq-code_cmp (code_text ks p) t) ∙ ap is_eq e in
+    let same : bytes_eq (code_text ks p) t ≡ true = sym (is_eq-slice_cmp (code_text ks p) t) ∙ ap is_eq e in
     found_at ks index t p (get_or ks p none) h there (sym ((bytes_eq-Decides (code_text ks p) t).0 same) ∙ text_at ks p (get_or ks p none) there)
   where
     none : IdCode

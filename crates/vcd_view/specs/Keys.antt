@@ -1,9 +1,6 @@
 -- The numbers that short codes are compared by.
 use Rattle.std.specs.Prelude.{ℕ, ◌<◌, ◌+◌, ◌*◌, nat_le, cond, List, [], ◌∷◌, length}
 use Rattle.std.specs.List.{AllByRecursion}
-use Rattle.std.specs.Cmp.Lexicographic.{slice_cmp}
-use Rattle.std.specs.Ordering.{nat_cmp, then_cmp}
-use Rattle.std.specs.declared.cmp.Ordering.{Ordering}
 
 -- each is a byte
 abbrev pub AreBytes : List ℕ → Type 0
@@ -18,7 +15,3 @@ packed (b ∷ bs) = packed bs * 256 + b
 -- the number of a code of at most 7 bytes, 0 for a longer one
 abbrev pub key_in : List ℕ → ℕ
 key_in code = cond (nat_le (length code) 7) (packed code) 0
-
--- the order of codes: by their numbers, and where these are the same by their bytes
-abbrev pub code_cmp : List ℕ → List ℕ → Ordering
-code_cmp = then_cmp (λ a b. nat_cmp (key_in a) (key_in b)) (slice_cmp nat_cmp)

@@ -1,6 +1,8 @@
 -- What the clauses of this crate speak of, under one path: of the crates below, and what several of
 -- its modules share.
+pub use Rattle.std.specs.Cmp.Lexicographic.{slice_cmp}
 pub use Rattle.std.specs.List.{AllByRecursion}
+pub use Rattle.std.specs.Ordering.{nat_cmp}
 pub use Rattle.vcd_model.specs.Bound.{room_of}
 pub use Rattle.vcd_model.specs.Declarations.{IdCode, name_of, parent}
 pub use Rattle.vcd_model.specs.HeadText.{exponent, new_code}
@@ -9,7 +11,7 @@ pub use Rattle.vcd_model.specs.Keywords.{keyword_of}
 pub use Rattle.vcd_text.specs.Device.{Puts}
 pub use Rattle.vcd_view.specs.Entries.{HasEntry, IsAt, above, are_right, beside, entry_after, entry_in, most_of, number_in, place_told, told_by}
 pub use Rattle.vcd_view.specs.Finds.{AreFew, Finds, IsSized}
-pub use Rattle.vcd_view.specs.Keys.{AreBytes, code_cmp, key_in}
+pub use Rattle.vcd_view.specs.Keys.{AreBytes, key_in}
 pub use Rattle.vcd_view.specs.Keywords.{model_keyword}
 pub use Rattle.vcd_view.specs.Needs.{room, value_bytes}
 pub use Rattle.vcd_view.specs.NewCode.{digits_of}

@@ -1,5 +1,7 @@
 -- When a view shows a header.
 use Rattle.std.specs.Prelude.{◌≡◌, ◌≢◌, ℕ, suc, ◌+◌, ◌*◌, ◌<◌, ◌≤◌, List, [], ◌∷◌, ◌++◌, length, map, bytes_eq, Option, Some, None, unwrap_or, option_map, slice_get, slice_range, IfSome, ℤ, pos, negsuc, IsPermutation}
+use Rattle.std.specs.Ordering.{nat_cmp}
+use Rattle.std.specs.Cmp.Lexicographic.{slice_cmp}
 use Rattle.std.specs.List.{AllByRecursion, AllZip, IsDistinct, join_with_byte, range_with_len}
 use Rattle.std.specs.List.Sorted.{IsStrictlySortedBy}
 use Rattle.vcd_model.specs.Declarations.{Declaration, IdCode, code_of, first_token, parent}
@@ -9,7 +11,7 @@ use Rattle.vcd_view.specs.declared.view.Kind.TheVariants as kind
 use Rattle.vcd_view.specs.declared.view.Row.{Row}
 use Rattle.vcd_view.specs.declared.view.Code.{Code}
 use Rattle.vcd_view.specs.declared.view.Scale.{Scale}
-use Rattle.vcd_view.specs.Keys.{AreBytes, code_cmp}
+use Rattle.vcd_view.specs.Keys.{AreBytes}
 use Rattle.vcd_view.specs.Shown.{HeadShown, parts}
 use Rattle.vcd_view.specs.declared.view.HeadView.{HeadView}
 
@@ -65,11 +67,11 @@ pub record AreHeld (text : List ℕ) (list : List Code) (cs : List IdCode) : Typ
 abbrev pub code_text : List IdCode → ℕ → List ℕ
 code_text codes p = unwrap_or (option_map (λ c. c.text) (slice_get codes p)) []
 
--- the place of each code once, in rising order of their numbers, and of their bytes where these are
--- the same
+-- the place of each code once, in rising order of their bytes: the first bytes that differ decide,
+-- and a code comes before those that it begins
 pub record IsIndex (codes : List IdCode) (index : List ℕ) : Type 0 where
   pub places : IsPermutation (range_with_len 0 (length codes)) index
-  pub rising : IsStrictlySortedBy code_cmp (map (code_text codes) index)
+  pub rising : IsStrictlySortedBy (slice_cmp nat_cmp) (map (code_text codes) index)
 
 -- the type of a scope or a variable
 abbrev pub type_of : Declaration → List ℕ

@@ -1,7 +1,7 @@
 //! The header of a dump as slices and numbers, and the look-up of its codes.
 //!
 //! A `HeadView` is slices that may be copied: the declarations as rows, the distinct codes, the
-//! order of their numbers, and entries that lead to them. Its methods read rows, texts and codes;
+//! order of their bytes, and entries that lead to them. Its methods read rows, texts and codes;
 //! `find` looks a code up. Who reads a header makes one, and who reads a body needs no more of the
 //! header than this. No memory is taken.
 //!

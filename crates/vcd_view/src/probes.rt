@@ -1,9 +1,8 @@
 // Comparisons of codes, counted.
 ghost use Rattle.std.specs.Prelude.{◌≡◌, ℕ, ◌+◌};
-ghost use Rattle.vcd_view.specs.Names.{code_cmp};
+ghost use Rattle.vcd_view.specs.Names.{nat_cmp, slice_cmp};
 ghost use base.Fml.{ftrue};
 
-use crate::key::key_of;
 use std::cmp::Ordering;
 use std::marker::{Model, PhantomData};
 
@@ -37,16 +36,13 @@ impl Probes {
         }
     }
 
-    /// Compares two codes by their numbers, and by their bytes where these are the same.
+    /// Compares two codes by their bytes: the first that differ decide, and a code comes before
+    /// those that it begins.
     pub fn probe(&mut self, code: &[u8], other: &[u8]) -> Ordering
-        ensures order { result ≡ code_cmp code.now other.now }
+        ensures order { result ≡ slice_cmp nat_cmp code.now other.now }
         ensures counted { self.new.count ≡ self.old.count + 1 }
     {
         *self = self.after_one();
-        match key_of(code).cmp(&key_of(other)) {
-            Ordering::Less => Ordering::Less,
-            Ordering::Greater => Ordering::Greater,
-            Ordering::Equal => code.cmp(other),
-        }
+        code.cmp(other)
     }
 }

@@ -74,8 +74,7 @@ pub struct HeadView<'a> {
     pub rows: &'a [Row],
     /// The distinct codes, in order of first declaration.
     pub codes: &'a [Code],
-    /// The places of the codes, in rising order of their numbers (`key_of`), and of their bytes
-    /// where these are the same.
+    /// The places of the codes, in rising order of their bytes.
     pub index: &'a [usize],
     /// Codes by their numbers and hashes, which only serve look-ups: a power of two of entries, up
     /// to three for each code.

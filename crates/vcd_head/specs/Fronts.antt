@@ -1,0 +1,49 @@
+-- The order of codes by their bytes, and the numbers that decide most of it.
+use Rattle.std.specs.Prelude.{◌≡◌, ℕ, zero, suc, ◌+◌, ◌*◌, ◌%◌, ◌<◌, ◌≤◌, List, [], length, get_or, map, slice_get, option_map, unwrap_or}
+use Rattle.std.specs.List.{AllByRecursion, range_with_len}
+use Rattle.std.specs.Ordering.{nat_cmp, then_cmp}
+use Rattle.std.specs.declared.cmp.Ordering.{Ordering}
+use Rattle.std.specs.Cmp.Lexicographic.{slice_cmp}
+use Rattle.vcd_view.specs.declared.view.Code.{Code}
+use Rattle.vcd_head.specs.declared.index.Front.{Front}
+use Rattle.vcd_view.specs.Entries.{text_in}
+
+-- the bytes of the code at a place
+abbrev pub bytes_at : List ℕ → List Code → ℕ → List ℕ
+bytes_at text codes p = unwrap_or (option_map (λ (c : Code). text_in text c.start c.len) (slice_get codes p)) []
+
+-- so many first bytes as the digits of a number, the first one highest, with zeros behind them
+abbrev pub front_in : ℕ → List ℕ → ℕ
+front_in zero bs = 0
+front_in (suc n) bs = front_in n bs * 256 + get_or bs n 0
+
+-- the order by the first bytes, and then by all
+abbrev pub order_of : List ℕ → List Code → Front → Front → Ordering
+order_of text codes = then_cmp (λ a b. nat_cmp a.number b.number) (λ a b. slice_cmp nat_cmp (bytes_at text codes a.place) (bytes_at text codes b.place))
+
+-- a front for each code, in order
+pub record AreFronts (text : List ℕ) (codes : List Code) (fronts : List Front) : Type 0 where
+  pub places : map (λ f. f.place) fronts ≡ range_with_len 0 (length codes)
+  pub numbers : AllByRecursion (λ f. f.number ≡ front_in 8 (bytes_at text codes f.place)) fronts
+
+-- the codes have at most four bytes
+abbrev pub AreShort : List ℕ → List Code → Type 0
+AreShort text codes = (p : ℕ) → p < length codes → length (bytes_at text codes p) ≤ 4
+
+-- at most four bytes, their number and a place as one number
+abbrev pub rank_of : List ℕ → ℕ → ℕ
+rank_of bs p = (front_in 4 bs * 8 + length bs) * 16777216 + p
+
+-- that of the code at a place
+abbrev pub rank_in : List ℕ → List Code → ℕ → ℕ
+rank_in text codes p = rank_of (bytes_at text codes p) p
+
+-- a rank for each code, in order, which has all of its bytes and its place
+pub record AreRanks (text : List ℕ) (codes : List Code) (ranks : List ℕ) : Type 0 where
+  pub few : length codes ≤ 16777216
+  pub short : AreShort text codes
+  pub numbers : ranks ≡ map (rank_in text codes) (range_with_len 0 (length codes))
+
+-- the place that a rank ends with
+abbrev pub place_in_rank : ℕ → ℕ
+place_in_rank r = r % 16777216
