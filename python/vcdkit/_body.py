@@ -85,17 +85,22 @@ def changes(out: BinaryIO, signal: Signal, digits: bool, numpy):
     skip_header(out)
     if numpy and not digits and not signal.is_real and signal.size <= 64:
         return _by_arrays(out, signal, numpy)
-    times, values = [], []
-    for time, found in steps(out):
-        times += [time] * len(found)
-        values += [text for _, text in found]
-    seen = {text: value(text, signal) for text in set(values)}
+    times, lines, now = [], [], 0
+    for line in out:
+        first = line[:1]
+        if first == b"#":
+            now = int(line[1:])
+        elif first != b"$":
+            times.append(now)
+            lines.append(line)
+    seen = {line: value(line.split(b" ")[0].lstrip(b"b") if line[:1] in b"br" else line[:1], signal)
+            for line in set(lines)}
     if signal.is_real:  # a dump may give it digits too
-        seen = {text: float("nan" if number(one) is None else number(one))
-                for text, one in seen.items()}
+        seen = {line: float("nan" if number(one) is None else number(one))
+                for line, one in seen.items()}
     elif not digits and signal.size <= 64:
-        seen = {text: number(one) for text, one in seen.items()}
-    values = [seen[text] for text in values]
+        seen = {line: number(one) for line, one in seen.items()}
+    values = [seen[line] for line in lines]
     if numpy:
         times = numpy.array(times, dtype=numpy.uint64)
         values = numpy.array(values, dtype=float) if signal.is_real else values
