@@ -111,6 +111,9 @@ if [[ -n $relink ]] && command -v cc > /dev/null; then
 fi
 
 if [[ -e $top/vcdkit-static ]]; then
+    # The time that the files have: there may be a commit since then.
+    SOURCE_DATE_EPOCH=$(stat -c %Y vcdkit)
+    export SOURCE_DATE_EPOCH
     tries 'packing again, in another folder and at another umask' bash -c 'umask 077 &&
         "$1/packaging/dist.sh" "$1/vcdkit-static" "$2/again" $3' - "$top" "$folder" \
         "$(ls "$unpacked/libvcdkit.so" 2> /dev/null)"
