@@ -1,5 +1,5 @@
 -- How the calls that build an argument or a command change what a parse reads of it.
-use Rattle.std.proofs.Common.{◌≡◌, ◌∙◌, ℕ, Bool, true, Option, Some, ap, ap₂}
+use Rattle.std.proofs.Common.{◌≡◌, ◌∙◌, ◌∷◌, [], ℕ, Bool, true, Option, Some, ap, ap₂}
 use Rattle.std.specs.Borrow.{Bor}
 use Rattle.clap.specs.Simple.{app_of_fields}
 use Rattle.clap.specs.Words.{AddsArg, App, Rule, Text, rule_of, with_rule}
@@ -31,6 +31,14 @@ module _ (old new : Arg) (r : Rule) (before : IsLocal old r) where
   -- whether it has to be there
   pub with_required : (required : Bool) → new ≡ record old { required = required } → IsLocal new (record r { required = required })
   with_required required e = (ap rule_of e ∙ ap (λ (r : Rule). record r { required = required }) before.0, ap (λ (a : Arg). a.global) e ∙ before.1)
+
+  -- the word that stands where there is none
+  pub with_default : (word : Bor Text) → new ≡ record old { default_vals = One word } → IsLocal new (record r { defaults = word.now ∷ [] })
+  with_default word e = (ap rule_of e ∙ ap (λ (r : Rule). record r { defaults = word.now ∷ [] }) before.0, ap (λ (a : Arg). a.global) e ∙ before.1)
+
+  -- whether help shows that word, which no parse reads
+  pub with_hidden_default : (hidden : Bool) → new ≡ record old { hide_default_value = hidden } → IsLocal new r
+  with_hidden_default hidden e = (ap rule_of e ∙ before.0, ap (λ (a : Arg). a.global) e ∙ before.1)
 
   -- its help, which no parse reads
   pub with_help : (text : Bor Text) → new ≡ record old { help = Some text } → IsLocal new r

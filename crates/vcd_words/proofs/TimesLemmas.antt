@@ -1,5 +1,5 @@
 -- Words that are times, one after the other, and their order.
-use Rattle.std.proofs.Common.{◌≡◌, ℕ, suc, ◌+◌, ◌<◌, Bool, true, false, not, cond, ◌&&◌, ◌||◌, ◌==◌, nat_lt, is_some, vec_len, List, [], ◌∷◌, ◌++◌, length, map, filter_map, get_or, take, drop, take-append-drop, Option, Some, None, option_map, Result, Ok, Err, refl, sym, ap, ◌∙◌, arith}
+use Rattle.std.proofs.Common.{◌≡◌, ℕ, suc, ◌<◌, Bool, true, false, not, cond, ◌&&◌, ◌||◌, ◌==◌, nat_lt, is_some, vec_len, List, [], ◌∷◌, ◌++◌, length, map, filter_map, get_or, take, drop, take-append-drop, Option, Some, None, option_map, Result, Ok, Err, refl, sym, ap, ◌∙◌, arith}
 use Rattle.std.specs.Char.{is_ascii_digit}
 use Rattle.std.specs.List.{cons_option, take_while}
 use Rattle.std.proofs.lemmas.List.{length-map}

@@ -1,5 +1,5 @@
 -- The words of the command line: how they are read, and what they ask for.
-use Rattle.std.specs.Prelude.{◌≡◌, ℕ, Bool, true, false, cond, List, [], map, codes, Option, Some, None, option_map, option_and_then, unwrap_or, Result, Ok, Err, IfErr, IfOk}
+use Rattle.std.specs.Prelude.{◌≡◌, ℕ, Bool, true, false, cond, List, [], ◌∷◌, map, codes, Option, Some, None, option_map, option_and_then, unwrap_or, Result, Ok, Err, IfErr, IfOk}
 use Rattle.std.specs.Borrow.{Bor}
 use Rattle.std.specs.Str.{bytes_eq}
 use Rattle.clap.specs.Lexer.{usize_max}
@@ -41,26 +41,37 @@ limit_rule = record (new_rule (codes "token-limit")) { long = Some (codes "token
 abbrev pub names_rule : Bool → Rule
 names_rule required = record (new_rule (codes "names")) { range = Some (record { start_inclusive = 1; end_inclusive = usize_max }); value_names = 1; required = required }
 
--- an option of this name, which has to be there, for times; which texts are times is no matter of
--- the parse
+-- an option of this name for times; which texts are times is no matter of the parse
 abbrev pub time_rule : Text → Rule
-time_rule name = record (new_rule name) { long = Some name; value_names = 1; required = true }
+time_rule name = record (new_rule name) { long = Some name; value_names = 1 }
 
 -- a command of this name over one input
 abbrev pub one_input_app : Text → App
 one_input_app name = with_rule (with_rule (new_app name) input_rule) limit_rule
 
--- the same with names
+-- `FILE` without `-i`: one argument with it, by its id, so that only one of them may be there
+abbrev pub file_rule : Rule
+file_rule = record (new_rule (codes "input")) { value_names = 1 }
+
+-- a command of this name over one input, with its file after `-i` or without it
+abbrev pub alone_app : Text → App
+alone_app name = with_rule (one_input_app name) file_rule
+
+-- a command of this name over one input, with names
 abbrev pub named_app : Text → Bool → App
 named_app name required = with_rule (one_input_app name) (names_rule required)
 
--- `cut`, with `--from N` and `--to N`
-abbrev pub cut_app : App
-cut_app = with_rule (with_rule (one_input_app (codes "cut")) (time_rule (codes "from"))) (time_rule (codes "to"))
+-- the same, with this word where there is none
+abbrev pub time_or_rule : (name word : Text) → Rule
+time_or_rule name word = record (time_rule name) { defaults = word ∷ [] }
 
--- `sample`, with `--at N,N,..`, and with names or without
+-- `cut`, with `--from N` and `--to N`: without them from time 0 to the greatest time
+abbrev pub cut_app : App
+cut_app = with_rule (with_rule (alone_app (codes "cut")) (time_or_rule (codes "from") (codes "0"))) (time_or_rule (codes "to") (codes "18446744073709551615"))
+
+-- `sample`, with `--at N,N,..`, which has to be there, and with names or without
 abbrev pub sample_app : App
-sample_app = with_rule (named_app (codes "sample") false) (time_rule (codes "at"))
+sample_app = with_rule (named_app (codes "sample") false) (record (time_rule (codes "at")) { required = true })
 
 -- `FILE..`, which have to be there
 abbrev pub files_rule : Rule
@@ -79,7 +90,7 @@ bare_app =
 -- `vcdkit` with its commands
 abbrev pub program_app : App
 program_app =
-    with_subcommand (with_subcommand (with_subcommand (with_subcommand (with_subcommand (with_subcommand (with_subcommand bare_app (one_input_app (codes "check")).top) (one_input_app (codes "list")).top)
+    with_subcommand (with_subcommand (with_subcommand (with_subcommand (with_subcommand (with_subcommand (with_subcommand bare_app (alone_app (codes "check")).top) (alone_app (codes "list")).top)
     (named_app (codes "pick") true).top) cut_app.top) sample_app.top) (named_app (codes "edges") false).top) merge_app.top
 
 -- help and the version are no fault, and out of memory has a status of its own
@@ -103,7 +114,7 @@ values_after matches id = unwrap_or (option_and_then (λ used. all_of id used.1)
 abbrev pub some_of : List Text → Option (List Text)
 some_of words = cond (is_empty words) None (Some words)
 
--- the file that the matches name, none where standard input is read
+-- the word for a file that the matches have, none where standard input is read
 abbrev pub input_asked : ArgMatches → Option Text
 input_asked matches = word_after matches (codes "input")
 

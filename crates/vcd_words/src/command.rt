@@ -1,6 +1,6 @@
 //! The command line: which words it takes, and the exit status where it takes none.
 ghost use Rattle.std.specs.Prelude.{◌≡◌, IfOk};
-ghost use Rattle.vcd_words.specs.Names.{cut_app, IsLocal, IsWhole, kind_of, limit_rule, merge_app, named_app, new_app, one_input_app, parse_status_of, program_app, sample_app, time_rule};
+ghost use Rattle.vcd_words.specs.Names.{alone_app, cut_app, IsLocal, IsWhole, kind_of, limit_rule, merge_app, named_app, new_app, one_input_app, parse_status_of, program_app, sample_app, time_rule};
 
 use crate::help;
 use crate::help::Help;
@@ -32,17 +32,30 @@ fn new_command<'a>(alloc: Global, name: &'a str, help: Help<'a>) -> Command<'a>
 fn one_input<'a>(alloc: Global, name: &'a str, help: Help<'a>) -> Result<Command<'a>, AllocError>
     ensures { IfOk result (λ command. IsWhole command (one_input_app name.entry.now)) }
 {
-    let input = Arg::new(alloc, "input")
-        .short('i')
-        .value_name("FILE")
-        .help("Reads this file in place of standard input");
+    let input = Arg::new(alloc, "input").short('i').value_name("FILE").help(
+        "Reads this file in place of standard input; - is standard input",
+    );
     new_command(alloc, name, help)
         .arg(input)?
         .arg(token_limit(alloc))
 }
 
+/// Returns a command over one input that takes no names: its file may stand without `-i`.
+// Both forms have one id, so they are one argument, which may be given once. `conflicts_with` would
+// refuse both forms together too, but over arguments with such rules `clap` does not say which
+// words it takes.
+fn alone<'a>(alloc: Global, name: &'a str, help: Help<'a>) -> Result<Command<'a>, AllocError>
+    ensures { IfOk result (λ command. IsWhole command (alone_app name.entry.now)) }
+{
+    let file = Arg::new(alloc, "input")
+        .value_name("FILE")
+        .help("The dump; the same as -i FILE");
+    one_input(alloc, name, help)?.arg(file)
+}
+
 /// Returns a command over one input, with its options and names of variables, without which the
-/// parse fails where they are required.
+/// parse fails where they are required. A word without an option is a name here, so the file stands
+/// after `-i`.
 fn named<'a>(
     alloc: Global,
     name: &'a str,
@@ -55,22 +68,22 @@ fn named<'a>(
         .value_name("NAME")
         .num_args(1..)
         .required(required)
-        .help("A variable, or a scope with all that it has: names joined by points");
+        .help("A variable, or a scope with all that it has: names joined by dots");
     one_input(alloc, name, help)?.arg(names)
 }
 
-/// Returns an option for times, without which the parse fails.
+/// Returns an option for times.
 fn time<'a>(alloc: Global, name: &'a str, value_name: &'a str, help: &'a str) -> Arg<'a>
     ensures { IsLocal result (time_rule name.entry.now) }
 {
     Arg::new(alloc, name)
         .long(name)
         .value_name(value_name)
-        .required(true)
         .help(help)
 }
 
-/// Returns the command `cut`, with its options and both of its times.
+/// Returns the command `cut`, with its options and both of its times. Without them it begins at
+/// time 0, and goes to the end, since no time is above its last one.
 fn cut<'a>(alloc: Global) -> Result<Command<'a>, AllocError>
     ensures { IfOk result (λ command. IsWhole command cut_app) }
 {
@@ -79,12 +92,21 @@ fn cut<'a>(alloc: Global) -> Result<Command<'a>, AllocError>
         "from",
         "N",
         "The first time: a number of ticks, or of s, ms, us, ns, ps or fs, as 15ns",
-    );
-    let to = time(alloc, "to", "N", "The last time, as the first");
-    one_input(alloc, "cut", help::CUT)?.arg(from)?.arg(to)
+    )
+    .default_value("0");
+    let to = time(
+        alloc,
+        "to",
+        "N",
+        "The last time, as the first [default: the end]",
+    )
+    .default_value("18446744073709551615")
+    .hide_default_value(true);
+    alone(alloc, "cut", help::CUT)?.arg(from)?.arg(to)
 }
 
-/// Returns the command `sample`, with its options, its times and names of variables.
+/// Returns the command `sample`, with its options, its times, without which the parse fails, and
+/// names of variables.
 fn sample<'a>(alloc: Global) -> Result<Command<'a>, AllocError>
     ensures { IfOk result (λ command. IsWhole command sample_app) }
 {
@@ -93,7 +115,8 @@ fn sample<'a>(alloc: Global) -> Result<Command<'a>, AllocError>
         "at",
         "N,N,..",
         "The times, which rise: numbers of ticks, or of s, ms, us, ns, ps or fs, as 5ns,15ns",
-    );
+    )
+    .required(true);
     named(alloc, "sample", help::SAMPLE, false)?.arg(at)
 }
 
@@ -105,7 +128,7 @@ fn merge<'a>(alloc: Global) -> Result<Command<'a>, AllocError>
         .value_name("FILE")
         .num_args(1..)
         .required(true)
-        .help("A dump; of several, the changes are merged in the order of their times");
+        .help("A dump, - is standard input; the changes of all are merged in the order of time");
     new_command(alloc, "merge", help::MERGE)
         .arg(token_limit(alloc))?
         .arg(files)
@@ -115,13 +138,13 @@ fn merge<'a>(alloc: Global) -> Result<Command<'a>, AllocError>
 pub fn command_of<'a>(alloc: Global) -> Result<Command<'a>, AllocError>
     ensures { IfOk result (λ command. IsWhole command program_app) }
 {
-    let check = one_input(alloc, "check", help::CHECK)?;
+    let check = alone(alloc, "check", help::CHECK)?;
     let program = new_command(alloc, "vcdkit", help::PROGRAM)
         .version("0.1.0")
         .subcommand_required(true)
         .disable_help_subcommand(true)
         .subcommand(check)?;
-    let list = one_input(alloc, "list", help::LIST)?;
+    let list = alone(alloc, "list", help::LIST)?;
     let program = program.subcommand(list)?;
     let pick = named(alloc, "pick", help::PICK, true)?;
     let program = program.subcommand(pick)?;

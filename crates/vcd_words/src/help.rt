@@ -11,10 +11,10 @@ pub struct Help<'a> {
 
 pub const CHECK: Help<'static> = Help {
     about: "Checks a dump and counts what it has",
-    usage: "vcdkit check -i FILE [--token-limit N]
+    usage: "vcdkit check [--token-limit N] FILE
        vcdkit check [--token-limit N] < FILE",
     after: "Examples:
-  vcdkit check -i sim.vcd
+  vcdkit check sim.vcd
   gzip -dc sim.vcd.gz | vcdkit check
 
 Exit status:
@@ -25,16 +25,16 @@ Exit status:
 
 A dump has no end mark: one that was cut off between two lines is valid too. The line 'last' shows
 whether a simulation came to its end. Let a CI job ask for the time that must be reached:
-  vcdkit check -i sim.vcd | awk '$1 == \"last\" && $2 >= 1220 { ok = 1 } END { exit !ok }'",
+  vcdkit check sim.vcd | awk '$1 == \"last\" && $2 >= 1220 { ok = 1 } END { exit !ok }'",
 };
 
 pub const LIST: Help<'static> = Help {
     about: "Lists the variables of a dump",
-    usage: "vcdkit list -i FILE [--token-limit N]
+    usage: "vcdkit list [--token-limit N] FILE
        vcdkit list [--token-limit N] < FILE",
     after: "Examples:
-  vcdkit list -i sim.vcd
-  vcdkit list -i sim.vcd | grep clk
+  vcdkit list sim.vcd
+  vcdkit list sim.vcd | grep clk
 
 A line has the path, the type, the size and the code of a variable. The header alone is read.
 
@@ -47,13 +47,13 @@ Exit status:
 
 pub const PICK: Help<'static> = Help {
     about: "Writes the dump of some variables",
-    usage: "vcdkit pick -i FILE [--token-limit N] NAME..
-       vcdkit pick [--token-limit N] NAME.. < FILE",
+    usage: "vcdkit pick -i FILE [--token-limit N] NAME.. > OUT
+       vcdkit pick [--token-limit N] NAME.. < FILE > OUT",
     after: "Examples:
   vcdkit pick -i sim.vcd top.clk top.cpu > some.vcd
   vcdkit pick -i sim.vcd 'top.mem[0]' | vcdkit check
 
-Names are those of vcdkit list.
+Names are those of vcdkit list. The file stands after -i: a word without it is a name.
 
 Exit status:
   0  all was written
@@ -64,13 +64,13 @@ Exit status:
 
 pub const CUT: Help<'static> = Help {
     about: "Writes the dump from one time to another",
-    usage: "vcdkit cut -i FILE --from N --to N [--token-limit N]
-       vcdkit cut --from N --to N [--token-limit N] < FILE",
+    usage: "vcdkit cut [--from N] [--to N] [--token-limit N] FILE > OUT
+       vcdkit cut [--from N] [--to N] [--token-limit N] < FILE > OUT",
     after: "Examples:
-  vcdkit cut -i sim.vcd --from 100us --to 200us > window.vcd
-  vcdkit cut -i sim.vcd --from 5000 --to 18446744073709551615    (to the end)
+  vcdkit cut --from 100us --to 200us sim.vcd > window.vcd
+  vcdkit cut --from 5000 sim.vcd > end.vcd
 
-Where the dump ends before --to, the cut ends with the last time mark of the dump, or at --from
+Where the dump ends before --to, the cut ends with the last timestamp of the dump, or at --from
 where that is later, with status 0.
 
 Exit status:
@@ -88,7 +88,8 @@ pub const SAMPLE: Help<'static> = Help {
   vcdkit sample -i sim.vcd --at 0,15ns,2us top.cpu.pc
   vcdkit sample -i sim.vcd --at 5000
 
-With no name all variables are sampled. Names are those of vcdkit list.
+With no name all variables are sampled.
+Names are those of vcdkit list. The file stands after -i: a word without it is a name.
 At a time after the end of the dump the values are the last ones, with status 0.
 
 Exit status:
@@ -106,8 +107,9 @@ pub const EDGES: Help<'static> = Help {
   vcdkit edges -i sim.vcd top.clk
   vcdkit edges -i sim.vcd | sort -k 2,2nr | head
 
-With no name all variables are counted. Names are those of vcdkit list.
-Rises and falls are those of the last digit alone, that of a vector too.
+With no name all variables are counted.
+Names are those of vcdkit list. The file stands after -i: a word without it is a name.
+Rises and falls are those of the least significant bit, for a vector too.
 
 Exit status:
   0  all was written
@@ -118,10 +120,10 @@ Exit status:
 
 pub const MERGE: Help<'static> = Help {
     about: "Writes several dumps as one",
-    usage: "vcdkit merge [--token-limit N] FILE..",
+    usage: "vcdkit merge [--token-limit N] FILE.. > OUT",
     after: "Examples:
   vcdkit merge cpu.vcd bus.vcd > both.vcd
-  gzip -dc cpu.vcd.gz | vcdkit merge /dev/stdin bus.vcd > both.vcd
+  gzip -dc cpu.vcd.gz | vcdkit merge - bus.vcd > both.vcd
 
 The variables of the first file are in the scope in1, those of the second in in2, and so on.
 
@@ -135,8 +137,9 @@ Exit status:
 pub const PROGRAM: Help<'static> = Help {
     about: "Reads value change dumps (VCD), and answers questions about them",
     usage: "vcdkit COMMAND ..",
-    after: "A command reads the dump from the file after -i, or from standard input; merge reads the
-files that it names. Each command has its own help, with examples: vcdkit check --help
+    after: "A command reads the dump from the file after -i, or from standard input. check, list and cut
+take the file without -i too, and merge reads the files that it names. Output goes to standard
+output. Each command has its own help, with examples: vcdkit check --help
 
 Man page: man vcdkit. Manual, recipes and what producers write: share/doc/vcdkit, below the prefix
 of the installation (/usr/local/share/doc/vcdkit), or docs/ of the sources.",

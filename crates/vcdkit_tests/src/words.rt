@@ -41,7 +41,7 @@ const NO_VALUE: Option<(ErrorKind, u8)> = Some((ErrorKind::InvalidValue, 2));
 const TWICE: Option<(ErrorKind, u8)> = Some((ErrorKind::ArgumentConflict, 2));
 
 // Words, the program's name first, and what their parse returns.
-const ANSWERS: [(&[&str], Option<(ErrorKind, u8)>); 44] = [
+const ANSWERS: [(&[&str], Option<(ErrorKind, u8)>); 52] = [
     // A command.
     (&["vcdkit", "check"], TAKEN),
     (&["vcdkit", "--help"], HELP),
@@ -51,7 +51,7 @@ const ANSWERS: [(&[&str], Option<(ErrorKind, u8)>); 44] = [
     (&["vcdkit"], NO_COMMAND),
     (&["vcdkit", "chek"], BAD_COMMAND),
     (&["vcdkit", "help"], BAD_COMMAND),
-    (&["vcdkit", "check", "more"], UNKNOWN),
+    (&["vcdkit", "check", "a.vcd", "b.vcd"], UNKNOWN),
     (&["vcdkit", "--more"], UNKNOWN),
     // Options of each command.
     (&["vcdkit", "list"], TAKEN),
@@ -64,6 +64,14 @@ const ANSWERS: [(&[&str], Option<(ErrorKind, u8)>); 44] = [
     (&["vcdkit", "list", "--input", "a.vcd"], UNKNOWN),
     (&["vcdkit", "-i", "a.vcd", "check"], UNKNOWN),
     (&["vcdkit", "check", "-i", "a.vcd", "-i", "b.vcd"], TWICE),
+    // A file without its option.
+    (&["vcdkit", "check", "a.vcd"], TAKEN),
+    (&["vcdkit", "check", "-"], TAKEN),
+    (&["vcdkit", "list", "--token-limit", "64", "a.vcd"], TAKEN),
+    (&["vcdkit", "list", "--", "-i"], TAKEN),
+    (&["vcdkit", "check", "-i", "a.vcd", "b.vcd"], TWICE),
+    (&["vcdkit", "check", "b.vcd", "-i", "a.vcd"], TWICE),
+    (&["vcdkit", "cut", "-i", "a.vcd", "a.vcd"], TWICE),
     // Names.
     (&["vcdkit", "pick", "tb"], TAKEN),
     (&["vcdkit", "pick", "a", "b", "c"], TAKEN),
@@ -71,17 +79,18 @@ const ANSWERS: [(&[&str], Option<(ErrorKind, u8)>); 44] = [
     (&["vcdkit", "pick"], MISSING),
     (&["vcdkit", "pick", "-i", "f.vcd"], MISSING),
     (&["vcdkit", "pick", "-a"], UNKNOWN),
-    (&["vcdkit", "list", "tb"], UNKNOWN),
+    (&["vcdkit", "list", "tb", "tc"], UNKNOWN),
     // The times of a cut.
     (&["vcdkit", "cut", "--to", "5", "--from", "x"], TAKEN),
     (&["vcdkit", "cut", "--help"], HELP),
-    (&["vcdkit", "cut"], MISSING),
-    (&["vcdkit", "cut", "--from", "5"], MISSING),
-    (&["vcdkit", "cut", "--to", "5"], MISSING),
+    (&["vcdkit", "cut"], TAKEN),
+    (&["vcdkit", "cut", "--from", "5"], TAKEN),
+    (&["vcdkit", "cut", "--to", "5", "a.vcd"], TAKEN),
+    (&["vcdkit", "cut", "--from"], NO_VALUE),
     (&["vcdkit", "cut", "--to"], NO_VALUE),
     (&["vcdkit", "list", "--to", "5"], UNKNOWN),
     (
-        &["vcdkit", "cut", "--from", "1", "--to", "5", "tb"],
+        &["vcdkit", "cut", "--from", "1", "--to", "5", "tb", "tc"],
         UNKNOWN,
     ),
     (
@@ -314,14 +323,19 @@ fn is_input_named<'a>(
 }
 
 // Words, and the input that they name.
-const INPUTS: [(&[&str], Option<&str>); 3] = [
+const INPUTS: [(&[&str], Option<&str>); 8] = [
     (&["vcdkit", "check", "--token-limit", "64"], None),
     (&["vcdkit", "list", "-i", "f.vcd"], Some("f.vcd")),
     (&["vcdkit", "check", "-i", ""], Some("")),
+    (&["vcdkit", "list", "f.vcd"], Some("f.vcd")),
+    (&["vcdkit", "cut", "f.vcd", "--to", "5"], Some("f.vcd")),
+    (&["vcdkit", "check", "-"], Some("-")),
+    (&["vcdkit", "check", "--", "-i"], Some("-i")),
+    (&["vcdkit", "pick", "f.vcd", "tb"], None),
 ];
 
 #[test]
-fn an_input_is_named_by_its_option(rt: HostRuntime) {
+fn an_input_is_named_by_its_option_or_alone(rt: HostRuntime) {
     for (words, input) in &INPUTS {
         let is = is_input_named(rt.alloc(), words, *input);
         assert_eq!(rt; is, Ok(true), "of {words:?}");
@@ -417,6 +431,24 @@ fn a_cut_has_its_times(rt: HostRuntime) {
     for (from, to) in &GOOD_CUTS {
         let words = ["vcdkit", "cut", "--from", *from, "--to", *to];
         ask(&rt, &words, Words::Cut(*from, *to), LIMIT);
+    }
+}
+
+// Words of a cut without some of its times, and the times that it has.
+const CUTS: [(&[&str], &str, &str); 3] = [
+    (&["vcdkit", "cut"], "0", "18446744073709551615"),
+    (
+        &["vcdkit", "cut", "--from", "5"],
+        "5",
+        "18446744073709551615",
+    ),
+    (&["vcdkit", "cut", "f.vcd", "--to", "9ns"], "0", "9ns"),
+];
+
+#[test]
+fn a_cut_without_times_has_all_of_the_dump(rt: HostRuntime) {
+    for (words, from, to) in &CUTS {
+        ask(&rt, words, Words::Cut(*from, *to), LIMIT);
     }
 }
 

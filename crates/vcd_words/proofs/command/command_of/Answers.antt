@@ -3,7 +3,7 @@ use Rattle.std.proofs.lemmas.Result.{IfOk-weaker}
 use Rattle.clap.specs.Built.{AddsSubcommand}
 use Rattle.clap.specs.Words.{App, new_app, with_subcommand}
 use Rattle.clap.specs.declared.builder.command.Command.{Command}
-use Rattle.vcd_words.specs.Words.{bare_app, cut_app, merge_app, named_app, one_input_app, sample_app, IsWhole}
+use Rattle.vcd_words.specs.Words.{alone_app, bare_app, cut_app, merge_app, named_app, sample_app, IsWhole}
 use Rattle.vcd_words.proofs.CommandLemmas.{with_subcommand_required, with_version, without_help}
 use Rattle.vcd_words.proofs.command.command_of.Goals as goal
 
@@ -23,8 +23,8 @@ returns c =
     let version = with_version c.new_command.result c.version.result (new_app (codes "vcdkit")) c.new_command.ensures _ c.version.ensures in
     let required = with_subcommand_required c.version.result c.subcommand_required.result _ version c.subcommand_required.ensures in
     let bare : IsWhole c.disable_help_subcommand.result bare_app = without_help c.subcommand_required.result c.disable_help_subcommand.result _ required c.disable_help_subcommand.ensures in
-    let first = added _ _ _ bare_app (one_input_app (codes "check")) c.in_ok-program.ensures bare c.in_ok-check.ensures refl in
-    let second = added _ _ _ _ (one_input_app (codes "list")) c.in_ok-program-2.ensures first c.in_ok-list.ensures refl in
+    let first = added _ _ _ bare_app (alone_app (codes "check")) c.in_ok-program.ensures bare c.in_ok-check.ensures refl in
+    let second = added _ _ _ _ (alone_app (codes "list")) c.in_ok-program-2.ensures first c.in_ok-list.ensures refl in
     let third = added _ _ _ _ (named_app (codes "pick") true) c.in_ok-program-3.ensures second c.in_ok-pick.ensures refl in
     let fourth = added _ _ _ _ cut_app c.in_ok-program-4.ensures third c.in_ok-cut.ensures refl in
     let fifth = added _ _ _ _ sample_app c.in_ok-program-5.ensures fourth c.in_ok-sample.ensures refl in

@@ -1,11 +1,16 @@
 use Rattle.std.proofs.Common.{codes}
 use Rattle.std.proofs.lemmas.Result.{IfOk-weaker}
 use Rattle.clap.specs.Words.{with_rule}
-use Rattle.vcd_words.specs.Words.{one_input_app, time_rule}
-use Rattle.vcd_words.proofs.CommandLemmas.{with_arg}
+use Rattle.vcd_words.specs.Words.{alone_app, time_or_rule, time_rule, IsLocal}
+use Rattle.vcd_words.proofs.CommandLemmas.{with_arg, with_default, with_hidden_default}
 use Rattle.vcd_words.proofs.command.cut.Goals as goal
 
 pub returns : goal.returns
 returns c =
-    let from = with_arg c.in_ok-one_input.field-0 c.in_ok-arg.field-0 (one_input_app (codes "cut")) c.in_ok-one_input.ensures c.time-from.result (time_rule (codes "from")) c.in_ok-arg.ensures c.time-from.ensures in
-    IfOk-weaker c.arg-2.result _ _ (λ r h. with_arg c.in_ok-arg.field-0 r (with_rule (one_input_app (codes "cut")) (time_rule (codes "from"))) from c.time-to.result (time_rule (codes "to")) h c.time-to.ensures) c.arg-2.ensures
+    let from_rule = time_or_rule (codes "from") (codes "0") in
+    let to_rule = time_or_rule (codes "to") (codes "18446744073709551615") in
+    let from : IsLocal c.default_value-from.result from_rule = with_default c.time.result c.default_value-from.result (time_rule (codes "from")) c.time.ensures _ c.default_value-from.ensures in
+    let last : IsLocal c.default_value.result to_rule = with_default c.time-2.result c.default_value.result (time_rule (codes "to")) c.time-2.ensures _ c.default_value.ensures in
+    let to = with_hidden_default c.default_value.result c.hide_default_value-to.result to_rule last _ c.hide_default_value-to.ensures in
+    let first = with_arg c.in_ok-alone.field-0 c.in_ok-arg.field-0 (alone_app (codes "cut")) c.in_ok-alone.ensures c.default_value-from.result from_rule c.in_ok-arg.ensures from in
+    IfOk-weaker c.arg-2.result _ _ (λ r h. with_arg c.in_ok-arg.field-0 r (with_rule (alone_app (codes "cut")) from_rule) first c.hide_default_value-to.result to_rule h to) c.arg-2.ensures

@@ -1,8 +1,10 @@
-use Rattle.std.proofs.Common.{codes, false}
+use Rattle.std.proofs.Common.{codes, false, true}
 use Rattle.std.proofs.lemmas.Result.{IfOk-weaker}
 use Rattle.vcd_words.specs.Words.{named_app, time_rule}
-use Rattle.vcd_words.proofs.CommandLemmas.{with_arg}
+use Rattle.vcd_words.proofs.CommandLemmas.{with_arg, with_required}
 use Rattle.vcd_words.proofs.command.sample.Goals as goal
 
 pub returns : goal.returns
-returns c = IfOk-weaker c.arg.result _ _ (λ r h. with_arg c.in_ok-named.field-0 r (named_app (codes "sample") false) c.in_ok-named.ensures c.time-at.result (time_rule (codes "at")) h c.time-at.ensures) c.arg.ensures
+returns c =
+    let at = with_required c.time.result c.required-at.result (time_rule (codes "at")) c.time.ensures true c.required-at.ensures in
+    IfOk-weaker c.arg.result _ _ (λ r h. with_arg c.in_ok-named.field-0 r (named_app (codes "sample") false) c.in_ok-named.ensures c.required-at.result _ h at) c.arg.ensures

@@ -1,10 +1,9 @@
 use Rattle.clap.specs.Words.{new_rule}
-use Rattle.vcd_words.proofs.CommandLemmas.{with_help, with_long, with_required, with_value_name}
+use Rattle.vcd_words.proofs.CommandLemmas.{with_help, with_long, with_value_name}
 use Rattle.vcd_words.proofs.command.time.Goals as goal
 
 pub returns : goal.returns
 returns c =
     let long = with_long c.new.result c.long.result (new_rule c.args.name.now) (c.new.ensures.rule, c.new.ensures.optional.1) _ c.long.ensures in
     let valued = with_value_name c.long.result c.value_name.result _ long _ c.value_name.ensures in
-    let required = with_required c.value_name.result c.required.result _ valued _ c.required.ensures in
-    with_help c.required.result c.help.result _ required _ c.help.ensures
+    with_help c.value_name.result c.help.result _ valued _ c.help.ensures

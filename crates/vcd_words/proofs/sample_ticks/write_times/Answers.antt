@@ -1,4 +1,4 @@
-use Rattle.std.proofs.Common.{◌≡◌, ◌∙◌, ◌||◌, Bool, Ok, Err, ap, ap₂, length, rules, sym, true, false}
+use Rattle.std.proofs.Common.{◌≡◌, ◌∙◌, Ok, Err, ap, length, rules, sym, true, false}
 use Rattle.std.specs.Vec.{with_items}
 use Rattle.std.proofs.lemmas.List.{with_items_is}
 use Rattle.vcd_model.specs.Job.{do_rise}

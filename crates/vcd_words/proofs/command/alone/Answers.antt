@@ -1,0 +1,12 @@
+use Rattle.std.proofs.Common.{codes}
+use Rattle.std.proofs.lemmas.Result.{IfOk-weaker}
+use Rattle.clap.specs.Words.{new_rule}
+use Rattle.vcd_words.specs.Words.{file_rule, one_input_app, IsLocal}
+use Rattle.vcd_words.proofs.CommandLemmas.{with_arg, with_help, with_value_name}
+use Rattle.vcd_words.proofs.command.alone.Goals as goal
+
+pub returns : goal.returns
+returns c =
+    let valued = with_value_name c.new.result c.value_name.result (new_rule (codes "input")) (c.new.ensures.rule, c.new.ensures.optional.1) _ c.value_name.ensures in
+    let file : IsLocal c.help-file.result file_rule = with_help c.value_name.result c.help-file.result _ valued _ c.help-file.ensures in
+    IfOk-weaker c.arg.result _ _ (λ r h. with_arg c.in_ok-one_input.field-0 r (one_input_app c.args.name.now) c.in_ok-one_input.ensures c.help-file.result file_rule h file) c.arg.ensures
