@@ -13,7 +13,7 @@ use Rattle.vcd_model.specs.Job.{Want, has_unit, do_rise}
 use Rattle.vcd_model.specs.Ticks.{Moment}
 use Rattle.vcd_model.specs.Words.{Command, Job, UseFault, Words, cut_of, has_words, job_of, job_with, limit_of, sample_of, time_of, times_of, want_of}
 use Rattle.vcd_words.specs.Words.{command_named, command_used, cut_between, files_asked, input_asked, job_asked, some_of, values_after, word_after}
-use Rattle.vcd_program.specs.Asked.{inputs_asked, inputs_for, inputs_of}
+use Rattle.vcd_program.specs.Asked.{input_named, inputs_asked, inputs_for, inputs_of}
 
 -- which command is a merge, and which job
 abbrev pub merges : Command → Bool
@@ -100,14 +100,14 @@ one-input : (want : Want) (name : Option Text) → Counted want (name ∷ [])
 one-input want name = record { some = lit< tt; few = lit≤ tt; alone = λ _. refl }
 
 counted : (c : Command) (want : Want) (file : Option Text) → has_words c ≡ true → want_of c ≡ Ok want → Counted want (inputs_of c file)
-counted Command.Check want file h e = one-input want file
-counted Command.Listing want file h e = one-input want file
-counted (Command.Pick names) want file h e = one-input want file
-counted (Command.Cut from to) want file h e = one-input want file
-counted (Command.Sample at names) want file h e = one-input want file
-counted (Command.Edges names) want file h e = one-input want file
+counted Command.Check want file h e = one-input want (option_and_then input_named file)
+counted Command.Listing want file h e = one-input want (option_and_then input_named file)
+counted (Command.Pick names) want file h e = one-input want (option_and_then input_named file)
+counted (Command.Cut from to) want file h e = one-input want (option_and_then input_named file)
+counted (Command.Sample at names) want file h e = one-input want (option_and_then input_named file)
+counted (Command.Edges names) want file h e = one-input want (option_and_then input_named file)
 counted (Command.Merge files) want file h e =
-    let many = length-map files (λ name. Some name) in
+    let many = length-map files input_named in
     let is = merges-is (Command.Merge files) want e in
     record {
       some = let least = some-files files h in omega (arith, many, least);
@@ -162,7 +162,7 @@ inputs-same c want m used e = ap (λ b. inputs_for b m) (merges-is c want e) ∙
     by_command (Command.Cut from to) h = refl
     by_command (Command.Sample at names) h = refl
     by_command (Command.Edges names) h = refl
-    by_command (Command.Merge files) h = ap (map (λ name. Some name)) (files-used m files h)
+    by_command (Command.Merge files) h = ap (map input_named) (files-used m files h)
 
 -- those of a command that was used, with this file behind `-i`
 abbrev inputs-among : Option Text → Option Command → List (Option Text)
@@ -179,16 +179,16 @@ asked-is m want limit e = by_command (command_used m) refl e
         let parts = job-parts (record { command = c; limit = word_after m (codes "token-limit") }) want limit h in
         (inputs-same c want m is parts.1, counted c want (input_asked m) parts.0 parts.1)
 
--- ---- the names of files that were copied
+-- ---- the inputs that words name
 
-each-some : (files : List (Bor Text)) → map (λ (file : Bor Text). Some file.now) files ≡ map (λ name. Some name) (map (λ (file : Bor Text). file.now) files)
-each-some [] = refl
-each-some (f ∷ files) = ap (λ l. Some f.now ∷ l) (each-some files)
+each-named : (files : List (Bor Text)) → map (λ (file : Bor Text). input_named file.now) files ≡ map input_named (map (λ (file : Bor Text). file.now) files)
+each-named [] = refl
+each-named (f ∷ files) = ap (λ l. input_named f.now ∷ l) (each-named files)
 
-pub given-files : (files : List (Bor Text)) (xs : List Text) (names : List (Option Text)) (n : ℕ) → Some (map (λ (file : Bor Text). file.now) files) ≡ some_of xs → length files ≤ n → names ≡ map (λ (file : Bor Text). Some file.now) (take n files)
-    → names ≡ map (λ name. Some name) xs
+pub given-files : (files : List (Bor Text)) (xs : List Text) (names : List (Option Text)) (n : ℕ) → Some (map (λ (file : Bor Text). file.now) files) ≡ some_of xs → length files ≤ n → names ≡ map (λ (file : Bor Text). input_named file.now) (take n files)
+    → names ≡ map input_named xs
 given-files files xs names n found all copied =
-    copied ∙ ap (map (λ (file : Bor Text). Some file.now)) (take_all n files all) ∙ each-some files ∙ ap (map (λ name. Some name)) (by_list xs found)
+    copied ∙ ap (map (λ (file : Bor Text). input_named file.now)) (take_all n files all) ∙ each-named files ∙ ap (map input_named) (by_list xs found)
   where
     by_list : (xs : List Text) → Some (map (λ (file : Bor Text). file.now) files) ≡ some_of xs → map (λ (file : Bor Text). file.now) files ≡ xs
     by_list [] e = cc

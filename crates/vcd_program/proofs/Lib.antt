@@ -1,4 +1,5 @@
 mod AskedLemmas
+mod AskedRows
 mod MemoryLemmas
 mod OpensLemmas
 mod RunsLemmas

@@ -144,7 +144,7 @@ left-parsed words asked files input host after left out err status f i n holds (
 left-by : (words : List Text) (files : List MemoryFile) (input : Text) (host after : Memory) (left : Left) (out err : List ℕ) (status : ℕ) → host.files.now ≡ files → host.input.now ≡ input → noted host ≡ [] → LeftAs left after out err status
     → RunsOn words OpensIn bytes_of no_failures host after (holding []) (holding out) (holding []) (holding err) status → IsLeftBy words files input left
 left-by words files input host after left out err status f i n holds (RunsOn.NoMatches why is only same (inl some)) =
-    IsLeftBy.NoMatches why is only some.0 (is-left left after out err status [] (answer_outcome why some.0) holds (ap noted same ∙ n) some.1)
+    IsLeftBy.NoMatches why is only some.0 some.1 (is-left left after out err status [] (answer_outcome why some.1) holds (ap noted same ∙ n) some.2)
 left-by words files input host after left out err status f i n holds (RunsOn.NoMatches why is only same (inr fails)) = IsLeftBy.NoMemory (out-of-memory left after out err status holds fails)
 left-by words files input host after left out err status f i n holds (RunsOn.Parsed matches is run) =
     elim (left-parsed (words_used matches) (inputs_asked matches) files input host after left out err status f i n holds run) [ inl parsed ↦ IsLeftBy.Parsed matches is parsed | inr none ↦ IsLeftBy.NoMemory none ]

@@ -171,20 +171,21 @@ status-zero why n e no3 no2 = elim (statuses why) [ inl zero ↦ zero | inr more
 abbrev answer-of : ℕ → Text → Outcome
 answer-of n text = cond (n == 0) (clean_outcome text) (record { output = []; message = text; status = n })
 
-answered : (why : ErrorKind) (n : ℕ) (text : Text) (out out' err err' : Device) (status : ℕ) → parse_status_of why ≡ n → IsOutcome (answer-of n text) out out' err err' status → Answers why out out' err err' status
-answered why n text out out' err err' status e left = inl (text, subst (λ m. IsOutcome (answer-of m text) out out' err err' status) (sym e) left)
+answered : (why : ErrorKind) (n : ℕ) (text : Text) (out out' err err' : Device) (status : ℕ) → parse_status_of why ≡ n → (3 ≡ n → ⊥) → IsOutcome (answer-of n text) out out' err err' status → Answers why out out' err err' status
+answered why n text out out' err err' status e no3 left =
+    inl ((λ memory. no3 (ap parse_status_of (sym memory) ∙ e)), text, subst (λ m. IsOutcome (answer-of m text) out out' err err' status) (sym e) left)
 
 -- the text was put on the error stream
 pub answer-shown : (why : ErrorKind) (text : Text) (out err err' : Device) → parse_status_of why ≡ 2 → Shows err err' text → Answers why out out err err' 2
-answer-shown why text out err err' e shown = answered why 2 text out out err err' 2 e (Whole (writes-none out) shown refl)
+answer-shown why text out err err' e shown = answered why 2 text out out err err' 2 e (λ bad. absurd (omega (arith, bad))) (Whole (writes-none out) shown refl)
 
 -- it was written on the output
 pub answer-written : (why : ErrorKind) (text : Text) (out out' err : Device) → parse_status_of why ≡ 0 → Writes out out' text → Answers why out out' err err 0
-answer-written why text out out' err e written = answered why 0 text out out' err err 0 e (Whole written (shows-none err) refl)
+answer-written why text out out' err e written = answered why 0 text out out' err err 0 e (λ bad. absurd (omega (arith, bad))) (Whole written (shows-none err) refl)
 
 -- a write of it failed
 pub answer-failed : (why : ErrorKind) (text : Text) (out out' err err' : Device) → parse_status_of why ≡ 0 → WritesSome out out' text → Shows err err' (program_line (codes "write failed")) → Answers why out out' err err' 3
-answer-failed why text out out' err err' e written shown = answered why 0 text out out' err err' 3 e (Part written shown refl)
+answer-failed why text out out' err err' e written shown = answered why 0 text out out' err err' 3 e (λ bad. absurd (omega (arith, bad))) (Part written shown refl)
 
 -- ---- a job
 

@@ -28,7 +28,7 @@ kind-low : (why : ErrorKind) → parse_status_of why ≤ 3
 kind-low why = elim (statuses why) [ inl e ↦ omega arith | inr more ↦ elim more [ inl e ↦ omega arith | inr e ↦ omega arith ] ]
 
 answers-low : (why : ErrorKind) (out out' err err' : Device) (status : ℕ) → Answers why out out' err err' status → status ≤ 3
-answers-low why out out' err err' status (inl said) = outcome-low (answer_outcome why said.0) out out' err err' status (answer-low (parse_status_of why) said.0 (parse_status_of why == 0) (kind-low why)) said.1
+answers-low why out out' err err' status (inl said) = outcome-low (answer_outcome why said.1) out out' err err' status (answer-low (parse_status_of why) said.1 (parse_status_of why == 0) (kind-low why)) said.2
 answers-low why out out' err err' status (inr fails) = omega (arith, fails.2)
 
 runs-low : {H I : Type 0} (opens : H → Option Text → Result I OpenFault → H → Type 0) (rest : I → Option (List ℕ)) (failures : I → ℕ) (words : Option Words) (asked : List (Option Text)) (host host' : H) (out out' err err' : Device) (status : ℕ)

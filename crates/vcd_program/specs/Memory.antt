@@ -1,6 +1,6 @@
 -- A host in memory: what a call of `open` leaves, and what a program leaves over it, which is the
 -- whole of the definitions.
-use Rattle.std.specs.Prelude.{◌≡◌, ◌⊎◌, true, cond, List, [], ◌∷◌, ◌++◌, codes, map, Option, Some, None, option_map, string_bytes, Result, Ok, Err}
+use Rattle.std.specs.Prelude.{◌≡◌, ◌≢◌, ◌⊎◌, true, cond, List, [], ◌∷◌, ◌++◌, codes, map, Option, Some, None, option_map, string_bytes, Result, Ok, Err}
 use Rattle.std.specs.Str.{bytes_eq}
 use Rattle.clap.specs.Words.{HasMatchesOf, IsAmong, Text, fault_of, takes}
 use Rattle.clap.specs.declared.error.kind.ErrorKind.{ErrorKind}
@@ -84,6 +84,6 @@ pub record IsOutOfMemory (left : Left) : Type 0 where
 -- what is left of any words, the program's name first
 pub data IsLeftBy (words : List Text) (files : List MemoryFile) (input : Text) (left : Left) : Type 0 where
   Parsed : (matches : ArgMatches) (is : HasMatchesOf program_app words matches) (leaves : IsLeftOf (words_used matches) (inputs_asked matches) files input left) → IsLeftBy words files input left
-  NoMatches : (why : ErrorKind) (is : (why ≡ kind.OutOfMemory) ⊎ IsAmong why (fault_of program_app words)) (only : takes program_app words ≡ true → why ≡ kind.OutOfMemory) (text : Text)
+  NoMatches : (why : ErrorKind) (is : (why ≡ kind.OutOfMemory) ⊎ IsAmong why (fault_of program_app words)) (only : takes program_app words ≡ true → why ≡ kind.OutOfMemory) (other : why ≢ kind.OutOfMemory) (text : Text)
       (leaves : IsLeft left [] (answer_outcome why text)) → IsLeftBy words files input left
   NoMemory : (fails : IsOutOfMemory left) → IsLeftBy words files input left

@@ -1,5 +1,5 @@
 -- What a program leaves that is run on words over a host.
-use Rattle.std.specs.Prelude.{◌≡◌, ◌⊎◌, ◌==◌, ◌+◌, ◌<◌, ◌≤◌, ℕ, Bool, true, false, cond, List, [], map, codes, Option, Some, Result, Ok, Err}
+use Rattle.std.specs.Prelude.{◌≡◌, ◌≢◌, ◌⊎◌, ◌==◌, ◌+◌, ◌<◌, ◌≤◌, ℕ, Bool, true, false, cond, List, [], map, codes, Option, Some, Result, Ok, Err}
 use Rattle.std.specs.Io.KnownBytes.{Keeps}
 use Rattle.clap.specs.Words.{HasMatchesOf, IsAmong, Text, fault_of, takes}
 use Rattle.clap.specs.declared.error.kind.ErrorKind.{ErrorKind}
@@ -74,9 +74,10 @@ pub data Runs {H I : Type 0} (opens : H → Option Text → Result I OpenFault �
 abbrev pub answer_outcome : ErrorKind → Text → Outcome
 answer_outcome kind text = cond (parse_status_of kind == 0) (clean_outcome text) (record { output = []; message = text; status = parse_status_of kind })
 
--- such an answer; where memory ran out for its text, or while words were parsed, the line of that
+-- Such an answer, which is none of memory; or memory ran out, while words were parsed or for the
+-- text of the answer, and the line says so.
 abbrev pub Answers : ErrorKind → (out out' err err' : Device) → ℕ → Type 0
-Answers kind out out' err err' status = ((text : Text) × IsOutcome (answer_outcome kind text) out out' err err' status) ⊎ Fails (codes "out of memory") out out' err err' status
+Answers why out out' err err' status = ((why ≢ kind.OutOfMemory) × (text : Text) × IsOutcome (answer_outcome why text) out out' err err' status) ⊎ Fails (codes "out of memory") out out' err err' status
 
 -- what a program leaves that is run on these words, its name first, before it flushes
 pub data RunsOn {H I : Type 0} (words : List Text) (opens : H → Option Text → Result I OpenFault → H → Type 0) (rest : I → Option (List ℕ)) (failures : I → ℕ) (host host' : H) (out out' err err' : Device) (status : ℕ) : Type 0 where

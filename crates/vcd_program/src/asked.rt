@@ -1,10 +1,27 @@
 //! Which inputs words ask for.
-ghost use Rattle.std.specs.Prelude.{◌≡◌, IfOk, map};
-ghost use Rattle.vcd_program.specs.Names.{inputs_for, text_of};
+ghost use Rattle.std.specs.Prelude.{◌≡◌, IfOk, map, option_and_then};
+ghost use Rattle.vcd_program.specs.Names.{input_asked, input_named, inputs_for, text_of};
 
 use clap::ArgMatches;
 use std::alloc::{AllocError, Global};
 use vcd_words::{files_of, input_of};
+
+/// Returns the input that a word for a file names. It is none for `-`, which is standard input.
+fn input_named(word: &str) -> Option<&str>
+    ensures { text_of result ≡ input_named word.now }
+{
+    if word == "-" {
+        return None;
+    }
+    Some(word)
+}
+
+/// Returns the only input of a command: that of its word, standard input where it has none.
+fn only_input<'a>(matches: &ArgMatches<'a>) -> Option<&'a str>
+    ensures { text_of result ≡ option_and_then input_named (input_asked matches.now) }
+{
+    input_named(input_of(matches)?)
+}
 
 /// Returns the inputs that the matches name, for a merge or for another job.
 pub(crate) fn inputs_of<'a>(
@@ -16,14 +33,14 @@ pub(crate) fn inputs_of<'a>(
 {
     let mut inputs = Vec::new(alloc);
     if !merge {
-        inputs.push(input_of(matches))?;
+        inputs.push(only_input(matches))?;
         return Ok(inputs);
     }
     let Some(files) = files_of(matches) else {
         return Ok(inputs);
     };
     for file in files {
-        inputs.push(Some(*file))?;
+        inputs.push(input_named(file))?;
     }
     Ok(inputs)
 }

@@ -6,7 +6,7 @@ use crate::asked::inputs_of;
 use crate::host::{Host, Output};
 use crate::opened::{Stop, called, open_inputs};
 use clap::{ArgMatches, Error};
-use std::alloc::Global;
+use std::alloc::{AllocError, Global};
 use std::hash::BuildHasher;
 use vcd_text::{Sink, put};
 use vcd_words::{Job, UseFault, command_of, job_of, parse_status};
@@ -69,6 +69,22 @@ fn run_matches<H: Host, W: Sink, E: Sink, B: BuildHasher>(
     }
 }
 
+/// What `clap` advises for a word that is no option, where the word asks for a file for the output,
+/// and what is said in its place: such a word is nothing to pass as a value.
+const O_AS_A_VALUE: &str = "tip: to pass '-o' as a value, use '-- -o'";
+
+const OUTPUT_AS_A_VALUE: &str = "tip: to pass '--output' as a value, use '-- --output'";
+
+const TO_A_FILE: &str = "tip: output goes to standard output; use '> FILE'";
+
+/// Returns the text of what a parse answered that gave no matches.
+fn answer_text(alloc: Global, error: &Error) -> Result<String, AllocError> {
+    error
+        .to_string(alloc)?
+        .replace(alloc, O_AS_A_VALUE, TO_A_FILE)?
+        .replace(alloc, OUTPUT_AS_A_VALUE, TO_A_FILE)
+}
+
 /// Says what a parse answered that gave no matches, help and the version on the output and all else
 /// on the error stream, and returns the exit status.
 fn answer<W: Sink, E: Sink>(alloc: Global, error: &Error, out: &mut W, err: &mut E) -> u8
@@ -81,7 +97,7 @@ fn answer<W: Sink, E: Sink>(alloc: Global, error: &Error, out: &mut W, err: &mut
     if status == 3 {
         return use_fault(UseFault::OutOfMemory, err);
     }
-    let Ok(text) = error.to_string(alloc) else {
+    let Ok(text) = answer_text(alloc, error) else {
         return use_fault(UseFault::OutOfMemory, err);
     };
     if status == 2 {
