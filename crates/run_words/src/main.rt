@@ -10,15 +10,18 @@ use vcd_program::run_words_on_machine;
 use vcd_text::Watch;
 
 /// The command lines, without the program's name.
-const LINES: [&str; 10] = [
+const LINES: [&str; 13] = [
     "list",
     "check -i a.vcd",
+    "list b.vcd",
+    "cut --from 2 b.vcd",
     "merge b.vcd a.vcd",
     "check -i bad.vcd",
     "check -i none.vcd",
     "merge a.vcd none.vcd",
     "cut --from 5 --to 4 -i a.vcd",
     "chekc",
+    "merge a.vcd -o b.vcd",
     "--version",
     "check --help",
 ];

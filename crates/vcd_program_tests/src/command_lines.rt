@@ -3,8 +3,8 @@
 use std::alloc::{AllocError, Global};
 use vcd_program::{Left, MemoryFile, run_in_memory};
 
-// Three dumps of a variable, each with its own name; one that stops; and one on standard input.
-const FILES: [MemoryFile<'static>; 4] = [
+// Three dumps of a variable, each with its own name; two that stop; and one on standard input.
+const FILES: [MemoryFile<'static>; 5] = [
     MemoryFile {
         name: "a.vcd",
         bytes: b"$timescale 1ns $end $var wire 1 ! a $end $enddefinitions $end #1 1!\n",
@@ -20,6 +20,10 @@ const FILES: [MemoryFile<'static>; 4] = [
     MemoryFile {
         name: "bad.vcd",
         bytes: b"$var wire 1 ! bad $end\n$enddefinitions $end\n#x\n",
+    },
+    MemoryFile {
+        name: "late.vcd",
+        bytes: b"$timescale 1ns $end $var wire 1 ! c $end\n$enddefinitions $end\n#1 1! #3 0!\n#x\n",
     },
 ];
 
@@ -45,7 +49,7 @@ struct Row {
 
 const NOTHING: Said = Said::Just(b"");
 
-const ROWS: [Row; 13] = [
+const ROWS: [Row; 23] = [
     Row {
         words: &["list"],
         opened: &[None],
@@ -59,6 +63,104 @@ const ROWS: [Row; 13] = [
         out: Said::Just(b"b wire 1 !\n"),
         err: NOTHING,
         status: 0,
+    },
+    Row {
+        words: &["list", "b.vcd"],
+        opened: &[Some("b.vcd")],
+        out: Said::Just(b"b wire 1 !\n"),
+        err: NOTHING,
+        status: 0,
+    },
+    Row {
+        words: &["list", "-"],
+        opened: &[None],
+        out: Said::Just(b"input real 1 !\n"),
+        err: NOTHING,
+        status: 0,
+    },
+    Row {
+        words: &["edges", "-i", "-"],
+        opened: &[None],
+        out: Said::Just(b"input 0 0 0\n"),
+        err: NOTHING,
+        status: 0,
+    },
+    Row {
+        words: &["check", "./-"],
+        opened: &[Some("./-")],
+        out: NOTHING,
+        err: Said::Just(b"vcdkit: ./-: cannot be opened\n"),
+        status: 3,
+    },
+    Row {
+        words: &["cut", "a.vcd"],
+        opened: &[Some("a.vcd")],
+        out: Said::Just(
+            b"$timescale\n\t1ns\n$end\n$var wire 1 ! a $end\n$enddefinitions $end\n\
+                #0\n$dumpvars\n$end\n#1\n1!\n",
+        ),
+        err: NOTHING,
+        status: 0,
+    },
+    Row {
+        words: &["cut", "--from", "2ns", "a.vcd"],
+        opened: &[Some("a.vcd")],
+        out: Said::Just(
+            b"$timescale\n\t1ns\n$end\n$var wire 1 ! a $end\n$enddefinitions $end\n\
+                #2\n$dumpvars\n1!\n$end\n",
+        ),
+        err: NOTHING,
+        status: 0,
+    },
+    Row {
+        words: &["merge", "-", "a.vcd"],
+        opened: &[None, Some("a.vcd")],
+        out: Said::Just(
+            b"$timescale\n\t1ns\n$end\n$scope module in1 $end\n$var real 1 ! input $end\n\
+                $upscope $end\n$scope module in2 $end\n$var wire 1 \" a $end\n$upscope $end\n\
+                $enddefinitions $end\n\
+                #1\n1\"\n#4000000000\nr1 !\n",
+        ),
+        err: NOTHING,
+        status: 0,
+    },
+    // The stored run of the program.
+    Row {
+        words: &["merge", "b.vcd", "a.vcd", "late.vcd"],
+        opened: &[Some("b.vcd"), Some("a.vcd"), Some("late.vcd")],
+        out: Said::Just(
+            b"$timescale\n\t1ns\n$end\n$scope module in1 $end\n$var wire 1 ! b $end\n\
+                $upscope $end\n$scope module in2 $end\n$var wire 1 \" a $end\n$upscope $end\n\
+                $scope module in3 $end\n$var wire 1 # c $end\n$upscope $end\n\
+                $enddefinitions $end\n\
+                #1\n1\"\n1#\n#2\n0!\n#3\n0#\n",
+        ),
+        err: Said::Just(b"vcdkit: late.vcd:4: bad time\n"),
+        status: 1,
+    },
+    Row {
+        words: &["check", "-i", "a.vcd", "b.vcd"],
+        opened: &[],
+        out: NOTHING,
+        err: Said::Just(
+            b"error: the argument '-i <FILE>' cannot be used multiple times\n\n\
+                Usage: vcdkit check [--token-limit N] FILE\n       \
+                vcdkit check [--token-limit N] < FILE\n\n\
+                For more information, try '--help'.\n",
+        ),
+        status: 2,
+    },
+    Row {
+        words: &["merge", "a.vcd", "-o", "b.vcd"],
+        opened: &[],
+        out: NOTHING,
+        err: Said::Just(
+            b"error: unexpected argument '-o' found\n\n  \
+                tip: output goes to standard output; use '> FILE'\n\n\
+                Usage: vcdkit merge [--token-limit N] FILE.. > OUT\n\n\
+                For more information, try '--help'.\n",
+        ),
+        status: 2,
     },
     Row {
         words: &["check", "-i", "bad.vcd"],

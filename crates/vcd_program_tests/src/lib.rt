@@ -1,4 +1,5 @@
-//! The tests of `vcd_program`: command lines over a host in memory, and the buffer of an output.
+//! The tests of `vcd_program`: command lines over a host in memory, files of the machine that cannot
+//! be read, and the buffer of an output.
 #![tactic(auto)]
 
 #[cfg(test)]
@@ -7,3 +8,5 @@ mod blocks;
 mod command_lines;
 #[cfg(test)]
 mod flush;
+#[cfg(test)]
+mod machine;

@@ -1,8 +1,11 @@
 // Faults of headers, and limits.
+use super::merge::merge_into;
 use super::runs::{give_message, leave_under};
 use std::alloc::{AllocError, Global};
 use std::process::Abort;
 use std::test::Fail;
+use vcd_text::Watch;
+use vcd_text::doubles::Narrow;
 use vcd_words::Words;
 
 // Headers with a fault, in a declaration from the ninth on, and its line.
@@ -62,23 +65,15 @@ fn a_fault_of_a_header_has_its_line(rt: HostRuntime) {
     }
 }
 
-// A text that opens so many scopes between two others.
-fn open_scopes(
-    alloc: Global,
-    before: &str,
-    many: usize,
-    after: &str,
-) -> Result<String, AllocError> {
-    let mut text = String::from_str(alloc, before)?;
+// A header that opens so many scopes, and has a variable.
+fn open_scopes(alloc: Global, many: usize) -> Result<String, AllocError> {
+    let mut text = String::new(alloc);
     for _ in 0..many {
         text.push_str("$scope module s $end\n")?;
     }
-    text.push_str(after)?;
+    text.push_str("$var wire 1 ! a $end\n$enddefinitions $end\n")?;
     Ok(text)
 }
-
-// What comes after the scopes: a variable, and the end of the header.
-const AFTER: &str = "$var wire 1 ! a $end\n$enddefinitions $end\n";
 
 // A check and a list of a text with short tokens leave this message.
 fn give_both<R: Abort + AllocGlobal>(rt: &R, text: &[u8], message: &[u8]) {
@@ -88,7 +83,7 @@ fn give_both<R: Abort + AllocGlobal>(rt: &R, text: &[u8], message: &[u8]) {
 
 #[test]
 fn a_thousand_scopes_may_be_open(rt: HostRuntime) -> Result<(), Fail> {
-    let text = open_scopes(rt.alloc(), "", 1000, AFTER)?;
+    let text = open_scopes(rt.alloc(), 1000)?;
     let report =
         b"scopes 1000\nvariables 1\ncodes 1\ntimes 0\nsections 0\nchanges 0\nlast -\n".as_slice();
     leave_under(
@@ -104,7 +99,7 @@ fn a_thousand_scopes_may_be_open(rt: HostRuntime) -> Result<(), Fail> {
 
 #[test]
 fn no_more_than_a_thousand_scopes_may_be_open(rt: HostRuntime) -> Result<(), Fail> {
-    let text = open_scopes(rt.alloc(), "", 1001, AFTER)?;
+    let text = open_scopes(rt.alloc(), 1001)?;
     give_both(
         &rt,
         text.as_bytes(),
@@ -113,16 +108,22 @@ fn no_more_than_a_thousand_scopes_may_be_open(rt: HostRuntime) -> Result<(), Fai
     Ok(())
 }
 
-// A merge's scope of an input counts too.
+// The status of a merge of a dump with a thousand open scopes, and what it writes.
+fn merge_scopes(alloc: Global) -> Result<(u8, Vec<u8>), AllocError> {
+    let text = open_scopes(alloc, 1000)?;
+    let mut out = Watch::new(Vec::new(alloc));
+    let mut err = Watch::new(Narrow::new(80));
+    let status = merge_into(alloc, &[text.as_bytes()], 65_536, &mut out, &mut err)?;
+    Ok((status, out.device))
+}
+
+// A merge puts a scope of its own around those of an input: it takes a thousand, and writes one
+// more. Four lines of what it writes come before them.
 #[test]
-fn a_thousand_scopes_in_another_are_too_many(rt: HostRuntime) -> Result<(), Fail> {
-    let before = "$timescale\n\t1s\n$end\n$scope module in1 $end\n";
-    let text = open_scopes(rt.alloc(), before, 1000, AFTER)?;
-    give_both(
-        &rt,
-        text.as_bytes(),
-        b"vcdkit: (stdin):1004: scopes too deep\n",
-    );
+fn a_merge_of_a_thousand_scopes_writes_too_many(rt: HostRuntime) -> Result<(), Fail> {
+    let (status, merge) = merge_scopes(rt.alloc())?;
+    assert_eq!(rt; status, 0);
+    give_both(&rt, &merge, b"vcdkit: (stdin):1004: scopes too deep\n");
     Ok(())
 }
 

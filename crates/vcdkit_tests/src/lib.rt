@@ -35,3 +35,5 @@ mod sample;
 mod times;
 #[cfg(test)]
 mod words;
+#[cfg(test)]
+mod written;

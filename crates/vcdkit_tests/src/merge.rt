@@ -102,7 +102,7 @@ fn text_at<'t>(texts: &[&'t [u8]], input: usize) -> &'t [u8] {
 }
 
 // Merges texts, at most three, reading so many bytes at a time, and returns the status.
-fn merge_into<W: Write>(
+pub(crate) fn merge_into<W: Write>(
     alloc: Global,
     texts: &[&[u8]],
     chunk: usize,

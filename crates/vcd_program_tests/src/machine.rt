@@ -1,0 +1,28 @@
+// Files of the machine whose reads fail: no such read is taken for the end of a dump.
+use super::command_lines::words_of;
+use std::alloc::AllocError;
+use vcd_program::run_words_on_machine;
+use vcd_text::Watch;
+
+// A folder, and the memory of the process, of which nothing can be read at its first address. Both
+// can be opened.
+const UNREADABLE: [(&str, &[u8]); 2] = [
+    ("/", b"vcdkit: /: read failed\n"),
+    ("/proc/self/mem", b"vcdkit: /proc/self/mem: read failed\n"),
+];
+
+// The status and the message of a check of this file.
+fn check(rt: &HostRuntime, name: &str) -> Result<(u8, Vec<u8>), AllocError> {
+    let words = words_of(rt.alloc(), &["check", name])?;
+    let mut err = Watch::new(Vec::new(rt.alloc()));
+    let status = run_words_on_machine(rt, words.as_slice(), &mut err);
+    Ok((status, err.device))
+}
+
+#[test]
+fn a_read_of_a_file_that_fails_is_said(rt: HostRuntime) {
+    for (name, line) in &UNREADABLE {
+        let left = check(&rt, name).map(|(status, message)| (status, message.as_slice() == *line));
+        assert_eq!(rt; left, Ok((3, true)), "of {name}");
+    }
+}
