@@ -5,6 +5,7 @@
 //   WRITE_MOST=N    the same of writes to standard output;   WRITE_FAILS=N
 //   ERROR_MOST=N    and of those to the error stream;   ERROR_FAILS=N
 //   INTERRUPTED=1   these calls are interrupted (EINTR) where they would fail
+//   NO_ENTROPY=1    the machine gives no random bytes
 //   COUNTS=FILE     at the end the number of requests for memory and of reads, and the sum of the
 //                   bytes asked for, is written to the file
 #define _GNU_SOURCE
@@ -70,6 +71,12 @@ ssize_t write(int fd, const void *from, size_t size) {
 
 ssize_t __write(int fd, const void *from, size_t size) {
     return write(fd, from, size);
+}
+
+int getentropy(void *into, size_t size) {
+    if (!getenv("NO_ENTROPY")) return syscall(SYS_getrandom, into, size, 0) == (long)size ? 0 : -1;
+    errno = ENOSYS;
+    return -1;
 }
 
 __attribute__((destructor)) static void tell(void) {

@@ -33,13 +33,43 @@ def model(moment):
     return moment[0], None if moment[1] is None else evaluator.UNITS[moment[1].encode()]
 
 
+def times_of_cut(r, a, b):
+    """Both times of a cut, and the words for them: either may be left out."""
+    if a[1] is None and b[1] is None:
+        a, b = min(a, b, key=lambda m: m[0]), max(a, b, key=lambda m: m[0])
+    words = []
+    if r.random() < 0.15:
+        a = (0, None)
+    else:
+        words += ["--from", word(a)]
+    if r.random() < 0.15:
+        b = (2**64 - 1, None)
+    else:
+        words += ["--to", word(b)]
+    return [a, b], words
+
+
+def put_input(r, folder, seed, command, text):
+    """The name of the input, the words that ask for it, and the bytes of standard input."""
+    ways = [[], [], ["-i", "-"], ["-i", "FILE"]]
+    if command in ("check", "list", "cut"):
+        ways += [["-"], ["FILE"]]
+    words = r.choice(ways)
+    if "FILE" not in words:
+        return b"(stdin)", words, text
+    name = "%d.vcd" % seed
+    with open(os.path.join(folder, name), "wb") as f:
+        f.write(text)
+    return name.encode(), [name if w == "FILE" else w for w in words], b""
+
+
 def case(seed, commands, folder):
     """Arguments, input, and what the evaluator says; none where the words are refused."""
     d = Dumps(seed)
     r = d.r
     command = r.choice(commands)
     limit = r.choice([1_048_576, 1_048_576, 1_048_576, 64, 65, 100])
-    arguments, options, names = [], [], []
+    arguments, options, names, given = [], [], [], b""
     if command == "merge":
         inputs = [(b"%d_%d.vcd" % (seed, k), d.dump())
                   for k in range(r.choice([1, 1, 2, 2, 2, 3, 5, 64] if r.random() < 0.1
@@ -51,30 +81,29 @@ def case(seed, commands, folder):
                 f.write(text)
         arguments = [name.decode() for name, _ in inputs]
     else:
-        inputs = [(b"(stdin)", d.dump())]
+        text = d.dump()
+        name, arguments, given = put_input(r, folder, seed, command, text)
+        inputs = [(name, text)]
     if command in ("pick", "sample", "edges"):
         # Words are UTF-8, and a dump's names any bytes: only names of ASCII are asked for.
         names = [n
                  for n in asked(d, inputs[0][1]) if n.isascii()] or ([b"tb"] if command == "pick"
                                                                      else [])
     if command == "cut":
-        a, b = d.moment(60), d.moment(60)
-        if a[1] is None and b[1] is None:
-            a, b = min(a, b, key=lambda m: m[0]), max(a, b, key=lambda m: m[0])
-        options = [a, b]
-        arguments = ["--from", word(a), "--to", word(b)]
+        options, words = times_of_cut(r, d.moment(60), d.moment(60))
+        arguments += words
     if command == "sample":
         options = [d.moment(60) for _ in range(r.choice([1, 1, 2, 3, 6]))]
         if all(m[1] is None for m in options):
             options = [(n, None) for n in sorted({m[0] for m in options})]
-        arguments = ["--at", ",".join(word(m) for m in options)]
+        arguments += ["--at", ",".join(word(m) for m in options)]
     if command != "merge":
         arguments += ["--token-limit",
                       str(limit)] + (["--"] + [n.decode("latin-1") for n in names] if names else [])
     else:
         arguments = ["--token-limit", str(limit), "--"] + arguments
     want = evaluator.run(command, [model(m) for m in options], names, inputs, limit)
-    return [command] + arguments, b"" if command == "merge" else inputs[0][1], want
+    return [command] + arguments, given, want
 
 
 def differs(program, folder, commands, seed):
