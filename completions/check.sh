@@ -113,6 +113,9 @@ same 'files of merge' ' (default)' "$(completed "$program" merge samples/counter
 same 'no names without a file' '' "$(completed "$program" pick '')"
 same 'no names of a file that is not there' '' "$(completed "$program" pick -i none.vcd '')"
 same 'no names of check' '' "$(completed "$program" check -i $dump '')"
+same 'a file of check' ' (default)' "$(completed "$program" check sam)"
+same 'a file of cut' ' (default)' "$(completed "$program" cut --from 5 '')"
+same 'one file of list' '' "$(completed "$program" list $dump '')"
 same 'a scope' 'bench. (nospace)' "$(completed "$program" pick -i $dump be)"
 same 'names of a scope' 'bench.steps bench.step.' \
     "$(completed "$program" edges -i $dump bench.step)"

@@ -1,13 +1,14 @@
 # Completion of vcdkit for bash: commands, options, files, and the names of a dump where `-i FILE`
-# stands before. Source this file, or let `make install` put it where bash-completion finds it.
+# comes before. Source this file, or let `make install` put it where bash-completion finds it.
 
-# What may be said of a command: its options, and whether it takes names (`name`) or files (`file`).
+# What may be said of a command: its options, and whether it takes names (`name`), files (`file`), or
+# one file where none comes after `-i` (`dump`).
 _vcdkit_words() {
     case $1 in
         '') echo '-h --help -V --version' ;;
-        check | list) echo '-i --token-limit -h --help' ;;
+        check | list) echo '-i --token-limit -h --help dump' ;;
         pick | edges) echo '-i --token-limit -h --help name' ;;
-        cut) echo '-i --token-limit --from --to -h --help' ;;
+        cut) echo '-i --token-limit --from --to -h --help dump' ;;
         sample) echo '-i --token-limit --at -h --help name' ;;
         merge) echo '--token-limit -h --help file' ;;
     esac
@@ -80,7 +81,10 @@ _vcdkit() {
         elif [[ $word == -- ]]; then ended=1
         elif [[ -z $command ]]; then [[ $word == -* ]] || command=$word
         elif [[ $word == -i?* ]]; then file=${word#-i} file=$(_vcdkit_plain "${file#=}")
-        else previous=$word
+        else
+            previous=$word
+            [[ $word != -?* && " $(_vcdkit_words "$command") " == *' dump '* ]] &&
+                file=$(_vcdkit_plain "$word")
         fi
     done
 
@@ -94,9 +98,9 @@ _vcdkit() {
         [[ $current == -* ]] && commands=$can
         COMPREPLY=($(compgen -W "$commands" -- "$current"))
     elif [[ $current == -* && -z $ended ]]; then
-        can=${can/ name / } can=${can/ file / }
+        can=${can/ name / } can=${can/ file / } can=${can/ dump / }
         COMPREPLY=($(compgen -W "$can" -- "$current"))
-    elif [[ $can == *' file '* ]]; then
+    elif [[ $can == *' file '* || $can == *' dump '* && -z $file ]]; then
         compopt -o default 2> /dev/null
     elif [[ $can == *' name '* && -f $file ]]; then
         mapfile -t COMPREPLY < <(
