@@ -12,13 +12,14 @@
 # make static  links ./vcdkit-static, the program without any shared library: seconds after make
 # make dist    a tarball, Debian packages and a wheel of it in dist/, with documents, man page,
 #     completions, scripts and the Python package; with ./libvcdkit.so too, where it is
-# make library ./libvcd_c.a and ./libvcd_c.so, for callers in C and Python: a minute or two after
-#     make
+# make library ./libvcdkit.a, ./libvcdkit.so and ./vcdkit.pc, for callers in C and Python: minutes
+#     after make
 # make dist-check          tries them without the kit, and that they come out the same byte for
 #     byte: a minute
 # make clean   drops what was built, and what the proofs kept
 # make install [PREFIX=/usr/local] [DESTDIR=]    puts ./vcdkit, as it was built, its man page,
-#     completions, scripts, Python package (PYTHON_FOLDER=) and documents in place
+#     completions, scripts, Python package (PYTHON_FOLDER=) and documents in place, and the
+#     library where there is one
 # make uninstall [PREFIX=..] [DESTDIR=..]        takes them away again
 # make completions-check    compares the completions and the man page with the help of ./vcdkit: a
 #     second
@@ -45,6 +46,8 @@ scripts := $(notdir $(wildcard extras/vcdkit-*))
 PYTHON_FOLDER ?= $(PREFIX)/share/vcdkit/python
 python := $(DESTDIR)$(PYTHON_FOLDER)/vcdkit
 documents := $(DESTDIR)$(PREFIX)/share/doc/vcdkit
+library := $(DESTDIR)$(PREFIX)/lib
+headers := $(DESTDIR)$(PREFIX)/include
 
 all: vcdkit
 	./vcdkit check < $(sample)
@@ -84,14 +87,14 @@ dist: sources
 
 # A static library for C, proved as the program is, and the same as a shared one.
 library: toolchain
-	packaging/prove.py vcd_c lib
-	packaging/library.sh crates/vcd_c/out/libvcd_c.a .
+	packaging/prove.py vcdkit_c lib
+	PREFIX="$(PREFIX)" packaging/library.sh crates/vcdkit_c/out/libvcdkit_c.a .
 
 dist-check:
 	packaging/try_dist.sh dist
 
 clean:
-	rm -rf vcdkit vcdkit-static libvcd_c.a libvcd_c.so dist make.log crates/*/out
+	rm -rf vcdkit vcdkit-static libvcdkit.* vcdkit.pc dist make.log crates/*/out
 
 # A tarball has the built program, and no crates.
 sources:
@@ -114,11 +117,20 @@ install:
 	install -m 644 python/vcdkit/*.py python/vcdkit/py.typed "$(python)"
 	install -m 644 python/vcdkit/commands/*.py "$(python)/commands"
 	if test -e libvcdkit.so; then install -m 644 libvcdkit.so "$(python)"; fi
+	if [ -e libvcdkit.a ]; then \
+	    install -d "$(library)/pkgconfig" "$(headers)" && \
+	    install -m 644 libvcdkit.a libvcdkit.so.0 "$(library)" && \
+	    ln -sfn libvcdkit.so.0 "$(library)/libvcdkit.so" && \
+	    install -m 644 extras/c/vcdkit.h "$(headers)" && \
+	    sed 's|^prefix=.*|prefix=$(PREFIX)|' vcdkit.pc > "$(library)/pkgconfig/vcdkit.pc"; \
+	fi
 	packaging/pages.sh "$(documents)"
 
 uninstall:
 	rm -f "$(bin)/vcdkit" $(foreach script,$(scripts),"$(bin)/$(script)") "$(man)/vcdkit.1" \
 	    "$(bash_words)/vcdkit" "$(zsh_words)/_vcdkit"
+	rm -f "$(library)"/libvcdkit.a "$(library)"/libvcdkit.so* "$(library)/pkgconfig/vcdkit.pc"
+	rm -f "$(headers)/vcdkit.h"
 	rm -rf "$(DESTDIR)$(PREFIX)/share/vcdkit" "$(python)" "$(documents)"
 
 completions-check:

@@ -430,24 +430,25 @@ for script in extras/vcdkit-*; do
             "$(said=$("$name" "${words[@]}" 2>&1 > /dev/full); echo "$? $said")"
 done
 
-# A caller in C and one in Python, where `make library` has left the library, and there is a C
-# compiler.
-if [[ -e libvcd_c.a && -e libvcd_c.so ]] && command -v cc > /dev/null; then
-    cc -std=c99 -Wall -Wextra -Werror -Iextras/c -o "$folder/variables" \
-        extras/c/variables.c libvcd_c.a
-    for dump in samples/*.vcd; do
-        wanted=$(grep -c '\$var' "$dump")
-        same "$dump: variables by C" "$wanted" "$("$folder/variables" < "$dump")"
-        same "$dump: variables by Python" "$wanted" \
-            "$(python3 extras/c/variables.py ./libvcd_c.so "$dump")"
+# Two callers in C and the package for Python, where `make library` has left the library, and there
+# is a C compiler.
+if [[ -e libvcdkit.a && -e libvcdkit.so ]] && command -v cc > /dev/null; then
+    for caller in report window; do
+        cc -std=c99 -Wall -Wextra -Werror -Iextras/c -o "$folder/$caller" "extras/c/$caller.c" \
+            libvcdkit.a
     done
-    same 'C: the fault of a header' 'fault 7
-1' "$(printf '$var wire 0 ! q $end\n' | "$folder/variables" 2>&1; echo $?)"
-    same 'Python: the fault of a header' 'fault 2
-1' "$(python3 extras/c/variables.py ./libvcd_c.so /dev/null 2>&1; echo $?)"
+    for dump in samples/*.vcd; do
+        same "$dump: report by C" "$(./vcdkit check -i "$dump" 2>&1; echo $?)" \
+            "$("$folder/report" "$dump" 2>&1; echo $?)"
+        same "$dump: window by C" "$(./vcdkit cut -i "$dump" --from 5 --to 50 2>&1; echo $?)" \
+            "$("$folder/window" "$dump" 5 50 2>&1; echo $?)"
+    done
+    same 'the package for Python' 0 \
+        "$(VCDKIT_LIBRARY=./libvcdkit.so VCDKIT=./vcdkit python3 python/tests/test_vcdkit.py \
+            > "$folder/python" 2>&1 || cat "$folder/python"; echo $?)"
 else
     echo 'the callers in C and Python are not tried:' \
-        'there is no libvcd_c.a (make library), or no cc'
+        'there is no libvcdkit.a (make library), or no cc'
 fi
 
 # sampled DUMP PATH: what sample says of a variable at the times of $folder/values

@@ -1,6 +1,6 @@
 -- What a program leaves over a host in memory.
 use Rattle.std.proofs.Common.{◌≡◌, ◌+◌, ◌⊎◌, ℕ, Bool, true, false, List, [], ◌∷◌, ◌++◌, map, refl, sym, subst, ap, ◌∙◌, inl, inr, arith, codes, append_assoc, append-nil}
-use Rattle.std.specs.Prelude.{Option, Some, None, Err, option_map, string_bytes}
+use Rattle.std.specs.Prelude.{Option, Some, None, Err}
 use Rattle.clap.specs.Words.{Text}
 use Rattle.vcd_model.specs.Input.{Input}
 use Rattle.vcd_model.specs.Tokens.{Token}
@@ -13,14 +13,13 @@ use Rattle.vcd_model.specs.Settled.{is_settled}
 use Rattle.vcdkit.specs.Message.{Shows, unopened_outcome}
 use Rattle.vcdkit.specs.Run.{AreRead, IsOutcome, header_behind}
 use Rattle.vcdkit.specs.Run.IsOutcome.{Whole, Part}
-use Rattle.vcd_program.specs.Memory.{HaveTexts, IsLeft, IsLeftBy, IsLeftOf, IsOutOfMemory, OpensIn, bytes_among, noted}
+use Rattle.vcd_program.specs.Memory.{End, HaveTexts, IsLeft, IsLeftBy, IsLeftOf, IsOutOfMemory, OpensIn, bytes_among, noted}
 use Rattle.vcd_program.specs.Opens.{Opens, called}
 use Rattle.vcd_program.specs.Asked.{inputs_asked}
 use Rattle.vcd_program.specs.Runs.{Fails, Finishes, Leaves, Runs, RunsOn, answer_outcome}
 use Rattle.vcd_words.specs.Words.{words_used}
 use Rattle.vcd_program.specs.declared.host.OpenFault.TheVariants.{Unopened}
-use Rattle.vcd_program.specs.declared.memory.Bytes.{Bytes}
-use Rattle.vcd_program.specs.declared.memory.Left.{Left}
+use Rattle.vcd_text.specs.declared.device.Bytes.{Bytes}
 use Rattle.vcd_program.specs.declared.memory.Memory.{Memory}
 use Rattle.vcd_program.specs.declared.memory.MemoryFile.{MemoryFile}
 
@@ -89,20 +88,20 @@ all-read settled limit chunk earlier (t ∷ texts) (b ∷ old) (c ∷ new) (i �
 -- ---- what is left
 
 -- what the program left in memory
-abbrev LeftAs : Left → (after : Memory) → (out err : List ℕ) → ℕ → Type 0
-LeftAs left after out err status = (left.opened.items ≡ after.opened.items) × (left.output.items ≡ out) × (left.message.items ≡ err) × (left.status ≡ status)
+abbrev LeftAs : End → (after : Memory) → (out err : List ℕ) → ℕ → Type 0
+LeftAs left after out err status = (left.opened ≡ noted after) × (left.output ≡ out) × (left.message ≡ err) × (left.status ≡ status)
 
-is-left : (left : Left) (after : Memory) (out err : List ℕ) (status : ℕ) (names : List (Option Text)) (o : Outcome) → LeftAs left after out err status → noted after ≡ names → IsOutcome o (holding []) (holding out) (holding []) (holding err) status → IsLeft left names o
+is-left : (left : End) (after : Memory) (out err : List ℕ) (status : ℕ) (names : List (Option Text)) (o : Outcome) → LeftAs left after out err status → noted after ≡ names → IsOutcome o (holding []) (holding out) (holding []) (holding err) status → IsLeft left names o
 is-left left after out err status names o holds n leaves =
     let all = all-left o out err status leaves in
     record {
-      opened = ap (map (λ name. option_map string_bytes name)) holds.0 ∙ n;
+      opened = holds.0 ∙ n;
       output = holds.1 ∙ all.0;
       message = holds.2 ∙ all.1;
       status = holds.3 ∙ all.2;
     }
 
-out-of-memory : (left : Left) (after : Memory) (out err : List ℕ) (status : ℕ) → LeftAs left after out err status → Fails (codes "out of memory") (holding []) (holding out) (holding []) (holding err) status → IsOutOfMemory left
+out-of-memory : (left : End) (after : Memory) (out err : List ℕ) (status : ℕ) → LeftAs left after out err status → Fails (codes "out of memory") (holding []) (holding out) (holding []) (holding err) status → IsOutOfMemory left
 out-of-memory left after out err status holds fails = record { output = holds.1 ∙ fails.0.0; message = holds.2 ∙ none-shown [] err (program_line (codes "out of memory")) fails.1; status = holds.3 ∙ fails.2 }
 
 -- a step that found no file
@@ -114,7 +113,7 @@ missed files input names inputs host next after name o p = (
 )
 
 -- what words leave that were parsed
-left-parsed : (words : Option Words) (asked : List (Option Text)) (files : List MemoryFile) (input : Text) (host after : Memory) (left : Left) (out err : List ℕ) (status : ℕ) → host.files.now ≡ files → host.input.now ≡ input → noted host ≡ [] → LeftAs left after out err status
+left-parsed : (words : Option Words) (asked : List (Option Text)) (files : List MemoryFile) (input : Text) (host after : Memory) (left : End) (out err : List ℕ) (status : ℕ) → host.files.now ≡ files → host.input.now ≡ input → noted host ≡ [] → LeftAs left after out err status
     → Runs OpensIn bytes_of no_failures words asked host after (holding []) (holding out) (holding []) (holding err) status → IsLeftOf words asked files input left ⊎ IsOutOfMemory left
 left-parsed words asked files input host after left out err status f i n holds (Runs.Refused fault is same leaves) =
     inl (IsLeftOf.Refused fault is (is-left left after out err status [] (command_outcome words [] []) holds (ap noted same ∙ n) leaves))
@@ -141,7 +140,7 @@ left-parsed words asked files input host after left out err status f i n holds (
 left-parsed words asked files input host after left out err status f i n holds (Runs.NoMemory job is opened fails) = inr (out-of-memory left after out err status holds fails)
 
 -- what any words leave
-left-by : (words : List Text) (files : List MemoryFile) (input : Text) (host after : Memory) (left : Left) (out err : List ℕ) (status : ℕ) → host.files.now ≡ files → host.input.now ≡ input → noted host ≡ [] → LeftAs left after out err status
+left-by : (words : List Text) (files : List MemoryFile) (input : Text) (host after : Memory) (left : End) (out err : List ℕ) (status : ℕ) → host.files.now ≡ files → host.input.now ≡ input → noted host ≡ [] → LeftAs left after out err status
     → RunsOn words OpensIn bytes_of no_failures host after (holding []) (holding out) (holding []) (holding err) status → IsLeftBy words files input left
 left-by words files input host after left out err status f i n holds (RunsOn.NoMatches why is only same (inl some)) =
     IsLeftBy.NoMatches why is only some.0 some.1 (is-left left after out err status [] (answer_outcome why some.1) holds (ap noted same ∙ n) some.2)
@@ -150,7 +149,7 @@ left-by words files input host after left out err status f i n holds (RunsOn.Par
     elim (left-parsed (words_used matches) (inputs_asked matches) files input host after left out err status f i n holds run) [ inl parsed ↦ IsLeftBy.Parsed matches is parsed | inr none ↦ IsLeftBy.NoMemory none ]
 
 -- the output is flushed, as nothing is kept in a buffer
-left-flushed : {W : Type 0} (device : W → Device) (flushes : W → Bool → W → Type 0) (words : List Text) (files : List MemoryFile) (input : Text) (host after : Memory) (left : Left) (out' : W) (out err : List ℕ) (status : ℕ)
+left-flushed : {W : Type 0} (device : W → Device) (flushes : W → Bool → W → Type 0) (words : List Text) (files : List MemoryFile) (input : Text) (host after : Memory) (left : End) (out' : W) (out err : List ℕ) (status : ℕ)
     → ((old new : W) (done : Bool) → flushes old done new → (done ≡ true) × (new ≡ old)) → device out' ≡ holding out → host.files.now ≡ files → host.input.now ≡ input → noted host ≡ [] → LeftAs left after out err status
     → Finishes device flushes (λ out_now err_now n. RunsOn words OpensIn bytes_of no_failures host after (holding []) out_now (holding []) err_now n) out' (holding err) status → IsLeftBy words files input left
 left-flushed device flushes words files input host after left out' out err status flush is f i n holds (Finishes.Flushed before leaves flushed held same) =
@@ -165,7 +164,7 @@ left-flushed device flushes words files input host after left out' out err statu
 pub is-holding : (bytes all : List ℕ) (n : ℕ) → bytes ≡ all → n ≡ 0 → record { held = Some bytes; failures = n } ≡ holding all
 is-holding bytes all n e z = ap (λ l. record { held = Some l; failures = n }) e ∙ ap (λ m. record { held = Some all; failures = m }) z
 
-pub left-in-memory : {W : Type 0} (device : W → Device) (flushes : W → Bool → W → Type 0) (words : List Text) (files : List MemoryFile) (input : Text) (host after : Memory) (left : Left) (out' : W) (out err : List ℕ) (status : ℕ) (out0 err0 err1 : Device)
+pub left-in-memory : {W : Type 0} (device : W → Device) (flushes : W → Bool → W → Type 0) (words : List Text) (files : List MemoryFile) (input : Text) (host after : Memory) (left : End) (out' : W) (out err : List ℕ) (status : ℕ) (out0 err0 err1 : Device)
     → ((old new : W) (done : Bool) → flushes old done new → (done ≡ true) × (new ≡ old)) → device out' ≡ holding out → host.files.now ≡ files → host.input.now ≡ input → noted host ≡ [] → LeftAs left after out err status
     → out0 ≡ holding [] → err0 ≡ holding [] → err1 ≡ holding err
     → Finishes device flushes (λ out_now err_now n. RunsOn words OpensIn bytes_of no_failures host after out0 out_now err0 err_now n) out' err1 status → IsLeftBy words files input left

@@ -1,6 +1,6 @@
 -- A host in memory: what a call of `open` leaves, and what a program leaves over it, which is the
 -- whole of the definitions.
-use Rattle.std.specs.Prelude.{◌≡◌, ◌≢◌, ◌⊎◌, true, cond, List, [], ◌∷◌, ◌++◌, codes, map, Option, Some, None, option_map, string_bytes, Result, Ok, Err}
+use Rattle.std.specs.Prelude.{◌≡◌, ◌≢◌, ◌⊎◌, ℕ, true, cond, List, [], ◌∷◌, ◌++◌, codes, map, Option, Some, None, option_map, string_bytes, Result, Ok, Err}
 use Rattle.std.specs.Str.{bytes_eq}
 use Rattle.clap.specs.Words.{HasMatchesOf, IsAmong, Text, fault_of, takes}
 use Rattle.clap.specs.declared.error.kind.ErrorKind.{ErrorKind}
@@ -16,7 +16,7 @@ use Rattle.vcd_program.specs.Asked.{inputs_asked}
 use Rattle.vcd_program.specs.Runs.{answer_outcome}
 use Rattle.vcd_program.specs.declared.host.OpenFault.{OpenFault}
 use Rattle.vcd_program.specs.declared.host.OpenFault.TheVariants.{Unopened, OutOfMemory}
-use Rattle.vcd_program.specs.declared.memory.Bytes.{Bytes}
+use Rattle.vcd_text.specs.declared.device.Bytes.{Bytes}
 use Rattle.vcd_program.specs.declared.memory.Left.{Left}
 use Rattle.vcd_program.specs.declared.memory.Memory.{Memory}
 use Rattle.vcd_program.specs.declared.memory.MemoryFile.{MemoryFile}
@@ -55,11 +55,27 @@ OpensIn old name (Err OutOfMemory) new = SameFiles old new
 
 -- ---- a whole run
 
+-- what is left: the names of what was opened or tried, in order, the bytes on both streams, and the
+-- status
+pub record End : Type 0 where
+  pub opened : List (Option Text)
+  pub output : Text
+  pub message : Text
+  pub status : ℕ
+
+abbrev pub end_of : Left → End
+end_of left = record {
+  opened = map (λ name. option_map string_bytes name) left.opened.items;
+  output = left.output.items;
+  message = left.message.items;
+  status = left.status;
+}
+
 -- this was opened or tried, and this outcome was left
-pub record IsLeft (left : Left) (names : List (Option Text)) (o : Outcome) : Type 0 where
-  pub opened : map (λ name. option_map string_bytes name) left.opened.items ≡ names
-  pub output : left.output.items ≡ o.output
-  pub message : left.message.items ≡ o.message
+pub record IsLeft (left : End) (names : List (Option Text)) (o : Outcome) : Type 0 where
+  pub opened : left.opened ≡ names
+  pub output : left.output ≡ o.output
+  pub message : left.message ≡ o.message
   pub status : left.status ≡ o.status
 
 -- the texts of these inputs are these
@@ -69,20 +85,20 @@ HaveTexts files input names texts = map (λ name. bytes_among files input name) 
 -- What is left of words that were parsed: over files that are all there the outcome of the words
 -- and of their bytes. Where the words ask for no job, nothing was opened; where a file is not
 -- there, those before it were.
-pub data IsLeftOf (words : Option Words) (asked : List (Option Text)) (files : List MemoryFile) (input : Text) (left : Left) : Type 0 where
+pub data IsLeftOf (words : Option Words) (asked : List (Option Text)) (files : List MemoryFile) (input : Text) (left : End) : Type 0 where
   Refused : (fault : UseFault) (is : job_of words ≡ Err fault) (leaves : IsLeft left [] (command_outcome words [] [])) → IsLeftOf words asked files input left
   Ran : (job : Job) (is : job_of words ≡ Ok job) (texts : List Text) (have : HaveTexts files input asked texts) (leaves : IsLeft left asked (command_outcome words (map called asked) (map whole texts))) → IsLeftOf words asked files input left
   Stopped : (job : Job) (is : job_of words ≡ Ok job) (before after : List (Option Text)) (name : Option Text) (order : asked ≡ before ++ name ∷ after) (texts : List Text) (have : HaveTexts files input before texts)
       (missing : bytes_among files input name ≡ None) (leaves : IsLeft left (before ++ name ∷ []) (unopened_outcome (called name))) → IsLeftOf words asked files input left
 
 -- memory ran out: no output, and a line
-pub record IsOutOfMemory (left : Left) : Type 0 where
-  pub output : left.output.items ≡ []
-  pub message : left.message.items ≡ program_line (codes "out of memory")
+pub record IsOutOfMemory (left : End) : Type 0 where
+  pub output : left.output ≡ []
+  pub message : left.message ≡ program_line (codes "out of memory")
   pub status : left.status ≡ 3
 
 -- what is left of any words, the program's name first
-pub data IsLeftBy (words : List Text) (files : List MemoryFile) (input : Text) (left : Left) : Type 0 where
+pub data IsLeftBy (words : List Text) (files : List MemoryFile) (input : Text) (left : End) : Type 0 where
   Parsed : (matches : ArgMatches) (is : HasMatchesOf program_app words matches) (leaves : IsLeftOf (words_used matches) (inputs_asked matches) files input left) → IsLeftBy words files input left
   NoMatches : (why : ErrorKind) (is : (why ≡ kind.OutOfMemory) ⊎ IsAmong why (fault_of program_app words)) (only : takes program_app words ≡ true → why ≡ kind.OutOfMemory) (other : why ≢ kind.OutOfMemory) (text : Text)
       (leaves : IsLeft left [] (answer_outcome why text)) → IsLeftBy words files input left

@@ -35,4 +35,4 @@ pub use buffered::Buffered;
 pub use command_line::run_program;
 pub use host::{Host, OpenFault, Output};
 pub use machine::{run_on_machine, run_words_on_machine};
-pub use memory::{Bytes, Left, Memory, MemoryFile, run_in_memory};
+pub use memory::{Left, Memory, MemoryFile, run_in_memory, run_in_memory_with_hasher};

@@ -1,45 +1,21 @@
 //! A host in memory: files by name and standard input, as bytes.
 ghost use Rattle.std.specs.Prelude.{◌≡◌, IfOk, OnOk, map, option_map, string_bytes, Some, ◌++◌, ◌∷◌, [], true};
-ghost use Rattle.vcd_program.specs.Names.{bytes_in, bytes_named, IsLeftBy, noted, OpensIn, text_of};
+ghost use Rattle.vcd_program.specs.Names.{bytes_in, bytes_named, end_of, IsLeftBy, noted, OpensIn, text_of};
 
 use crate::command_line::run_program;
 use crate::host::{Host, OpenFault, Output};
 use std::alloc::{AllocError, Global};
-use std::hash::{BuildHasherDefault, FoldHasher};
-use vcd_text::{ReadFailed, Sink, Source, Watch, WriteFailed};
+use std::hash::{BuildHasher, BuildHasherDefault, FoldHasher};
+use vcd_text::{Bytes, Sink, Watch, WriteFailed};
 
 /// A file in memory.
+#[repr(C)]
 #[derive(Clone, Copy, PartialEq, Eq, Debug)]
 pub struct MemoryFile<'a> {
     /// The name of the file.
-    pub name: &'a str,
+    pub name: &'a [u8],
     /// The bytes of the file.
     pub bytes: &'a [u8],
-}
-
-/// Bytes that are read to their end, and no read of them fails.
-#[derive(Drop)]
-pub struct Bytes<'a> {
-    /// What is still to be read.
-    pub rest: &'a [u8],
-}
-
-impl<'a> Source for Bytes<'a> {
-    ghost rest = { λ bytes. Some bytes.rest.now };
-
-    ghost failures = { λ _. 0 };
-
-    fn read(&mut self, into: &mut [u8]) -> Result<usize, ReadFailed> {
-        let n = into.len().min(self.rest.len());
-        let (front, back) = self.rest.split_at(n);
-        into[..n].copy_from_slice(front);
-        self.rest = back;
-        Ok(n)
-    }
-
-    fn failures(&self) -> u64 {
-        0
-    }
 }
 
 /// Files in memory and standard input. It notes what is opened.
@@ -68,7 +44,7 @@ fn bytes_named<'a>(files: &[MemoryFile<'a>], name: &str) -> Option<&'a [u8]>
     ensures { text_of result ≡ bytes_named files.now name.now }
 {
     for file in files {
-        if file.name == name {
+        if file.name == name.as_bytes() {
             return Some(file.bytes);
         }
     }
@@ -138,13 +114,36 @@ pub struct Left {
 /// Runs the program on these words, its own name first among them, over files in memory, and
 /// returns what it left. An error says that memory for the output, for the message or for the notes
 /// ran out.
+///
+/// Identifier codes are hashed by numbers that all may know, so that codes can be crafted which
+/// take long to find: dumps that are not trusted are for `run_in_memory_with_hasher`.
 pub fn run_in_memory(
     alloc: Global,
     words: &[String],
     files: &[MemoryFile<'_>],
     input: &[u8],
 ) -> Result<Left, AllocError>
-    ensures { IfOk result (λ left. IsLeftBy (map string_bytes words.now) files.now input.now left) }
+    ensures { IfOk result (λ left. IsLeftBy
+        (map string_bytes words.now) files.now input.now (end_of left)) }
+{
+    let hasher: BuildHasherDefault<FoldHasher> = BuildHasherDefault::new();
+    run_in_memory_with_hasher(alloc, words, files, input, &hasher)
+}
+
+/// Runs the program on these words, its own name first among them, over files in memory, and
+/// returns what it left. An error says that memory for the output, for the message or for the notes
+/// ran out.
+///
+/// Identifier codes are hashed by numbers that the hasher gives; what is left is the same by each.
+pub fn run_in_memory_with_hasher<B: BuildHasher>(
+    alloc: Global,
+    words: &[String],
+    files: &[MemoryFile<'_>],
+    input: &[u8],
+    hasher: &B,
+) -> Result<Left, AllocError>
+    ensures { IfOk result (λ left. IsLeftBy
+        (map string_bytes words.now) files.now input.now (end_of left)) }
 {
     let mut memory = Memory {
         files,
@@ -153,8 +152,7 @@ pub fn run_in_memory(
     };
     let mut out = Watch::new(Vec::new(alloc));
     let mut err = Watch::new(Vec::new(alloc));
-    let hasher: BuildHasherDefault<FoldHasher> = BuildHasherDefault::new();
-    let status = run_program(alloc, words, &mut memory, &mut out, &mut err, &hasher);
+    let status = run_program(alloc, words, &mut memory, &mut out, &mut err, hasher);
     if out.failures() > 0 || err.failures() > 0 {
         return Err(AllocError);
     }

@@ -6,19 +6,19 @@ use vcd_program::{Left, MemoryFile, run_in_memory};
 // Three dumps of a variable, each with its own name; two that stop; and one on standard input.
 const FILES: [MemoryFile<'static>; 5] = [
     MemoryFile {
-        name: "a.vcd",
+        name: b"a.vcd",
         bytes: b"$timescale 1ns $end $var wire 1 ! a $end $enddefinitions $end #1 1!\n",
     },
     MemoryFile {
-        name: "b.vcd",
+        name: b"b.vcd",
         bytes: b"$timescale 1ns $end $var wire 1 ! b $end $enddefinitions $end #2 0!\n",
     },
     MemoryFile {
-        name: "c.vcd",
+        name: b"c.vcd",
         bytes: b"$timescale 1ns $end $var wire 1 ! c $end $enddefinitions $end #3 1!\n",
     },
     MemoryFile {
-        name: "bad.vcd",
+        name: b"bad.vcd",
         bytes: b"$var wire 1 ! bad $end\n$enddefinitions $end\n#x\n",
     },
     MemoryFile {

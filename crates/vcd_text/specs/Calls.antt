@@ -1,14 +1,14 @@
 -- What the calls of a feed ask and leave, and under the same path the other names of which the
 -- clauses of a feed speak.
 use Rattle.std.specs.Prelude.{◌≡◌, ◌≢◌, ℕ, ◌<◌, List, [], ◌++◌, length, IfSome, None, Some, Result, Ok, Err}
-use Rattle.vcd_model.specs.Input.{Input}
+pub use Rattle.vcd_model.specs.Input.{Input}
 use Rattle.vcd_model.specs.Tokens.{Token}
 pub use Rattle.vcd_text.specs.Advances.{Advances, CallEnd, GoesOn, Ends, Fails}
 pub use Rattle.vcd_text.specs.Ahead.{ahead_of, bytes_of, lines_of, longest_of, passed_of}
 use Rattle.vcd_text.specs.Passed.{Passed}
 use Rattle.vcd_text.specs.Answer.{NextGives, whole}
-pub use Rattle.vcd_text.specs.Feed.{Borrows, GaveOnlySeen, HasGiven, HasReadTo, SameLoans, Shows, answer_of, chunk_len_of, limit_of, parked_answer, parked_of, parked_seen, seen, source_of, token_of, value_of}
-pub use Rattle.vcd_text.specs.Registers.{Fits}
+pub use Rattle.vcd_text.specs.Feed.{Borrows, GaveOnlySeen, HasGiven, HasGivenTo, HasReadTo, SameLoans, Shows, answer_of, chunk_len_of, limit_of, parked_answer, parked_of, parked_seen, seen, source_of, token_of, value_of}
+pub use Rattle.vcd_text.specs.Registers.{Fits, IsOffset}
 use Rattle.vcd_text.specs.declared.device.Source.{Ghosts}
 use Rattle.vcd_text.specs.declared.answer.Halt.{Halt}
 use Rattle.vcd_text.specs.declared.answer.Halt.TheVariants.{ReadFailed}

@@ -9,6 +9,6 @@ pub use Rattle.vcd_model.specs.Tokens.{Token}
 pub use Rattle.vcd_text.specs.Digits.{Spell}
 pub use Rattle.vcd_text.specs.Masks.{Marks, TellsWhite}
 pub use Rattle.vcd_text.specs.Passed.{AreWhite, IsRun}
-pub use Rattle.vcd_text.specs.Registers.{Fits, KeepsFit, looked}
+pub use Rattle.vcd_text.specs.Registers.{Fits, IsOffset, KeepsFit, answer_number, looked, offset_of, phase_at, registers_at}
 pub use Rattle.vcd_text.specs.Turn.{GoesOnIn, MayGoOn, StillFits, TurnSays, Turns}
 pub use Rattle.vcd_text.specs.Window.{Collects, Fills, Finishes, Halts, Skips, gone_on, is_white_at, line_feeds_in, stepped_past}

@@ -1,0 +1,89 @@
+//! How far a feed has come, as numbers.
+ghost use Rattle.std.specs.Prelude.{◌≡◌, ◌+◌, ◌^◌, ◌<◌, ◌≤◌, IsSome, MatchOption, ⊤};
+ghost use Rattle.vcd_text.specs.Names.{IsOffset, answer_number, offset_of, phase_at, registers_at};
+
+use crate::answer::Halt;
+use crate::registers::{Parked, Phase};
+
+/// How far a feed has come: numbers alone, which may be kept outside of the program. Another feed
+/// goes on there, over the bytes that were not looked at.
+#[repr(C)]
+#[derive(Clone, Copy, PartialEq, Eq, Debug)]
+pub struct Offset {
+    /// How many bytes were looked at.
+    pub bytes: u64,
+    /// How many line feeds are among them.
+    pub line_feeds: u64,
+    /// The line of the last answer.
+    pub line: u64,
+    /// What every later call answers: 0 while that is open, 1 for the end, and 1 more than the
+    /// fault's number for a halt.
+    pub answer: u64,
+}
+
+/// Returns the number of what every later call answers.
+fn answer_number(phase: Phase) -> u64
+    ensures { result ≡ answer_number phase }
+{
+    match phase {
+        Phase::Going => 0,
+        Phase::Ended => 1,
+        Phase::Halted(halt) => u64::from(halt.number()) + 1,
+    }
+}
+
+/// Returns what every later call answers, by its number.
+fn phase_at(answer: u64) -> Option<Phase>
+    ensures { result ≡ phase_at answer }
+{
+    match answer {
+        0 => Some(Phase::Going),
+        1 => Some(Phase::Ended),
+        2 => Some(Phase::Halted(Halt::TokenTooLong)),
+        22 => Some(Phase::Halted(Halt::InputTooLong)),
+        32 => Some(Phase::Halted(Halt::ReadFailed)),
+        _ => None,
+    }
+}
+
+/// Returns how far a feed with these registers has come.
+pub(crate) fn offset_of(parked: Parked) -> Offset
+    requires counted { parked.base + parked.at < 2 ^ 63 }
+    requires few { parked.line_feeds ≤ parked.base + parked.at }
+    ensures value { result ≡ offset_of parked }
+    ensures comes { IsOffset result }
+{
+    Offset {
+        bytes: parked.base + parked.at as u64,
+        line_feeds: parked.line_feeds,
+        line: parked.line,
+        answer: answer_number(parked.phase),
+    }
+}
+
+/// Returns the registers of a feed that has come to this offset, with nothing in its chunk; none
+/// where no feed comes.
+pub(crate) fn registers_at(offset: Offset) -> Option<Parked>
+    ensures registers { MatchOption result ⊤ (λ p. p ≡ registers_at offset) }
+    ensures counted { MatchOption result ⊤
+        (λ _. (offset.bytes < 2 ^ 63) × (offset.line_feeds ≤ offset.bytes)) }
+    ensures comes { IsOffset offset → IsSome result }
+{
+    if offset.bytes >= 1 << 63 || offset.line_feeds > offset.bytes {
+        return None;
+    }
+    match phase_at(offset.answer) {
+        Some(phase) => Some(Parked {
+            at: 0,
+            end: 0,
+            stop: 0,
+            size: 0,
+            kept: 0,
+            base: offset.bytes,
+            line_feeds: offset.line_feeds,
+            line: offset.line,
+            phase,
+        }),
+        None => None,
+    }
+}

@@ -1,0 +1,97 @@
+//! The program as functions for callers in C, over memory that they lend.
+//!
+//! `vcdkit_run` runs one of the seven commands, by the words of its command line, over files that
+//! are bytes, and leaves output and message in bytes that were lent. What it leaves is what the
+//! program leaves over a host in memory (`RunsInto`).
+#![tactic(auto)]
+
+mod changes;
+mod fill;
+mod lent;
+mod seed;
+mod words;
+
+ghost use Rattle.std.specs.Prelude.{map};
+ghost use Rattle.vcdkit_c.specs.Names.{bytes_of, RunsInto};
+
+use crate::changes::{Why, changes};
+use crate::fill::fill;
+use crate::seed::Seed;
+use crate::words::{Refused, words_of};
+pub use lent::Lent;
+use std::alloc::Global;
+use vcd_program::{MemoryFile, run_in_memory_with_hasher};
+
+/// What is said where a word is no text.
+const BAD_WORDS: &[u8] = b"vcdkit: bad words\n";
+
+/// The status where memory ran out for output or message.
+const OUT_OF_MEMORY: u8 = 4;
+
+/// Runs the program on these words, which come without its name, over files in memory, and returns
+/// its exit status; or 4, where memory ran out for output or message.
+///
+/// `input` is standard input. Identifier codes are hashed by `seed`: what is left is the same by
+/// each, and who does not know it cannot make a dump whose codes are slow to find. Of the output as
+/// much as there is room for is at the front of `out`, and `out_used` says how long it is: where
+/// that is more than `out` has, so much is wanted of `out` for all of it. The same holds of the
+/// message, `err` and `err_used`. After a 4 nothing is said of them.
+#[unsafe(no_mangle)]
+pub extern "C" fn vcdkit_run(
+    alloc: Global,
+    words: &[Lent<'_>],
+    input: &[u8],
+    files: &[MemoryFile<'_>],
+    seed: u64,
+    out: &mut [u8],
+    out_used: &mut u64,
+    err: &mut [u8],
+    err_used: &mut u64,
+) -> u8
+    ensures { RunsInto (map bytes_of words.now) files.now input.now
+        out.new out_used.new err.new err_used.new result }
+{
+    match words_of(alloc, words) {
+        Ok(words) => {
+            let hasher = Seed::new(seed);
+            match run_in_memory_with_hasher(alloc, words.as_slice(), files, input, &hasher) {
+                Ok(left) => {
+                    *out_used = fill(out, left.output.as_slice());
+                    *err_used = fill(err, left.message.as_slice());
+                    left.status
+                }
+                Err(_) => OUT_OF_MEMORY,
+            }
+        }
+        Err(Refused::BadWords) => {
+            *out_used = 0;
+            *err_used = fill(err, BAD_WORDS);
+            2
+        }
+        Err(Refused::OutOfMemory) => OUT_OF_MEMORY,
+    }
+}
+
+/// Puts the changes of the variables with this identifier code into the slices, as many as all
+/// three have room for, and how many there are into `count`. Returns 0; 1 for a fault of the dump,
+/// 2 where no variable has the code, 3 where memory ran out.
+#[unsafe(no_mangle)]
+pub extern "C" fn vcdkit_changes(
+    alloc: Global,
+    dump: &[u8],
+    code: &[u8],
+    times: &mut [u64],
+    values: &mut [u64],
+    known: &mut [u64],
+    count: &mut u64,
+) -> u8 {
+    match changes(alloc, dump, code, times, values, known) {
+        Ok(n) => {
+            *count = n as u64;
+            0
+        }
+        Err(Why::Fault) => 1,
+        Err(Why::NoCode) => 2,
+        Err(Why::OutOfMemory) => 3,
+    }
+}

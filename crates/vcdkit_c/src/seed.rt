@@ -1,0 +1,28 @@
+//! How identifier codes are hashed: by a number that the caller chooses.
+use std::hash::{BuildHasher, DefaultHasher, Hasher};
+
+/// Hashes what comes after a number, by SipHash. Who does not know the number cannot tell what a
+/// hash will be.
+#[derive(Clone, Copy)]
+pub(crate) struct Seed {
+    initial: DefaultHasher,
+}
+
+impl Seed {
+    /// Returns what hashes behind this number.
+    pub(crate) fn new(number: u64) -> Seed {
+        let mut initial = DefaultHasher::new();
+        initial.write_u64(number);
+        Seed { initial }
+    }
+}
+
+impl BuildHasher for Seed {
+    type Hasher = DefaultHasher;
+
+    ghost build_hasher = { λ seed. seed.initial };
+
+    fn build_hasher(&self) -> DefaultHasher {
+        self.initial
+    }
+}
