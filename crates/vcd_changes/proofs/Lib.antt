@@ -1,0 +1,6 @@
+pub mod DigitLemmas
+pub mod DumpLemmas
+pub mod FaultLemmas
+pub mod HeaderLemmas
+pub mod PlaceLemmas
+pub mod RowLemmas

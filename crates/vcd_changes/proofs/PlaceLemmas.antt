@@ -1,0 +1,83 @@
+-- A place keeps what is known of the items before it, and a feed over a dump in memory has met no
+-- failed read.
+use Rattle.std.proofs.Common.{◌≡◌, ◌≢◌, ◌∙◌, ◌==◌, ◌++◌, ℕ, Bool, true, false, not, cond, List, Option, Some, None, Ok, Err, ap, refl, sym, subst, length, inl, inr, arith}
+use Rattle.vcd_model.specs.Declarations.{IdCode}
+use Rattle.vcd_model.specs.Input.{Clean, Failed, Input, Mark}
+use Rattle.vcd_model.specs.Items.{BodyItem}
+use Rattle.vcd_model.specs.Tokens.{Token}
+use Rattle.vcd_text.specs.Advances.{HasNotFailed}
+use Rattle.vcd_text.specs.Answer.{whole}
+use Rattle.vcd_text.specs.Feed.{HasGiven, HasGivenTo, chunk_len_of, limit_of}
+use Rattle.vcd_text.specs.Given.{HasGivenAt, InPhase}
+use Rattle.vcd_text.specs.Registers.{IsOffset, settled}
+use Rattle.vcd_text.specs.declared.answer.Halt.TheVariants as halt
+use Rattle.vcd_text.specs.declared.device.Source.{Ghosts}
+use Rattle.vcd_text.specs.declared.feed.Feed.{Feed}
+use Rattle.vcd_text.specs.declared.offset.Offset.{Offset}
+use Rattle.vcd_text.specs.declared.registers.Parked.{Parked}
+use Rattle.vcd_text.specs.declared.registers.Phase.{Phase}
+use Rattle.vcd_text.specs.declared.registers.Phase.TheVariants.{Going, Ended, Halted}
+use Rattle.vcd_body.specs.Items.{AreRegsAfter}
+use Rattle.vcd_body.specs.Reads.{BodyHas, GaveItems}
+use Rattle.vcd_body.specs.declared.item.Regs.{Regs}
+use Rattle.vcd_body.specs.declared.item.Section.{Section}
+use Rattle.vcd_body.specs.declared.item.Section.TheVariants.{Vars, Off, On, All}
+use Rattle.vcd_changes.specs.declared.reading.Place.{Place}
+use Rattle.vcd_changes.specs.Rows.{EndsSo}
+use Rattle.vcd_changes.specs.declared.reading.Reading.{Reading}
+use Rattle.vcd_changes.specs.declared.rows.ChangeRow.{ChangeRow}
+use Rattle.vcd_changes.specs.declared.rows.Filled.{Filled}
+use Rattle.vcd_changes.specs.declared.rows.Filled.TheVariants as filled
+use Rattle.vcd_changes.specs.Reading.{EndsAt, IsAfter, status_of, place_of, regs_of, section_at, section_number}
+
+section_back : (s : Option Section) → section_at (section_number s) ≡ s
+section_back None = refl
+section_back (Some Vars) = refl
+section_back (Some Off) = refl
+section_back (Some On) = refl
+section_back (Some All) = refl
+
+mark_back : (b : Bool) → not (cond b 1 0 == 0) ≡ b
+mark_back true = refl
+mark_back false = refl
+
+pub regs_back : (offset : Offset) (r : Regs) → regs_of (place_of offset r) ≡ r
+regs_back offset r = ap (λ b. record { time = r.time; marked = b; section = section_at (section_number r.section) }) (mark_back r.marked) ∙ ap (λ s. record { time = r.time; marked = r.marked; section = s }) (section_back r.section)
+
+clean : Clean ≡ Failed → ⊥
+clean e = cc
+
+open_phase : (phase : Phase) (limit : ℕ) (rest : Option (List ℕ)) (chunk : List ℕ) (p : Parked) (dump : List ℕ) (given : List Token) → InPhase phase limit rest chunk p (whole dump) given → settled phase ≢ Some (Err halt.ReadFailed)
+open_phase Going limit rest chunk p dump given h = λ e. cc
+open_phase Ended limit rest chunk p dump given h = λ e. cc
+open_phase (Halted halt.TokenTooLong) limit rest chunk p dump given h = λ e. cc
+open_phase (Halted halt.InputTooLong) limit rest chunk p dump given h = λ e. cc
+open_phase (Halted halt.ReadFailed) limit rest chunk p dump given h = λ e. clean h.1
+
+-- a feed that has given tokens of a dump that is read to its end has met no failed read
+pub has_not_failed : {X : Type 0} {g : Ghosts X} (f : Feed X g) (dump : List ℕ) (given : List Token) → HasGiven (whole dump) given f → HasNotFailed f
+has_not_failed {X} {g} f dump given h = open_phase f.parked.phase (length f.token.now) (g.rest f.source.now) f.chunk.now f.parked dump given h.at
+
+-- the next call goes on where the items end that a feed has given
+pub is_after : {X : Type 0} {g : Ghosts X} (codes : List IdCode) (i : Input) (front : List Token) (items : List BodyItem) (f : Feed X g) (r : Regs) (o : Offset) → GaveItems codes i front items f r → limit_of f ≡ 65536 → chunk_len_of f ≡ 65536
+    → ((j : Input) (given : List Token) → HasGiven j given f → HasGivenTo (chunk_len_of f) (limit_of f) o j given) → IsOffset o → IsAfter codes i front items (place_of o r)
+is_after codes i front items f r o gave limit chunk to comes = record {
+  given = gave.given;
+  placed = gave.placed;
+  begun = λ e. absurd (omega arith);
+  comes = comes;
+  stands = subst (λ (n : ℕ). HasGivenTo n 65536 o i (front ++ gave.given)) chunk (subst (λ (n : ℕ). HasGivenTo (chunk_len_of f) n o i (front ++ gave.given)) limit (to i (front ++ gave.given) gave.stands));
+  so_far = gave.so_far;
+  items_are = gave.items_are;
+  known = subst (AreRegsAfter items) (sym (regs_back o r)) gave.known;
+}
+
+-- a feed that goes on there has given them
+pub goes_on : {X : Type 0} {g : Ghosts X} (codes : List IdCode) (i : Input) (front : List Token) (items : List BodyItem) (f : Feed X g) (p : Place) (after : IsAfter codes i front items p) → HasGiven i (front ++ after.given) f → GaveItems codes i front items f (regs_of p)
+goes_on codes i front items f p after stands = record { given = after.given; placed = after.placed; stands = stands; so_far = after.so_far; items_are = after.items_are; known = after.known }
+
+-- how a reading ends that has met no fault
+pub ends_well : {X : Type 0} {g : Ghosts X} (codes : List IdCode) (i : Input) (front : List Token) (items : List BodyItem) (f : Feed X g) (r : Regs) (count : ℕ) (rows : List ChangeRow) (filled : Filled) (reading : Reading)
+    → EndsSo codes i front items f r count rows (Ok filled) → limit_of f ≡ 65536 → reading.count ≡ count → (GaveItems codes i front items f r → IsAfter codes i front items reading.place) → EndsAt codes i front items reading rows (status_of filled)
+ends_well codes i front items f r count rows filled.All reading h limit same after = inl (refl, subst (λ (n : ℕ). BodyHas codes i front n items None) limit h.has, after h.gave)
+ends_well codes i front items f r count rows filled.Full reading h limit same after = inr (inr (refl, same ∙ h.1, after h.0))

@@ -1,0 +1,89 @@
+-- The rows of a code, with one item more.
+use Rattle.std.proofs.Common.{◌≡◌, ◌≢◌, ◌∙◌, ◌==◌, ℕ, max, Bool, true, false, cond, List, [], ◌∷◌, ◌++◌, ap, refl, sym, subst, fold, bytes_eq, filter_map, slice_get, Option, Some, None, append-nil, inl, inr}
+use Rattle.std.proofs.lemmas.Bool.Decides.{eqb_tells}
+use Rattle.std.proofs.lemmas.List.{append_assoc}
+use Rattle.std.proofs.lemmas.List.Elements.{filter_map-append}
+use Rattle.std.proofs.lemmas.Slice.Eq.{bytes_eq-Decides}
+use Rattle.vcd_model.specs.Declarations.{IdCode}
+use Rattle.vcd_model.specs.Input.{Input}
+use Rattle.vcd_model.specs.Items.{BodyItem, Change, Entry, entries, entry_after, marks, time_after, time_mark}
+use Rattle.vcd_model.specs.Tokens.{Token}
+use Rattle.vcd_model.proofs.Growing.{entries-append}
+use Rattle.vcd_text.specs.declared.device.Source.{Ghosts}
+use Rattle.vcd_text.specs.declared.feed.Feed.{Feed}
+use Rattle.vcd_view.specs.Views.{IsIndex}
+use Rattle.vcd_view.proofs.LookUpLemmas.{same_place}
+use Rattle.vcd_body.specs.Given.{GivesItem, item_text, text_of}
+use Rattle.vcd_body.specs.Items.{model_form, model_section}
+use Rattle.vcd_body.specs.Reads.{GaveItems}
+use Rattle.vcd_body.specs.declared.item.Form.{Form}
+use Rattle.vcd_body.specs.declared.item.Item.{Item}
+use Rattle.vcd_body.specs.declared.item.Item.TheVariants.{Time, Begin, End, Finish}
+use Rattle.vcd_body.specs.declared.item.Item.TheVariants as item
+use Rattle.vcd_body.specs.declared.item.Regs.{Regs}
+use Rattle.vcd_changes.specs.Rows.{row_added, row_in, row_of, rows_of}
+use Rattle.vcd_changes.specs.declared.rows.ChangeRow.{ChangeRow}
+
+-- one item more
+rows_more : (code : List ℕ) (items : List BodyItem) (x : BodyItem) → rows_of code (items ++ x ∷ []) ≡ rows_of code items ++ filter_map (row_in code) (entry_after items x ∷ [])
+rows_more code items x = ap (filter_map (row_in code)) (entries-append items (x ∷ [])) ∙ filter_map-append (row_in code) (entries items) (entry_after items x ∷ [])
+
+-- a change is no time mark
+time_stays : (items : List BodyItem) (d : Change) → time_after (items ++ BodyItem.Changes d ∷ []) ≡ time_after items
+time_stays items d = ap (fold max 0) (filter_map-append time_mark items (BodyItem.Changes d ∷ []) ∙ append-nil (marks items))
+
+one_row : (b : Bool) (r : ChangeRow) (code : List ℕ) (e : Entry) → row_in code e ≡ cond b (Some r) None → filter_map (row_in code) (e ∷ []) ≡ cond b (r ∷ []) []
+one_row true r code e h = rw h refl
+one_row false r code e h = rw h refl
+
+not_true : (b : Bool) → (b ≡ true → ⊥) → b ≡ false
+not_true true n = absurd (n refl)
+not_true false n = refl
+
+module _ (codes : List IdCode) (index : List ℕ) (is : IsIndex codes index) (place : ℕ) (c : IdCode) (at : slice_get codes place ≡ Some c) where
+  -- two codes of a header have one text where they have one place
+  same_text : (code : ℕ) (k : IdCode) → slice_get codes code ≡ Some k → bytes_eq k.text c.text ≡ (code == place)
+  same_text code k there = elim (eqb_tells code place) [
+    | inl h ↦
+        let one : Some k ≡ Some c = sym there ∙ ap (slice_get codes) h.1 ∙ at in
+        let text : k.text ≡ c.text = let e : k ≡ c = cc in ap (λ (x : IdCode). x.text) e in
+        (bytes_eq-Decides k.text c.text).1 text ∙ sym h.0
+    | inr h ↦ not_true (bytes_eq k.text c.text) (λ t. h.1 (same_place codes index code place k c is there at ((bytes_eq-Decides k.text c.text).0 t))) ∙ sym h.0
+  ]
+
+  row_here : (code : ℕ) (k : IdCode) → slice_get codes code ≡ Some k → (items : List BodyItem) (time : ℕ) (form : Form) (text : List ℕ) → time ≡ time_after (items ++ BodyItem.Changes (record { code = k; form = model_form form; text = text }) ∷ [])
+      → filter_map (row_in c.text) (entry_after items (BodyItem.Changes (record { code = k; form = model_form form; text = text })) ∷ []) ≡ row_added place time text (item.Change code form)
+  row_here code k there items time form text e =
+      let d : Change = record { code = k; form = model_form form; text = text } in
+      let same : time ≡ time_after items = e ∙ time_stays items d in
+      one_row (code == place) (row_of time (model_form form) text) c.text (entry_after items (BodyItem.Changes d))
+      (ap (λ b. cond b (Some (row_of (time_after items) (model_form form) text)) None) (same_text code k there) ∙ ap (λ t. cond (code == place) (Some (row_of t (model_form form) text)) None) (sym same))
+
+  abbrev Took : {X : Type 0} {g : Ghosts X} → Input → List Token → List BodyItem → Feed X g → Regs → Item → Type 0
+  Took i front items f r it = (x : BodyItem) × GaveItems codes i front (items ++ x ∷ []) f r × (rows_of c.text (items ++ x ∷ []) ≡ rows_of c.text items ++ row_added place r.time (item_text f it) it)
+
+  -- the item that was given, and the row that it adds
+  pub taken : {X : Type 0} {g : Ghosts X} (i : Input) (front : List Token) (items : List BodyItem) (f : Feed X g) (r : Regs) (it : Item) → GivesItem codes i front items f r it → (it ≡ Finish → ⊥) → Took i front items f r it
+  taken i front items f r (Time t) h n = (BodyItem.Time t, h.gave, rows_more c.text items (BodyItem.Time t))
+  taken i front items f r (Begin s) h n = (BodyItem.Begin (model_section s), h.gave, rows_more c.text items (BodyItem.Begin (model_section s)))
+  taken i front items f r End h n = (BodyItem.End, h.gave, rows_more c.text items BodyItem.End)
+  taken i front items f r (item.Change code form) h n =
+      let d : Change = record { code = h.0; form = model_form form; text = text_of form f } in
+      (BodyItem.Changes d, h.2.gave, rows_more c.text items (BodyItem.Changes d) ∙ ap (λ l. rows_of c.text items ++ l) (row_here code h.0 h.1 items r.time form (text_of form f) h.2.gave.known.time_is))
+  taken i front items f r Finish h n = absurd (n refl)
+
+module _ (code : List ℕ) where
+  -- the rows hold the changes of these items, which are behind those of an earlier call
+  abbrev pub Filled : List BodyItem → List BodyItem → List ChangeRow → Type 0
+  Filled items more rows = rows_of code (items ++ more) ≡ rows_of code items ++ rows
+
+  pub filled_more : (items more : List BodyItem) (x : BodyItem) (rows added : List ChangeRow) → Filled items more rows → rows_of code ((items ++ more) ++ x ∷ []) ≡ rows_of code (items ++ more) ++ added → Filled items (more ++ x ∷ []) (rows ++ added)
+  filled_more items more x rows added h e =
+      ap (rows_of code) (sym (append_assoc items more (x ∷ []))) ∙ e ∙ ap (λ l. l ++ added) h ∙ append_assoc (rows_of code items) rows added
+
+  pub filled_none : (items : List BodyItem) → Filled items [] []
+  filled_none items = ap (rows_of code) (append-nil items) ∙ sym (append-nil (rows_of code items))
+
+pub not_both : (b : Bool) → b ≡ true → b ≡ false → ⊥
+not_both true e f = cc
+not_both false e f = cc

@@ -1,0 +1,42 @@
+use Rattle.std.proofs.Common.{◌≡◌, ◌∙◌, ◌++◌, ℕ, List, Some, Err, ap, arith, inl, inr, refl, subst, sym}
+use Rattle.vcd_text.specs.Answer.{whole}
+use Rattle.vcd_text.specs.Feed.{chunk_len_of, limit_of, token_of}
+use Rattle.vcd_body.specs.Fault.{call_end, fault_number}
+use Rattle.vcd_body.specs.Reads.{BodyHas}
+use Rattle.vcd_body.specs.declared.fault.BodyFault.{BodyFault}
+use Rattle.vcd_body.specs.declared.fault.BodyFault.TheVariants.{ReadFailed}
+use Rattle.vcd_changes.specs.Rows.{EndsSo}
+use Rattle.vcd_changes.specs.declared.rows.Filled.{Filled}
+use Rattle.vcd_changes.proofs.FaultLemmas.{body_fault_is, some_fault}
+use Rattle.vcd_changes.proofs.PlaceLemmas.{ends_well, has_not_failed, is_after}
+use Rattle.vcd_changes.proofs.dump.read_on.Goals as goal
+
+pub returns-in-Ok : goal.returns-in-Ok
+returns-in-Ok c = λ h dump front items code views gave at.
+    let f = c.collect-ended.new.feed in
+    let s = c.collect-ended.ensures.reads h (whole dump) front items code views gave at in
+    let ends = subst (EndsSo h.codes (whole dump) front (items ++ s.more) f c.collect-ended.new.regs c.collect-ended.new.count c.collect-ended.new.rows) c.in-Ok.is s.ends in
+    let limit : limit_of f ≡ 65536 = c.collect-ended.ensures.advances.limit ∙ c.requires.0 in
+    let chunk : chunk_len_of f ≡ 65536 = c.collect-ended.ensures.advances.chunk ∙ c.requires.1 in
+    record {
+      more = s.more;
+      rows_are = s.rows_are;
+      ends = rw (c.status_of.ensures, c.place_of-reading.ensures) (ends_well h.codes (whole dump) front (items ++ s.more) f c.collect-ended.new.regs c.collect-ended.new.count c.collect-ended.new.rows c.in-Ok.filled _ ends limit refl
+          (λ all. is_after h.codes (whole dump) front (items ++ s.more) f c.collect-ended.new.regs c.offset.result all limit chunk c.offset.ensures.given c.offset.ensures.comes));
+    }
+
+pub returns-in-Err : goal.returns-in-Err
+returns-in-Err c = λ h dump front items code views gave at.
+    let f = c.collect-ended.new.feed in
+    let s = c.collect-ended.ensures.reads h (whole dump) front items code views gave at in
+    let fails = subst (EndsSo h.codes (whole dump) front (items ++ s.more) f c.collect-ended.new.regs c.collect-ended.new.count c.collect-ended.new.rows) c.in-Err.is s.ends in
+    let limit : limit_of f ≡ 65536 = c.collect-ended.ensures.advances.limit ∙ c.requires.0 in
+    let has = body_fault_is f (whole dump) h.codes front (items ++ s.more) c.in-Err.fault
+    (λ e. let more = c.collect-ended.ensures.advances.failed (ap call_end (c.in-Err.is ∙ ap (λ (x : BodyFault). Err x) e)) (has_not_failed c.args.feed.now dump (front ++ gave.given) gave.stands) in absurd (omega arith)) fails in
+    let number : c.from-reading.result ≡ fault_number c.in-Err.fault = omega arith in
+    let told = some_fault (fault_number c.in-Err.fault) c.from-reading.result (token_of f).line c.line-reading.result number c.line-reading.ensures in
+    record {
+      more = s.more;
+      rows_are = s.rows_are;
+      ends = inr (inl (refl, subst (BodyHas h.codes (whole dump) front 65536 (items ++ s.more)) told (subst (λ (n : ℕ). BodyHas h.codes (whole dump) front n (items ++ s.more) (Some (record { number = fault_number c.in-Err.fault; line = (token_of f).line }))) limit has)));
+    }

@@ -1,0 +1,22 @@
+use Rattle.std.proofs.Common.{◌≡◌, ◌-◌, ◌^◌, ◌≤◌, ◌++◌, List, Some, length, slice_get, take}
+use Rattle.vcd_head.specs.Model.Header.{Header}
+use Rattle.vcd_head.specs.Model.Input.{Input}
+use Rattle.vcd_head.specs.Model.Tokens.{Token}
+use Rattle.vcd_head.specs.Views.{IsViewOf}
+use Rattle.vcd_model.specs.Declarations.{IdCode}
+use Rattle.vcd_model.specs.Items.{BodyItem}
+use Rattle.vcd_text.specs.Advances.{Advances, CallEnd}
+use Rattle.vcd_text.specs.Feed.{seen}
+use Rattle.vcd_body.specs.Reads.{GaveItems}
+use Rattle.vcd_changes.specs.Rows.{rows_of}
+use Rattle.vcd_changes.proofs.rows.collect.Given as goal
+
+-- others were read behind the items, and the rows so far have their changes of the code
+abbrev pub invariant-items : goal.invariant-items
+invariant-items g l = Advances g.S.Source.failures l.fn.feed l.feed CallEnd.GoesOn
+    × (l.count ≤ length l.rows)
+    × ((h : Header) (i : Input) (front : List Token) (items : List BodyItem) (code : IdCode) → IsViewOf l.view h → GaveItems h.codes i front items l.fn.feed l.fn.regs → slice_get h.codes l.place ≡ Some code
+    → ((more : List BodyItem) × GaveItems h.codes i front (items ++ more) l.feed l.regs × (rows_of code.text (items ++ more) ≡ rows_of code.text items ++ take l.count l.rows)))
+
+abbrev pub decreases-items : goal.decreases-items
+decreases-items g l = 2 ^ 63 - seen l.feed

@@ -1,0 +1,83 @@
+//! The digits of a value as numbers.
+ghost use Rattle.std.specs.Prelude.{◌≡◌, ◌+◌, ◌-◌, ◌*◌, ◌^◌, ◌<◌, ◌≤◌, cond, length};
+ghost use Rattle.vcd_changes.specs.Digits.{digits_of, extend, extension, is_known, last_of, number_where};
+
+/// The last 64 digits of a value, as numbers.
+#[derive(Clone, Copy, PartialEq, Eq, Debug)]
+pub(crate) struct Digits {
+    /// Which digits are 1.
+    pub value: u64,
+    /// Which digits are 0 or 1.
+    pub known: u64,
+}
+
+/// Returns whether the digit is 0 or 1.
+fn is_known(digit: u8) -> bool
+    ensures { result ≡ is_known digit }
+{
+    digit == b'0' || digit == b'1'
+}
+
+/// Returns the last 64 digits, or all where there are fewer.
+fn last_of(digits: &[u8]) -> &[u8]
+    ensures last { result.now ≡ last_of 64 digits.now }
+    ensures most { length result.now ≤ 64 }
+{
+    &digits[digits.len().saturating_sub(64)..]
+}
+
+/// Returns whether these digits are extended on the left by a 0 or 1.
+fn extends_known(digits: &[u8]) -> bool
+    ensures { result ≡ is_known (extension digits.now) }
+{
+    match digits.first() {
+        Some(first) => is_known(*first),
+        None => true,
+    }
+}
+
+/// Returns which of 64 digits are 0 or 1 before these, by which a value is extended on the left.
+fn known_before(digits: &[u8]) -> u64
+    requires { length digits.now ≤ 64 }
+    ensures { result ≡ cond (is_known (extension digits.now)) (2 ^ 64 - 2 ^ length digits.now) 0 }
+{
+    if digits.len() < 64 && extends_known(digits) {
+        u64::MAX - ((1u64 << digits.len()) - 1)
+    } else {
+        0
+    }
+}
+
+/// Returns a number with one binary digit more.
+fn with_digit(number: u64, digit: bool) -> u64
+    requires { number < 2 ^ 63 }
+    ensures { result ≡ 2 * number + cond digit 1 0 }
+{
+    if digit { 2 * number + 1 } else { 2 * number }
+}
+
+/// Returns which of 64 digits are 0 or 1, from those which are among these, which are extended.
+fn known_in_all(digits: &[u8], known: u64) -> u64
+    requires most { length digits.now ≤ 64 }
+    requires known { known ≡ number_where is_known digits.now }
+    ensures { result ≡ number_where is_known (extend digits.now 64) }
+{
+    known_before(digits) + known
+}
+
+/// Returns the last 64 digits of a value as numbers. A value with fewer is extended on the left.
+pub(crate) fn digits_of(text: &[u8]) -> Digits
+    ensures { result ≡ digits_of text.now }
+{
+    let last = last_of(text);
+    let mut value: u64 = 0;
+    let mut known: u64 = 0;
+    for digit in last {
+        let ones = with_digit(value, *digit == b'1');
+        let all = with_digit(known, is_known(*digit));
+        value = ones;
+        known = all;
+    }
+    let known = known_in_all(last, known);
+    Digits { value, known }
+}

@@ -1,0 +1,192 @@
+//! The changes of one variable of a dump in memory.
+ghost use Rattle.std.specs.Prelude.{◌≡◌, ℕ, IfOk, List, Some, drop, slice_get};
+ghost use Rattle.vcd_body.specs.Reads.{GaveItems};
+ghost use Rattle.vcd_head.specs.Model.Header.{Header};
+ghost use Rattle.vcd_head.specs.Model.Tokens.{Token};
+ghost use Rattle.vcd_head.specs.Views.{IsViewOf};
+ghost use Rattle.vcd_model.specs.Declarations.{IdCode};
+ghost use Rattle.vcd_model.specs.Items.{BodyItem};
+ghost use Rattle.vcd_text.specs.Answer.{whole};
+ghost use Rattle.vcd_text.specs.Feed.{chunk_len_of, limit_of};
+ghost use Rattle.vcd_changes.specs.Reading.{Finds, FindsIn, GoesOnAt, IsAfter, Refused, status_of};
+
+use crate::reading::{Reading, place_of, regs_of};
+use crate::rows::{ChangeRow, Filled, collect};
+use std::alloc::{AllocError, Global};
+use std::hash::BuildHasher;
+use vcd_body::Regs;
+use vcd_head::{HeadFault, HeadView, read_head_with_hasher};
+use vcd_text::{Bytes, Feed};
+use vcd_view::find;
+
+/// The most bytes that a token may have, and how many are read at once.
+const LIMIT: usize = 65_536;
+
+/// The most scopes, variables and `$upscope` that a header may have.
+const MOST: u64 = 16_777_216;
+
+/// The status where the dump has no further change of the code, and no fault.
+pub const DONE: u8 = 0;
+
+/// The status where the dump has a fault.
+pub const FAULT: u8 = 1;
+
+/// The status where no variable has the code.
+pub const NO_CODE: u8 = 2;
+
+/// The status where memory ran out.
+pub const NO_MEMORY: u8 = 3;
+
+/// The status where the rows are full, and the next call goes on.
+pub const FULL: u8 = 4;
+
+/// The status where no call has left such a place.
+pub const BAD_PLACE: u8 = 5;
+
+/// Returns the status of a reading that has met no fault.
+fn status_of(filled: Filled) -> u8
+    ensures { result ≡ status_of filled }
+{
+    match filled {
+        Filled::All => DONE,
+        Filled::Full => FULL,
+    }
+}
+
+/// Reads on, fills the rows with the changes of the code at this place among the header's, and
+/// returns the status.
+fn read_on(
+    feed: &mut Feed<'_, '_, '_, '_, Bytes<'_>>,
+    view: HeadView<'_>,
+    place: usize,
+    regs: Regs,
+    reading: &mut Reading,
+    rows: &mut [ChangeRow],
+) -> u8
+    requires { (limit_of feed.old ≡ 65536) × (chunk_len_of feed.old ≡ 65536) }
+    ensures { (h : Header) (dump : List ℕ) (front : List Token) (items : List BodyItem)
+        (code : IdCode) → IsViewOf view.entry h
+        → GaveItems h.codes (whole dump) front items feed.old regs
+        → slice_get h.codes place ≡ Some code
+        → Finds h.codes (whole dump) front items code.text reading.new rows.new result }
+{
+    let mut regs = regs;
+    let mut count = 0;
+    let ended = collect(feed, view, place, &mut regs, rows, &mut count);
+    reading.count = count as u64;
+    match ended {
+        Ok(filled) => {
+            reading.place = place_of(feed.offset(), regs);
+            status_of(filled)
+        }
+        Err(fault) => {
+            reading.fault = u64::from(fault.number());
+            reading.line = feed.line();
+            FAULT
+        }
+    }
+}
+
+/// Reads on in a dump from the place of the reading, after the header that is shown.
+fn go_on(
+    alloc: Global,
+    dump: &[u8],
+    view: HeadView<'_>,
+    place: usize,
+    reading: &mut Reading,
+    rows: &mut [ChangeRow],
+) -> Result<u8, AllocError>
+    ensures { (h : Header) (front : List Token) (items : List BodyItem) (code : IdCode)
+        → IsViewOf view.entry h
+        → IsAfter h.codes (whole dump.now) front items reading.old.place
+        → slice_get h.codes place ≡ Some code
+        → IfOk result (Finds h.codes (whole dump.now) front items code.text reading.new rows.new) }
+{
+    let mut chunk = vec![in alloc; 0u8; LIMIT]?;
+    let mut token = vec![in alloc; 0u8; LIMIT]?;
+    let mut value = vec![in alloc; 0u8; LIMIT]?;
+    let from = reading.place;
+    let mut source = Bytes {
+        rest: after(dump, from.offset.bytes),
+    };
+    match Feed::at(&mut source, &mut chunk, &mut token, &mut value, from.offset) {
+        Some(mut feed) => Ok(read_on(&mut feed, view, place, regs_of(from), reading, rows)),
+        None => Ok(BAD_PLACE),
+    }
+}
+
+/// Returns the bytes after the first n; none where there are fewer.
+fn after(dump: &[u8], n: u64) -> &[u8]
+    ensures { result.now ≡ drop n dump.now }
+{
+    if n >= dump.len() as u64 {
+        return &[];
+    }
+    &dump[n as usize..]
+}
+
+/// Notes the fault of a header at this line, and returns the status.
+fn refused(fault: HeadFault, line: u64, reading: &mut Reading) -> u8
+    ensures { Refused fault line reading.new result }
+{
+    if fault == HeadFault::OutOfMemory {
+        return NO_MEMORY;
+    }
+    reading.count = 0;
+    reading.fault = u64::from(fault.number());
+    reading.line = line;
+    FAULT
+}
+
+/// Reads the header of a dump, and then on from the place of the reading.
+fn read_changes<B: BuildHasher>(
+    alloc: Global,
+    dump: &[u8],
+    code: &[u8],
+    hasher: &B,
+    reading: &mut Reading,
+    rows: &mut [ChangeRow],
+) -> Result<u8, AllocError>
+    ensures { (items : List BodyItem) → GoesOnAt dump.now items reading.old.place
+        → IfOk result (FindsIn dump.now items code.now reading.new rows.new) }
+{
+    let mut chunk = vec![in alloc; 0u8; LIMIT]?;
+    let mut token = vec![in alloc; 0u8; LIMIT]?;
+    let mut value = vec![in alloc; 0u8; LIMIT]?;
+    let mut source = Bytes { rest: dump };
+    let mut feed = Feed::new(&mut source, &mut chunk, &mut token, &mut value);
+    let head = match read_head_with_hasher(alloc, &mut feed, MOST, hasher) {
+        Ok(head) => head,
+        Err(fault) => return Ok(refused(fault, feed.line(), reading)),
+    };
+    let shown = head.view();
+    let Some(place) = find(shown, code) else {
+        return Ok(NO_CODE);
+    };
+    if reading.place.begun == 0 {
+        return Ok(read_on(&mut feed, shown, place, Regs::new(), reading, rows));
+    }
+    go_on(alloc, dump, shown, place, reading, rows)
+}
+
+/// Fills the rows with the changes of the variables with this identifier code, from the place of
+/// the reading on, and returns the status: `DONE`, `FAULT`, `NO_CODE`, `NO_MEMORY`, `FULL` or
+/// `BAD_PLACE`. Each call reads the header anew, and then goes on in the body at once. Identifier
+/// codes are hashed by numbers that the hasher gives; what is found is the same by each.
+pub fn changes<B: BuildHasher>(
+    alloc: Global,
+    dump: &[u8],
+    code: &[u8],
+    hasher: &B,
+    reading: &mut Reading,
+    rows: &mut [ChangeRow],
+) -> u8
+    ensures { (items : List BodyItem) → GoesOnAt dump.now items reading.old.place
+        → FindsIn dump.now items code.now reading.new rows.new result }
+{
+    reading.count = 0;
+    match read_changes(alloc, dump, code, hasher, reading, rows) {
+        Ok(status) => status,
+        Err(_) => NO_MEMORY,
+    }
+}

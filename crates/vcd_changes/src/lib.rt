@@ -1,0 +1,24 @@
+//! The changes of one variable of a dump in memory, as rows of numbers.
+//!
+//! `changes` fills rows with the changes of an identifier code, each with its time and its last 64
+//! digits, from where an earlier call has stopped. The rows of all calls, one after the other, are
+//! those of the code's changes in all items of the body (`rows_of` of `specs/Rows`).
+//!
+//! # The modules
+//!
+//! - `dump`: from a dump to rows and a status
+//! - `rows`: `ChangeRow`, and the loop over items
+//! - `reading`: where a reading goes on, as numbers
+//! - `digits`: the digits of a value as numbers
+//!
+//! In `specs/`: `Digits`; `Rows`; `Reading`, which has what a call finds.
+#![tactic(auto)]
+
+mod digits;
+mod dump;
+mod reading;
+mod rows;
+
+pub use dump::{BAD_PLACE, DONE, FAULT, FULL, NO_CODE, NO_MEMORY, changes};
+pub use reading::{Place, Reading};
+pub use rows::ChangeRow;

@@ -1,0 +1,117 @@
+//! The changes of a code as rows of numbers.
+ghost use Rattle.std.specs.Prelude.{◌≡◌, ◌-◌, ◌^◌, ◌<◌, ◌≤◌, ◌++◌, List, Some, length, slice_get, take};
+ghost use Rattle.vcd_body.specs.Items.{model_form};
+ghost use Rattle.vcd_body.specs.Given.{item_text};
+ghost use Rattle.vcd_body.specs.Fault.{call_end};
+ghost use Rattle.vcd_body.specs.Reads.{GaveItems};
+ghost use Rattle.vcd_head.specs.Model.Header.{Header};
+ghost use Rattle.vcd_head.specs.Model.Input.{Input};
+ghost use Rattle.vcd_model.specs.Declarations.{IdCode};
+ghost use Rattle.vcd_model.specs.Items.{BodyItem};
+ghost use Rattle.vcd_head.specs.Model.Tokens.{Token};
+ghost use Rattle.vcd_head.specs.Views.{IsViewOf};
+ghost use Rattle.vcd_text.specs.Advances.{Advances};
+ghost use Rattle.vcd_text.specs.Feed.{source_of};
+ghost use Rattle.vcd_changes.specs.Rows.{Collects, row_added, row_of};
+
+use crate::digits::digits_of;
+use vcd_body::{BodyFault, Form, Item, Regs, change_text, next_item};
+use vcd_head::HeadView;
+use vcd_text::{Feed, Source};
+
+/// A change of a variable's value: its time in ticks, the last 64 digits, and which of them are 0
+/// or 1.
+#[repr(C)]
+#[derive(Clone, Copy, PartialEq, Eq, Debug)]
+pub struct ChangeRow {
+    /// The time in ticks.
+    pub time: u64,
+    /// Which digits are 1.
+    pub value: u64,
+    /// Which digits are 0 or 1: all where the whole value is known, none of a real number.
+    pub known: u64,
+}
+
+/// Why no more rows were filled.
+#[derive(Clone, Copy, PartialEq, Eq, Debug)]
+pub(crate) enum Filled {
+    /// The body has no further change.
+    All,
+    /// The rows are full.
+    Full,
+}
+
+/// Returns the row of a change.
+fn row_of(time: u64, form: Form, text: &[u8]) -> ChangeRow
+    ensures { result ≡ row_of time (model_form form) text.now }
+{
+    match form {
+        Form::Scalar | Form::Vector => {
+            let digits = digits_of(text);
+            ChangeRow {
+                time,
+                value: digits.value,
+                known: digits.known,
+            }
+        }
+        Form::RealText => ChangeRow {
+            time,
+            value: 0,
+            known: 0,
+        },
+    }
+}
+
+/// Puts the row of the item that was read last after the first `count` rows, where it is a change
+/// of the code at this place, and returns how many rows there are then.
+fn put_row<S: Source>(
+    feed: &Feed<'_, '_, '_, '_, S>,
+    item: Item,
+    place: usize,
+    time: u64,
+    rows: &mut [ChangeRow],
+    count: usize,
+) -> usize
+    requires { count < length rows.old }
+    ensures rows { take result rows.new
+        ≡ take count rows.old ++ row_added place time (item_text feed.now item) item }
+    ensures most { result ≤ length rows.new }
+{
+    match item {
+        Item::Change { code, form } if code == place => {
+            rows[count] = row_of(time, form, change_text(feed, form));
+            count + 1
+        }
+        _ => count,
+    }
+}
+
+/// Reads on, fills the rows with the changes of the code at this place, until they are full or the
+/// body ends, and counts them; or returns the body's fault, after the rows before it.
+pub(crate) fn collect<S: Source>(
+    feed: &mut Feed<'_, '_, '_, '_, S>,
+    view: HeadView<'_>,
+    place: usize,
+    regs: &mut Regs,
+    rows: &mut [ChangeRow],
+    count: &mut usize,
+) -> Result<Filled, BodyFault>
+    requires { S.failures (source_of feed.old) < 2 ^ 64 - 1 }
+    ensures reads { (h : Header) (i : Input) (front : List Token) (items : List BodyItem)
+        (code : IdCode) → IsViewOf view.entry h → GaveItems h.codes i front items feed.old regs.old
+        → slice_get h.codes place ≡ Some code
+        → Collects h.codes i front items code.text feed.new regs.new count.new rows.new result }
+    ensures advances { Advances S.failures feed.old feed.new (call_end result) }
+{
+    *count = 0;
+    'items: loop {
+        if *count == rows.len() {
+            return Ok(Filled::Full);
+        }
+        let item = next_item(feed, view, regs)?;
+        if item == Item::Finish {
+            return Ok(Filled::All);
+        }
+        *count = put_row(feed, item, place, regs.time, rows, *count);
+    }
+}
