@@ -67,7 +67,8 @@ hostile: vcdkit
 	devices=$$(mktemp --suffix=.so) && cc -O1 -shared -fPIC -o $$devices hostile/devices.c -ldl && \
 	hostile/hostile.py ./vcdkit $$devices memory large devices cut_off && \
 	hostile/machine.py ./vcdkit $$devices && \
-	hostile/random_runs.py ./vcdkit --runs 50000 && hostile/crafted.py ./vcdkit; \
+	hostile/random_runs.py ./vcdkit --runs 50000 && hostile/crafted.py ./vcdkit && \
+	{ [ ! -e libvcdkit.so ] || hostile/library.py ./vcdkit ./libvcdkit.so; }; \
 	status=$$?; rm -f $$devices; exit $$status
 
 # It takes the ./vcdkit that is there, and builds none.

@@ -430,11 +430,21 @@ for script in extras/vcdkit-*; do
             "$(said=$("$name" "${words[@]}" 2>&1 > /dev/full); echo "$? $said")"
 done
 
-# Two callers in C and the package for Python, where `make library` has left the library, and there
-# is a C compiler.
+# The times at which a dump on standard input gives a code a value, by its lines.
+times_of() {
+    awk -v "code=$1" '
+        /\$enddefinitions/ { body = 1 }
+        body && /^#/ { time = substr($1, 2) + 0 }
+        body && NF == 1 && /^[01xXzZ]/ && substr($1, 2) == code { print time + 0 }
+        body && NF == 2 && /^[bBrR]/ && $2 == code { print time + 0 }'
+}
+
+# Three callers in C, under the sanitizers, and the package for Python, where `make library` has
+# left the library, and there is a C compiler.
 if [[ -e libvcdkit.a && -e libvcdkit.so ]] && command -v cc > /dev/null; then
-    for caller in report window; do
-        cc -std=c99 -Wall -Wextra -Werror -Iextras/c -o "$folder/$caller" "extras/c/$caller.c" \
+    for caller in report window changes; do
+        cc -std=c99 -g -Wall -Wextra -Werror -fsanitize=address,undefined \
+            -fno-sanitize-recover=all -Iextras/c -o "$folder/$caller" "extras/c/$caller.c" \
             libvcdkit.a
     done
     for dump in samples/*.vcd; do
@@ -442,7 +452,21 @@ if [[ -e libvcdkit.a && -e libvcdkit.so ]] && command -v cc > /dev/null; then
             "$("$folder/report" "$dump" 2>&1; echo $?)"
         same "$dump: window by C" "$(./vcdkit cut -i "$dump" --from 5 --to 50 2>&1; echo $?)" \
             "$("$folder/window" "$dump" 5 50 2>&1; echo $?)"
+        while read -r code; do
+            same "$dump: changes of $code by C" "$(times_of "$code" < "$dump")" \
+                "$("$folder/changes" "$dump" "$code" | cut -d ' ' -f 1)"
+        done < <(./vcdkit list -i "$dump" | awk '{ print $NF }' | sort -u | head -n 5)
     done
+    printf '$var wire 1 ! q $end $enddefinitions $end\n#5 1! bx !\n#4 0!\n' > "$folder/back.vcd"
+    same 'changes by C: a fault' "5 1 ffffffffffffffff
+5 0 0
+$folder/back.vcd:3: fault 14
+1" "$("$folder/changes" "$folder/back.vcd" ! 2>&1; echo $?)"
+    same 'changes by C: no such code' 'changes: no such code
+2' "$("$folder/changes" "$folder/back.vcd" '?' 2>&1; echo $?)"
+    same 'the library exports its functions alone' 'vcdkit_changes vcdkit_run' \
+        "$(nm -D --defined-only libvcdkit.so | awk '$2 == "T" { print $3 }' | sed 's/@.*//' |
+            sort | paste -s -d ' ')"
     same 'the package for Python' 0 \
         "$(VCDKIT_LIBRARY=./libvcdkit.so VCDKIT=./vcdkit python3 python/tests/test_vcdkit.py \
             > "$folder/python" 2>&1 || cat "$folder/python"; echo $?)"

@@ -1,16 +1,16 @@
-/* run.h: what the two examples share: a file in memory, and one call. */
+/* run.h: what the examples share: a file in memory, a seed, and one call. */
 #include "vcdkit.h"
 #include <stdio.h>
 #include <stdlib.h>
 #include <string.h>
 
-static struct vcdkit_bytes bytes_of(const char *text) {
+static inline struct vcdkit_bytes bytes_of(const char *text) {
     struct vcdkit_bytes bytes = {(const uint8_t *)text, strlen(text)};
     return bytes;
 }
 
 /* The bytes of a file; ends where it cannot be read. */
-static struct vcdkit_bytes file_of(const char *name) {
+static inline struct vcdkit_bytes file_of(const char *name) {
     size_t room = 1 << 16, length = 0, got;
     uint8_t *text = malloc(room);
     FILE *file = fopen(name, "rb");
@@ -31,7 +31,7 @@ static struct vcdkit_bytes file_of(const char *name) {
 }
 
 /* A number that whoever made a dump does not know. */
-static uint64_t seed(void) {
+static inline uint64_t seed(void) {
     uint64_t number = 0;
     FILE *random = fopen("/dev/urandom", "rb");
     if (!random || fread(&number, sizeof number, 1, random) != 1) {
@@ -43,7 +43,7 @@ static uint64_t seed(void) {
 }
 
 /* Runs the words over one file, prints output and message, and returns the status. */
-static int run(const char *const *words, size_t count, const char *name) {
+static inline int run(const char *const *words, size_t count, const char *name) {
     struct vcdkit_bytes lent[16];
     struct vcdkit_file file = {bytes_of(name), file_of(name)};
     uint8_t err[4096], *out = NULL;

@@ -3,9 +3,9 @@
  *
  * What a call leaves is proved to be what the program leaves, for all bytes. Not checked is what C
  * hands over:
- *  - a pointer is not null, also where the length is 0, and has as many bytes or numbers behind it
+ *  - a pointer is not null, also where the length is 0, and has as many bytes or changes behind it
  *    as the length says, at most 2^63 - 1 bytes;
- *  - what is written (out, err, times, values, known, and each number) overlaps nothing else;
+ *  - what is written (out, err, reading, changes, and each number) overlaps nothing else;
  *  - nobody writes what is read, and nobody reads what is written, until the call is over. That
  *    holds of a mapped file too: let nobody change or shorten it meanwhile.
  * Calls may be made in several threads at once. The library takes memory by malloc, gives all of it
@@ -46,17 +46,48 @@ uint8_t vcdkit_run(const struct vcdkit_bytes *words, size_t words_length,
                    uint8_t *out, size_t out_length, uint64_t *out_used,
                    uint8_t *err, size_t err_length, uint64_t *err_used);
 
-/* Puts the changes of the variables with this identifier code (`vcdkit list` tells it) into the
- * arrays, one for each line of the dump that gives a value, as far as all three go; *count tells
- * how many there are. times: in ticks. values: the last 64 digits, x and z as 0. known: ones where
- * the digits are 0 or 1, so all ones where the whole value is known; real numbers are all unknown.
- * Returns 0; 1 for a fault of the dump (vcdkit_run with `check` says which); 2 where no variable
- * has the code; 3 for no memory. Proved is that it is safe and returns, not what it finds. */
+/* A change of a variable's value. */
+struct vcdkit_change {
+    uint64_t time;  /* in ticks, those of the dump's $timescale */
+    uint64_t value; /* ones where the last 64 digits are 1 */
+    uint64_t known; /* ones where they are 0 or 1: all ones where the whole value is known, all
+                     * zeros for a real number. A value of fewer digits is extended on the left,
+                     * by 0 before 0 and 1, by x before x, by z before z */
+};
+
+/* A reading of the changes of a variable. All zeros at the first call. */
+struct vcdkit_reading {
+    uint64_t place[8]; /* where the next call goes on: for the library alone */
+    uint64_t count;    /* how many changes the last call found */
+    uint64_t fault;    /* the fault of the dump, where there is one:
+                        *  1 token too long, 2 unexpected end of input, 3 unknown command,
+                        *  4 command out of place, 5 bad timescale, 6 bad scope, 7 bad variable,
+                        *  8 code declared with another size or kind, 9 upscope without scope,
+                        *  10 scopes too deep, 11 too many declarations, 13 bad time,
+                        *  14 time goes back, 15 bad value, 16 unknown code, 17 value too wide,
+                        *  18 real text too long, 19 time inside a section, 21 input too long */
+    uint64_t line;     /* the line of the fault */
+};
+
+/* How a call of vcdkit_changes ends. */
+enum {
+    VCDKIT_ALL = 0,       /* the dump has no further change, and no fault */
+    VCDKIT_FAULT = 1,     /* the dump has a fault, behind the changes that were found */
+    VCDKIT_NO_CODE = 2,   /* no variable has the code */
+    VCDKIT_NO_MEMORY = 3, /* memory ran out */
+    VCDKIT_FULL = 4,      /* the array is full: the next call finds the changes behind these */
+    VCDKIT_BAD_PLACE = 5  /* no call has left this reading */
+};
+
+/* Finds the changes of the variables with this identifier code (`vcdkit list` says it), one for
+ * each change that the dump writes, also to the value that was there: as many as the array has room
+ * for (at least 1), from where the call before has stopped. Each call reads the header, and then
+ * goes on in the body at once. dump and code are those of the first call. seed is as for
+ * vcdkit_run, and may be another at each call. */
 uint8_t vcdkit_changes(const uint8_t *dump, size_t dump_length,
-                       const uint8_t *code, size_t code_length,
-                       uint64_t *times, size_t times_length,
-                       uint64_t *values, size_t values_length,
-                       uint64_t *known, size_t known_length, uint64_t *count);
+                       const uint8_t *code, size_t code_length, uint64_t seed,
+                       struct vcdkit_reading *reading,
+                       struct vcdkit_change *changes, size_t changes_length);
 
 #ifdef __cplusplus
 }

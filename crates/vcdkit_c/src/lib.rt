@@ -2,24 +2,24 @@
 //!
 //! `vcdkit_run` runs one of the seven commands, by the words of its command line, over files that
 //! are bytes, and leaves output and message in bytes that were lent. What it leaves is what the
-//! program leaves over a host in memory (`RunsInto`).
+//! program leaves over a host in memory (`RunsInto`). `vcdkit_changes` finds the changes of a
+//! variable, as numbers (`FindsIn` of `vcd_changes`).
 #![tactic(auto)]
 
-mod changes;
 mod fill;
 mod lent;
 mod seed;
 mod words;
 
-ghost use Rattle.std.specs.Prelude.{map};
-ghost use Rattle.vcdkit_c.specs.Names.{bytes_of, RunsInto};
+ghost use Rattle.std.specs.Prelude.{List, map};
+ghost use Rattle.vcdkit_c.specs.Names.{BodyItem, bytes_of, FindsIn, GoesOnAt, RunsInto};
 
-use crate::changes::{Why, changes};
 use crate::fill::fill;
 use crate::seed::Seed;
 use crate::words::{Refused, words_of};
 pub use lent::Lent;
 use std::alloc::Global;
+use vcd_changes::{ChangeRow, Reading, changes};
 use vcd_program::{MemoryFile, run_in_memory_with_hasher};
 
 /// What is said where a word is no text.
@@ -72,26 +72,19 @@ pub extern "C" fn vcdkit_run(
     }
 }
 
-/// Puts the changes of the variables with this identifier code into the slices, as many as all
-/// three have room for, and how many there are into `count`. Returns 0; 1 for a fault of the dump,
-/// 2 where no variable has the code, 3 where memory ran out.
+/// Finds the changes of the variables with this identifier code, from the place of the reading on,
+/// as many as there are rows, and returns the status, as `changes` of `vcd_changes` does.
 #[unsafe(no_mangle)]
 pub extern "C" fn vcdkit_changes(
     alloc: Global,
     dump: &[u8],
     code: &[u8],
-    times: &mut [u64],
-    values: &mut [u64],
-    known: &mut [u64],
-    count: &mut u64,
-) -> u8 {
-    match changes(alloc, dump, code, times, values, known) {
-        Ok(n) => {
-            *count = n as u64;
-            0
-        }
-        Err(Why::Fault) => 1,
-        Err(Why::NoCode) => 2,
-        Err(Why::OutOfMemory) => 3,
-    }
+    seed: u64,
+    reading: &mut Reading,
+    rows: &mut [ChangeRow],
+) -> u8
+    ensures { (items : List BodyItem) → GoesOnAt dump.now items reading.old.place
+        → FindsIn dump.now items code.now reading.new rows.new result }
+{
+    changes(alloc, dump, code, &Seed::new(seed), reading, rows)
 }
