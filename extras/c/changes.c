@@ -17,6 +17,7 @@ int main(int count, char **words) {
             printf("%" PRIu64 " %" PRIx64 " %" PRIx64 "\n", changes[at].time, changes[at].value,
                    changes[at].known);
     } while (status == VCDKIT_FULL);
+    fflush(stdout);
     if (status == VCDKIT_FAULT)
         fprintf(stderr, "%s:%" PRIu64 ": fault %" PRIu64 "\n", words[1], reading.line,
                 reading.fault);
