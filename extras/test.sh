@@ -452,6 +452,7 @@ if [[ -e libvcdkit.a && -e libvcdkit.so ]] && command -v cc > /dev/null; then
             "$("$folder/report" "$dump" 2>&1; echo $?)"
         same "$dump: window by C" "$(./vcdkit cut -i "$dump" --from 5 --to 50 2>&1; echo $?)" \
             "$("$folder/window" "$dump" 5 50 2>&1; echo $?)"
+        ./vcdkit check -i "$dump" > /dev/null 2>&1 || continue
         while read -r code; do
             same "$dump: changes of $code by C" "$(times_of "$code" < "$dump")" \
                 "$("$folder/changes" "$dump" "$code" | cut -d ' ' -f 1)"
