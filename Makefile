@@ -42,6 +42,10 @@ bash_words := $(DESTDIR)$(PREFIX)/share/bash-completion/completions
 ZSH_FOLDER ?= $(PREFIX)/share/zsh/$(if $(filter /usr,$(PREFIX)),vendor-completions,site-functions)
 zsh_words := $(DESTDIR)$(ZSH_FOLDER)
 scripts := $(notdir $(wildcard extras/vcdkit-*))
+# Those of the Python package, which are installed as one file under their names.
+commands := $(patsubst python/vcdkit/commands/%.py,vcdkit-%, \
+    $(filter-out %/__init__.py,$(wildcard python/vcdkit/commands/*.py)))
+commands := $(subst _,-,$(commands))
 # Where the Python package goes: the scripts look there, and where Python finds it.
 PYTHON_FOLDER ?= $(PREFIX)/share/vcdkit/python
 python := $(DESTDIR)$(PYTHON_FOLDER)/vcdkit
@@ -111,7 +115,8 @@ toolchain: sources
 install:
 	@test -x vcdkit || { echo "make: there is no ./vcdkit to install. Run make first." >&2; exit 1; }
 	install -d "$(bin)" "$(man)" "$(bash_words)" "$(zsh_words)" "$(python)/commands"
-	install -m 755 vcdkit $(addprefix extras/,$(scripts)) "$(bin)"
+	install -m 755 vcdkit $(addprefix extras/,$(filter-out $(commands),$(scripts))) "$(bin)"
+	for name in $(commands); do install -m 755 extras/launch "$(bin)/$$name"; done
 	install -m 644 man/vcdkit.1 "$(man)/vcdkit.1"
 	install -m 644 completions/vcdkit.bash "$(bash_words)/vcdkit"
 	install -m 644 completions/_vcdkit "$(zsh_words)/_vcdkit"
