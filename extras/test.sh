@@ -468,11 +468,8 @@ $folder/back.vcd:3: fault 14
     same 'the library exports its functions alone' 'vcdkit_changes vcdkit_run' \
         "$(nm -D --defined-only libvcdkit.so | awk '$2 == "T" { print $3 }' | sed 's/@.*//' |
             sort | paste -s -d ' ')"
-    same 'the package for Python' 0 \
-        "$(VCDKIT_LIBRARY=./libvcdkit.so VCDKIT=./vcdkit python3 python/tests/test_vcdkit.py \
-            > "$folder/python" 2>&1 || cat "$folder/python"; echo $?)"
 else
-    echo 'the callers in C and Python are not tried:' \
+    echo 'the callers in C are not tried:' \
         'there is no libvcdkit.a (make library), or no cc'
 fi
 
