@@ -418,7 +418,7 @@ for script in extras/vcdkit-*; do
         vcdkit-table | vcdkit-wave) words=(samples/counter.vcd clk) ;;
         *) words=(samples/counter.vcd) ;;
     esac
-    cp -L "$script" "$folder/$name"
+    cp extras/launch "$folder/$name"
     same "$name: no package" "3 $name: it needs the Python package vcdkit" \
         "$(said=$("$folder/$name" "${words[@]}" 2>&1); echo "$? ${said%%: install*}")"
     [[ $name != vcdkit-join-bits ]] || continue
