@@ -338,5 +338,5 @@ def _hint(name: str, signals: Sequence[Signal]) -> str:
     if near:
         return "; there is " + ", ".join(near[:3]) + ", .." * (len(near) > 3)
     if re.search(r"[*?]", name):
-        return "; names are no patterns: find() takes a regular expression"
+        return "; names are no patterns: vcdkit-find and find() take regular expressions"
     return "; names are the paths that `list` writes, and the scopes in them"

@@ -17,15 +17,23 @@ exit status:
   3  I/O error, out of memory, or no vcdkit
 
 FILE may be packed (gzip, xz, bzip2, zstd; FST where fst2vcd is on the PATH), a pipe, or - for
-standard input. TIME is a number of ticks, or has a unit, as 115ns or 1.5us.
-VCDKIT names the program, else it is vcdkit on the PATH."""
+standard input. VCDKIT names the program, else it is vcdkit on the PATH.
+"""
+TIMES = "TIME is a number of ticks, or has a unit, as 115ns or 1.5us.\n"
+
+
+class _Parser(argparse.ArgumentParser):
+    def format_help(self) -> str:
+        text = super().format_help()
+        return text + TIMES if "TIME" in text else text
+
 
 
 def parser(name: str, text: str, done: str = "0  all was written",
            failed: str = "a name selects nothing, or not a valid dump") -> argparse.ArgumentParser:
     """Returns a parser of words, whose help has the text of a command and its exit statuses."""
     first, _, rest = text.partition("\n")
-    made = argparse.ArgumentParser(
+    made = _Parser(
         prog=name, description=first, epilog=rest.strip("\n") + "\n" * bool(rest.strip())
         + STATUSES % (done, failed), formatter_class=argparse.RawDescriptionHelpFormatter,
         allow_abbrev=False)

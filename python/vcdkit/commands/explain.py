@@ -22,8 +22,7 @@ STRING = ("a string, which four-state VCD does not have",
           "vcdkit-four-state < FILE | vcdkit check    (it leaves strings out)")
 PORTS = ("extended VCD, of $dumpports",
          "evcd2vcd FILE | vcdkit check    (of GTKWave; or take $dumpvars in its place)")
-CUT_OFF = ("vcdkit cut --from 0 --to 18446744073709551615 < FILE > LEFT.vcd    "
-           "(all before the fault)")
+CUT_OFF = "vcdkit cut < FILE | vcdkit-endmend > LEFT.vcd    (all before the fault)"
 PRODUCER = "let the producer write it anew, or mend the line by hand"
 SECTION = ("a section ($dumpvars, $dumpall, $dumpoff, $dumpon) whose $end is missing",
            "vcdkit-endmend < FILE | vcdkit check")
@@ -58,6 +57,7 @@ CAUSES = [
     ("unknown command", rb"\$vcdclose", rb"", "extended VCD: $vcdclose ends such a dump",
      "grep -v '^\\$vcdclose' < FILE | vcdkit check"),
     ("unknown command", rb"\A\$\w+\s*\n\Z", rb"", "a command that no body has", PRODUCER),
+    ("unknown command", rb"", rb"\A[^$#]*\Z", "no text of VCD", "look at it: head -c 200 FILE"),
     ("command out of place", rb"", rb"\$enddefinitions\s+(?!\$end\s)\S", "$enddefinitions without "
      "its $end", r"sed 's/^\$enddefinitions[ \t]*$/$enddefinitions $end/' < FILE | vcdkit check"),
     ("command out of place", rb"^\s*\$end\s*$", rb"", "an $end that ends nothing",

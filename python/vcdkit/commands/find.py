@@ -55,7 +55,8 @@ def main(words):
     found = [one for one in dump.signals
              if not patterns or any(pattern.search(one.path) for pattern in patterns)]
     if patterns and not found:
-        print("vcdkit-find: no path matches", file=sys.stderr)
+        hint = "; brackets of a path are \\[ and \\]" if "[" in "".join(asked.patterns) else ""
+        print("vcdkit-find: no path matches" + hint, file=sys.stderr)
         return 1
     if asked.form == "pick":
         with dump.pick(names_for([one.path for one in found], dump.signals)).open() as text:

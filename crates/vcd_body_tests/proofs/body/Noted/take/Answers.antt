@@ -1,6 +1,6 @@
 use Rattle.vcd_body_tests.proofs.body.Noted.take.Goals as goal
 
-pub left_out-requires : goal.left_out-requires
-left_out-requires c =
+pub left_out-needless-requires : goal.left_out-needless-requires
+left_out-needless-requires c =
     let n = c.requires.2 in
     (c.requires.0, rw (c.bytes.ensures, n.same.0, c.passed.ensures.passed, c.passed-2.ensures.passed) n.spelled)
