@@ -22,7 +22,7 @@ const FILES: [MemoryFile<'static>; 5] = [
         bytes: b"$var wire 1 ! bad $end\n$enddefinitions $end\n#x\n",
     },
     MemoryFile {
-        name: "late.vcd",
+        name: b"late.vcd",
         bytes: b"$timescale 1ns $end $var wire 1 ! c $end\n$enddefinitions $end\n#1 1! #3 0!\n#x\n",
     },
 ];
