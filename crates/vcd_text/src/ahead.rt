@@ -3,7 +3,7 @@
 ghost use Rattle.std.specs.Prelude.{◌≡◌, ◌≢◌, ℕ, ◌+◌, ◌^◌, ◌<◌, ◌≤◌, true, false, List, length, slice_get, slice_index, IfSome, None, Some};
 ghost use Rattle.vcd_text.specs.Names.{AreWhite, IsRun, Marks, bit_at, is_white_space};
 
-use crate::scan::{is_white_space, low_16, lowest, white_64, without};
+use crate::scan::{is_white_space, low_16, lowest, run_len, white_64, without};
 
 // White space that was seen ahead.
 #[derive(Clone, Copy)]
@@ -165,6 +165,21 @@ impl<'a> Ahead<'a> {
             return None;
         }
         self.take(at, White::before(at + len + 1))
+    }
+
+    /// Returns the next token, if it is whole, also near the end of the bytes. It looks at one byte
+    /// after the other: it is for the end of a chunk.
+    pub fn next_slowly(&mut self) -> Option<&'a [u8]>
+        ensures takes { IfSome result (λ token. TakesToken self.old self.new token.now) }
+        ensures within { passed_of self.new ≤ length (bytes_of self.old) }
+        ensures none { result ≡ None → self.new ≡ self.old }
+    {
+        let start = past_white(self.bytes, self.at);
+        let end = start + run_len(&self.bytes[start..]);
+        if end == start || end == self.bytes.len() {
+            return None;
+        }
+        self.take(start, White::before(end + 1))
     }
 
     /// Returns whether the next token begins at once, has two bytes and a line feed after them.
