@@ -2,6 +2,7 @@ pub mod Fault
 pub mod Names
 pub mod Items
 pub mod Words
+pub mod Whole
 pub mod Reads
 pub mod Given
 pub mod Calls

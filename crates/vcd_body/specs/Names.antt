@@ -50,7 +50,8 @@ pub use Rattle.vcd_body.specs.Steps.{ChangesRoomy, LeavesNumber, LeavesSteps, Le
 pub use Rattle.vcd_body.specs.Stored.{AreLaidOut, ChangesAt, ChangesSlot, IsHeldAs, IsUnset, SlotsKeepLaid, end_at, held_from, held_line, least_bytes, len_of, one_digit, room_of, set_whole, share_from, share_of, some_by, start_of, state_in, used, whole}
 pub use Rattle.vcd_body.specs.Taken.{HasTime, IsChangeBy, IsFound, IsFoundScalar, LeavesRegs, Opens, OpensVector, TakesItem, TakesOpened, TakesOpenedMark}
 pub use Rattle.vcd_body.specs.Values.{by_text, form_in, text_in, with_value, with_value_change}
-pub use Rattle.vcd_body.specs.Words.{Begins, IsScalar, StandsFor, command_is, mark_time}
+pub use Rattle.vcd_body.specs.Whole.{HoldsItem, IsPrompt}
+pub use Rattle.vcd_body.specs.Words.{Begins, IsScalar, StandsFor, command_is, is_comment, mark_time}
 pub use Rattle.vcd_body.specs.declared.item.Form.{Form}
 pub use Rattle.vcd_body.specs.declared.item.Item.{Item}
 pub use Rattle.vcd_body.specs.declared.words.First.{First}

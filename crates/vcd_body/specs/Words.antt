@@ -2,6 +2,7 @@
 use Rattle.std.specs.Prelude.{◌≡◌, ℕ, ◌^◌, Bool, true, false, cond, ◌&&◌, nat_lt, IsTrue, ◌==◌, List, [], ◌∷◌, drop, Option, Some, None}
 use Rattle.std.specs.List.{list_any}
 use Rattle.std.specs.Str.{byte}
+use Rattle.std.specs.Prelude.{bytes_eq}
 use Rattle.vcd_model.specs.Bytes.{decimal_value, is_decimal}
 use Rattle.vcd_model.specs.Keywords.{Keyword, keyword_of, keyword_text}
 use Rattle.vcd_model.specs.BodyPhrases.{section_keyword, is_value_digit}
@@ -13,6 +14,10 @@ use Rattle.vcd_body.specs.declared.words.Command.{Command}
 use Rattle.vcd_body.specs.declared.words.Command.TheVariants.{Comment, Begin, End, OfHeader}
 use Rattle.vcd_body.specs.declared.words.First.{First}
 use Rattle.vcd_body.specs.declared.words.First.TheVariants.{Mark, Bit, Scalar, Vector, Real, Other}
+
+-- the whole token is `$comment`
+abbrev pub is_comment : List ℕ → Bool
+is_comment token = bytes_eq (keyword_text Keyword.Comment) token
 
 -- a keyword that belongs into the header
 abbrev pub is_of_header : Keyword → Bool

@@ -1,6 +1,6 @@
 // Items whose tokens are whole ahead in the chunk: most cost no change of the feed.
-ghost use Rattle.std.specs.Prelude.{◌≡◌, ◌⊎◌, ℕ, ◌+◌, ◌-◌, ◌^◌, ◌<◌, ◌≤◌, List, [], drop, length, slice_get, slice_range, true, is_some, None, Some, IfSome};
-ghost use Rattle.vcd_body.specs.Names.{Advances, AreWhite, Begins, CallEnd, GivesAhead, GivesToLast, HasMark, HasTime, IsChangeBy, IsFound, IsFoundScalar, IsRun, IsScalar, LeavesRegs, Opens, OpensVector, Passed, TakesItem, TakesOpened, TakesOpenedMark, Token, ahead_of, binary_digits, byte, bytes_of, limit_of, lines_of, longest_of, passed_of, seen, source_of};
+ghost use Rattle.std.specs.Prelude.{◌≡◌, ◌⊎◌, ℕ, ◌+◌, ◌-◌, ◌^◌, ◌<◌, ◌≤◌, List, [], drop, length, slice_get, slice_range, true, is_some, None, Some, IfOk, IfSome};
+ghost use Rattle.vcd_body.specs.Names.{Advances, AreWhite, Begins, CallEnd, GivesAhead, GivesToLast, HasMark, HasTime, HoldsItem, IsChangeBy, IsFound, IsFoundScalar, IsPrompt, IsRun, IsScalar, LeavesRegs, Opens, OpensVector, Passed, Puts, TakesItem, TakesOpened, TakesOpenedMark, Token, ahead_of, binary_digits, byte, bytes_of, limit_of, lines_of, longest_of, passed_of, seen, source_of};
 ghost use Rattle.vcd_body.specs.declared.item.Form.TheVariants as form;
 ghost use Rattle.vcd_body.specs.declared.item.Item.TheVariants as item;
 ghost use Rattle.vcd_body.specs.declared.words.First.TheVariants as first;
@@ -8,8 +8,10 @@ ghost use Rattle.vcd_body.specs.declared.words.First.TheVariants as first;
 use crate::bits::Bits;
 use crate::item::{Form, Item, Regs};
 use crate::phrases::{real_text, scalar_code, takes, time_in, vector_text};
-use crate::words::{First, after_first, bits_at, first_by, first_byte_of, rest_of};
-use vcd_text::{Ahead, Feed, Source};
+use crate::words::{
+    First, after_first, bits_at, first_by, first_byte_of, first_of, is_comment, rest_of,
+};
+use vcd_text::{Ahead, Feed, Sink, Source, WriteFailed};
 use vcd_view::{Found, HeadView, find_at_once, find_sized};
 
 /// An item that was taken ahead.
@@ -290,6 +292,42 @@ pub fn keyword_comes(ahead: Ahead<'_>) -> bool
         × (slice_get (bytes_of ahead.entry) start ≡ Some (byte "$")) }
 {
     ahead.first_byte() == Some(b'$')
+}
+
+/// Returns whether the next item lies whole ahead, so that `next_item` reads nothing for it. Before
+/// a comment this is not known, since the item comes after that.
+// It looks at one byte after the other: it is asked at the end of a chunk, and at keywords.
+#[inline(never)]
+pub fn item_comes(ahead: Ahead<'_>) -> bool
+    requires { passed_of ahead ≡ 0 }
+    ensures { result ≡ true → HoldsItem (longest_of ahead.entry) (bytes_of ahead.entry) }
+{
+    let mut next = ahead;
+    let Some(token) = next.next_slowly() else {
+        return false;
+    };
+    match first_of(token) {
+        First::Bit | First::Scalar | First::Mark => true,
+        First::Vector | First::Real => next.next_slowly().is_some(),
+        First::Other => !is_comment(token),
+    }
+}
+
+/// Passes on what the output keeps back, before a read may wait: unless the next item lies whole
+/// ahead.
+#[inline(always)]
+pub fn pass_on<S: Source, W: Sink>(
+    feed: &Feed<'_, '_, '_, '_, S>,
+    out: &mut W,
+) -> Result<(), WriteFailed>
+    requires { (W.device out.old).failures < 2 ^ 64 - 1 }
+    ensures puts { Puts (W.device out.old) (W.device out.new) [] result }
+    ensures prompt { IfOk result (λ _. IsPrompt (W.kept_back out.new) feed.now) }
+{
+    if item_comes(feed.ahead()) {
+        return Ok(());
+    }
+    out.pass_on()
 }
 
 /// The tokens of a vector's change, which were taken ahead: one that a `b` and digits begin, and

@@ -5,12 +5,13 @@
 //! of the change that was read last, and `put_change` writes one as its line. Most items are time
 //! marks and changes that are whole in the chunk: `walk_ahead` takes these one after the other, and
 //! leaves the feed where it is; `pass_items` takes the feed past all of them. A `Visit` says what
-//! is done with each, which marks are left, and when the walk is over. Where the bytes of such a
-//! change are the line that `put_change` would write, but for digits that it does not need
+//! is done with each, which marks are left, and when the walk is over. `pass_on` is for a caller
+//! that reads on: before a read may wait, a sink passes on what it keeps back. Where the bytes of
+//! such a change are the line that `put_change` would write, but for digits that it does not need
 //! (`left_out` counts them), the line may be copied from the chunk, and many such lines in a row
-//! at once. A `Table` keeps of each code its current value, three counters, and
-//! whether it is chosen. What is done with all items ends with a `Done` or a `Stop`; `put_time`
-//! writes the line of a time. None of them takes memory.
+//! at once. A `Table` keeps of each code its current value, three counters, and whether it is
+//! chosen. What is done with all items ends with a `Done` or a `Stop`; `put_time` writes the line
+//! of a time. None of them takes memory.
 //!
 //! # The relation
 //!
@@ -40,7 +41,8 @@
 //!
 //! - `read`: `next_item`, `change_text`
 //! - `walk`: `walk_ahead`, `Visit`, `Viewed`: the loop over the items ahead
-//! - `ahead`: an item ahead, by what it begins with; `pass_items`, `Plain`
+//! - `ahead`: an item ahead, by what it begins with; `Plain`, `item_comes`, `pass_on`,
+//!   `pass_items`
 //! - `phrases`, `tokens`, `words`: phrases by what they begin with; the next token; what a token
 //!   is, by its first byte
 //! - `item`, `fault`: `Item`, `Form`, `Section`, `Regs`; `BodyFault`
@@ -103,7 +105,7 @@ mod value;
 mod walk;
 mod words;
 
-pub use ahead::{Plain, keyword_comes, pass_items};
+pub use ahead::{Plain, item_comes, keyword_comes, pass_items, pass_on};
 pub use answer::{Done, More, Stop};
 pub use bits::Bits;
 pub use fault::BodyFault;

@@ -1,6 +1,6 @@
 // What tokens of a body are.
 ghost use Rattle.std.specs.Prelude.{◌≡◌, ℕ, ◌+◌, ◌<◌, ◌≤◌, length, true, List, drop, take, ◌∷◌, ◌^◌, ◌&&◌, not, Some, None, ◌-◌, ◌/◌, ◌%◌, IfSome};
-ghost use Rattle.vcd_body.specs.Names.{AreBitsAt, Begins, IsBinaryAt, IsDigitAt, MayBe, StandsAt, StandsFor, binary_digits, bit_at, bit_in, byte, command_is, is_empty, is_end as ends, is_value_digit as is_digit, list_all};
+ghost use Rattle.vcd_body.specs.Names.{AreBitsAt, Begins, IsBinaryAt, IsDigitAt, MayBe, StandsAt, StandsFor, binary_digits, bit_at, bit_in, byte, command_is, is_comment, is_empty, is_end as ends, is_value_digit as is_digit, list_all};
 
 use crate::bits::Bits;
 use crate::item::Section;
@@ -98,6 +98,13 @@ pub(crate) fn is_end(token: &[u8]) -> bool
     ensures { result ≡ ends token.now }
 {
     token == b"$end".as_slice()
+}
+
+/// Returns whether the token is `$comment`.
+pub(crate) fn is_comment(token: &[u8]) -> bool
+    ensures { result ≡ is_comment token.now }
+{
+    token == b"$comment".as_slice()
 }
 
 /// Returns what a keyword is where a phrase begins.
