@@ -17,7 +17,7 @@ use Rattle.vcd_model.specs.Outcome.{fault_text, open_from, body_of, over_body, o
 use Rattle.vcd_model.specs.Ticks.{ticks, moment_ticks}
 use Rattle.vcd_model.specs.Job.{moment_of, request_of, outcome}
 use Rattle.vcd_model.specs.Settled.{is_header_over, is_settled}
-use Rattle.vcd_laws.specs.SettledMerge.{is_settled_merge}
+use Rattle.vcd_model.specs.SettledMerge.{is_settled_merge}
 use Rattle.vcd_model.specs.Words.{job_of, command_outcome}
 use Rattle.vcd_model.specs.Pick.{pick_open, pick_close}
 use Rattle.vcd_model.specs.Reading.{reading_of}

@@ -13,8 +13,8 @@ use Rattle.vcd_model.specs.Merge.{KeyedFault, dump_of, factor, placed_is_too_lar
 use Rattle.vcd_model.specs.Outcome.{allowed_after}
 use Rattle.vcd_model.specs.Job.{Want, request_of}
 use Rattle.vcd_model.specs.Settled.{is_faulty, is_settled_at, is_settled}
-use Rattle.vcd_laws.specs.SettledMerge.{Seen, SeenBody, SeenHeaders, tokens_seen, seen_before, seen_at, headers_seen, fault_met, dump_seen, is_at_its_end, are_past, settles_merge, is_settled_merge}
-use Rattle.vcd_laws.specs.SettledMerge.SeenHeaders.{Faulty, NotWhole, Whole}
+use Rattle.vcd_model.specs.SettledMerge.{Seen, SeenBody, SeenHeaders, tokens_seen, seen_before, seen_at, headers_seen, fault_met, dump_seen, is_at_its_end, are_past, settles_merge, is_settled_merge}
+use Rattle.vcd_model.specs.SettledMerge.SeenHeaders.{Faulty, NotWhole, Whole}
 use Rattle.vcd_laws.specs.Final.{header_seen, is_settled_alone, AreSettledAlone, SettledAloneSettlesMerge}
 use Rattle.vcd_laws.proofs.Settling.{merge_faulty}
 

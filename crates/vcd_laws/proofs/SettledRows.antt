@@ -17,7 +17,7 @@ use Rattle.vcd_model.specs.Job.{Want, outcome}
 use Rattle.vcd_laws.specs.Dumps.{input_of}
 use Rattle.vcd_laws.specs.Checked.{run_of}
 use Rattle.vcd_model.specs.Settled.{is_header_over, is_settled}
-use Rattle.vcd_laws.specs.SettledMerge.{Seen, is_settled_merge}
+use Rattle.vcd_model.specs.SettledMerge.{Seen, is_settled_merge}
 use Rattle.vcd_model.specs.Ticks.{Moment}
 use Rattle.vcd_model.specs.Tokens.{Token, stream_of, tokens_of}
 

@@ -16,8 +16,8 @@ use Rattle.vcd_model.specs.Reading.{Fault, missing, Placed, phrases_of, Ending, 
 use Rattle.vcd_model.specs.Reading.Ending.{AtFault, AtEnd, AtLast}
 use Rattle.vcd_model.specs.Job.{Want, request_of}
 use Rattle.vcd_model.specs.Settled.{is_faulty, is_over}
-use Rattle.vcd_laws.specs.SettledMerge.SeenHeaders.{Faulty, NotWhole, Whole}
-use Rattle.vcd_laws.specs.SettledMerge.{Seen, SeenBody, SeenHeaders, seen_before, tokens_seen, whole_of, header_ends, seen_at, headers_seen, fault_met, fault_seen, dump_seen, is_at_its_end, is_past, are_past, bodies_settle, settles_merge, is_settled_merge}
+use Rattle.vcd_model.specs.SettledMerge.SeenHeaders.{Faulty, NotWhole, Whole}
+use Rattle.vcd_model.specs.SettledMerge.{Seen, SeenBody, SeenHeaders, seen_before, tokens_seen, whole_of, header_ends, seen_at, headers_seen, fault_met, fault_seen, dump_seen, is_at_its_end, is_past, are_past, bodies_settle, settles_merge, is_settled_merge}
 use Rattle.vcd_model.specs.Laws.{IsPrefixOf}
 use Rattle.vcd_laws.specs.Final.{IsSeen, AreSeen, SettledMergeIsFinal}
 use Rattle.vcd_model.proofs.DumpItems.{mark_or, before_past, items_append}

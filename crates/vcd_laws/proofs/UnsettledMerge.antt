@@ -23,8 +23,8 @@ use Rattle.vcd_model.specs.Reading.{missing, reading_of}
 use Rattle.vcd_model.specs.Merge.{Dump, Key, KeyedFault, dump_of, factor, placed_is_too_large, key_lt, key_after, keyed_fault, earlier_fault, first_fault, headers_of}
 use Rattle.vcd_model.specs.Outcome.{Outcome, Opened, fault_outcome, name_at, allowed_after, with_opened, open_from, body_of, dumps_of, merge_outcome}
 use Rattle.vcd_model.specs.Job.{Want, request_of}
-use Rattle.vcd_laws.specs.SettledMerge.{Seen, SeenBody, SeenHeaders, tokens_seen, whole_of, header_ends, seen_before, seen_at, headers_seen, fault_met, fault_seen, dump_seen, is_at_its_end, are_past, bodies_settle, settles_merge, is_settled_merge}
-use Rattle.vcd_laws.specs.SettledMerge.SeenHeaders.{Faulty, NotWhole, Whole}
+use Rattle.vcd_model.specs.SettledMerge.{Seen, SeenBody, SeenHeaders, tokens_seen, whole_of, header_ends, seen_before, seen_at, headers_seen, fault_met, fault_seen, dump_seen, is_at_its_end, are_past, bodies_settle, settles_merge, is_settled_merge}
+use Rattle.vcd_model.specs.SettledMerge.SeenHeaders.{Faulty, NotWhole, Whole}
 use Rattle.vcd_laws.specs.Final.{CanBeSeen, IsSeen, AreSeen, UnsettledMergeIsOpen}
 use Rattle.vcd_model.proofs.DumpItems.{mark_or}
 use Rattle.vcd_model.proofs.MergeOrder.{Before, before_key, not_behind, key_chain, key_never, key_trans}

@@ -9,7 +9,7 @@ use Rattle.vcd_model.specs.HeaderReading.{header_grammar}
 use Rattle.vcd_model.specs.Reading.{phrases_of, reading_of}
 use Rattle.vcd_model.specs.Job.{Want, outcome}
 use Rattle.vcd_model.specs.Settled.{is_settled}
-use Rattle.vcd_laws.specs.SettledMerge.{Seen, tokens_seen, is_settled_merge}
+use Rattle.vcd_model.specs.SettledMerge.{Seen, tokens_seen, is_settled_merge}
 use Rattle.vcd_model.specs.Laws.{IsPrefixOf}
 use Rattle.vcd_laws.specs.KeptValues.{OpenAll}
 use Rattle.vcd_laws.specs.Checked.{run_of}

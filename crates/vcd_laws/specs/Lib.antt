@@ -8,5 +8,4 @@ pub mod OverCut
 pub mod OverMerge
 pub mod Counted
 pub mod Checked
-pub mod SettledMerge
 pub mod Final

@@ -11,10 +11,9 @@
 //!
 //! - `laws`: each function has a law as its contract, which is how the law comes to be checked
 //!
-//! In `specs/` the laws are sorted by what they are about, in the order of `specs/Lib.antt`;
-//! `SettledMerge` has a definition that no contract of code cites yet. The files
-//! `proofs/*Rows.antt` hold worked rows: inputs with their outputs, computed by the kernel. The
-//! other files of `proofs/` hold the proofs of the laws.
+//! In `specs/` the laws are sorted by what they are about, in the order of `specs/Lib.antt`. The
+//! files `proofs/*Rows.antt` hold worked rows: inputs with their outputs, computed by the kernel.
+//! The other files of `proofs/` hold the proofs of the laws.
 #![tactic(auto)]
 
 pub mod laws;
