@@ -1,5 +1,5 @@
 -- A code that is looked up.
-use Rattle.std.proofs.Common.{◌≡◌, ◌⊎◌, inl, inr, ℕ, zero, suc, ◌+◌, ◌/◌, ◌<◌, ◌≤◌, true, false, List, [], ◌∷◌, ◌++◌, length, map, get_or, bytes_eq, Option, Some, None, option_map, unwrap_or, refl, sym, ap, subst, ◌∙◌, arith, arith, below_more, zero-add}
+use Rattle.std.proofs.Common.{◌≡◌, ◌⊎◌, inl, inr, ℕ, zero, suc, ◌+◌, ◌/◌, ◌<◌, ◌≤◌, false, List, [], ◌∷◌, ◌++◌, length, map, get_or, bytes_eq, Option, Some, None, option_map, unwrap_or, refl, sym, ap, subst, ◌∙◌, arith, arith, below_more, zero-add}
 use Rattle.std.specs.Prelude.{find, slice_get, IsPermutation}
 use Rattle.std.specs.List.{AllByRecursion, AllZip, All, IsDistinct, position_or_len, range_with_len}
 use Rattle.std.specs.List.Sorted.{IsStrictlySortedBy}
@@ -167,13 +167,16 @@ none_between ks index t low h b = none_with ks t (λ p l.
     differs i (inl a) l = apart_from (code_text ks (get_or index i 0)) t Less (b.below i a) refl
     differs i (inr a) l = apart_from (code_text ks (get_or index i 0)) t Greater (b.above i a l) refl
 
+-- what is equal in order has the same bytes
+pub equal_bytes : (x t : List ℕ) → slice_cmp nat_cmp x t ≡ Equal → x ≡ t
+equal_bytes x t e = (bytes_eq-Decides x t).0 (sym (is_eq-slice_cmp x t) ∙ ap is_eq e)
+
 -- where the order is equal, it is the code that is looked up
 pub found_equal : (ks : List IdCode) (index t : List ℕ) (m : ℕ) → IsIndex ks index → m < length index → order_at ks index t m ≡ Equal → Finds ks t (Some (get_or index m 0))
 found_equal ks index t m h l e =
     let p = get_or index m 0 in
     let there = slice_get-get_or ks p none (place_below ks index m h l) in
-    let same : bytes_eq (code_text ks p) t ≡ true = sym (is_eq-slice_cmp (code_text ks p) t) ∙ ap is_eq e in
-    found_at ks index t p (get_or ks p none) h there (sym ((bytes_eq-Decides (code_text ks p) t).0 same) ∙ text_at ks p (get_or ks p none) there)
+    found_at ks index t p (get_or ks p none) h there (sym (equal_bytes (code_text ks p) t e) ∙ text_at ks p (get_or ks p none) there)
   where
     none : IdCode
     none = record { text = []; size = 0; event = false }

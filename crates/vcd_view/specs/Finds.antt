@@ -15,6 +15,10 @@ Finds codes text None = find (has_text text) codes ≡ None
 abbrev pub IsSized : List Code → Found → Type 0
 IsSized codes f = (c : Code) × (slice_get codes f.place ≡ Some c) × (f.most ≡ most_of c)
 
--- a search among n codes added at most one probe more than the binary digits of n
+-- the binary digits of a number
+abbrev pub bits_of : ℕ → List ℕ
+bits_of n = digits_of 2 n
+
+-- a look-up among n codes added at most one probe more than the binary digits of n
 abbrev pub AreFew : ℕ → ℕ → ℕ → Type 0
-AreFew n old new = new ≤ old + 1 + length (digits_of 2 n)
+AreFew n old new = new ≤ old + 1 + length (bits_of n)

@@ -10,7 +10,7 @@ pub use Rattle.vcd_model.specs.Header.{Header}
 pub use Rattle.vcd_model.specs.Keywords.{keyword_of}
 pub use Rattle.vcd_text.specs.Device.{Puts}
 pub use Rattle.vcd_view.specs.Entries.{HasEntry, IsAt, above, are_right, beside, entry_after, entry_in, most_of, number_in, place_told, told_by}
-pub use Rattle.vcd_view.specs.Finds.{AreFew, Finds, IsSized}
+pub use Rattle.vcd_view.specs.Finds.{AreFew, Finds, IsSized, bits_of}
 pub use Rattle.vcd_view.specs.Keys.{AreBytes, key_in}
 pub use Rattle.vcd_view.specs.Keywords.{model_keyword}
 pub use Rattle.vcd_view.specs.Needs.{room, value_bytes}

@@ -6,7 +6,9 @@ ghost use Rattle.vcd_view.specs.Names.{AnyHeld, Finds, HasEntry, IsAt, above, ar
 
 use crate::code_hash::CodeSeed;
 use crate::key::key_of;
+use crate::probes::Probes;
 use crate::view::{Code, Entry, code_in, text_in};
+use std::cmp::Ordering;
 
 /// Returns where the entry of a code is among so many, a power of two.
 ///
@@ -135,26 +137,30 @@ pub(crate) fn place_hashed(
     entries: &[Entry],
     seed: CodeSeed,
     code: &[u8],
+    probes: &mut Probes,
 ) -> Option<usize>
     requires right { are_right text.now codes.now entries.now ≡ true }
     ensures found { AnyHeld text.now codes.now (λ cs.
         IfSome result (λ place. Finds cs code.now (Some place))) }
     ensures within { IfSome result (λ place. place < length codes.now) }
+    ensures never_falls { probes.old.count ≤ probes.new.count }
+    ensures once { probes.new.count ≤ probes.old.count + 1 }
+    ensures long { key_in code.now ≡ 0 → IfSome result (λ _. probes.old.count < probes.new.count) }
 {
     let key = key_of(code);
     if key == 0 {
-        return place_of_long(text, codes, entries, seed.hashed(0, code), code);
+        let hash = seed.hashed(0, code);
+        return place_of_long(text, codes, entries, hash, code, probes);
     }
     let own = entry_of(code, entries.len());
     match place_beside(entries, own, key) {
         Some(place) => Some(place),
-        None => place_of_short(entries, seed.mixed(0, key), key),
+        None => place_of_key(entries, seed.mixed(0, key), key),
     }
 }
 
-// Returns the place that an entry gives for the code with this key, which is not 0, if the hash
-// leads to that.
-fn place_of_short(entries: &[Entry], hash: u64, key: u64) -> Option<usize>
+// Returns the place that an entry with this key gives, if the hash leads to that.
+fn place_of_key(entries: &[Entry], hash: u64, key: u64) -> Option<usize>
     ensures { IfSome result (λ place. HasEntry entries.now key place) }
 {
     for looks in 0..MOST_LOOKS {
@@ -170,36 +176,25 @@ fn place_of_short(entries: &[Entry], hash: u64, key: u64) -> Option<usize>
 }
 
 // Returns the place that an entry gives for this code of 8 bytes or more, if its hash leads to
-// that. Others may have the same key, so its bytes are compared.
+// that. Another code may have the same key, so one comparison is made.
 fn place_of_long(
     text: &[u8],
     codes: &[Code],
     entries: &[Entry],
     hash: u64,
     code: &[u8],
+    probes: &mut Probes,
 ) -> Option<usize>
-    ensures { IfSome result (λ place. IsAt text.now codes.now code.now place) }
+    ensures found { IfSome result (λ place. IsAt text.now codes.now code.now place) }
+    ensures never_falls { probes.old.count ≤ probes.new.count }
+    ensures once { probes.new.count ≤ probes.old.count + 1 }
+    ensures counted { IfSome result (λ _. probes.old.count < probes.new.count) }
 {
-    for looks in 0..MOST_LOOKS {
-        let entry = entries.get(entry_after(hash, looks, entries.len()))?;
-        let place = entry.place as usize;
-        if entry.key == long_key(hash) && is_at(text, codes, place, code) {
-            return Some(place);
-        }
-        if entry.key == 0 {
-            return None;
-        }
-    }
-    None
-}
-
-// Returns whether the code at a place has these bytes.
-fn is_at(text: &[u8], codes: &[Code], place: usize, bytes: &[u8]) -> bool
-    ensures { result ≡ true → IsAt text.now codes.now bytes.now place }
-{
-    match code_in(codes, place) {
-        Some(code) => text_in(text, code.start, code.len as usize) == bytes,
-        None => false,
+    let place = place_of_key(entries, hash, long_key(hash))?;
+    let other = code_in(codes, place)?;
+    match probes.probe(text_in(text, other.start, other.len as usize), code) {
+        Ordering::Equal => Some(place),
+        _ => None,
     }
 }
 

@@ -1,6 +1,6 @@
 // Codes that are looked up.
-ghost use Rattle.std.specs.Prelude.{List, true, ◌≡◌, ◌≤◌, ◌<◌, length, option_map, IfSome, Some};
-ghost use Rattle.vcd_view.specs.Names.{AllByRecursion, AnyCodes, AnyHeader, AreBytes, AreFew, Finds, Header, IdCode, IsIndex, IsSized, IsViewOf, are_right, code_text};
+ghost use Rattle.std.specs.Prelude.{List, true, ◌≡◌, ◌+◌, ◌≤◌, ◌<◌, length, option_map, IfNone, IfSome, Some};
+ghost use Rattle.vcd_view.specs.Names.{AllByRecursion, AnyCodes, AnyHeader, AreBytes, AreFew, Finds, Header, IdCode, IsIndex, IsSized, IsViewOf, are_right, bits_of, code_text, key_in};
 
 use crate::code_hash::CodeSeed;
 use crate::entries::{entry_of, most_of, place_hashed};
@@ -28,8 +28,7 @@ pub fn find(view: HeadView<'_>, code: &[u8]) -> Option<usize>
     ensures found { (h : Header) → IsViewOf view.entry h → Finds h.codes code.now result }
     ensures within { IfSome result (λ place. place < length view.entry.codes.now) }
 {
-    let found = find_sized(view, code)?;
-    Some(found.place)
+    find_counted(view, code, &mut Probes::new())
 }
 
 /// Returns the place of a code among the distinct codes, with its size.
@@ -38,6 +37,43 @@ pub fn find_sized(view: HeadView<'_>, code: &[u8]) -> Option<Found>
     ensures found { (h : Header) → IsViewOf view.entry h
         → Finds h.codes code.now (option_map (λ found. found.place) result) }
     ensures sized { IfSome result (λ found. IsSized view.entry.codes.now found) }
+{
+    find_sized_counted(view, code, &mut Probes::new())
+}
+
+/// Returns the place of a code among the distinct codes, and counts the comparisons of codes.
+///
+/// A code of at most 7 bytes has a number, and entries hold those: only where none that is looked
+/// at has it, the code is compared with others. The count grows by at most one more than the binary
+/// digits of the number of codes.
+#[inline(always)]
+pub fn find_counted(view: HeadView<'_>, code: &[u8], probes: &mut Probes) -> Option<usize>
+    ensures found { (h : Header) → IsViewOf view.entry h → Finds h.codes code.now result }
+    ensures within { IfSome result (λ place. place < length view.entry.codes.now) }
+    ensures never_falls { probes.old.count ≤ probes.new.count }
+    ensures missed { IfNone result (0 < length view.entry.index.now
+        → probes.old.count < probes.new.count) }
+    ensures long { key_in code.now ≡ 0 → 0 < length view.entry.index.now
+        → probes.old.count < probes.new.count }
+    ensures few { AnyHeader view.entry (λ h. AreFew (length h.codes) probes.old.count probes.new.count) }
+{
+    let found = find_sized_counted(view, code, probes)?;
+    Some(found.place)
+}
+
+// Returns the place of a code among the distinct codes, with its size, and counts the comparisons
+// of codes.
+#[inline(always)]
+fn find_sized_counted(view: HeadView<'_>, code: &[u8], probes: &mut Probes) -> Option<Found>
+    ensures found { (h : Header) → IsViewOf view.entry h
+        → Finds h.codes code.now (option_map (λ found. found.place) result) }
+    ensures sized { IfSome result (λ found. IsSized view.entry.codes.now found) }
+    ensures never_falls { probes.old.count ≤ probes.new.count }
+    ensures missed { IfNone result (0 < length view.entry.index.now
+        → probes.old.count < probes.new.count) }
+    ensures long { key_in code.now ≡ 0 → 0 < length view.entry.index.now
+        → probes.old.count < probes.new.count }
+    ensures few { AnyHeader view.entry (λ h. AreFew (length h.codes) probes.old.count probes.new.count) }
 {
     match find_at_once(view, code) {
         Some(found) => Some(found),
@@ -49,6 +85,7 @@ pub fn find_sized(view: HeadView<'_>, code: &[u8]) -> Option<Found>
                 view.entries,
                 view.seed,
                 code,
+                probes,
             )?;
             let code = code_in(view.codes, place)?;
             Some(Found {
@@ -66,6 +103,7 @@ pub fn find_at_once(view: HeadView<'_>, code: &[u8]) -> Option<Found>
     ensures found { (h : Header) → IsViewOf view.entry h
         → IfSome result (λ found. Finds h.codes code.now (Some found.place)) }
     ensures sized { IfSome result (λ found. IsSized view.entry.codes.now found) }
+    ensures short { IfSome result (λ _. 0 < key_in code.now) }
 {
     let key = key_of(code);
     if key == 0 {
@@ -93,31 +131,22 @@ fn find_slowly(
     entries: &[Entry],
     seed: CodeSeed,
     code: &[u8],
+    probes: &mut Probes,
 ) -> Option<usize>
     requires right { are_right text.now codes.now entries.now ≡ true }
     ensures found { AnyCodes text.now codes.now (λ ks. AllByRecursion (λ (k : IdCode). AreBytes k.text) ks
         → IsIndex ks index.now → Finds ks code.now result) }
     ensures within { IfSome result (λ place. place < length codes.now) }
-{
-    match place_hashed(text, codes, entries, seed, code) {
-        Some(place) => Some(place),
-        None => search(text, codes, index, code, &mut Probes::new()),
-    }
-}
-
-/// Returns the place of a code among the distinct codes, by a binary search alone, which counts its
-/// probes.
-///
-/// The count grows by each comparison, by at least one where there is a code, and by at most one
-/// more than the binary digits of the number of codes.
-pub fn find_counted(view: HeadView<'_>, code: &[u8], probes: &mut Probes) -> Option<usize>
-    ensures found { (h : Header) → IsViewOf view.entry h → Finds h.codes code.now result }
-    ensures within { IfSome result (λ place. place < length view.entry.codes.now) }
     ensures never_falls { probes.old.count ≤ probes.new.count }
-    ensures counted { 0 < length view.entry.index.now → probes.old.count < probes.new.count }
-    ensures few { AnyHeader view.entry (λ h. AreFew (length h.codes) probes.old.count probes.new.count) }
+    ensures missed { IfNone result (0 < length index.now → probes.old.count < probes.new.count) }
+    ensures long { key_in code.now ≡ 0 → 0 < length index.now → probes.old.count < probes.new.count }
+    ensures few { (ks : List IdCode) → IsIndex ks index.now
+        → AreFew (length ks) probes.old.count probes.new.count }
 {
-    search(view.text, view.codes, view.index, code, probes)
+    match place_hashed(text, codes, entries, seed, code, probes) {
+        Some(place) => Some(place),
+        None => search(text, codes, index, code, probes),
+    }
 }
 
 // Returns the place of a code by a binary search in the order of the codes. It takes no view, so
@@ -135,7 +164,7 @@ fn search(
     ensures never_falls { probes.old.count ≤ probes.new.count }
     ensures counted { 0 < length index.now → probes.old.count < probes.new.count }
     ensures few { (ks : List IdCode) → IsIndex ks index.now
-        → AreFew (length ks) probes.old.count probes.new.count }
+        → probes.new.count ≤ probes.old.count + length (bits_of (length ks)) }
 {
     let mut low = 0;
     let mut high = index.len();

@@ -8,10 +8,10 @@ use Rattle.vcd_view.proofs.KeyLemmas.{are_bytes}
 use Rattle.vcd_view.proofs.entries.place_hashed.Goals as goal
 
 pub returns-then-key-eq0-clause-found : goal.returns-then-key-eq0-clause-found
-returns-then-key-eq0-clause-found c = λ cs h. IfSome_then c.place_of_long.result c.place_of_long.ensures (λ p at. at_finds c.args.text.now c.args.codes.now cs c.args.code.now p h at)
+returns-then-key-eq0-clause-found c = λ cs h. IfSome_then c.place_of_long.result c.place_of_long.ensures.found (λ p at. at_finds c.args.text.now c.args.codes.now cs c.args.code.now p h at)
 
 pub returns-then-key-eq0-clause-within : goal.returns-then-key-eq0-clause-within
-returns-then-key-eq0-clause-within c = IfSome_then c.place_of_long.result c.place_of_long.ensures (λ p at. at_within c.args.text.now c.args.codes.now c.args.code.now p at)
+returns-then-key-eq0-clause-within c = IfSome_then c.place_of_long.result c.place_of_long.ensures.found (λ p at. at_within c.args.text.now c.args.codes.now c.args.code.now p at)
 
 pub returns-in-Some-clause-found : goal.returns-in-Some-clause-found
 returns-in-Some-clause-found c = λ cs h.
@@ -30,7 +30,7 @@ returns-in-None-clause-found c = λ cs h.
     let code = c.args.code.now in
     let own : AreBytes code = are_bytes code (λ i d l. rw (get_or_default_zero code i d l) (let fit = c.type_inv.code i in omega (arith, fit))) in
     let some : key_in code ≢ 0 = λ z. c.if-key-eq0.false (c.key_of-key.ensures ∙ z) in
-    IfSome_then c.place_of_short.result c.place_of_short.ensures (λ p has.
+    IfSome_then c.place_of_key.result c.place_of_key.ensures (λ p has.
     entry_finds c.args.text.now c.args.codes.now cs c.args.entries.now code p h c.requires.right own some (subst (λ k. HasEntry c.args.entries.now k p) c.key_of-key.ensures has))
 
 pub returns-in-None-clause-within : goal.returns-in-None-clause-within
@@ -38,5 +38,5 @@ returns-in-None-clause-within c =
     let code = c.args.code.now in
     let own : AreBytes code = are_bytes code (λ i d l. rw (get_or_default_zero code i d l) (let fit = c.type_inv.code i in omega (arith, fit))) in
     let some : key_in code ≢ 0 = λ z. c.if-key-eq0.false (c.key_of-key.ensures ∙ z) in
-    IfSome_then c.place_of_short.result c.place_of_short.ensures (λ p has.
+    IfSome_then c.place_of_key.result c.place_of_key.ensures (λ p has.
     entry_within c.args.text.now c.args.codes.now c.args.entries.now code p c.requires.right own some (subst (λ k. HasEntry c.args.entries.now k p) c.key_of-key.ensures has))

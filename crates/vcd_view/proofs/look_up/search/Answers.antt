@@ -62,7 +62,8 @@ returns-in-Equal-clause-found c = λ ks a x.
 pub returns-in-Equal-clause-few : goal.returns-in-Equal-clause-few
 returns-in-Equal-clause-few c = λ ks x.
     let codes = ap (λ n. length (digits_of 2 n)) (index_len ks c.args.index.now x) in
-    omega (arith, c.loop-low.invariant.few, c.in-Equal.ensures.counted)
+    let one = bits_of_half 0 (c.loop-low.high - c.loop-low.low) (omega arith) (omega arith) in
+    omega (arith, c.loop-low.invariant.few, c.in-Equal.ensures.counted, one)
 
 pub returns-clause-found : goal.returns-clause-found
 returns-clause-found c = λ ks a x. none_between ks c.args.index.now c.args.code.now c.loop-low.low x (subst (λ n. IsBetween ks c.args.index.now c.args.code.now c.loop-low.low n) (omega (arith, c.loop-low.invariant.within)) (c.loop-low.invariant.between ks a x))
