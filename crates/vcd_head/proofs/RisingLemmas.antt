@@ -187,7 +187,8 @@ module _ (t : List ℕ) where
       let e = or_parts (nat_eq (key_in t) x) (list_any (nat_eq (key_in t)) xs) n in
       ap (λ b. b || list_any (is_key t) (map (λ n. key.Short n) xs)) (other_number x e.0) ∙ none_rising xs e.1
 
-  none_keyed : (xs : List ℕ) (keys : List CodeKey) → list_any (nat_eq (key_in t)) xs ≡ false → list_any (is_key t) (keys_behind xs keys) ≡ list_any (is_key t) keys
+  -- a key that is no number of these is only among the others
+  pub none_keyed : (xs : List ℕ) (keys : List CodeKey) → list_any (nat_eq (key_in t)) xs ≡ false → list_any (is_key t) (keys_behind xs keys) ≡ list_any (is_key t) keys
   none_keyed xs keys n = list_any-append (is_key t) (map (λ n. key.Short n) xs) keys ∙ ap (λ b. b || list_any (is_key t) keys) (none_rising xs n)
 
   behind_rising : (xs : List ℕ) (keys : List CodeKey) → list_any (nat_eq (key_in t)) xs ≡ false → position_or_len (is_key t) (keys_behind xs keys) ≡ length xs + position_or_len (is_key t) keys
@@ -268,6 +269,20 @@ module _ (t : List ℕ) where
           entered = record { at = sym at.0; within = at.1; same = ap (λ xs. keys_behind xs after.keys.keys) rising ∙ ap (keys_behind before.rising.items) keys };
         }
 
+    -- a key that the set has
+    pub enters_found : (i place : ℕ) → after.keys.keys ≡ before.keys.keys → after.rising.items ≡ before.rising.items → list_any (nat_eq (key_in t)) before.rising.items ≡ false → position (is_key t) before.keys.keys ≡ Some i → place ≡ length before.rising.items + i → EntersKey t before after place false
+    enters_found i place keys rising none e is =
+        let at = place_within (is_key t) before.keys.keys i e in
+        record {
+          rises = subst Rises (sym rising) h;
+          list = list;
+          entered = record {
+            at = is ∙ ap (λ n. length before.rising.items + n) (sym at.0) ∙ sym (behind_rising before.rising.items before.keys.keys none);
+            within = let len = length_keys before.rising.items before.keys.keys in omega (arith, is, at.1, len);
+            same = ap (λ xs. keys_behind xs after.keys.keys) rising ∙ ap (keys_behind before.rising.items) keys;
+          };
+        }
+
     -- any other key, as the set takes it
     pub enters_set : (k : CodeKey) (i place : ℕ) (is_new : Bool) → after.rising.items ≡ before.rising.items → list_any (nat_eq (key_in t)) before.rising.items ≡ false → shape_of k ≡ shape_in t → is_new ≡ not (list_any (same_shape k) before.keys.keys)
         → after.keys.keys ≡ insert_key same_shape before.keys.keys k → i ≡ position_or_len (same_shape k) before.keys.keys → i < length after.keys.keys → place ≡ length before.rising.items + i → EntersKey t before after place is_new
@@ -279,16 +294,7 @@ module _ (t : List ℕ) where
         by_any true q added made at =
             let keys : after.keys.keys ≡ before.keys.keys = made ∙ ap (λ b. cond b before.keys.keys (before.keys.keys ++ k ∷ [])) q in
             let known : false ≡ is_new = sym (added ∙ ap not q) in
-            subst (EntersKey t before after place) known
-            (record {
-              rises = subst Rises (sym rising) h;
-              list = list;
-              entered = record {
-                at = is ∙ ap (λ n. length before.rising.items + n) at ∙ sym (behind_rising before.rising.items before.keys.keys none);
-                within = let len = length_keys before.rising.items before.keys.keys in let same = ap length keys in omega (arith, is, within, len, same);
-                same = ap (λ ys. keys_behind ys after.keys.keys) rising ∙ ap (keys_behind before.rising.items) keys;
-              };
-            })
+            subst (EntersKey t before after place) known (enters_found i place keys rising none (place_first (is_key t) before.keys.keys i (sym at) (let same = ap length keys in omega (arith, within, same))) is)
         by_any false q added made at =
             let keys : after.keys.keys ≡ before.keys.keys ++ k ∷ [] = made ∙ ap (λ b. cond b before.keys.keys (before.keys.keys ++ k ∷ [])) q in
             let new : true ≡ is_new = sym (added ∙ ap not q) in

@@ -1,5 +1,5 @@
 -- Codes of variables, as they are asked for and entered.
-use Rattle.std.specs.Prelude.{◌≡◌, ℕ, ◌<◌, Bool, false, MatchBool, List, [], ◌∷◌, ◌++◌, length, Option, Result, IfOk}
+use Rattle.std.specs.Prelude.{◌≡◌, ℕ, ◌<◌, ◌^◌, Bool, false, MatchBool, List, [], ◌∷◌, ◌++◌, length, Option, Result, IfOk}
 use Rattle.std.specs.List.{list_any, position_or_len}
 use Rattle.vcd_model.specs.Declarations.{Declaration, Variable, code_of}
 use Rattle.vcd_model.specs.HeaderChecks.{agrees}
@@ -23,6 +23,10 @@ Allows known bytes size event result = (text : List ℕ) (ds : List Declaration)
 -- the code of such a variable is entered
 abbrev pub Enters : (old new : List ℕ) → (known known_after : Codes) → List ℕ → ℕ → Bool → Result (Option ℕ) HeadFault → Type 0
 Enters old new known known_after bytes size event r = (ds : List Declaration) (v : Variable) → HasCodes old known ds → IsCoded v bytes size event → IsSize size → IfOk r (IsEntered old new known_after ds v)
+
+-- no code has these bytes, of so many as a number of 64 bits can count
+abbrev pub IsNewCode : Codes → List ℕ → Type 0
+IsNewCode known bytes = length (keys_of known) < 2 ^ 64 → list_any (is_key bytes) (keys_of known) ≡ false
 
 -- the code with these bytes, which stand there in the text
 abbrev pub code_with : ℕ → List ℕ → ℕ → Bool → Code

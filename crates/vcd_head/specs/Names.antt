@@ -33,7 +33,7 @@ pub use Rattle.vcd_head.specs.Calls.{MovesFurther, MovesOn, OrFails, ReadsAhead,
 pub use Rattle.vcd_head.specs.Codes.{HasNone, Rises, is_of, keys_of}
 pub use Rattle.vcd_head.specs.Declares.{DeclaresVariable, IsBarred, MayStart, Takes as TakesPhrase}
 pub use Rattle.vcd_head.specs.Draft.{IsDraftOf, IsNew, goes_on}
-pub use Rattle.vcd_head.specs.Entered.{Allows, Enters, EntersKey, code_with}
+pub use Rattle.vcd_head.specs.Entered.{Allows, Enters, EntersKey, IsNewCode, code_with}
 pub use Rattle.vcd_head.specs.Fault.{call_end, fault_number}
 pub use Rattle.vcd_head.specs.Fronts.{AreFronts, AreRanks, bytes_at, front_in, order_of, place_in_rank, rank_of}
 pub use Rattle.vcd_head.specs.Groups.{AreRising, FlagsSome, GoesOnWith, IsRun, IsRunOn, RunsOn, names_of}

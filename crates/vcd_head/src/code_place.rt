@@ -1,9 +1,9 @@
 // The place of a variable's code among the distinct codes.
 ghost use Rattle.std.specs.Prelude.{◌≡◌, nat_eq, false, [], ◌∷◌, ◌++◌, length, IfOk, IfErr};
-ghost use Rattle.vcd_head.specs.Names.{Enters, EntersKey, Rises, code_with, key_in, list_any};
+ghost use Rattle.vcd_head.specs.Names.{Enters, EntersKey, IsNewCode, Rises, code_with, key_in, list_any};
 
 use crate::code_key::CodeKey;
-use crate::codes::{Codes, is_of_kind};
+use crate::codes::{Codes, is_of_kind, place_among};
 use crate::fault::HeadFault;
 use crate::rising::{last_of, place_in};
 use crate::rows::token_len;
@@ -24,6 +24,8 @@ pub(crate) fn enter_code(
     ensures codes { Enters text.old.items text.new.items known.old known.new
         bytes.now size event result }
     ensures memory { IfErr result (λ fault. fault ≡ HeadFault.OutOfMemory) }
+    ensures refused { Rises known.old.rising.items
+        → IfErr result (λ _. IsNewCode known.old bytes.now) }
 {
     let (place, new) = enter_key(alloc, known, bytes)?;
     if new {
@@ -46,6 +48,8 @@ fn enter_key(alloc: Global, known: &mut Codes, bytes: &[u8]) -> Result<(usize, b
     ensures enters { Rises known.old.rising.items
         → IfOk result (λ r. EntersKey bytes.now known.old known.new r.0 r.1) }
     ensures memory { IfErr result (λ fault. fault ≡ HeadFault.OutOfMemory) }
+    ensures refused { Rises known.old.rising.items
+        → IfErr result (λ _. IsNewCode known.old bytes.now) }
 {
     let number = key_of(bytes);
     if known.keys.is_empty() && number > last_of(&known.rising) {
@@ -60,14 +64,24 @@ fn enter_key(alloc: Global, known: &mut Codes, bytes: &[u8]) -> Result<(usize, b
 }
 
 /// Enters the key of the code with these bytes in the set, if it is new. Returns the place of the
-/// code, and whether it is new.
+/// code, and whether it is new. A code that is there is found even where memory is refused.
 fn enter_in_set(alloc: Global, known: &mut Codes, bytes: &[u8]) -> Result<(usize, bool), HeadFault>
     ensures enters { Rises known.old.rising.items
         → list_any (nat_eq (key_in bytes.now)) known.old.rising.items ≡ false
         → IfOk result (λ r. EntersKey bytes.now known.old known.new r.0 r.1) }
     ensures memory { IfErr result (λ fault. fault ≡ HeadFault.OutOfMemory) }
+    ensures refused { list_any (nat_eq (key_in bytes.now)) known.old.rising.items ≡ false
+        → IfErr result (λ _. IsNewCode known.old bytes.now) }
 {
-    let key = CodeKey::of(alloc, bytes)?;
+    let Ok(key) = CodeKey::of(alloc, bytes) else {
+        let Some(place) = place_among(known.keys.as_slice(), bytes) else {
+            return Err(HeadFault::OutOfMemory);
+        };
+        let Some(place) = known.rising.len().checked_add(place) else {
+            return Err(HeadFault::OutOfMemory);
+        };
+        return Ok((place, false));
+    };
     let Ok((place, new)) = known.keys.insert_full(key) else {
         return Err(HeadFault::OutOfMemory);
     };

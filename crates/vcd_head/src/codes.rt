@@ -78,7 +78,7 @@ pub(crate) fn is_of_kind(code: Code, size: usize, event: bool) -> bool
 }
 
 /// Returns the place of the key of the code with these bytes among keys, by a look at each.
-fn place_among(keys: &[CodeKey], bytes: &[u8]) -> Option<usize>
+pub(crate) fn place_among(keys: &[CodeKey], bytes: &[u8]) -> Option<usize>
     ensures { result ≡ position (is_key bytes.now) keys.now }
 {
     for (place, key) in keys.iter().enumerate() {

@@ -1,7 +1,10 @@
 use Rattle.std.proofs.Common.{◌≡◌, List, [], ◌∷◌, None, ap, nat_eq, position, length, refl, sym, subst, ◌∙◌, arith}
+use Rattle.std.proofs.lemmas.Result.{err_from_is_err_and}
+use Rattle.std.specs.List.{list_any}
 use Rattle.vcd_view.specs.Keys.{key_in}
 use Rattle.vcd_head.specs.Codes.{Rises}
-use Rattle.vcd_head.proofs.RisingLemmas.{enters_known, enters_number, last_in, last_is, none_there}
+use Rattle.vcd_head.specs.Keys.{is_key}
+use Rattle.vcd_head.proofs.RisingLemmas.{enters_known, enters_number, last_in, last_is, none_above, none_keyed, none_there}
 use Rattle.vcd_head.proofs.code_place.enter_key.Goals as goal
 
 no_items : {X : Type 0} (xs : List X) → length xs ≡ 0 → xs ≡ []
@@ -24,3 +27,18 @@ returns-clause-enters c = λ h.
     let found : position (nat_eq (key_in c.args.bytes.now)) c.args.known.now.rising.items ≡ position (nat_eq c.key_of-number.result) c.deref-2.result.now = λ j. position (nat_eq (sym c.key_of-number.ensures j)) (sym c.deref-2.ensures.value j) in
     let none : position (nat_eq (key_in c.args.bytes.now)) c.args.known.now.rising.items ≡ None = found ∙ sym (c.place_in.ensures (subst Rises (sym c.deref-2.ensures.value) h)) ∙ c.in_default.is in
     c.enter_in_set.ensures.enters h (none_there (nat_eq (key_in c.args.bytes.now)) c.args.known.now.rising.items none)
+
+pub returns-in_err-push-clause-refused : goal.returns-in_err-push-clause-refused
+returns-in_err-push-clause-refused c = λ h.
+    let xs = c.args.known.now.rising.items in
+    let none : c.args.known.now.keys.keys ≡ [] = no_items c.args.known.now.keys.keys (omega arith) in
+    let last : c.last_of.result ≡ last_in 0 xs = c.last_of.ensures ∙ last_is c.deref.result.now ∙ ap (last_in 0) c.deref.ensures.value in
+    let absent = none_keyed c.args.bytes.now xs c.args.known.now.keys.keys (none_above 0 (key_in c.args.bytes.now) xs h (omega (arith, last))) ∙ ap (list_any (is_key c.args.bytes.now)) none in
+    let p = err_from_is_err_and c.from_residual.result c.from_residual.ensures.1 in
+    rw p.1 (λ _. absent)
+
+pub returns-clause-refused : goal.returns-clause-refused
+returns-clause-refused c = λ h.
+    let found : position (nat_eq (key_in c.args.bytes.now)) c.args.known.now.rising.items ≡ position (nat_eq c.key_of-number.result) c.deref-2.result.now = λ j. position (nat_eq (sym c.key_of-number.ensures j)) (sym c.deref-2.ensures.value j) in
+    let none : position (nat_eq (key_in c.args.bytes.now)) c.args.known.now.rising.items ≡ None = found ∙ sym (c.place_in.ensures (subst Rises (sym c.deref-2.ensures.value) h)) ∙ c.in_default.is in
+    c.enter_in_set.ensures.refused (none_there (nat_eq (key_in c.args.bytes.now)) c.args.known.now.rising.items none)
