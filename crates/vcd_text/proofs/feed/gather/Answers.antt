@@ -1,17 +1,162 @@
-use Rattle.std.specs.Prelude.{Err}
-use Rattle.std.proofs.Common.{◌≡◌, ◌≤◌, ◌<◌, length, arith, refl, ap, sym, subst, ◌∙◌, add-one}
+use Rattle.std.specs.Prelude.{Err, IfSome, Ok, Result, Some}
+use Rattle.std.proofs.Common.{◌≡◌, ◌≢◌, ℕ, zero, suc, ◌+◌, ◌-◌, ◌≤◌, ◌<◌, List, length, true, false, arith, refl, ap, sym, subst, ◌∙◌, add-one}
 use Rattle.vcd_text.specs.ReadAhead.{HasRest}
-use Rattle.vcd_text.specs.Registers.{looked}
-use Rattle.std.specs.Prelude.{Result}
+use Rattle.vcd_text.specs.Registers.{Fits, looked, settled}
+use Rattle.vcd_text.specs.Turn.{Turns}
+use Rattle.vcd_text.specs.Window.{Collects, Finishes, Skips, is_white_at}
+use Rattle.vcd_text.specs.declared.window.Collected.TheVariants.{Whole}
+use Rattle.vcd_text.specs.declared.registers.Parked.{Parked}
+use Rattle.vcd_text.specs.declared.answer.Next.TheVariants.{Finish, Token as token}
 use Rattle.vcd_text.specs.declared.answer.Next.{Next}
 use Rattle.vcd_text.specs.declared.answer.Halt.{Halt}
-use Rattle.vcd_text.specs.declared.answer.Halt.TheVariants.{ReadFailed}
-use Rattle.vcd_text.specs.declared.registers.Phase.TheVariants.{Halted}
+use Rattle.vcd_text.specs.declared.answer.Halt.TheVariants.{InputTooLong, ReadFailed, TokenTooLong}
+use Rattle.vcd_text.specs.declared.registers.Phase.TheVariants.{Ended, Going, Halted}
 use Rattle.vcd_text.proofs.WindowLemmas.{after-skip, whole-stands, part-within, more-within, again-gives, long-gives, input-gives, fail-gives, finish-stands, whole-near, finish-near, fail-rest, failed-marked}
 use Rattle.vcd_text.proofs.feed.gather.Goals as goal
 
 err-is : (h : Halt) → ◌≡◌ {A = Result Next Halt} (Err h) (Err ReadFailed) → h ≡ ReadFailed
 err-is h e = cc
+
+-- a whole token has bytes
+some-token : (chunk tok tok' : List ℕ) (old mid new : Parked) → (0 < old.size → mid ≡ old) → (old.size ≡ 0 → Skips chunk old mid) → Collects chunk tok tok' mid new Whole → 0 < new.size
+some-token chunk tok tok' old mid new begun skips h = by_sizes old.size refl h.0 refl
+  where
+    size : new.size ≡ mid.size + h.0
+    size = ap (λ (p : Parked). p.size) h.4
+
+    by_sizes : (n : ℕ) → old.size ≡ n → (d : ℕ) → h.0 ≡ d → 0 < new.size
+    by_sizes (suc n) e d f = let same = ap (λ (p : Parked). p.size) (begun (omega (arith, e))) in omega (arith, size, same, e)
+    by_sizes zero e (suc d) f = omega (arith, size, f)
+    by_sizes zero e zero f =
+        let s = skips e in
+        let at : mid.at ≡ old.at + (mid.at - old.at) = ap (λ (p : Parked). p.at) s.1 in
+        let stop : mid.stop ≡ old.stop = ap (λ (p : Parked). p.stop) s.1 in
+        let same : old.at + (mid.at - old.at) ≡ mid.at + h.0 = omega (arith, at, f) in
+        let white : is_white_at chunk (old.at + (mid.at - old.at)) ≡ true = ap (is_white_at chunk) same ∙ h.3 in
+        let other : is_white_at chunk (old.at + (mid.at - old.at)) ≡ false = s.0.after (omega (arith, h.2, at, stop, f)) in
+        absurd (cc)
+
+-- ---- what a turn leaves
+
+-- how far the registers have come
+far-enough : (first old mid new : Parked) → first.base + first.at + old.size ≤ old.base + old.at → old.base + old.at + mid.size ≤ mid.base + mid.at + old.size → mid.base + mid.at + new.size ≤ new.base + new.at + mid.size → first.base + first.at + new.size ≤ new.base + new.at
+far-enough first old mid new a b d = omega (arith, a, b, d)
+
+module _ {X : Type 0} (failures : X → ℕ) (source source' : X) (chunk limit : ℕ) (old new : Parked) (fits : Fits new chunk limit) (kept : new.kept ≡ old.kept) where
+  -- one that is settled already
+  again-turns : (answer : Result Next Halt) → settled old.phase ≡ Some answer → answer ≢ Ok token → new.phase ≡ old.phase → looked new ≡ looked old → new.size ≡ 0 → source' ≡ source → Turns failures source source' chunk limit old new answer
+  again-turns answer is other phase same empty source_is = record {
+    fits = fits;
+    kept = kept;
+    further = omega (arith, same);
+    progress = λ e. absurd (other e);
+    settles = λ _. ap settled phase ∙ is;
+    again = subst (λ o. IfSome o (λ (r : Result Next Halt). (answer ≡ r) × (source' ≡ source))) (sym is) (refl, source_is);
+    going = λ e. absurd (other e);
+    failed = λ not_failed e. absurd (not_failed (is ∙ ap Some e));
+    same = λ _. ap failures source_is;
+    shows = λ e. absurd (other e);
+    empty = λ _. empty;
+  }
+
+  module _ (going : old.phase ≡ Going) where
+    settled-not : (answer : Result Next Halt → Type 0) → IfSome (settled old.phase) answer
+    settled-not answer = subst (λ p. IfSome (settled p) answer) (sym going) tt
+
+    -- one that halts
+    halts-turns : (h : Halt) (size : ℕ) → looked old + size ≤ looked new → new.phase ≡ Halted h → new.size ≡ 0 → (h ≡ ReadFailed → failures source' ≡ failures source + 1) → (h ≢ ReadFailed → failures source' ≡ failures source) → Turns failures source source' chunk limit old new (Err h)
+    halts-turns h size far phase empty failed same = record {
+      fits = fits;
+      kept = kept;
+      further = omega (arith, far);
+      progress = λ e. absurd (cc);
+      settles = λ _. ap settled phase;
+      again = settled-not _;
+      going = λ e. absurd (cc);
+      failed = λ _ e. failed (err-is h e);
+      same = λ n. same (λ e. n (ap Err e));
+      shows = λ e. absurd (cc);
+      empty = λ _. empty;
+    }
+
+    -- one that gives a token, and does not halt
+    token-turns : looked old < looked new → 0 < new.size → ((h : Halt) → settled new.phase ≢ Some (Err h)) → failures source' ≡ failures source → Turns failures source source' chunk limit old new (Ok token)
+    token-turns further some no_halt same = record {
+      fits = fits;
+      kept = kept;
+      further = omega (arith, further);
+      progress = λ _. further;
+      settles = λ n. absurd (n refl);
+      again = settled-not _;
+      going = λ _. no_halt;
+      failed = λ _ e. absurd (cc);
+      same = λ _. same;
+      shows = λ _. some;
+      empty = λ n. absurd (n refl);
+    }
+
+    -- one that comes to the end
+    finish-turns : (size : ℕ) → looked old + size ≤ looked new → new.phase ≡ Ended → new.size ≡ 0 → failures source' ≡ failures source → Turns failures source source' chunk limit old new (Ok Finish)
+    finish-turns size far phase empty same = record {
+      fits = fits;
+      kept = kept;
+      further = omega (arith, far);
+      progress = λ e. absurd (cc);
+      settles = λ _. ap settled phase;
+      again = settled-not _;
+      going = λ e. absurd (cc);
+      failed = λ _ e. absurd (cc);
+      same = λ _. same;
+      shows = λ e. absurd (cc);
+      empty = λ _. empty;
+    }
+
+    -- one that ends
+    ends-turns : (mid : Parked) (result : Next) → looked old + mid.size ≤ looked mid → Finishes mid new result → failures source' ≡ failures source → Turns failures source source' chunk limit old new (Ok result)
+    ends-turns mid token far ends same =
+        let at = ap looked ends.1 in
+        let size = ap (λ (p : Parked). p.size) ends.1 in
+        let phase = ap (λ (p : Parked). settled p.phase) ends.1 in
+        token-turns (omega (arith, far, at, ends.0)) (omega (arith, size, ends.0)) (λ h e. cc) same
+    ends-turns mid Finish far ends same =
+        let at = ap looked ends.1 in
+        let size = ap (λ (p : Parked). p.size) ends.1 in
+        finish-turns mid.size (omega (arith, far, at)) (ap (λ (p : Parked). p.phase) ends.1) (omega (arith, size, ends.0)) same
+
+pub returns-in-Ended-clause-turns : goal.returns-in-Ended-clause-turns
+returns-in-Ended-clause-turns g c = again-turns g.S.Source.failures _ _ _ _ _ _ (record {
+  at = c.requires.fits.at;
+  stop = c.requires.fits.stop;
+  end = c.requires.fits.end;
+  stops = c.requires.fits.stops;
+  counted = c.requires.fits.counted;
+  line_feeds = c.requires.fits.line_feeds;
+  size = omega arith;
+  kept = c.requires.fits.kept;
+}) refl (Ok Finish) (ap settled c.in-Ended.is) (λ e. cc) refl refl refl refl
+
+pub returns-in-Halted-clause-turns : goal.returns-in-Halted-clause-turns
+returns-in-Halted-clause-turns g c = again-turns g.S.Source.failures _ _ _ _ _ _ (record {
+  at = c.requires.fits.at;
+  stop = c.requires.fits.stop;
+  end = c.requires.fits.end;
+  stops = c.requires.fits.stops;
+  counted = c.requires.fits.counted;
+  line_feeds = c.requires.fits.line_feeds;
+  size = omega arith;
+  kept = c.requires.fits.kept;
+}) refl (Err c.in-Halted.halt) (ap settled c.in-Halted.is) (λ e. cc) refl refl refl refl
+
+pub returns-in-Whole-clause-turns : goal.returns-in-Whole-clause-turns
+returns-in-Whole-clause-turns g c =
+    let t = c.loop-parked.invariant.1 in
+    let fits = c.loop-parked.auto.chunk in
+    let full = c.loop-parked.auto.token in
+    let range = c.in-Whole.ensures.fits (rw (fits, full) (rw fits at (c.skip.ensures.fits (length c.args.token.now) (rw fits t.fits)))) in
+    let phase = c.in-Whole.ensures.on.phase ∙ (c.skip.ensures.on.phase ∙ t.going) in
+    let further : looked c.args.parked.now + c.collect.new.parked.size < looked c.collect.new.parked = omega (arith, c.in-Whole.ensures.whole, c.skip.ensures.on.looked, c.loop-parked.invariant.3) in
+    token-turns g.S.Source.failures _ _ _ _ _ _ (rw (fits, full) at range) (c.in-Whole.ensures.on.kept ∙ (c.skip.ensures.on.kept ∙ c.loop-parked.invariant.2)) c.in-Going.is
+    (omega (arith, further)) (some-token _ _ _ _ _ _ c.skip.ensures.begun c.skip.ensures.skips c.in-Whole.ensures.collects) (λ h e. let none = ap settled phase in cc) c.loop-parked.invariant.0
 
 pub returns-in-Halted-clause-says : goal.returns-in-Halted-clause-says
 returns-in-Halted-clause-says g c = record {
@@ -23,8 +168,8 @@ returns-in-Halted-clause-says g c = record {
 pub returns-in-Whole-clause-says : goal.returns-in-Whole-clause-says
 returns-in-Whole-clause-says g c =
     let t = c.loop-parked.invariant.1 in
-    let fits : length c.loop-parked.chunk ≡ length c.args.chunk.now = omega arith in
-    let full : length c.loop-parked.token ≡ length c.args.token.now = omega arith in
+    let fits : length c.loop-parked.chunk ≡ length c.args.chunk.now = c.loop-parked.auto.chunk in
+    let full : length c.loop-parked.token ≡ length c.args.token.now = c.loop-parked.auto.token in
     let range = c.skip.ensures.fits (length c.args.token.now) (rw fits t.fits) in
     let phase = c.in-Whole.ensures.on.phase ∙ (c.skip.ensures.on.phase ∙ t.going) in
     record {
@@ -38,8 +183,8 @@ returns-in-Whole-clause-says g c =
 pub returns-in-TooLong-clause-says : goal.returns-in-TooLong-clause-says
 returns-in-TooLong-clause-says g c =
     let t = c.loop-parked.invariant.1 in
-    let fits : length c.loop-parked.chunk ≡ length c.args.chunk.now = omega arith in
-    let full : length c.loop-parked.token ≡ length c.args.token.now = omega arith in
+    let fits : length c.loop-parked.chunk ≡ length c.args.chunk.now = c.loop-parked.auto.chunk in
+    let full : length c.loop-parked.token ≡ length c.args.token.now = c.loop-parked.auto.token in
     let range = c.skip.ensures.fits (length c.args.token.now) (rw fits t.fits) in
     record {
       gives = λ i given st. long-gives _ _ _ _ _ _ _ _ i given _ (t.clean i given st) range full c.in-TooLong.ensures.collects
@@ -51,8 +196,8 @@ returns-in-TooLong-clause-says g c =
 pub returns-then-parked-clause-says : goal.returns-then-parked-clause-says
 returns-then-parked-clause-says g c =
     let t = c.loop-parked.invariant.1 in
-    let fits : length c.loop-parked.chunk ≡ length c.args.chunk.now = omega arith in
-    let full : length c.loop-parked.token ≡ length c.args.token.now = omega arith in
+    let fits : length c.loop-parked.chunk ≡ length c.args.chunk.now = c.loop-parked.auto.chunk in
+    let full : length c.loop-parked.token ≡ length c.args.token.now = c.loop-parked.auto.token in
     let range = c.skip.ensures.fits (length c.args.token.now) (rw fits t.fits) in
     let full' : length c.collect.new.token ≡ length c.args.token.now = omega arith in
     let range' = rw full at (c.in-Part.ensures.fits (rw full range)) in
@@ -68,8 +213,8 @@ returns-then-parked-clause-says g c =
 pub loop-parked-preserved : goal.loop-parked-preserved
 loop-parked-preserved g c =
     let t = c.loop-parked.invariant.1 in
-    let fits : length c.loop-parked.chunk ≡ length c.args.chunk.now = omega arith in
-    let full : length c.loop-parked.token ≡ length c.args.token.now = omega arith in
+    let fits : length c.loop-parked.chunk ≡ length c.args.chunk.now = c.loop-parked.auto.chunk in
+    let full : length c.loop-parked.token ≡ length c.args.token.now = c.loop-parked.auto.token in
     let range = c.skip.ensures.fits (length c.args.token.now) (rw fits t.fits) in
     let range' = rw full at (c.in-Part.ensures.fits (rw full range)) in
     let used : c.collect.new.parked.end ≤ c.collect.new.parked.at = omega (arith, c.in-Part.ensures.part refl, c.if-parked.false) in (
@@ -89,8 +234,8 @@ loop-parked-preserved g c =
 pub returns-in-End-clause-says : goal.returns-in-End-clause-says
 returns-in-End-clause-says g c =
     let t = c.loop-parked.invariant.1 in
-    let fits : length c.loop-parked.chunk ≡ length c.args.chunk.now = omega arith in
-    let full : length c.loop-parked.token ≡ length c.args.token.now = omega arith in
+    let fits : length c.loop-parked.chunk ≡ length c.args.chunk.now = c.loop-parked.auto.chunk in
+    let full : length c.loop-parked.token ≡ length c.args.token.now = c.loop-parked.auto.token in
     let range = c.skip.ensures.fits (length c.args.token.now) (rw fits t.fits) in
     let used : c.collect.new.parked.end ≤ c.collect.new.parked.at = omega (arith, c.in-Part.ensures.part refl, c.if-parked.false) in
     record {
@@ -109,8 +254,8 @@ returns-in-End-clause-says g c =
 pub returns-in-Failed-clause-says : goal.returns-in-Failed-clause-says
 returns-in-Failed-clause-says g c =
     let t = c.loop-parked.invariant.1 in
-    let fits : length c.loop-parked.chunk ≡ length c.args.chunk.now = omega arith in
-    let full : length c.loop-parked.token ≡ length c.args.token.now = omega arith in
+    let fits : length c.loop-parked.chunk ≡ length c.args.chunk.now = c.loop-parked.auto.chunk in
+    let full : length c.loop-parked.token ≡ length c.args.token.now = c.loop-parked.auto.token in
     let range = c.skip.ensures.fits (length c.args.token.now) (rw fits t.fits) in
     let used : c.collect.new.parked.end ≤ c.collect.new.parked.at = omega (arith, c.in-Part.ensures.part refl, c.if-parked.false) in
     record {
@@ -126,3 +271,55 @@ returns-in-Failed-clause-says g c =
           let same : looked c.halted-in-Failed.new.parked ≡ looked c.collect.new.parked = omega (arith, c.in-Failed.ensures.looked.0, ap looked (c.halted-in-Failed.ensures.halts)) in
           subst (λ n. HasRest (g.S.Source.rest c.fill.new.source) n i) (sym same) rest;
     }
+
+pub returns-in-TooLong-clause-turns : goal.returns-in-TooLong-clause-turns
+returns-in-TooLong-clause-turns g c =
+    let t = c.loop-parked.invariant.1 in
+    let fits = c.loop-parked.auto.chunk in
+    let full = c.loop-parked.auto.token in
+    let range = c.in-TooLong.ensures.fits (rw (fits, full) (rw fits at (c.skip.ensures.fits (length c.args.token.now) (rw fits t.fits)))) in
+    let on = c.in-TooLong.ensures.on in
+    let halts : c.halted.new.parked ≡ record c.collect.new.parked { size = 0; phase = Halted TokenTooLong } = c.halted.ensures.halts in
+    let far = far-enough c.args.parked.now c.loop-parked.parked c.skip.new.parked c.collect.new.parked c.loop-parked.invariant.3 c.skip.ensures.on.looked on.looked in
+    rw c.halted.ensures.result
+    (halts-turns g.S.Source.failures _ _ _ _ _ _ (c.halted.ensures.fits _ _ (rw (fits, full) at range)) (c.halted.ensures.kept ∙ (on.kept ∙ (c.skip.ensures.on.kept ∙ c.loop-parked.invariant.2))) c.in-Going.is TokenTooLong c.collect.new.parked.size
+    (rw (ap looked halts) far) (ap (λ (p : Parked). p.phase) halts) (ap (λ (p : Parked). p.size) halts) (λ e. absurd (cc)) (λ _. c.loop-parked.invariant.0))
+
+pub returns-then-parked-clause-turns : goal.returns-then-parked-clause-turns
+returns-then-parked-clause-turns g c =
+    let t = c.loop-parked.invariant.1 in
+    let fits = c.loop-parked.auto.chunk in
+    let full = c.loop-parked.auto.token in
+    let range = c.in-Part.ensures.fits (rw (fits, full) (rw fits at (c.skip.ensures.fits (length c.args.token.now) (rw fits t.fits)))) in
+    let on = c.in-Part.ensures.on in
+    let halts : c.halted-then-parked.new.parked ≡ record c.collect.new.parked { size = 0; line = c.collect.new.parked.line_feeds + 1; phase = Halted InputTooLong } = c.halted-then-parked.ensures.halts in
+    let far = far-enough c.args.parked.now c.loop-parked.parked c.skip.new.parked c.collect.new.parked c.loop-parked.invariant.3 c.skip.ensures.on.looked on.looked in
+    rw c.halted-then-parked.ensures.result
+    (halts-turns g.S.Source.failures _ _ _ _ _ _ (c.halted-then-parked.ensures.fits _ _ (rw (fits, full) at range)) (c.halted-then-parked.ensures.kept ∙ (on.kept ∙ (c.skip.ensures.on.kept ∙ c.loop-parked.invariant.2))) c.in-Going.is InputTooLong c.collect.new.parked.size
+    (rw (ap looked halts) far) (ap (λ (p : Parked). p.phase) halts) (ap (λ (p : Parked). p.size) halts) (λ e. absurd (cc)) (λ _. c.loop-parked.invariant.0))
+
+pub returns-in-Failed-clause-turns : goal.returns-in-Failed-clause-turns
+returns-in-Failed-clause-turns g c =
+    let t = c.loop-parked.invariant.1 in
+    let fits = c.loop-parked.auto.chunk in
+    let full = c.loop-parked.auto.token in
+    let range = c.in-Part.ensures.fits (rw (fits, full) (rw fits at (c.skip.ensures.fits (length c.args.token.now) (rw fits t.fits)))) in
+    let on = c.in-Part.ensures.on in
+    let filled = c.in-Failed.ensures in
+    let halts : c.halted-in-Failed.new.parked ≡ record c.fill.new.parked { size = 0; line = c.fill.new.parked.line_feeds + 1; phase = Halted ReadFailed } = c.halted-in-Failed.ensures.halts in
+    let far = far-enough c.args.parked.now c.loop-parked.parked c.skip.new.parked c.collect.new.parked c.loop-parked.invariant.3 c.skip.ensures.on.looked on.looked in
+    rw c.halted-in-Failed.ensures.result
+    (halts-turns g.S.Source.failures _ _ _ _ _ _ (c.halted-in-Failed.ensures.fits _ _ (rw fits at (filled.fits _ (rw full at range)))) (c.halted-in-Failed.ensures.kept ∙ (filled.kept ∙ (on.kept ∙ (c.skip.ensures.on.kept ∙ c.loop-parked.invariant.2)))) c.in-Going.is ReadFailed c.collect.new.parked.size
+    (rw (ap looked halts, filled.looked.0) far) (ap (λ (p : Parked). p.phase) halts) (ap (λ (p : Parked). p.size) halts) (λ _. filled.failed refl ∙ ap (λ n. n + 1) c.loop-parked.invariant.0) (λ n. absurd (n refl)))
+
+pub returns-in-End-clause-turns : goal.returns-in-End-clause-turns
+returns-in-End-clause-turns g c =
+    let t = c.loop-parked.invariant.1 in
+    let fits = c.loop-parked.auto.chunk in
+    let full = c.loop-parked.auto.token in
+    let range = c.in-Part.ensures.fits (rw (fits, full) (rw fits at (c.skip.ensures.fits (length c.args.token.now) (rw fits t.fits)))) in
+    let on = c.in-Part.ensures.on in
+    let filled = c.in-End.ensures in
+    let far = far-enough c.args.parked.now c.loop-parked.parked c.skip.new.parked c.collect.new.parked c.loop-parked.invariant.3 c.skip.ensures.on.looked on.looked in
+    ends-turns g.S.Source.failures _ _ _ _ _ _ (c.finish.ensures.fits _ _ (rw fits at (filled.fits _ (rw full at range)))) (c.finish.ensures.kept ∙ (filled.kept ∙ (on.kept ∙ (c.skip.ensures.on.kept ∙ c.loop-parked.invariant.2)))) c.in-Going.is
+    c.fill.new.parked c.finish.result (rw (filled.looked.0, filled.looked.1) far) c.finish.ensures.finishes (filled.failures (λ e. cc) ∙ c.loop-parked.invariant.0)
