@@ -285,6 +285,15 @@ run_past limit bytes at next start n le other r = elim (cases_lt (start + n) nex
   | inr far ↦ far
 ]
 
+-- a byte that is not white is before the marks that come next
+pub before_marks : (bytes : List ℕ) (start : ℕ) (w : White) → Marks bytes start (length bytes) w → (start < length bytes → is_white_space (slice_index bytes start) ≡ false) → (k : ℕ) → bit_at w.bits k ≡ 1 → start + 64 < w.next + k
+before_marks bytes start w m stops k set = elim (cases_lt (start + 64) (w.next + k)) [
+  | inl lt ↦ lt
+  | inr le ↦ (let here : w.next + k - 64 ≡ start = omega (arith, m.ahead k set) in
+      let within : start < length bytes = omega (arith, m.ahead k set, m.inside k set, m.within) in
+      true-false (is_white_space (slice_index bytes start)) (subst (λ i. is_white_space (slice_index bytes i) ≡ true) here (m.white k set)) (stops within))
+]
+
 -- the white space that is left from a later place on
 pub white_rest : (bytes : List ℕ) (from at start : ℕ) → from ≤ at → at ≤ start → AreWhite bytes from start → AreWhite bytes at start
 white_rest bytes from at start le far w = record { order = far; white = λ k h lt. w.white k (omega arith) lt }

@@ -23,26 +23,39 @@ impl White {
         White { bits: 0, next: 0 }
     }
 
-    /// Returns the white space after the byte at `at`, if that is the next white byte.
+    /// Returns whether the next white byte is that at `at`.
     #[inline(always)]
-    fn past(self, at: usize) -> Option<White>
+    fn begins_at(self, at: usize) -> bool
         requires some { self.bits ≢ 0 }
         requires next { self.next + 64 < 2 ^ 64 }
         requires ahead { (k : ℕ) → bit_at self.bits k ≡ 1 → at + 64 ≤ self.next + k }
-        ensures next { IfSome result (λ rest. rest.next ≡ self.next) }
-        ensures steps { IfSome result (λ rest. (chunk : List ℕ) (stop : ℕ) → Marks chunk at stop self
-            → (at < self.next) × (is_white_space (slice_index chunk at) ≡ true)
-            × Marks chunk (at + 1) stop rest) }
-        ensures none { result ≡ None → (k : ℕ) → bit_at self.bits k ≡ 1 → at + 64 < self.next + k }
+        ensures near { result ≡ true → self.next ≤ at + 64 }
+        ensures none { result ≡ false → (k : ℕ) → bit_at self.bits k ≡ 1 → at + 64 < self.next + k }
     {
-        let bit = lowest(self.bits);
-        if self.next + bit - 64 != at {
-            return None;
+        self.next + lowest(self.bits) - 64 == at
+    }
+
+    /// Returns the white space from the byte at `start` on.
+    #[inline(always)]
+    fn not_before(self, start: usize) -> White
+        requires near { self.next ≤ start + 64 }
+        requires fits { start + 64 < 2 ^ 64 }
+        ensures order { start ≤ result.next }
+        ensures within { (stop : ℕ) → self.next ≤ stop → start ≤ stop → result.next ≤ stop }
+        ensures marks { (chunk : List ℕ) (at stop : ℕ) → at ≤ start → start ≤ stop
+            → Marks chunk at stop self → Marks chunk start stop result }
+    {
+        if self.next <= start {
+            return White {
+                bits: 0,
+                next: start,
+            };
         }
-        Some(White {
-            bits: without(self.bits, bit),
+        let passed = start + 64 - self.next;
+        White {
+            bits: self.bits & (u64::MAX << passed),
             next: self.next,
-        })
+        }
     }
 
     /// Returns that the byte before this place is white.
@@ -110,6 +123,7 @@ impl<'a> Ahead<'a> {
 
     /// Returns the next token, if it is whole. White bytes before it are passed with it. Where it
     /// is not whole, `Feed::next` goes on. Near the end of the bytes none is given either.
+    // With a loop over the white bytes here, `check` of vectors takes 5 % more instructions.
     #[inline(always)]
     pub fn next(&mut self) -> Option<&'a [u8]>
         ensures takes { IfSome result (λ token. TakesToken self.old self.new token.now) }
@@ -117,12 +131,13 @@ impl<'a> Ahead<'a> {
         ensures none { result ≡ None → self.new ≡ self.old }
         ensures needed { result ≡ None → IsNearEnd self.old }
     {
-        let mut start = self.at;
-        let mut white = white_ahead(self.bytes, self.white)?;
-        while let Some(rest) = white.past(start) {
-            white = white_ahead(self.bytes, rest)?;
-            start += 1;
+        let at = self.at;
+        let white = white_ahead(self.bytes, self.white)?;
+        if !white.begins_at(at) {
+            return self.take(at, white);
         }
+        let start = past_white(self.bytes, at);
+        let white = white_ahead(self.bytes, white.not_before(start))?;
         self.take(start, white)
     }
 
