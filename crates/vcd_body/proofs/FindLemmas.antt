@@ -1,5 +1,5 @@
 -- The code that a look-up has found, and its texts.
-use Rattle.std.proofs.Common.{◌≡◌, ℕ, zero, suc, Bool, true, false, cond, ◌&&◌, ◌^◌, ◌<◌, nat_lt, List, [], ◌∷◌, Option, Some, None, refl, sym, subst}
+use Rattle.std.proofs.Common.{◌≡◌, ℕ, zero, suc, Bool, true, false, cond, ◌&&◌, ◌^◌, ◌<◌, nat_lt, List, [], ◌∷◌, Option, Some, None, IfSome, refl, sym, subst}
 use Rattle.std.specs.Prelude.{slice_get}
 use Rattle.std.specs.List.{AllZip}
 use Rattle.std.proofs.lemmas.Bool.{and_parts, lt-ltb, ltb-true}
@@ -7,6 +7,7 @@ use Rattle.std.proofs.lemmas.Option.{cond_some}
 use Rattle.vcd_model.specs.Bytes.{is_decimal, decimal_value}
 use Rattle.vcd_model.specs.Declarations.{IdCode}
 use Rattle.vcd_model.specs.Header.{Header}
+use Rattle.vcd_text.specs.Digits.{spelled_below}
 use Rattle.vcd_view.specs.declared.view.Code.{Code}
 use Rattle.vcd_view.specs.Shown.{HeadShown}
 use Rattle.vcd_view.specs.Views.{Views, IsCode}
@@ -22,12 +23,8 @@ zip_at text (x ∷ xs) (y ∷ ys) (suc k) c a e = zip_at text xs ys k c a.1 e
 pub code_at : (s : HeadShown) (h : Header) → Views s h → (place : ℕ) (c : IdCode) → slice_get h.codes place ≡ Some c → (code : Code) × (slice_get s.codes place ≡ Some code) × IsCode s.text code c
 code_at s h v place c e = zip_at s.text s.codes h.codes place c v.codes e
 
--- what digits spell, where that is below 2^64
-abbrev pub spelled : List ℕ → Option ℕ
-spelled ds = cond (is_decimal ds && nat_lt (decimal_value ds) (2 ^ 64)) (Some (decimal_value ds)) None
-
 -- a number is what the digits spell, and is below 2^64
-pub time_spelled : (digits : List ℕ) (time : ℕ) → spelled digits ≡ Some time → ((is_decimal digits && nat_lt (decimal_value digits) (2 ^ 64)) ≡ true) × (decimal_value digits ≡ time)
+pub time_spelled : (digits : List ℕ) (time : ℕ) → spelled_below digits ≡ Some time → ((is_decimal digits && nat_lt (decimal_value digits) (2 ^ 64)) ≡ true) × (decimal_value digits ≡ time)
 time_spelled digits time h = cond_some (is_decimal digits && nat_lt (decimal_value digits) (2 ^ 64)) (decimal_value digits) time h
 
 -- so they are digits, and the number is below 2^64
@@ -40,9 +37,17 @@ time_fits digits time both value =
 pub time_whole : (digits : List ℕ) (time : ℕ) → is_decimal digits ≡ true → decimal_value digits ≡ time → time < 2 ^ 64 → (is_decimal digits && nat_lt (decimal_value digits) (2 ^ 64)) ≡ true
 time_whole digits time decimal value less = rw (decimal, value, lt-ltb time (2 ^ 64) less) refl
 
+-- so what they spell is the time of a mark, and each such time is what they spell
+pub time_if_spelled : (digits : List ℕ) (o : Option ℕ) → o ≡ spelled_below digits → IfSome o (λ time. (is_decimal digits ≡ true) × (decimal_value digits ≡ time) × (time < 2 ^ 64))
+time_if_spelled digits None e = tt
+time_if_spelled digits (Some time) e = let s = time_spelled digits time (sym e) in time_fits digits time s.0 s.1
+
+pub spelled_time : (digits : List ℕ) (time : ℕ) → (is_decimal digits ≡ true) × (decimal_value digits ≡ time) × (time < 2 ^ 64) → spelled_below digits ≡ Some time
+spelled_time digits time h = rw (time_whole digits time h.0 h.1 h.2, h.1) refl
+
 none_of : (b : Bool) (v : ℕ) → cond b (Some v) None ≡ None → b ≡ false
 none_of false v h = refl
 none_of true v h = cc
 
-pub none_spelled : (digits : List ℕ) → spelled digits ≡ None → (is_decimal digits && nat_lt (decimal_value digits) (2 ^ 64)) ≡ false
+pub none_spelled : (digits : List ℕ) → spelled_below digits ≡ None → (is_decimal digits && nat_lt (decimal_value digits) (2 ^ 64)) ≡ false
 none_spelled digits h = none_of (is_decimal digits && nat_lt (decimal_value digits) (2 ^ 64)) (decimal_value digits) h

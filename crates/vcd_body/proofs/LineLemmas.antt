@@ -152,14 +152,22 @@ both_places bytes bytes' from middle to token text code letter rest e is same t 
       code_is = u.token_is ∙ ap₂ (slice_range bytes') start' last' ∙ ap (λ b. slice_range b (to - 1 - length code) (to - 1 - length code + length code)) same;
     }
 
+-- the bytes after the first one of a token
+pub rest_there : (bytes : List ℕ) (from to : ℕ) (token : List ℕ) → 0 < length token → HasToken bytes from to token → drop 1 token ≡ slice_range bytes (to - 1 - length token + 1) (to - 1)
+rest_there bytes from to token some t =
+    let ends = t.ends in
+    let order = t.before.order in
+    let within = t.within in
+    let start : t.start ≡ to - 1 - length token = omega arith in
+    let place : token ≡ slice_range bytes (to - 1 - length token) (to - 1) = t.token_is ∙ ap (λ a. slice_range bytes a (to - 1)) start in
+    part_there bytes (to - 1 - length token) (to - 1) 1 token place (omega arith) (omega arith) (omega arith)
+
 -- those of a mark's digits
 pub mark_there : (bytes : List ℕ) (from to : ℕ) (token : List ℕ) (time : ℕ) → 0 < length token → (is_decimal (drop 1 token) ≡ true) × (decimal_value (drop 1 token) ≡ time) × (time < 2 ^ 64) → HasToken bytes from to token → HasMark bytes from to (to - 1 - length token + 1) time
 mark_there bytes from to token time some told t =
     let ends = t.ends in
     let order = t.before.order in
-    let start : t.start ≡ to - 1 - length token = omega arith in
-    let place : token ≡ slice_range bytes (to - 1 - length token) (to - 1) = t.token_is ∙ ap (λ a. slice_range bytes a (to - 1)) start in
-    let digits = part_there bytes (to - 1 - length token) (to - 1) 1 token place (omega arith) (omega arith) (omega arith) in
+    let digits = rest_there bytes from to token some t in
     record {
       after = omega arith;
       before = omega arith;

@@ -7,11 +7,11 @@ ghost use Rattle.vcd_body.specs.declared.words.First.TheVariants as first;
 
 use crate::bits::Bits;
 use crate::item::{Form, Item, Regs};
-use crate::phrases::{real_text, scalar_code, takes, time_in, vector_text};
+use crate::phrases::{real_text, scalar_code, takes, vector_text};
 use crate::words::{
     First, after_first, bits_at, first_by, first_byte_of, first_of, is_comment, rest_of,
 };
-use vcd_text::{Ahead, Feed, Sink, Source, WriteFailed};
+use vcd_text::{Ahead, Feed, Sink, Source, WriteFailed, decimal_at};
 use vcd_view::{Found, HeadView, find_at_once, find_sized};
 
 /// An item that was taken ahead.
@@ -426,13 +426,16 @@ pub(crate) fn real_ahead<'a>(
     Some(change_of(found, Form::RealText, rest_of(token), None, at + 1, code_at))
 }
 
-/// Returns the time of the mark that a token is; none where it spells none.
+/// Returns the time of the mark that a token is; none where it spells none. The place is that after
+/// the token.
 #[inline(always)]
-pub(crate) fn time_ahead(opening: Opening<'_>) -> Option<u64>
+pub(crate) fn time_ahead<'a>(opening: Opening<'a>, ahead: Ahead<'a>) -> Option<u64>
+    requires opens { (a : Ahead) × Opens a ahead opening }
     ensures time { IfSome result (λ time. HasTime opening.entry time) }
     ensures all { (time : ℕ) → HasTime opening.entry time → result ≡ Some time }
 {
-    time_in(opening.token)
+    let at = begin_of(opening.token, ahead) + 1;
+    decimal_at(ahead.bytes(), at, ahead.passed() - 1)
 }
 
 /// Returns the time mark that a token spells, and sets the registers to those after it. None where

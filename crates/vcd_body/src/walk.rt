@@ -192,7 +192,7 @@ fn take_mark<'a, C, V: Visit<C>>(
         (stage_at ahead.old regs.old visit.old command.old)
         (stage_at ahead.new regs.new visit.new command.new) result }
 {
-    let time = time_ahead(opening)?;
+    let time = time_ahead(opening, next)?;
     if visit.leaves(command, time) {
         return None;
     }

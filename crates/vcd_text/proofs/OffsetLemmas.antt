@@ -1,11 +1,11 @@
 -- A feed that goes on at an offset has given what the other had.
-use Rattle.std.proofs.Common.{◌≡◌, ◌≢◌, ◌∙◌, ◌+◌, ◌-◌, ◌≤◌, ℕ, List, [], ◌++◌, Option, Some, None, ap, refl, sym, subst, length, take, drop, slice_range, unwrap_or, length-append, length-drop, arith, add-zero}
+use Rattle.std.proofs.Common.{◌≡◌, ◌∙◌, ◌+◌, ◌-◌, ◌≤◌, ℕ, List, Option, Some, ap, refl, sym, subst, length, take, drop, slice_range, unwrap_or, length-append, length-drop, arith, add-zero}
 use Rattle.std.specs.Prelude.{IfSome}
 use Rattle.std.proofs.lemmas.Option.{IfSome_then}
 use Rattle.vcd_model.specs.Input.{Input}
 use Rattle.vcd_model.specs.Tokens.{Token, halt_place}
 use Rattle.vcd_text.specs.Feed.{HasGivenParked, HasGivenTo}
-use Rattle.vcd_text.specs.Given.{At, AtPlace, InPhase}
+use Rattle.vcd_text.specs.Given.{At, InPhase}
 use Rattle.vcd_text.specs.LookedAt.{HasLookedAt}
 use Rattle.vcd_text.specs.ReadAhead.{Near}
 use Rattle.vcd_text.specs.Registers.{answer_number, looked, offset_of, phase_at, registers_at}

@@ -1,10 +1,13 @@
 -- Digits and the number that they spell.
-use Rattle.std.specs.Prelude.{◌≡◌, ℕ, true, List}
+use Rattle.std.specs.Prelude.{ℕ, ◌^◌, ◌&&◌, cond, nat_lt, List, Option, None, Some}
 use Rattle.std.specs.List.{list_all}
 use Rattle.std.specs.Char.{is_ascii_digit}
-use Rattle.vcd_model.specs.Bytes.{decimal_value}
+use Rattle.vcd_model.specs.Bytes.{decimal_value, is_decimal}
 
--- the bytes are decimal digits, and spell the number
-pub record Spell (bytes : List ℕ) (number : ℕ) : Type 0 where
-  pub digits : list_all is_ascii_digit bytes ≡ true
-  pub value : decimal_value bytes ≡ number
+-- the number that decimal digits spell, none where a byte is no digit; no digits spell 0
+abbrev pub spelled : List ℕ → Option ℕ
+spelled ds = cond (list_all is_ascii_digit ds) (Some (decimal_value ds)) None
+
+-- the number that one or more digits spell, where it is below 2^64
+abbrev pub spelled_below : List ℕ → Option ℕ
+spelled_below ds = cond (is_decimal ds && nat_lt (decimal_value ds) (2 ^ 64)) (Some (decimal_value ds)) None

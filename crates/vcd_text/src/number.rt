@@ -1,22 +1,27 @@
 //! Numbers as decimal digits spell them.
-ghost use Rattle.std.specs.Prelude.{◌≡◌, ◌≤◌, ◌+◌, ◌^◌, ◌&&◌, IfSome, Some, None, cond, length, nat_lt, take};
-ghost use Rattle.vcd_text.specs.Names.{Spell, chunk, decimal_value, is_ascii_digit, is_decimal, list_all};
+ghost use Rattle.std.specs.Prelude.{◌≡◌, ◌≤◌, ◌-◌, length, slice_range};
+ghost use Rattle.vcd_text.specs.Names.{spelled, spelled_below};
 
 use std::simd::prelude::*;
-
-/// The most decimal digits that spell a number below 2^64 whichever they are.
-const SHORT: usize = 19;
 
 /// What each of eight digits is worth.
 const WORTH: [u32; 8] = [10_000_000, 1_000_000, 100_000, 10_000, 1_000, 100, 10, 1];
 
-/// Returns the number that the eight bytes from `at` on spell, or `None` where one is no digit.
+// After eight bytes that clear a lane, eight that keep one.
+const KEPT: [u8; 16] = [
+    0, 0, 0, 0, 0, 0, 0, 0, 255, 255, 255, 255, 255, 255, 255, 255,
+];
+
+/// Returns the number that the `n` bytes before `to` spell, by a look at the eight before it, or
+/// `None` where one is no digit.
 #[inline(always)]
-fn eight_digits(bytes: &[u8], at: usize) -> Option<u64>
-    requires { at + 8 ≤ length bytes.now }
-    ensures { IfSome result (λ number. Spell (chunk at 8 bytes.now) number) }
+fn few_digits(bytes: &[u8], to: usize, n: usize) -> Option<u64>
+    requires within { (8 ≤ to) × (to ≤ length bytes.now) }
+    requires few { n ≤ 8 }
+    ensures { result ≡ spelled (slice_range bytes.now (to - n) to) }
 {
-    let digits = u8x8::from_slice(&bytes[at..]) - u8x8::splat(b'0');
+    let all = u8x8::from_slice(&bytes[to - 8..]) - u8x8::splat(b'0');
+    let digits = all & u8x8::from_slice(&KEPT[n..]);
     if digits.simd_gt(u8x8::splat(9)).to_bitmask() != 0 {
         return None;
     }
@@ -24,56 +29,36 @@ fn eight_digits(bytes: &[u8], at: usize) -> Option<u64>
     Some(u64::from(worth.strict_reduce_sum()))
 }
 
-/// Reads digits eight at a time, as long as there are eight. Returns how many it read, and the
-/// number that they spell.
+/// Returns the number that the bytes from one place up to another spell, as `decimal_of` does.
+// At most 16 are read by one look at the bytes before the last of them: FIGURE.
 #[inline(always)]
-fn leading_eights(digits: &[u8]) -> (usize, u64)
-    requires { length digits.now ≤ 19 }
-    ensures within { result.0 ≤ length digits.now }
-    ensures read { Spell (take result.0 digits.now) result.1 }
+pub fn decimal_at(bytes: &[u8], from: usize, to: usize) -> Option<u64>
+    requires { (from ≤ to) × (to ≤ length bytes.now) }
+    ensures { result ≡ spelled_below (slice_range bytes.now from to) }
 {
-    let mut at = 0;
-    let mut number: u64 = 0;
-    while digits.len() - at >= 8 {
-        let Some(eight) = eight_digits(digits, at) else {
-            return (at, number);
-        };
-        number = number * 100_000_000 + eight;
-        at += 8;
+    let n = to - from;
+    if n == 0 || n > 16 || to < 16 {
+        return decimal_of(&bytes[from..to]);
     }
-    (at, number)
-}
-
-/// Returns the number that at most 19 decimal digits spell, or `None` where a byte is no digit. No
-/// digit spells 0.
-#[inline(always)]
-fn short_decimal(digits: &[u8]) -> Option<u64>
-    requires { length digits.now ≤ 19 }
-    ensures { result
-        ≡ cond (list_all is_ascii_digit digits.now) (Some (decimal_value digits.now)) None }
-{
-    let (read, mut number) = leading_eights(digits);
-    for digit in &digits[read..] {
-        if !digit.is_ascii_digit() {
-            return None;
-        }
-        number = number * 10 + u64::from(*digit - b'0');
+    if n <= 8 {
+        return few_digits(bytes, to, n);
     }
-    Some(number)
+    let high = few_digits(bytes, to - 8, n - 8)?;
+    let low = few_digits(bytes, to, 8)?;
+    Some(high * 100_000_000 + low)
 }
 
 /// Returns the number that decimal digits spell, or `None` where there is no digit, a byte is none,
 /// or the number is 2^64 or more. Leading zeros are accepted, a sign is not.
+#[inline(never)]
 pub fn decimal_of(digits: &[u8]) -> Option<u64>
-    ensures { result ≡ cond (is_decimal digits.now && nat_lt (decimal_value digits.now) (2 ^ 64))
-        (Some (decimal_value digits.now)) None }
+    ensures { result ≡ spelled_below digits.now }
 {
     if digits.is_empty() {
         return None;
     }
-    let (short, rest) = digits.split_at(digits.len().min(SHORT));
-    let mut number = short_decimal(short)?;
-    for digit in rest {
+    let mut number: u64 = 0;
+    for digit in digits {
         if !digit.is_ascii_digit() {
             return None;
         }

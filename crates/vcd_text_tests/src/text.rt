@@ -7,8 +7,8 @@ use itoa::Buffer;
 use std::io;
 use vcd_text::doubles::{Narrow, Pieces, parked_after};
 use vcd_text::{
-    Ahead, Feed, Halt, Next, Sink, Source, Watch, WriteFailed, decimal_of, put, put_few,
-    put_number, put_parts, text_of,
+    Ahead, Feed, Halt, Next, Sink, Source, Watch, WriteFailed, decimal_at, decimal_of, put,
+    put_few, put_number, put_parts, text_of,
 };
 
 // The most bytes of a record of answers.
@@ -643,6 +643,19 @@ fn digits_spell_numbers(rt: HostRuntime) {
     ] {
         assert_eq!(rt; decimal_of(digits.as_bytes()), number);
     }
+}
+
+#[test]
+fn digits_among_other_bytes_spell_numbers(rt: HostRuntime) {
+    let bytes = b"#12345678 #9876543210123456 #12x4 #7\n".as_slice();
+    assert_eq!(rt; decimal_at(bytes, 1, 9), Some(12_345_678));
+    assert_eq!(rt; decimal_at(bytes, 11, 27), Some(9_876_543_210_123_456));
+    assert_eq!(rt; decimal_at(bytes, 18, 27), Some(210_123_456));
+    assert_eq!(rt; decimal_at(bytes, 19, 27), Some(10_123_456));
+    assert_eq!(rt; decimal_at(bytes, 11, 28), None);
+    assert_eq!(rt; decimal_at(bytes, 29, 33), None);
+    assert_eq!(rt; decimal_at(bytes, 33, 33), None);
+    assert_eq!(rt; decimal_at(bytes, 35, 36), Some(7));
 }
 
 // The faults and their texts; those between them, and those after the last one, have none.
