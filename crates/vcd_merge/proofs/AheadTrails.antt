@@ -1,18 +1,14 @@
 -- Items of one input of a merge that lie ahead in its feed's chunk, taken one after the other.
-use Rattle.std.proofs.Common.{◌≡◌, ℕ, ◌+◌, ◌*◌, ◌^◌, ◌<◌, ◌≤◌, Bool, true, false, List, [], ◌∷◌, ◌++◌, length, Option, Result, Ok, Err, refl, sym, ap, subst, ◌∙◌, mul_comm, append_assoc, append-nil, nat_le, arith}
+use Rattle.std.proofs.Common.{◌≡◌, ℕ, ◌+◌, ◌*◌, ◌^◌, ◌<◌, Bool, true, false, List, [], ◌∷◌, ◌++◌, length, Result, Ok, Err, refl, sym, ap, subst, ◌∙◌, mul_comm, nat_le, arith}
 use Rattle.std.specs.Prelude.{IfOk}
 use Rattle.std.proofs.lemmas.Bool.{leb-false}
-use Rattle.vcd_model.specs.Declarations.{IdCode}
 use Rattle.vcd_model.specs.Header.{Header}
 use Rattle.vcd_model.specs.Items.{BodyItem}
 use Rattle.vcd_model.specs.Merge.{is_too_large}
 use Rattle.vcd_model.specs.MergeByInput.{due_with, entry_for, written_with}
-use Rattle.vcd_model.specs.Tokens.{Token}
 use Rattle.vcd_model.proofs.BodyFacts.{all_append}
 use Rattle.vcd_text.specs.Ahead.{bytes_of, longest_of, passed_of}
-use Rattle.vcd_text.specs.Device.{Counts, Device, Takes, Writes, WritesSome, failures_after}
-use Rattle.vcd_text.specs.Passed.{Passed}
-use Rattle.vcd_text.specs.declared.ahead.Ahead.{Ahead}
+use Rattle.vcd_text.specs.Device.{Counts, Takes, Writes, WritesSome}
 use Rattle.vcd_text.specs.declared.device.WriteFailed.{WriteFailed}
 use Rattle.vcd_text.proofs.Writes.{appends-none}
 use Rattle.vcd_view.specs.Shown.{HeadShown, parts}
@@ -22,7 +18,7 @@ use Rattle.vcd_body.specs.Ahead.{GaveAhead, LooksOver}
 use Rattle.vcd_body.specs.Given.{IsItem}
 use Rattle.vcd_body.specs.Items.{AreRegsAfter, regs_after}
 use Rattle.vcd_body.specs.Taken.{TakesItem}
-use Rattle.vcd_body.specs.Walk.{Again, Begins, Further as Goes_further, Stage, Trail, Walks}
+use Rattle.vcd_body.specs.Walk.{Again, Begins, Further as Goes_further, Trail, Walks}
 use Rattle.vcd_body.specs.declared.ahead.Plain.{Plain}
 use Rattle.vcd_body.specs.declared.item.Form.{Form}
 use Rattle.vcd_body.specs.declared.item.Item.{Item}

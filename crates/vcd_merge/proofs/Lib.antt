@@ -1,5 +1,6 @@
 pub mod MergeItem
 pub mod AheadTrails
+pub mod AskedTokens
 pub mod Dumps
 pub mod SeatAhead
 pub mod SeatLemmas
@@ -8,6 +9,7 @@ pub mod PartLemmas
 pub mod MergeSteps
 pub mod MergeAnswers
 pub mod MergeCounts
+pub mod InTurn
 pub mod MergeTrails
 pub mod MergeRunOn
 pub mod OrderLemmas
@@ -18,4 +20,5 @@ pub mod MergeReads
 pub mod MergeStart
 pub mod MergeRoomLemmas
 pub mod MergeWholes
+pub mod Unsettled
 pub mod MergeStops

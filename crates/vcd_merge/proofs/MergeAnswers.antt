@@ -111,23 +111,41 @@ same_next seats j k a b = by_least (a.least k b.seat b.there b.unfinished) (b.le
     by_least (inr x) (inl y) = let e = x.0 in absurd (omega (arith, e, y))
     by_least (inr x) (inr y) = let e = x.1 in let f = y.1 in omega (arith, e, f)
 
+-- seats whose spots stay
+pub seats_stay : {X : Type 0} (rest : X → Option (List ℕ)) (s s' : Standing X) (j : ℕ) → length s.sources ≡ length s.seats → length s'.sources ≡ length s'.seats → spot_at rest s'.seats s'.sources s'.chunks s'.tokens j ≡ spot_at rest s.seats s.sources s.chunks s.tokens j
+    → slice_get s'.seats j ≡ slice_get s.seats j
+seats_stay {X} rest s s' j same sources spots = by_seats (slice_get s.seats j) refl (slice_get s'.seats j) refl
+  where
+    by_seats : (o : Option Seat) → slice_get s.seats j ≡ o → (o' : Option Seat) → slice_get s'.seats j ≡ o' → slice_get s'.seats j ≡ slice_get s.seats j
+    by_seats None e None e' = e' ∙ sym e
+    by_seats (Some y) e o' e' =
+        let p = seat_spot rest s j y same e in
+        spot_seat rest s' j p.0 (spots ∙ p.1) ∙ ap (λ (z : Seat). Some z) p.2 ∙ sym e
+    by_seats None e (Some y) e' =
+        let p = seat_spot rest s' j y sources e' in
+        let there = spot_seat rest s j p.0 (sym spots ∙ p.1) in
+        cc
+
 -- what a step has read, by the spot of the input that it leaves
-pub reads_one : {X : Type 0} (rest : X → Option (List ℕ)) (lanes : List Lane) (s s' : Standing X) (k : ℕ) (l : Lane) (p : Spot) (cut : Option ℕ) → IsNext s.seats k → slice_get lanes k ≡ Some l → spot_at rest s'.seats s'.sources s'.chunks s'.tokens k ≡ Some p
-    → length p.token ≡ part_len (length s.seats) s.tokens → length p.chunk ≡ part_len (length s.seats) s.chunks → ((j : ℕ) → j ≢ k → slice_get s'.sources j ≡ slice_get s.sources j)
-    → HasReadNoMore l (cut_at cut l.input) p → IfSome cut (λ n. l.input.mark ≡ Clean → HasRest p.rest n l.input) → ReadsOne rest lanes s s' k cut
-reads_one rest lanes s s' k l p cut next at_l at_p limit chunk others more has =
+pub reads_one : {X : Type 0} (rest : X → Option (List ℕ)) (lanes : List Lane) (ds : List Dump) (s s' : Standing X) (k : ℕ) (l : Lane) (d : Dump) (p : Spot) (cut : Option ℕ) → IsNext s.seats k → slice_get lanes k ≡ Some l → slice_get ds k ≡ Some d
+    → spot_at rest s'.seats s'.sources s'.chunks s'.tokens k ≡ Some p → length p.token ≡ part_len (length s.seats) s.tokens → length p.chunk ≡ part_len (length s.seats) s.chunks → ((j : ℕ) → j ≢ k → slice_get s'.sources j ≡ slice_get s.sources j)
+    → ((j : ℕ) → j ≢ k → slice_get s'.seats j ≡ slice_get s.seats j) → HasReadNoMore l d.items (cut_at cut l.input) p → IfSome cut (λ n. l.input.mark ≡ Clean → HasRest p.rest n l.input) → ReadsOne rest lanes ds s s' k cut
+reads_one rest lanes ds s s' k l d p cut next at_l at_d at_p limit chunk others seats more has =
     let y = spot_source rest s' k p at_p in
     let left = cut_at cut l.input in
     record {
       next = next;
       lane = l;
+      dump = d;
       source = y.0;
       lane_at = at_l;
+      dump_at = at_d;
       source_at = y.1;
-      no_more = subst (λ (r : Option (List ℕ)). ReadsNoMore (part_len (length s.seats) s.tokens) (part_len (length s.seats) s.chunks) l left r) y.2
-          (subst (λ (n : ℕ). ReadsNoMore n (part_len (length s.seats) s.chunks) l left p.rest) limit (subst (λ (n : ℕ). ReadsNoMore (length p.token) n l left p.rest) chunk more));
+      no_more = subst (λ (r : Option (List ℕ)). ReadsNoMore (part_len (length s.seats) s.tokens) (part_len (length s.seats) s.chunks) l d.items left r) y.2
+          (subst (λ (n : ℕ). ReadsNoMore n (part_len (length s.seats) s.chunks) l d.items left p.rest) limit (subst (λ (n : ℕ). ReadsNoMore (length p.token) n l d.items left p.rest) chunk more));
       has_rest = subst (λ (r : Option (List ℕ)). IfSome cut (λ n. l.input.mark ≡ Clean → HasRest r n l.input)) y.2 has;
       others = others;
+      seats = seats;
     }
 
 module _ {X : Type 0} (rest : X → Option (List ℕ)) (hs : List Header) (lanes : List Lane) (ds : List Dump) (s : Standing X) (holds : Holds rest hs lanes ds s) (k : ℕ) (d : Dump) (l : Lane) (next : IsNext s.seats k) (same : length s.sources ≡ length s.seats)
@@ -175,9 +193,12 @@ module _ {X : Type 0} (rest : X → Option (List ℕ)) (hs : List Header) (lanes
       let all = all_before rest hs lanes ds s holds.given k d l next same at_d at_l in
       e ∙ ap (written_with s.written) (entry_is x) ∙ written_more (merged_items ds) (next_item rest hs lanes k d x) s.written holds.written ∙ ap last_written (sym (merged_more hs ds k d x holds.given.dumps_are at_d all))
 
+  seats_too : (j : ℕ) → j ≢ k → slice_get s'.seats j ≡ slice_get s.seats j
+  seats_too j other = seats_stay rest s s' j same sources (others j other)
+
   -- what was read, where no read failed
-  all_read : HasReadNoMore l l.input p → ReadsOne rest lanes s s' k None
-  all_read more = reads_one rest lanes s s' k l p None next at_l at_p len_t len_c stay more tt
+  all_read : HasReadNoMore l d.items l.input p → ReadsOne rest lanes ds s s' k None
+  all_read more = reads_one rest lanes ds s s' k l d p None next at_l at_d at_p len_t len_c stay seats_too more tt
 
   module _ (A : Type 0) (out out' : Device) where
     -- an item was taken, and others may follow
@@ -198,7 +219,7 @@ module _ {X : Type 0} (rest : X → Option (List ℕ)) (hs : List Header) (lanes
     })
 
     -- none is left: then it has finished
-    pub ended : (u : A) → All (λ (x : Seat). x.finished ≡ true) s'.seats → Turns {A = A} k scale first l d.items s.written s'.written p out out' (Ok u) → Holds rest hs lanes ds s' × Writes out out' [] × ReadsOne rest lanes s s' k None
+    pub ended : (u : A) → All (λ (x : Seat). x.finished ≡ true) s'.seats → Turns {A = A} k scale first l d.items s.written s'.written p out out' (Ok u) → Holds rest hs lanes ds s' × Writes out out' [] × ReadsOne rest lanes ds s s' k None
     ended u all (inr t) = (record { given = still t.0 t.1; written = t.2 ∙ holds.written }, t.3, all_read t.4)
     ended u all (inl t) =
         let seat = spot_seat rest s' k p at_p in
@@ -211,14 +232,14 @@ module _ {X : Type 0} (rest : X → Option (List ℕ)) (hs : List Header) (lanes
     -- it stops
     pub stopped : (stop : Stop) → Turns {A = A} k scale first l d.items s.written s'.written p out out' (Err stop) → Gives rest hs lanes ds s s' out out' (Err stop)
     stopped (Faulty input line fault) t =
-        (subst (λ (i : ℕ). HasFault rest hs lanes ds s i line fault None) (sym t.0) (record { next = next; lane = l; dump = d; lane_at = at_l; dump_at = at_d; has = subst (λ (n : ℕ). HasDump scale n l.header l.front l.input d.items (Some (record { number = fault; line = line }))) len_t t.2 }), t.1, t.3, subst (λ (i : ℕ). ReadsOne rest lanes s s' i None) (sym t.0) (all_read t.4))
+        (subst (λ (i : ℕ). HasFault rest hs lanes ds s i line fault None) (sym t.0) (record { next = next; lane = l; dump = d; lane_at = at_l; dump_at = at_d; has = subst (λ (n : ℕ). HasDump scale n l.header l.front l.input d.items (Some (record { number = fault; line = line }))) len_t t.2 }), t.1, t.3, subst (λ (i : ℕ). ReadsOne rest lanes ds s s' i None) (sym t.0) (all_read t.4))
     stopped (Read input) t =
         let n = t.1.0 in let line = t.1.1 in (
           (
             n,
             line,
             subst (λ (i : ℕ). HasFault rest hs lanes ds s i line 31 (Some n)) (sym t.0) (record { next = next; lane = l; dump = d; lane_at = at_l; dump_at = at_d; has = subst (λ (m : ℕ). HasDump scale m l.header l.front (failed_after n l.input) d.items (Some (record { number = 31; line = line }))) len_t t.1.2 }),
-            subst (λ (i : ℕ). ReadsOne rest lanes s s' i (Some n)) (sym t.0) (reads_one rest lanes s s' k l p (Some n) next at_l at_p len_t len_c stay t.1.3 t.1.4),
+            subst (λ (i : ℕ). ReadsOne rest lanes ds s s' i (Some n)) (sym t.0) (reads_one rest lanes ds s s' k l d p (Some n) next at_l at_d at_p len_t len_c stay seats_too t.1.3 t.1.4),
           ),
           t.2,
         )

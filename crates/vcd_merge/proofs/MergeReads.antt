@@ -1,26 +1,30 @@
--- How much a merge has read of its inputs, one by one, through its steps.
-use Rattle.std.proofs.Common.{◌≡◌, ◌≢◌, ℕ, zero, suc, ◌+◌, List, [], ◌∷◌, length, map, slice_get, Option, Some, None, Result, refl, sym, ap, subst, ◌∙◌, arith, ◌⊎◌, inl, inr}
+-- How a merge has read its inputs, one by one, through its steps.
+use Rattle.std.proofs.Common.{◌≡◌, ◌≢◌, ℕ, zero, suc, ◌+◌, Bool, false, List, [], ◌∷◌, length, map, slice_get, Option, Some, None, Result, refl, sym, ap, subst, ◌∙◌, arith, ◌⊎◌, inl, inr}
 use Rattle.std.specs.Prelude.{IfSome, get_or}
 use Rattle.std.proofs.lemmas.Option.{get_or_from_slice_get, slice_get_within}
 use Rattle.std.proofs.Math.ListN.{length-set}
 use Rattle.vcd_model.specs.Input.{Clean, Input}
-use Rattle.vcd_model.specs.Outcome.{Request}
-use Rattle.vcd_model.specs.Settled.{is_settled_behind}
+use Rattle.vcd_model.specs.Header.{Header}
+use Rattle.vcd_model.specs.Merge.{Dump}
+use Rattle.vcd_model.specs.Tokens.{Token}
 use Rattle.vcd_text.specs.Answer.{failed_after}
 use Rattle.vcd_text.specs.Device.{Supply, supply}
 use Rattle.vcd_text.specs.ReadAhead.{HasRest, ReadsAsNeeded}
 use Rattle.vcd_text.specs.ReadAhead.ReadsAsNeeded.{Nothing}
 use Rattle.vcd_body.specs.Answer.{IsLeft, reads_failed}
 use Rattle.vcd_merge.specs.MergeParts.{part_len}
-use Rattle.vcd_merge.specs.MergeStep.{ReadsOne, Standing, cut_at, failures_with}
-use Rattle.vcd_merge.specs.Seat.{Lane, ReadsNoMore}
+use Rattle.vcd_merge.specs.MergeStep.{AreGiven, ReadsOne, Standing, cut_at, failures_with}
+use Rattle.vcd_merge.specs.MergeTrail.{GoOn, ReadInTurn}
+use Rattle.vcd_merge.specs.Seat.{HaveJust, Lane, ReadsNoMore}
+use Rattle.vcd_merge.specs.declared.seat.Seat.{Seat}
 use Rattle.vcd_body.specs.declared.answer.Stop.{Stop}
+use Rattle.vcd_merge.proofs.InTurn.{in_turn, turn_on}
 use Rattle.vcd_merge.proofs.MergeSteps.{get_map, len_map, same_or_not, some_at}
 use Rattle.vcd_merge.proofs.PartLemmas.{get_set}
 
 -- ---- lists
 
-unmap : {X Y : Type 0} (f : X → Y) (xs : List X) (k : ℕ) (y : Y) → slice_get (map f xs) k ≡ Some y → (x : X) × (slice_get xs k ≡ Some x) × (f x ≡ y)
+pub unmap : {X Y : Type 0} (f : X → Y) (xs : List X) (k : ℕ) (y : Y) → slice_get (map f xs) k ≡ Some y → (x : X) × (slice_get xs k ≡ Some x) × (f x ≡ y)
 unmap f [] k y e = cc
 unmap f (x ∷ xs) zero y e = (x, refl, cc)
 unmap f (x ∷ xs) (suc k) y e = unmap f xs k y e
@@ -44,68 +48,95 @@ module _ {X A : Type 0} (f : X → ℕ) (xs ys : List X) (k : ℕ) (result : Res
 
 -- ---- reads
 
-module _ {X : Type 0} (rest : X → Option (List ℕ)) (failures : X → ℕ) (limit chunk : ℕ) (lanes : List Lane) (olds : List Supply) where
+-- of an input nothing was read, or on its turn
+abbrev pub IsReadSo : (limit chunk : ℕ) → List Header → List Dump → List Seat → ℕ → Lane → (old new : Supply) → Input → Type 0
+IsReadSo limit chunk hs ds seats k l old new left = (new ≡ old) ⊎ ReadInTurn limit chunk hs ds seats k l left new.rest
+
+-- what is left of it, and how it was read
+abbrev pub IsRead : (limit chunk : ℕ) → List Header → List Dump → List Seat → ℕ → Lane → (old new : Supply) → Input → Type 0
+IsRead limit chunk hs ds seats k l old new left = IsLeft l.input old new left × IsReadSo limit chunk hs ds seats k l old new left
+
+-- other inputs may go on
+still_so : (limit chunk : ℕ) (hs : List Header) (ds es : List Dump) (seats news : List Seat) (k : ℕ) (l : Lane) (old new : Supply) (left : Input) → GoOn ds seats es news → IsReadSo limit chunk hs ds seats k l old new left → IsReadSo limit chunk hs es news k l old new left
+still_so limit chunk hs ds es seats news k l old new left go (inl same) = inl same
+still_so limit chunk hs ds es seats news k l old new left go (inr r) = inr (turn_on limit chunk hs ds es seats news k l left new.rest go r)
+
+-- no more was read than what settles work that tokens with just these items do not settle
+module _ {X : Type 0} (rest : X → Option (List ℕ)) (failures : X → ℕ) (limit chunk : ℕ) (hs : List Header) (ds : List Dump) (seats : List Seat) (k : ℕ) (l : Lane) (old new : Supply) (left : Input) (x : X) (is : supply rest failures x ≡ new) (settled : List Token → Bool) where
+  pub reads_for : ((r : ReadInTurn limit chunk hs ds seats k l left new.rest) (ts : List Token) → HaveJust l.header.codes r.items ts → settled ts ≡ false) → IsReadSo limit chunk hs ds seats k l old new left → ReadsAsNeeded limit chunk old new left l.front settled
+  reads_for on (inl same) = Nothing same
+  reads_for on (inr r) =
+      let of_x : ReadsNoMore limit chunk l r.items left (rest x) = subst (λ (z : Supply). ReadsNoMore limit chunk l r.items left z.rest) (sym is) r.no_more in
+      subst (λ (z : Supply). ReadsAsNeeded limit chunk old z left l.front settled) is (of_x old (failures x) settled (on r))
+
+module _ {X : Type 0} (rest : X → Option (List ℕ)) (failures : X → ℕ) (hs : List Header) (limit chunk : ℕ) (lanes : List Lane) (olds : List Supply) where
   abbrev pub supplies : List X → List Supply
   supplies xs = map (supply rest failures) xs
 
-  -- what is left of an input, and that no more was read of it than what settles it
-  abbrev pub IsRead : Lane → (old new : Supply) → Input → Type 0
-  IsRead l old new left = IsLeft l.input old new left × ReadsAsNeeded limit chunk old new left l.front (is_settled_behind Request.Merge l.header)
-
-  -- the sources were these olds before the merge: none of their reads has failed in it, and no more
-  -- was read of any than what settles it
-  pub record AreReadSoFar (xs : List X) : Type 0 where
-    pub each : (j : ℕ) (l : Lane) (old new : Supply) → slice_get lanes j ≡ Some l → slice_get olds j ≡ Some old → slice_get (supplies xs) j ≡ Some new
-        → (new.failures ≡ old.failures) × ReadsAsNeeded limit chunk old new l.input l.front (is_settled_behind Request.Merge l.header)
+  -- The sources were these olds before the merge: none of their reads has failed in it, and each
+  -- was read on its turn alone. After that the inputs have these items and seats.
+  pub record AreReadSoFar (ds : List Dump) (seats : List Seat) (xs : List X) : Type 0 where
+    pub each : (j : ℕ) (l : Lane) (old new : Supply) → slice_get lanes j ≡ Some l → slice_get olds j ≡ Some old → slice_get (supplies xs) j ≡ Some new → (new.failures ≡ old.failures) × IsReadSo limit chunk hs ds seats j l old new l.input
 
   -- before the first step
-  pub none_read : (xs : List X) → supplies xs ≡ olds → AreReadSoFar xs
-  none_read xs e = record {
+  pub none_read : (ds : List Dump) (seats : List Seat) (xs : List X) → supplies xs ≡ olds → AreReadSoFar ds seats xs
+  none_read ds seats xs e = record {
     each = λ j l old new at_l at_old at_new.
         let same : Some new ≡ Some old = sym at_new ∙ ap (λ (s : List Supply). slice_get s j) e ∙ at_old in
         let is : new ≡ old = cc in
-        (ap (λ (s : Supply). s.failures) is, Nothing is);
+        (ap (λ (s : Supply). s.failures) is, inl is);
   }
 
-  -- after reads of which each left its source as it was, or needed them
-  pub read_along : (ss ms : List X) → map failures ms ≡ map failures ss → ((j : ℕ) (l : Lane) (x : X) → slice_get lanes j ≡ Some l → slice_get ms j ≡ Some x → (slice_get ss j ≡ Some x) ⊎ ReadsNoMore limit chunk l l.input (rest x)) → AreReadSoFar ss → AreReadSoFar ms
-  read_along ss ms same reads so_far = record {
+  -- other inputs may go on
+  pub still_read : (ds es : List Dump) (seats news : List Seat) (xs : List X) → GoOn ds seats es news → AreReadSoFar ds seats xs → AreReadSoFar es news xs
+  still_read ds es seats news xs go so_far = record {
+    each = λ j l old new at_l at_old at_new. let e = so_far.each j l old new at_l at_old at_new in (e.0, still_so limit chunk hs ds es seats news j l old new l.input go e.1);
+  }
+
+  -- after reads of which each left its source as it was, or came on its turn
+  pub read_along : (ds es : List Dump) (seats news : List Seat) (ss ms : List X) → GoOn ds seats es news → map failures ms ≡ map failures ss
+      → ((j : ℕ) (l : Lane) (x : X) → slice_get lanes j ≡ Some l → slice_get ms j ≡ Some x → (slice_get ss j ≡ Some x) ⊎ ReadInTurn limit chunk hs es news j l l.input (rest x)) → AreReadSoFar ds seats ss → AreReadSoFar es news ms
+  read_along ds es seats news ss ms go same reads so_far = record {
     each = λ j l old new at_l at_old at_new.
         let x = unmap (supply rest failures) ms j new at_new in
         by_place j l old new at_l at_old x.0 x.1 x.2 (reads j l x.0 at_l x.1);
   }
     where
-      by_place : (j : ℕ) (l : Lane) (old new : Supply) → slice_get lanes j ≡ Some l → slice_get olds j ≡ Some old → (x : X) → slice_get ms j ≡ Some x → supply rest failures x ≡ new → (slice_get ss j ≡ Some x) ⊎ ReadsNoMore limit chunk l l.input (rest x)
-          → (new.failures ≡ old.failures) × ReadsAsNeeded limit chunk old new l.input l.front (is_settled_behind Request.Merge l.header)
-      by_place j l old new at_l at_old x at_x is (inl at_s) = so_far.each j l old new at_l at_old (get_map (supply rest failures) ss j x at_s ∙ ap (λ (z : Supply). Some z) is)
-      by_place j l old new at_l at_old x at_x is (inr more) =
+      by_place : (j : ℕ) (l : Lane) (old new : Supply) → slice_get lanes j ≡ Some l → slice_get olds j ≡ Some old → (x : X) → slice_get ms j ≡ Some x → supply rest failures x ≡ new → (slice_get ss j ≡ Some x) ⊎ ReadInTurn limit chunk hs es news j l l.input (rest x)
+          → (new.failures ≡ old.failures) × IsReadSo limit chunk hs es news j l old new l.input
+      by_place j l old new at_l at_old x at_x is (inl at_s) =
+          let e = so_far.each j l old new at_l at_old (get_map (supply rest failures) ss j x at_s ∙ ap (λ (z : Supply). Some z) is) in
+          (e.0, still_so limit chunk hs ds es seats news j l old new l.input go e.1)
+      by_place j l old new at_l at_old x at_x is (inr turn) =
           let y = unmap failures ss j (failures x) (ap (λ (ns : List ℕ). slice_get ns j) (sym same) ∙ get_map failures ms j x at_x) in
           let before = so_far.each j l old (supply rest failures y.0) at_l at_old (get_map (supply rest failures) ss j y.0 y.1) in
-          (ap (λ (z : Supply). z.failures) (sym is) ∙ sym y.2 ∙ before.0, subst (λ (z : Supply). ReadsAsNeeded limit chunk old z l.input l.front (is_settled_behind Request.Merge l.header)) is (more old (failures x)))
+          (ap (λ (z : Supply). z.failures) (sym is) ∙ sym y.2 ∙ before.0, inr (subst (λ (z : Supply). ReadInTurn limit chunk hs es news j l l.input z.rest) is turn))
 
   -- each input is left whole
-  pub left_whole : (xs : List X) → AreReadSoFar xs → (j : ℕ) (l : Lane) (old new : Supply) → slice_get lanes j ≡ Some l → slice_get olds j ≡ Some old → slice_get (supplies xs) j ≡ Some new → IsRead l old new l.input
-  left_whole xs so_far j l old new at_l at_old at_new = let e = so_far.each j l old new at_l at_old at_new in (inl (e.0, refl), e.1)
+  pub left_whole : (ds : List Dump) (seats : List Seat) (xs : List X) → AreReadSoFar ds seats xs → (j : ℕ) (l : Lane) (old new : Supply) → slice_get lanes j ≡ Some l → slice_get olds j ≡ Some old → slice_get (supplies xs) j ≡ Some new → IsRead limit chunk hs ds seats j l old new l.input
+  left_whole ds seats xs so_far j l old new at_l at_old at_new = let e = so_far.each j l old new at_l at_old at_new in (inl (e.0, refl), e.1)
 
-  -- a step
-  module _ {A : Type 0} (s s' : Standing X) (k : ℕ) (result : Result A Stop) (cut : Option ℕ) (so_far : AreReadSoFar s.sources) (r : ReadsOne rest lanes s s' k cut) (counts : map failures s'.sources ≡ failures_with (map failures s.sources) k result) (limit_is : limit ≡ part_len (length s.seats) s.tokens)
-      (chunk_is : chunk ≡ part_len (length s.seats) s.chunks) where
+  -- a step, after which the inputs have these items and seats
+  module _ {A : Type 0} (ds es : List Dump) (news : List Seat) (s s' : Standing X) (k : ℕ) (result : Result A Stop) (cut : Option ℕ) (g : AreGiven rest hs lanes ds s) (sources : length s.sources ≡ length s.seats) (go : GoOn ds s.seats es news) (so_far : AreReadSoFar ds s.seats s.sources)
+      (r : ReadsOne rest lanes ds s s' k cut) (counts : map failures s'.sources ≡ failures_with (map failures s.sources) k result) (limit_is : limit ≡ part_len (length s.seats) s.tokens) (chunk_is : chunk ≡ part_len (length s.seats) s.chunks) where
+    turn : ReadInTurn limit chunk hs es news k r.lane (cut_at cut r.lane.input) (rest r.source)
+    turn =
+        let more = subst (λ (n : ℕ). ReadsNoMore n (part_len (length s.seats) s.chunks) r.lane r.dump.items (cut_at cut r.lane.input) (rest r.source)) (sym limit_is) r.no_more in
+        let more = subst (λ (n : ℕ). ReadsNoMore limit n r.lane r.dump.items (cut_at cut r.lane.input) (rest r.source)) (sym chunk_is) more in
+        in_turn rest hs lanes ds s g k r.dump r.lane r.next sources r.dump_at r.lane_at limit chunk (cut_at cut r.lane.input) (rest r.source) es news go more
+
     -- of the input whose turn it was
     own : (l : Lane) (old new : Supply) → slice_get lanes k ≡ Some l → slice_get olds k ≡ Some old → slice_get (supplies s'.sources) k ≡ Some new
-        → (new.failures ≡ old.failures + reads_failed result) × ReadsAsNeeded limit chunk old new (cut_at cut l.input) l.front (is_settled_behind Request.Merge l.header) × IfSome cut (λ n. l.input.mark ≡ Clean → HasRest new.rest n l.input)
+        → (new.failures ≡ old.failures + reads_failed result) × ReadInTurn limit chunk hs es news k l (cut_at cut l.input) new.rest × IfSome cut (λ n. l.input.mark ≡ Clean → HasRest new.rest n l.input)
     own l old new at_l at_old at_new =
         let x = unmap (supply rest failures) s'.sources k new at_new in
         let y = own_failures failures s.sources s'.sources k result counts x.0 x.1 in
         let before = so_far.each k l old (supply rest failures y.0) at_l at_old (get_map (supply rest failures) s.sources k y.0 y.1) in
         let source : r.source ≡ x.0 = cc (sym r.source_at ∙ x.1) in
         let lane : r.lane ≡ l = cc (sym r.lane_at ∙ at_l) in
-        let is : supply rest failures r.source ≡ new = ap (supply rest failures) source ∙ x.2 in
-        let more = r.no_more old (failures r.source) in
-        let more = subst (λ (n : ℕ). ReadsAsNeeded n (part_len (length s.seats) s.chunks) old (supply rest failures r.source) (cut_at cut r.lane.input) r.lane.front (is_settled_behind Request.Merge r.lane.header)) (sym limit_is) more in
-        let more = subst (λ (n : ℕ). ReadsAsNeeded limit n old (supply rest failures r.source) (cut_at cut r.lane.input) r.lane.front (is_settled_behind Request.Merge r.lane.header)) (sym chunk_is) more in
-        let more = subst (λ (z : Supply). ReadsAsNeeded limit chunk old z (cut_at cut r.lane.input) r.lane.front (is_settled_behind Request.Merge r.lane.header)) is more in (
+        let is : supply rest failures r.source ≡ new = ap (supply rest failures) source ∙ x.2 in (
           ap (λ (z : Supply). z.failures) (sym x.2) ∙ y.2 ∙ ap (λ n. n + reads_failed result) before.0,
-          subst (λ (m : Lane). ReadsAsNeeded limit chunk old new (cut_at cut m.input) m.front (is_settled_behind Request.Merge m.header)) lane more,
+          subst (λ (m : Lane). ReadInTurn limit chunk hs es news k m (cut_at cut m.input) new.rest) lane (subst (λ (z : Supply). ReadInTurn limit chunk hs es news k r.lane (cut_at cut r.lane.input) z.rest) is turn),
           subst (λ (m : Lane). IfSome cut (λ n. m.input.mark ≡ Clean → HasRest new.rest n m.input)) lane
               (subst (λ (z : Supply). IfSome cut (λ n. r.lane.input.mark ≡ Clean → HasRest z.rest n r.lane.input)) is r.has_rest),
         )
@@ -117,24 +148,26 @@ module _ {X : Type 0} (rest : X → Option (List ℕ)) (failures : X → ℕ) (l
         get_map (supply rest failures) s.sources j x.0 (sym (r.others j apart) ∙ x.1) ∙ ap (λ (z : Supply). Some z) x.2
 
     -- an input whose turn it was not is left whole
-    pub other_left : (j : ℕ) (l : Lane) (old new : Supply) → j ≢ k → slice_get lanes j ≡ Some l → slice_get olds j ≡ Some old → slice_get (supplies s'.sources) j ≡ Some new → IsRead l old new l.input
-    other_left j l old new apart at_l at_old at_new = left_whole s.sources so_far j l old new at_l at_old (other j new apart at_new)
+    pub other_left : (j : ℕ) (l : Lane) (old new : Supply) → j ≢ k → slice_get lanes j ≡ Some l → slice_get olds j ≡ Some old → slice_get (supplies s'.sources) j ≡ Some new → IsRead limit chunk hs es news j l old new l.input
+    other_left j l old new apart at_l at_old at_new = left_whole es news s.sources (still_read ds es s.seats news s.sources go so_far) j l old new at_l at_old (other j new apart at_new)
 
-  -- no read failed
-  pub read_more : {A : Type 0} (s s' : Standing X) (k : ℕ) (result : Result A Stop) → AreReadSoFar s.sources → ReadsOne rest lanes s s' k None → map failures s'.sources ≡ failures_with (map failures s.sources) k result → limit ≡ part_len (length s.seats) s.tokens
-      → chunk ≡ part_len (length s.seats) s.chunks → reads_failed result ≡ 0 → AreReadSoFar s'.sources
-  read_more s s' k result so_far r counts limit_is chunk_is none = record { each = λ j l old new at_l at_old at_new. by_place j l old new (same_or_not j k) at_l at_old at_new }
-    where
-      by_place : (j : ℕ) (l : Lane) (old new : Supply) → (j ≡ k) ⊎ (j ≢ k) → slice_get lanes j ≡ Some l → slice_get olds j ≡ Some old → slice_get (supplies s'.sources) j ≡ Some new
-          → (new.failures ≡ old.failures) × ReadsAsNeeded limit chunk old new l.input l.front (is_settled_behind Request.Merge l.header)
-      by_place j l old new (inl e) at_l at_old at_new =
-          let one = own s s' k result None so_far r counts limit_is chunk_is l old new (ap (slice_get lanes) (sym e) ∙ at_l) (ap (slice_get olds) (sym e) ∙ at_old) (ap (slice_get (supplies s'.sources)) (sym e) ∙ at_new) in
-          (one.0 ∙ ap (λ n. old.failures + n) none ∙ omega arith, one.1)
-      by_place j l old new (inr apart) at_l at_old at_new = so_far.each j l old new at_l at_old (other s s' k result None so_far r counts limit_is chunk_is j new apart at_new)
+    -- no read failed
+    pub read_more : cut ≡ None → reads_failed result ≡ 0 → AreReadSoFar es news s'.sources
+    read_more whole none = record { each = λ j l old new at_l at_old at_new. by_place j l old new (same_or_not j k) at_l at_old at_new }
+      where
+        by_place : (j : ℕ) (l : Lane) (old new : Supply) → (j ≡ k) ⊎ (j ≢ k) → slice_get lanes j ≡ Some l → slice_get olds j ≡ Some old → slice_get (supplies s'.sources) j ≡ Some new → (new.failures ≡ old.failures) × IsReadSo limit chunk hs es news j l old new l.input
+        by_place j l old new (inl e) at_l at_old at_new =
+            let one = own l old new (ap (slice_get lanes) (sym e) ∙ at_l) (ap (slice_get olds) (sym e) ∙ at_old) (ap (slice_get (supplies s'.sources)) (sym e) ∙ at_new) in
+            let read = subst (λ (c : Option ℕ). ReadInTurn limit chunk hs es news k l (cut_at c l.input) new.rest) whole one.1 in
+            (one.0 ∙ ap (λ n. old.failures + n) none ∙ omega arith, inr (subst (λ (i : ℕ). ReadInTurn limit chunk hs es news i l l.input new.rest) (sym e) read))
+        by_place j l old new (inr apart) at_l at_old at_new =
+            let e = so_far.each j l old new at_l at_old (other j new apart at_new) in
+            (e.0, still_so limit chunk hs ds es s.seats news j l old new l.input go e.1)
 
-  -- a read failed after n bytes: the input is cut there
-  pub cut_left : {A : Type 0} (s s' : Standing X) (k : ℕ) (result : Result A Stop) (n : ℕ) → AreReadSoFar s.sources → ReadsOne rest lanes s s' k (Some n) → map failures s'.sources ≡ failures_with (map failures s.sources) k result → limit ≡ part_len (length s.seats) s.tokens
-      → chunk ≡ part_len (length s.seats) s.chunks → reads_failed result ≡ 1 → (l : Lane) (old new : Supply) → slice_get lanes k ≡ Some l → slice_get olds k ≡ Some old → slice_get (supplies s'.sources) k ≡ Some new → IsRead l old new (failed_after n l.input)
-  cut_left s s' k result n so_far r counts limit_is chunk_is one l old new at_l at_old at_new =
-      let was = own s s' k result (Some n) so_far r counts limit_is chunk_is l old new at_l at_old at_new in
-      (inr (was.0 ∙ ap (λ m. old.failures + m) one, n, refl, was.2), was.1)
+    -- a read failed after n bytes: the input is cut there
+    pub cut_left : (n : ℕ) → cut ≡ Some n → reads_failed result ≡ 1 → (l : Lane) (old new : Supply) → slice_get lanes k ≡ Some l → slice_get olds k ≡ Some old → slice_get (supplies s'.sources) k ≡ Some new → IsRead limit chunk hs es news k l old new (failed_after n l.input)
+    cut_left n at_n one l old new at_l at_old at_new =
+        let was = own l old new at_l at_old at_new in
+        let read = subst (λ (c : Option ℕ). ReadInTurn limit chunk hs es news k l (cut_at c l.input) new.rest) at_n was.1 in
+        let has = subst (λ (c : Option ℕ). IfSome c (λ n. l.input.mark ≡ Clean → HasRest new.rest n l.input)) at_n was.2 in
+        (inr (was.0 ∙ ap (λ m. old.failures + m) one, n, refl, has), inr read)

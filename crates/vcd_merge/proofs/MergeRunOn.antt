@@ -7,8 +7,8 @@ use Rattle.vcd_text.proofs.Writes.{both-written}
 use Rattle.vcd_merge.specs.MergeOrder.{IsNext}
 use Rattle.vcd_merge.specs.MergeParts.{part_len}
 use Rattle.vcd_merge.specs.MergeStep.{Standing, failures_with}
-use Rattle.vcd_merge.specs.MergeTrail.{RunGives}
-use Rattle.vcd_merge.specs.Seat.{Lane, ReadsNoMore}
+use Rattle.vcd_merge.specs.MergeTrail.{ReadInTurn, RunGives}
+use Rattle.vcd_merge.specs.Seat.{Lane}
 use Rattle.vcd_body.specs.declared.answer.More.{More}
 use Rattle.vcd_body.specs.declared.answer.Stop.{Stop}
 use Rattle.vcd_merge.proofs.MergeAnswers.{same_next}
@@ -35,10 +35,14 @@ module _ {X : Type 0} (rest : X → Option (List ℕ)) (failures : X → ℕ) (h
     pub mid_chunk : part_len (length r.mid.seats) r.mid.chunks ≡ chunk
     mid_chunk = keeps_limit (length s.seats) (length r.mid.seats) s.chunks r.mid.chunks r.seats r.chunks ∙ is_chunk
 
-    -- no more was read than what settles the inputs
-    pub mid_read : (olds : List Supply) → AreReadSoFar rest failures limit chunk lanes olds s.sources → AreReadSoFar rest failures limit chunk lanes olds r.mid.sources
-    mid_read olds so_far = read_along rest failures limit chunk lanes olds s.sources r.mid.sources r.failures_are (λ j l x at_l at_x. by_source l x (r.reads j l x at_l at_x)) so_far
+    -- each input was read on its turn alone
+    pub mid_read : (olds : List Supply) → AreReadSoFar rest failures hs limit chunk lanes olds ds s.seats s.sources → AreReadSoFar rest failures hs limit chunk lanes olds r.dumps r.mid.seats r.mid.sources
+    mid_read olds so_far =
+        read_along rest failures hs limit chunk lanes olds ds r.dumps s.seats r.mid.seats s.sources r.mid.sources r.goes r.failures_are
+        (λ j l x at_l at_x. by_source j l x (r.reads j l x at_l at_x))
+        so_far
       where
-        by_source : {P : Type 0} (l : Lane) (x : X) → P ⊎ ReadsNoMore (part_len (length s.seats) s.tokens) (part_len (length s.seats) s.chunks) l l.input (rest x) → P ⊎ ReadsNoMore limit chunk l l.input (rest x)
-        by_source l x (inl p) = inl p
-        by_source l x (inr more) = inr (subst (λ (n : ℕ). ReadsNoMore limit n l l.input (rest x)) is_chunk (subst (λ (n : ℕ). ReadsNoMore n (part_len (length s.seats) s.chunks) l l.input (rest x)) is_limit more))
+        by_source : {P : Type 0} (j : ℕ) (l : Lane) (x : X) → P ⊎ ReadInTurn (part_len (length s.seats) s.tokens) (part_len (length s.seats) s.chunks) hs r.dumps r.mid.seats j l l.input (rest x) → P ⊎ ReadInTurn limit chunk hs r.dumps r.mid.seats j l l.input (rest x)
+        by_source j l x (inl p) = inl p
+        by_source j l x (inr turn) =
+            inr (subst (λ (n : ℕ). ReadInTurn limit n hs r.dumps r.mid.seats j l l.input (rest x)) is_chunk (subst (λ (n : ℕ). ReadInTurn n (part_len (length s.seats) s.chunks) hs r.dumps r.mid.seats j l l.input (rest x)) is_limit turn))

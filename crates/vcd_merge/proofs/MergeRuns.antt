@@ -1,23 +1,30 @@
 -- A merge as a loop over steps.
-use Rattle.std.proofs.Common.{◌≡◌, ◌≢◌, ◌∙◌, ℕ, zero, suc, ◌+◌, ◌-◌, ◌^◌, ◌/◌, ◌<◌, ◌++◌, List, [], ◌∷◌, length, map, slice_get, slice_set, Some, None, ap, sym, subst, refl, Result, Ok, Err, arith, ◌⊎◌, inl, inr, append-nil}
+use Rattle.std.proofs.Common.{◌≡◌, ◌≢◌, ◌∙◌, ℕ, zero, suc, ◌+◌, ◌-◌, ◌^◌, ◌/◌, ◌<◌, ◌++◌, Bool, true, false, ◌||◌, List, [], ◌∷◌, length, map, slice_get, slice_set, Some, None, ap, sym, subst, refl, Result, Ok, Err, arith, ◌⊎◌, inl, inr, append-nil}
 use Rattle.std.specs.Prelude.{All, get_or}
+use Rattle.std.specs.List.{list_any}
 use Rattle.std.proofs.lemmas.List.{set-get_or}
 use Rattle.vcd_model.specs.Header.{Header}
-use Rattle.vcd_model.specs.BodyReading.{body_fault_of, read_body}
-use Rattle.vcd_model.specs.Merge.{Dump, dump_of, factor, headers_of, merge_close, merge_open, merged_items}
+use Rattle.vcd_model.specs.Items.{BodyItem}
+use Rattle.vcd_model.specs.BodyReading.{body_fault_of, body_items, read_body}
+use Rattle.vcd_model.specs.Settled.{is_settled_behind}
+use Rattle.vcd_model.specs.Merge.{Dump, dump_of, factor, headers_of, key_after, key_lt, merge_close, merge_open, merged_items}
 use Rattle.vcd_model.specs.MergeByInput.{with_item}
-use Rattle.vcd_model.specs.Outcome.{Outcome, fault_outcome, merge_outcome, name_at}
+use Rattle.vcd_model.specs.Outcome.{Opened, Outcome, Request, ends_early, fault_outcome, merge_outcome, name_at}
 use Rattle.vcd_model.specs.Reading.{Fault}
 use Rattle.vcd_model.specs.Tokens.{Token, stream_of}
+use Rattle.vcd_text.specs.Answer.{failed_after}
+use Rattle.vcd_text.specs.ReadAhead.{ReadsAsNeeded}
 use Rattle.vcd_text.specs.ReadAhead.ReadsAsNeeded.{Nothing}
 use Rattle.vcd_text.specs.Device.{Device, Supply, Writes, WritesSome, supply}
 use Rattle.vcd_text.proofs.Writes.{both-written, some-behind, some-first}
-use Rattle.vcd_body.specs.Answer.{reads_failed}
+use Rattle.vcd_body.specs.Answer.{IsLeft, reads_failed}
 use Rattle.vcd_merge.specs.MergeOrder.{IsNext}
 use Rattle.vcd_merge.specs.MergeParts.{part_len}
-use Rattle.vcd_merge.specs.MergeRun.{Belongs, Follows}
+use Rattle.vcd_merge.specs.MergeRun.{Belongs, Follows, settles_among}
 use Rattle.vcd_merge.specs.MergeStep.{AreGiven, Gives, HasFault, Holds, IsReady, ReadsOne, Standing, failures_with}
-use Rattle.vcd_merge.specs.Seat.{Lane}
+use Rattle.vcd_merge.specs.MergeTrail.{GoOn, ReadInTurn}
+use Rattle.vcd_merge.specs.Seat.{HaveJust, Lane}
+use Rattle.vcd_merge.specs.declared.seat.Seat.{Seat}
 use Rattle.vcd_body.specs.declared.answer.Done.{Done}
 use Rattle.vcd_body.specs.declared.answer.Done.TheVariants.{Whole, Early}
 use Rattle.vcd_body.specs.declared.answer.More.{More}
@@ -26,11 +33,13 @@ use Rattle.vcd_body.specs.declared.answer.Stop.{Stop}
 use Rattle.vcd_body.specs.declared.answer.Stop.TheVariants.{Dump as Faulty, Read, Write, Unmatched}
 use Rattle.vcd_model.proofs.MergeSoFar.{fault_output, head_first}
 use Rattle.vcd_merge.proofs.MergeReads as reads
-use Rattle.vcd_merge.proofs.MergeReads.{AreReadSoFar, cut_left, left_whole, other_left, read_more}
+use Rattle.vcd_merge.proofs.InTurn.{go_item, go_same, go_still}
+use Rattle.vcd_merge.proofs.MergeReads.{AreReadSoFar, IsRead, cut_left, left_whole, other_left, read_more, reads_for}
 use Rattle.vcd_merge.proofs.MergeSteps.{get_map, len_map, same_or_not}
-use Rattle.vcd_merge.proofs.MergeStops.{EndFits, StopFits, WriteFits, clean_is, ends, fault_merged, one_next, stops, writes, written_some}
+use Rattle.vcd_merge.proofs.MergeStops.{EndFits, HasLaterFault, StopFits, WriteFits, clean_is, ends, fault_merged, one_next, stops, writes, written_some}
 use Rattle.vcd_merge.proofs.MergeWholes as whole
-use Rattle.vcd_merge.proofs.MergeWholes.{Wholes, choose_all, entire_headers, entire_of, follows, left_all}
+use Rattle.vcd_merge.proofs.MergeWholes.{AreNeeded, Wholes, choose_all, entire, entire_headers, entire_of, fit_at, follows, left_all, opened_dumps, opened_headers, opened_of}
+use Rattle.vcd_merge.proofs.Unsettled.{unsettled}
 
 -- ---- what is counted
 
@@ -59,6 +68,14 @@ still_low f (x ∷ xs) (y ∷ ys) e h =
     by_place zero d l more = let a : f y ≡ f x = cc in let b = h 0 d (omega arith) in omega (arith, a, b)
     by_place (suc k) d l more = more k d (omega arith)
 
+-- tokens with just these items do not settle an input
+open_behind : (h : Header) (items : List BodyItem) (ts : List Token) → HaveJust h.codes items ts → is_settled_behind Request.Merge h ts ≡ false
+open_behind h items ts have = ap (λ (b : Bool). b || list_any (ends_early Request.Merge) (body_items (read_body h.codes ts))) have.0 ∙ none_early (body_items (read_body h.codes ts))
+  where
+    none_early : (xs : List BodyItem) → list_any (ends_early Request.Merge) xs ≡ false
+    none_early [] = refl
+    none_early (x ∷ xs) = none_early xs
+
 pub keeps_limit : (n n' : ℕ) (t t' : List ℕ) → n' ≡ n → length t' ≡ length t → part_len n' t' ≡ part_len n t
 keeps_limit n n' t t' e l = ap (λ m. m / n') l ∙ ap (λ m. length t / m) e
 
@@ -76,31 +93,40 @@ module _ {X : Type 0} (rest : X → _) (failures : X → ℕ) (hs : List Header)
       let m = len_map (λ (x : Lane). x.header) lanes in
       omega (arith, a, b, c, d, l, m, i, j)
 
-  -- the merge goes on: it holds an item more, or the same, and the output has what is due
-  pub advances_on : (ds : List Dump) (s s' : Standing X) (begin out new : Device) → Writes begin out (merge_open hs (merged_items ds)) → Gives rest hs lanes ds s s' out new (Ok Again)
-      → (es : List Dump) × Holds rest hs lanes es s' × Writes begin new (merge_open hs (merged_items es))
-  advances_on ds s s' begin out new w (inl t) =
-      let due = t.5 in (
-        with_item ds t.0 t.1 t.2,
-        record { given = t.3.given; written = t.4 },
-        subst (Writes begin new) (sym due.1) (both-written begin out new (merge_open hs (merged_items ds)) due.0 w due.2),
-      )
-  advances_on ds s s' begin out new w (inr t) = (ds, t.holds, subst (Writes begin new) (append-nil (merge_open hs (merged_items ds))) (both-written begin out new (merge_open hs (merged_items ds)) [] w t.writes))
+  module _ (limit chunk : ℕ) (olds : List Supply) (ds : List Dump) (s s' : Standing X) (holds : Holds rest hs lanes ds s) (ready : IsReady s) (is_limit : part_len (length s.seats) s.tokens ≡ limit) (is_chunk : part_len (length s.seats) s.chunks ≡ chunk)
+      (so_far : AreReadSoFar rest failures hs limit chunk lanes olds ds s.seats s.sources) where
+    abbrev AreReadTo : List Dump → List Seat → Type 0
+    AreReadTo es seats = AreReadSoFar rest failures hs limit chunk lanes olds es seats s'.sources
 
-  module _ (limit chunk : ℕ) (olds : List Supply) (s s' : Standing X) (is_limit : part_len (length s.seats) s.tokens ≡ limit) (is_chunk : part_len (length s.seats) s.chunks ≡ chunk) (so_far : AreReadSoFar rest failures limit chunk lanes olds s.sources) where
     -- no read failed in a step
-    read_on : {A : Type 0} (k j : ℕ) (r : Result A Stop) → reads_failed r ≡ 0 → map failures s'.sources ≡ failures_with (map failures s.sources) k r → ReadsOne rest lanes s s' j None → AreReadSoFar rest failures limit chunk lanes olds s'.sources
-    read_on k j r none counts one = read_more rest failures limit chunk lanes olds s s' j r so_far one (at_any (map failures s.sources) (map failures s'.sources) k j r none counts) (sym is_limit) (sym is_chunk) none
+    read_on : {A : Type 0} (es : List Dump) (news : List Seat) (k j : ℕ) (r : Result A Stop) → GoOn ds s.seats es news → reads_failed r ≡ 0 → map failures s'.sources ≡ failures_with (map failures s.sources) k r → ReadsOne rest lanes ds s s' j None → AreReadTo es news
+    read_on es news k j r go none counts one =
+        read_more rest failures hs limit chunk lanes olds ds es news s s' j r None holds.given ready.sources go so_far one (at_any (map failures s.sources) (map failures s'.sources) k j r none counts) (sym is_limit) (sym is_chunk) refl none
 
-    -- .. after which the merge goes on
-    pub reads_on : (ds : List Dump) (out new : Device) (k : ℕ) → map failures s'.sources ≡ failures_with {A = More} (map failures s.sources) k (Ok Again) → Gives rest hs lanes ds s s' out new (Ok Again) → AreReadSoFar rest failures limit chunk lanes olds s'.sources
-    reads_on ds out new k counts (inl t) = read_on k t.0 (Ok Again) refl counts t.6
-    reads_on ds out new k counts (inr t) = read_on k t.input (Ok Again) refl counts t.reads
+    -- .. by which no item was taken
+    read_same : {A : Type 0} (k j : ℕ) (r : Result A Stop) → reads_failed r ≡ 0 → map failures s'.sources ≡ failures_with (map failures s.sources) k r → ReadsOne rest lanes ds s s' j None → AreReadTo ds s'.seats
+    read_same k j r none counts one = read_on ds s'.seats k j r (go_same ds s.seats s'.seats j one.next one.seats one.dump one.dump_at) none counts one
+
+    -- .. by which this one was
+    read_item : {A : Type 0} (k j : ℕ) (r : Result A Stop) (d : Dump) (x : BodyItem) → slice_get ds j ≡ Some d → reads_failed r ≡ 0 → map failures s'.sources ≡ failures_with (map failures s.sources) k r → ReadsOne rest lanes ds s s' j None → AreReadTo (with_item ds j d x) s'.seats
+    read_item k j r d x at none counts one = read_on (with_item ds j d x) s'.seats k j r (go_item ds s.seats s'.seats j one.next one.seats d x at) none counts one
+
+    -- the merge goes on: it holds an item more, or the same, and the output has what is due
+    pub advances_on : (begin out new : Device) (k : ℕ) → Writes begin out (merge_open hs (merged_items ds)) → map failures s'.sources ≡ failures_with {A = More} (map failures s.sources) k (Ok Again) → Gives rest hs lanes ds s s' out new (Ok Again)
+        → (es : List Dump) × Holds rest hs lanes es s' × Writes begin new (merge_open hs (merged_items es)) × AreReadTo es s'.seats
+    advances_on begin out new k w counts (inl t) =
+        let due = t.5 in (
+          with_item ds t.0 t.1 t.2,
+          record { given = t.3.given; written = t.4 },
+          subst (Writes begin new) (sym due.1) (both-written begin out new (merge_open hs (merged_items ds)) due.0 w due.2),
+          read_item {A = More} k t.0 (Ok Again) t.1 t.2 t.3.dump_at refl counts t.6,
+        )
+    advances_on begin out new k w counts (inr t) =
+        (ds, t.holds, subst (Writes begin new) (append-nil (merge_open hs (merged_items ds))) (both-written begin out new (merge_open hs (merged_items ds)) [] w t.writes), read_same {A = More} k t.input (Ok Again) refl counts t.reads)
 
     -- ---- the exits: what a last step takes the run to
 
-    module _ (es : List Dump) (names : List (List ℕ)) (begin out new : Device) (ready : IsReady s) (holds : Holds rest hs lanes es s) (many : length olds ≡ length lanes) (w : Writes begin out (merge_open hs (merged_items es))) (seats : length s'.seats ≡ length s.seats)
-        (tokens : length s'.tokens ≡ length s.tokens) where
+    module _ (names : List (List ℕ)) (begin out new : Device) (many : length olds ≡ length lanes) (w : Writes begin out (merge_open hs (merged_items ds))) (seats : length s'.seats ≡ length s.seats) (tokens : length s'.tokens ≡ length s.tokens) where
       abbrev news : List Supply
       news = map (supply rest failures) s'.sources
 
@@ -117,67 +143,104 @@ module _ {X : Type 0} (rest : X → _) (failures : X → ℕ) (hs : List Header)
           let m = len_map (λ (x : Lane). x.header) lanes in
           omega (arith, a, b, c, d, l, m)
 
-      -- by what is left of each input
-      all_follow : (P : ℕ → whole.Whole hs limit → Type 0) (ds : List Dump) (ws : Wholes hs limit P 0 lanes ds) (r : Result Done Stop) → length news ≡ length lanes
-          → ((k : ℕ) (x : whole.Whole hs limit) (old new : Supply) → P (0 + k) x → slice_get lanes k ≡ Some x.lane → slice_get olds k ≡ Some old → slice_get news k ≡ Some new → reads.IsRead rest failures limit chunk lanes olds x.lane old new x.left)
-          → Belongs (merge_outcome names (entire_of hs limit ws.list)) names begin new r → IsFollowed r
-      all_follow P ds ws r as_many each belongs =
-          let len = len_map (λ (x : whole.Whole hs limit). x.lane) ws.list in
-          let same = ap (λ (ls : List Lane). length ls) ws.lanes_are in
-          let left = left_all hs limit P chunk 0 ws.list olds news (omega (arith, len, same, many)) (omega (arith, len, same, as_many)) ws.fit
-          (λ k x old new p at at_old at_new. each k x old new p (ap (λ (ls : List Lane). slice_get ls k) (sym ws.lanes_are) ∙ get_map (λ (y : whole.Whole hs limit). y.lane) ws.list k x at) at_old at_new) in
-          follows hs limit chunk ws.list lanes names olds news begin new r ws.lanes_are holds.given.lanes_are left belongs
+      -- by what is left of each input, which was read on its turn alone
+      module _ (P : ℕ → whole.Whole hs limit → Type 0) (es : List Dump) (ends : List Seat) (ws : Wholes hs limit P 0 lanes es) (later : (k : ℕ) (x : whole.Whole hs limit) → P k x → HasLaterFault hs limit ends k x) where
+        abbrev os : List Opened
+        os = map (opened_of hs limit) ws.list
 
-      -- where each input is left whole
-      all_whole : (P : ℕ → whole.Whole hs limit → Type 0) (ds : List Dump) (ws : Wholes hs limit P 0 lanes ds) (r : Result Done Stop) → length news ≡ length lanes → AreReadSoFar rest failures limit chunk lanes olds s'.sources
-          → ((k : ℕ) (x : whole.Whole hs limit) → P k x → x.left ≡ x.lane.input) → Belongs (merge_outcome names (entire_of hs limit ws.list)) names begin new r → IsFollowed r
-      all_whole P ds ws r as_many more left belongs =
-          all_follow P ds ws r as_many
-          (λ k x old new p at at_old at_new. subst (reads.IsRead rest failures limit chunk lanes olds x.lane old new) (sym (left (0 + k) x p)) (left_whole rest failures limit chunk lanes olds s'.sources more k x.lane old new at at_old at_new))
-          belongs
+        abbrev AreAllRead : Type 0
+        AreAllRead = (k : ℕ) (x : whole.Whole hs limit) (old new : Supply) → P k x → slice_get lanes k ≡ Some x.lane → slice_get olds k ≡ Some old → slice_get news k ≡ Some new → IsRead limit chunk hs es ends k x.lane old new x.left
+
+        lane_of : (k : ℕ) (x : whole.Whole hs limit) → slice_get ws.list k ≡ Some x → slice_get lanes k ≡ Some x.lane
+        lane_of k x at = ap (λ (ls : List Lane). slice_get ls k) (sym ws.lanes_are) ∙ get_map (λ (y : whole.Whole hs limit). y.lane) ws.list k x at
+
+        fits : (k : ℕ) (x : whole.Whole hs limit) → slice_get ws.list k ≡ Some x → P k x
+        fits k x at = let i : 0 + k ≡ k = omega arith in subst (λ (j : ℕ). P j x) i (fit_at hs limit P 0 k ws.list x at ws.fit)
+
+        -- the faults of the others stand after its place
+        others_later : (k : ℕ) (x : whole.Whole hs limit) (old new : Supply) (r : ReadInTurn limit chunk hs es ends k x.lane x.left new.rest) (i : ℕ) (d : Dump) (f : Fault) → i ≢ k → slice_get (entire_of hs limit ws.list) i ≡ Some d → d.fault ≡ Some f
+            → key_lt (key_after (factor hs x.lane.header) k r.items) (key_after (factor hs d.header) i d.items) ≡ true
+        others_later k x old new r i d f other at e =
+            let v = reads.unmap (entire hs limit) ws.list i d at in
+            let there = ap (λ (l : List Dump). slice_get l i) (sym ws.dumps_are) ∙ get_map (λ (y : whole.Whole hs limit). y.dump) ws.list i v.0 v.1 in
+            let place = key_after (factor hs x.lane.header) k r.items in
+            let behind = later i v.0 (fits i v.0 v.1) place (λ y at_y on. r.reached i v.0.dump y other there at_y on) f (ap (λ (z : Dump). z.fault) v.2 ∙ e) in
+            subst (λ (z : Dump). key_lt place (key_after (factor hs z.header) i z.items) ≡ true) v.2 behind
+
+        -- of each no more was read than what settles the merge
+        needed : AreAllRead → AreNeeded hs limit chunk ws.list olds news
+        needed each = λ k x old new at at_old at_new.
+            let y = reads.unmap (supply rest failures) s'.sources k new at_new in
+            reads_for rest failures limit chunk hs es ends k x.lane old new x.left y.0 y.2 (settles_among os k x.lane.header)
+            (λ r ts have. unsettled hs os (entire_of hs limit ws.list) k (opened_of hs limit x) r.items (opened_headers hs limit ws.list ∙ ap (map (λ (l : Lane). l.header)) ws.lanes_are ∙ holds.given.lanes_are) (opened_dumps hs limit ws.list) (get_map (opened_of hs limit) ws.list k x at) r.small (others_later k x old new r) ts have)
+            (each k x old new (fits k x at) (lane_of k x at) at_old at_new).1
+
+        -- and than what settles it alone
+        settled_behind : AreAllRead → (k : ℕ) (x : whole.Whole hs limit) (old new : Supply) → P k x → slice_get ws.list k ≡ Some x → slice_get olds k ≡ Some old → slice_get news k ≡ Some new
+            → IsLeft x.lane.input old new x.left × ReadsAsNeeded limit chunk old new x.left x.lane.front (is_settled_behind Request.Merge x.lane.header)
+        settled_behind each k x old new p at at_old at_new =
+            let one = each k x old new p (lane_of k x at) at_old at_new in
+            let y = reads.unmap (supply rest failures) s'.sources k new at_new in
+            (one.0, reads_for rest failures limit chunk hs es ends k x.lane old new x.left y.0 y.2 (is_settled_behind Request.Merge x.lane.header) (λ r ts have. open_behind x.lane.header r.items ts have) one.1)
+
+        all_follow : (r : Result Done Stop) → length news ≡ length lanes → AreAllRead → Belongs (merge_outcome names (entire_of hs limit ws.list)) names begin new r → IsFollowed r
+        all_follow r as_many each belongs =
+            let len = len_map (λ (x : whole.Whole hs limit). x.lane) ws.list in
+            let same = ap (λ (ls : List Lane). length ls) ws.lanes_are in
+            let left = left_all hs limit P chunk 0 ws.list olds news (omega (arith, len, same, many)) (omega (arith, len, same, as_many)) ws.fit
+            (λ k x old new p at at_old at_new. let i : 0 + k ≡ k = omega arith in settled_behind each k x old new (subst (λ (j : ℕ). P j x) i p) at at_old at_new) in
+            follows hs limit chunk ws.list lanes names olds news begin new r ws.lanes_are holds.given.lanes_are left (needed each) belongs
+
+        -- where each input is left whole
+        all_whole : (r : Result Done Stop) → length news ≡ length lanes → AreReadTo es ends → ((k : ℕ) (x : whole.Whole hs limit) → P k x → x.left ≡ x.lane.input) → Belongs (merge_outcome names (entire_of hs limit ws.list)) names begin new r → IsFollowed r
+        all_whole r as_many more left belongs =
+            all_follow r as_many
+            (λ k x old new p at at_old at_new. subst (IsRead limit chunk hs es ends k x.lane old new) (sym (left k x p)) (left_whole rest failures hs limit chunk lanes olds es ends s'.sources more k x.lane old new at at_old at_new))
+            belongs
 
       -- all inputs have ended
-      pub ended_merge : (done : Done) (k : ℕ) → map failures s'.sources ≡ failures_with {A = More} (map failures s.sources) k (Ok (Ended done)) → Gives rest hs lanes es s s' out new (Ok (Ended done)) → IsFollowed (Ok done)
+      pub ended_merge : (done : Done) (k : ℕ) → map failures s'.sources ≡ failures_with {A = More} (map failures s.sources) k (Ok (Ended done)) → Gives rest hs lanes ds s s' out new (Ok (Ended done)) → IsFollowed (Ok done)
       ended_merge Early k counts gives = absurd gives
       ended_merge Whole k counts gives =
-          let ws = ends rest hs lanes es s s' limit is_limit ready seats tokens gives.given gives.finished in
-          let outcome = clean_is rest hs lanes es s s' limit is_limit ready seats tokens gives.given gives.finished names in
-          let written = both-written begin out new (merge_open hs (merged_items es)) (merge_close (merged_items es)) w gives.closes in
-          all_whole (EndFits rest hs lanes es s s' limit is_limit ready seats tokens gives.given) es ws (Ok Whole) (new_many k (Ok (Ended Whole)) counts) (read_on k gives.input (Ok (Ended Whole)) refl counts gives.reads) (λ j x p. p.left)
+          let ws = ends rest hs lanes ds s s' limit is_limit ready seats tokens gives.given gives.finished in
+          let outcome = clean_is rest hs lanes ds s s' limit is_limit ready seats tokens gives.given gives.finished names in
+          let written = both-written begin out new (merge_open hs (merged_items ds)) (merge_close (merged_items ds)) w gives.closes in
+          all_whole (EndFits rest hs lanes ds s s' limit is_limit ready seats tokens gives.given) ds s'.seats ws (λ j x p. p.later) (Ok Whole) (new_many {A = More} k (Ok (Ended Whole)) counts) (read_same {A = More} k gives.input (Ok (Ended Whole)) refl counts gives.reads) (λ j x p. p.left)
           (subst (λ (o : Outcome). Belongs o names begin new (Ok Whole)) (sym outcome) (refl, written))
 
       -- nothing was written with the fault
-      nothing_more : Writes out new [] → Writes begin new (merge_open hs (merged_items es))
-      nothing_more none = subst (Writes begin new) (append-nil (merge_open hs (merged_items es))) (both-written begin out new (merge_open hs (merged_items es)) [] w none)
+      nothing_more : Writes out new [] → Writes begin new (merge_open hs (merged_items ds))
+      nothing_more none = subst (Writes begin new) (append-nil (merge_open hs (merged_items ds))) (both-written begin out new (merge_open hs (merged_items ds)) [] w none)
 
       -- what stands on the output before this fault is that of its outcome
-      output_is : (input : ℕ) (f : Fault) → Writes out new [] → let o = fault_outcome (merge_open hs (merged_items es)) (name_at names input) f in (o ≡ fault_outcome o.output (name_at names input) f) × Writes begin new o.output
+      output_is : (input : ℕ) (f : Fault) → Writes out new [] → let o = fault_outcome (merge_open hs (merged_items ds)) (name_at names input) f in (o ≡ fault_outcome o.output (name_at names input) f) × Writes begin new o.output
       output_is input f none =
-          let e = fault_output (merge_open hs (merged_items es)) (name_at names input) f in
+          let e = fault_output (merge_open hs (merged_items ds)) (name_at names input) f in
           (ap (λ l. fault_outcome l (name_at names input) f) (sym e), subst (Writes begin new) (sym e) (nothing_more none))
 
       -- the input whose turn it was has a fault
-      faulty_merge : (input line fault k : ℕ) → map failures s'.sources ≡ failures_with {A = More} (map failures s.sources) k (Err (Faulty input line fault)) → Gives rest hs lanes es s s' out new (Err (Faulty input line fault)) → IsFollowed (Err (Faulty input line fault))
+      faulty_merge : (input line fault k : ℕ) → map failures s'.sources ≡ failures_with {A = More} (map failures s.sources) k (Err (Faulty input line fault)) → Gives rest hs lanes ds s s' out new (Err (Faulty input line fault)) → IsFollowed (Err (Faulty input line fault))
       faulty_merge input line fault k counts gives =
           let stop : Stop = Faulty input line fault in
-          let ws = stops rest hs lanes es s limit is_limit ready holds.given input line fault None gives.0 in
-          let outcome = fault_merged rest hs lanes es s limit is_limit ready holds.given input line fault None gives.0 names in
+          let ws = stops rest hs lanes ds s limit is_limit ready holds.given input line fault None gives.0 in
+          let outcome = fault_merged rest hs lanes ds s limit is_limit ready holds.given input line fault None gives.0 names in
           let o = output_is input (record { number = fault; line = line }) gives.2 in
-          all_whole (StopFits rest hs lanes es s limit is_limit ready holds.given input line fault None gives.0) es ws (Err stop) (new_many {A = More} k (Err stop) counts) (read_on {A = More} k input (Err stop) refl counts gives.3) (λ j x p. by_place j x p (same_or_not j input))
+          all_whole (StopFits rest hs lanes ds s limit is_limit ready holds.given input line fault None gives.0) ds s.seats ws (λ j x p. p.behind) (Err stop) (new_many {A = More} k (Err stop) counts) (read_on {A = More} ds s.seats k input (Err stop) (go_still ds s.seats) refl counts gives.3)
+          (λ j x p. by_place j x p (same_or_not j input))
           (subst (λ (o : Outcome). Belongs o names begin new (Err stop)) (sym outcome) (o.0, gives.1, o.1))
         where
-          by_place : (j : ℕ) (x : whole.Whole hs limit) → StopFits rest hs lanes es s limit is_limit ready holds.given input line fault None gives.0 j x → (j ≡ input) ⊎ (j ≢ input) → x.left ≡ x.lane.input
+          by_place : (j : ℕ) (x : whole.Whole hs limit) → StopFits rest hs lanes ds s limit is_limit ready holds.given input line fault None gives.0 j x → (j ≡ input) ⊎ (j ≢ input) → x.left ≡ x.lane.input
           by_place j x p (inl e) = p.cut_is e
           by_place j x p (inr other) = p.left other
 
       -- a read of it failed
-      cut_merge : (input k : ℕ) → IsNext s.seats k → map failures s'.sources ≡ failures_with {A = More} (map failures s.sources) k (Err (Read input)) → Gives rest hs lanes es s s' out new (Err (Read input)) → IsFollowed (Err (Read input))
+      cut_merge : (input k : ℕ) → IsNext s.seats k → map failures s'.sources ≡ failures_with {A = More} (map failures s.sources) k (Err (Read input)) → Gives rest hs lanes ds s s' out new (Err (Read input)) → IsFollowed (Err (Read input))
       cut_merge input k next counts gives =
           let stop : Stop = Read input in
-          let ws = stops rest hs lanes es s limit is_limit ready holds.given input line 31 (Some n) has in
-          let outcome = fault_merged rest hs lanes es s limit is_limit ready holds.given input line 31 (Some n) has names in
+          let ws = stops rest hs lanes ds s limit is_limit ready holds.given input line 31 (Some n) has in
+          let outcome = fault_merged rest hs lanes ds s limit is_limit ready holds.given input line 31 (Some n) has names in
           let o = output_is input (record { number = 31; line = line }) gives.1 in
-          all_follow (StopFits rest hs lanes es s limit is_limit ready holds.given input line 31 (Some n) has) es ws (Err stop) (new_many {A = More} k (Err stop) counts)
+          all_follow (StopFits rest hs lanes ds s limit is_limit ready holds.given input line 31 (Some n) has) ds s.seats ws (λ j x p. p.behind) (Err stop) (new_many {A = More} k (Err stop) counts)
           (λ j x old new p at at_old at_new. by_place j x old new p (same_or_not j input) at at_old at_new)
           (subst (λ (o : Outcome). Belongs o names begin new (Err stop)) (sym outcome) ((line, o.0), o.1))
         where
@@ -187,40 +250,40 @@ module _ {X : Type 0} (rest : X → _) (failures : X → ℕ) (hs : List Header)
           line : ℕ
           line = gives.0.1
 
-          has : HasFault rest hs lanes es s input line 31 (Some n)
+          has : HasFault rest hs lanes ds s input line 31 (Some n)
           has = gives.0.2
 
           counted : map failures s'.sources ≡ failures_with {A = More} (map failures s.sources) input (Err (Read input))
           counted = counts ∙ ap (λ i. failures_with {A = More} (map failures s.sources) i (Err (Read input))) (one_next s.seats k input next has.next)
 
-          by_place : (j : ℕ) (x : whole.Whole hs limit) (old new : Supply) → StopFits rest hs lanes es s limit is_limit ready holds.given input line 31 (Some n) has (0 + j) x → (j ≡ input) ⊎ (j ≢ input) → slice_get lanes j ≡ Some x.lane → slice_get olds j ≡ Some old
-              → slice_get news j ≡ Some new → reads.IsRead rest failures limit chunk lanes olds x.lane old new x.left
+          by_place : (j : ℕ) (x : whole.Whole hs limit) (old new : Supply) → StopFits rest hs lanes ds s limit is_limit ready holds.given input line 31 (Some n) has j x → (j ≡ input) ⊎ (j ≢ input) → slice_get lanes j ≡ Some x.lane → slice_get olds j ≡ Some old
+              → slice_get news j ≡ Some new → IsRead limit chunk hs ds s.seats j x.lane old new x.left
           by_place j x old new p (inl e) at at_old at_new =
-              let i : 0 + j ≡ input = omega arith in
-              subst (reads.IsRead rest failures limit chunk lanes olds x.lane old new) (sym (p.cut_is i))
-              (cut_left rest failures limit chunk lanes olds {A = More} s s' input (Err (Read input)) n so_far gives.0.3 counted (sym is_limit) (sym is_chunk) refl x.lane old new (ap (slice_get lanes) (sym e) ∙ at) (ap (slice_get olds) (sym e) ∙ at_old) (ap (slice_get news) (sym e) ∙ at_new))
+              let left = cut_left rest failures hs limit chunk lanes olds {A = More} ds ds s.seats s s' input (Err (Read input)) (Some n) holds.given ready.sources (go_still ds s.seats) so_far gives.0.3 counted (sym is_limit) (sym is_chunk) n refl refl x.lane old new
+              (ap (slice_get lanes) (sym e) ∙ at) (ap (slice_get olds) (sym e) ∙ at_old) (ap (slice_get news) (sym e) ∙ at_new) in
+              subst (IsRead limit chunk hs ds s.seats j x.lane old new) (sym (p.cut_is e)) (subst (λ (i : ℕ). IsRead limit chunk hs ds s.seats i x.lane old new (failed_after n x.lane.input)) (sym e) left)
           by_place j x old new p (inr other) at at_old at_new =
-              let i : 0 + j ≢ input = λ e. other (omega arith) in
-              subst (reads.IsRead rest failures limit chunk lanes olds x.lane old new) (sym (p.left i))
-              (other_left rest failures limit chunk lanes olds {A = More} s s' input (Err (Read input)) (Some n) so_far gives.0.3 counted (sym is_limit) (sym is_chunk) j x.lane old new other at at_old at_new)
+              subst (IsRead limit chunk hs ds s.seats j x.lane old new) (sym (p.left other))
+              (other_left rest failures hs limit chunk lanes olds {A = More} ds ds s.seats s s' input (Err (Read input)) (Some n) holds.given ready.sources (go_still ds s.seats) so_far gives.0.3 counted (sym is_limit) (sym is_chunk) j x.lane old new other at at_old at_new)
 
       -- a write failed
-      cut_short : (k : ℕ) → map failures s'.sources ≡ failures_with {A = More} (map failures s.sources) k (Err Write) → Gives rest hs lanes es s s' out new (Err Write) → IsFollowed (Err Write)
+      cut_short : (k : ℕ) → map failures s'.sources ≡ failures_with {A = More} (map failures s.sources) k (Err Write) → Gives rest hs lanes ds s s' out new (Err Write) → IsFollowed (Err Write)
       cut_short k counts (inl t) =
-          let ws = writes rest hs lanes es s s' limit is_limit ready seats tokens t.0 t.1 t.2 t.3 in
-          let some = written_some rest hs lanes es s s' limit is_limit ready seats tokens t.0 t.1 t.2 t.3 names begin out new w t.4 in
-          all_whole (WriteFits rest hs lanes es s s' limit is_limit ready seats tokens t.0 t.1 t.2 t.3) (with_item es t.0 t.1 t.2) ws (Err Write) (new_many {A = More} k (Err Write) counts) (read_on {A = More} k t.0 (Err Write) refl counts t.5) (λ j x p. p.left) some
+          let ws = writes rest hs lanes ds s s' limit is_limit ready seats tokens t.0 t.1 t.2 t.3 in
+          let some = written_some rest hs lanes ds s s' limit is_limit ready seats tokens t.0 t.1 t.2 t.3 names begin out new w t.4 in
+          all_whole (WriteFits rest hs lanes ds s s' limit is_limit ready seats tokens t.0 t.1 t.2 t.3) (with_item ds t.0 t.1 t.2) s'.seats ws (λ j x p. p.later) (Err Write) (new_many {A = More} k (Err Write) counts)
+          (read_item {A = More} k t.0 (Err Write) t.1 t.2 t.3.dump_at refl counts t.5) (λ j x p. p.left) some
       cut_short k counts (inr t) =
-          let ws = ends rest hs lanes es s s' limit is_limit ready seats tokens t.given t.finished in
-          let outcome = clean_is rest hs lanes es s s' limit is_limit ready seats tokens t.given t.finished names in
+          let ws = ends rest hs lanes ds s s' limit is_limit ready seats tokens t.given t.finished in
+          let outcome = clean_is rest hs lanes ds s s' limit is_limit ready seats tokens t.given t.finished names in
           let due = t.closes in
-          let some : WritesSome begin new (merge_open hs (merged_items es) ++ merge_close (merged_items es)) = some-behind begin out new (merge_open hs (merged_items es)) (merge_close (merged_items es)) w (subst (WritesSome out new) (sym due.1) due.2) in
-          all_whole (EndFits rest hs lanes es s s' limit is_limit ready seats tokens t.given) es ws (Err Write) (new_many {A = More} k (Err Write) counts) (read_on {A = More} k t.input (Err Write) refl counts t.reads) (λ j x p. p.left)
+          let some : WritesSome begin new (merge_open hs (merged_items ds) ++ merge_close (merged_items ds)) = some-behind begin out new (merge_open hs (merged_items ds)) (merge_close (merged_items ds)) w (subst (WritesSome out new) (sym due.1) due.2) in
+          all_whole (EndFits rest hs lanes ds s s' limit is_limit ready seats tokens t.given) ds s'.seats ws (λ j x p. p.later) (Err Write) (new_many {A = More} k (Err Write) counts) (read_same {A = More} k t.input (Err Write) refl counts t.reads) (λ j x p. p.left)
           (subst (λ (o : Outcome). WritesSome begin new o.output) (sym outcome) some)
 
       -- it has stopped: the fault is the first of the merged inputs, and what stands is what comes
       -- before it; or a write failed
-      pub stopped_merge : (stop : Stop) (k : ℕ) → IsNext s.seats k → map failures s'.sources ≡ failures_with {A = More} (map failures s.sources) k (Err stop) → Gives rest hs lanes es s s' out new (Err stop) → IsFollowed (Err stop)
+      pub stopped_merge : (stop : Stop) (k : ℕ) → IsNext s.seats k → map failures s'.sources ≡ failures_with {A = More} (map failures s.sources) k (Err stop) → Gives rest hs lanes ds s s' out new (Err stop) → IsFollowed (Err stop)
       stopped_merge (Faulty input line fault) k next counts gives = faulty_merge input line fault k counts gives
       stopped_merge (Read input) k next counts gives = cut_merge input k next counts gives
       stopped_merge Write k next counts gives = cut_short k counts gives
@@ -256,7 +319,7 @@ module _ (hs : List Header) (lanes : List Lane) (limit chunk : ℕ) (headers : m
       (λ k x old new p at at_old at_new. let e : new ≡ old = cc (sym at_new ∙ at_old) in (inl (ap (λ (z : Supply). z.failures) e, p), Nothing e)) in
       let under : headers_of (entire_of hs limit ws.list) ≡ hs = entire_headers hs limit ws.list ∙ ap headers_of ws.dumps_are ∙ headers_none lanes ∙ headers in
       let first = head_first names hs (entire_of hs limit ws.list) under in
-      follows hs limit chunk ws.list lanes names olds olds begin new (Err Write) ws.lanes_are headers left (subst (WritesSome begin new) (sym first.1) (some-first begin new (merge_open hs []) first.0 some))
+      follows hs limit chunk ws.list lanes names olds olds begin new (Err Write) ws.lanes_are headers left (λ k x old new at at_old at_new. let e : new ≡ old = cc (sym at_new ∙ at_old) in Nothing e) (subst (WritesSome begin new) (sym first.1) (some-first begin new (merge_open hs []) first.0 some))
     where
       headers_none : (ls : List Lane) → headers_of (map (λ (l : Lane). record { header = l.header; items = []; fault = None }) ls) ≡ map (λ (l : Lane). l.header) ls
       headers_none [] = refl

@@ -39,6 +39,10 @@ one_next seats k j a b = by_times (a.least j b.seat b.there b.unfinished) (b.lea
     by_times (inr l) (inl m) = let e = l.0 in omega arith
     by_times (inr l) (inr m) = let e = l.1 in let f = m.1 in omega arith
 
+-- a fault of the input stands after any place that was reached while it had not finished
+abbrev pub HasLaterFault : (hs : List Header) (limit : ℕ) → List Seat → (k : ℕ) → Whole hs limit → Type 0
+HasLaterFault hs limit seats k w = (b : Key) → ((y : Seat) → slice_get seats k ≡ Some y → y.finished ≡ false → key_lt b (key_after (factor hs w.dump.header) k w.dump.items) ≡ true) → (f : Fault) → w.fault ≡ Some f → key_lt b (key_after (factor hs w.dump.header) k w.items) ≡ true
+
 -- what is left after a step of it
 module _ {X : Type 0} (rest : X → _) (hs : List Header) (lanes : List Lane) (ds : List Dump) (s s' : Standing X) (limit : ℕ) (is_limit : part_len (length s.seats) s.tokens ≡ limit) (ready : IsReady s) (seats : length s'.seats ≡ length s.seats)
     (tokens : length s'.tokens ≡ length s.tokens) (g : AreGiven rest hs lanes ds s') where
@@ -131,11 +135,16 @@ module _ {X : Type 0} (rest : X → _) (hs : List Header) (lanes : List Lane) (d
     pub fault_late : (m.seat.finished ≡ false → key_lt here b ≡ false) → (f : Fault) → w.fault ≡ Some f → key_lt (key_after (factor hs w.dump.header) k w.items) b ≡ false
     fault_late late f e = subst (λ (l : List BodyItem). key_lt (key_after (factor hs w.dump.header) k l) b ≡ false) (sym m.items) (still_late b (factor hs w.dump.header) k w.dump.items m.more (late (unfinished f e)))
 
+  -- a fault of it stands after any place that was reached
+  pub faults_after : (k : ℕ) (w : Whole hs limit) → MayGo k w → HasLaterFault hs limit s'.seats k w
+  faults_after k w m = λ b later f e. fault_later b k w m (later m.seat m.there) f e
+
   -- ---- all inputs have finished
 
   pub record EndFits (k : ℕ) (w : Whole hs limit) : Type 0 where
     pub all : entire hs limit w ≡ clear w.dump
     pub left : w.left ≡ w.lane.input
+    pub later : HasLaterFault hs limit s'.seats k w
 
   module _ (finish : All (λ (x : Seat). x.finished ≡ true) s'.seats) where
     end_at : (k : ℕ) (l : Lane) (d : Dump) → slice_get lanes k ≡ Some l → slice_get ds k ≡ Some d → (w : Whole hs limit) × (w.lane ≡ l) × (w.dump ≡ d) × EndFits k w
@@ -146,7 +155,7 @@ module _ {X : Type 0} (rest : X → _) (hs : List Header) (lanes : List Lane) (d
           record { lane = l; dump = d; same = p.same; left = l.input; items = d.items; fault = None; has = subst (λ (n : ℕ). HasDump (factor hs l.header) n l.header l.front l.input d.items None) p.long (p.at.finished e) },
           refl,
           refl,
-          record { all = refl; left = refl },
+          record { all = refl; left = refl; later = λ b later f none. cc },
         )
 
     pub ends : Wholes hs limit EndFits 0 lanes ds
@@ -179,6 +188,7 @@ module _ {X : Type 0} (rest : X → _) (hs : List Header) (lanes : List Lane) (d
     pub grown : GrownOne behind hs n w.dump (entire hs limit w)
     pub late : (f : Fault) → w.fault ≡ Some f → key_lt (key_after (factor hs w.dump.header) n w.items) behind ≡ false
     pub left : w.left ≡ w.lane.input
+    pub later : HasLaterFault hs limit s'.seats n w
 
   -- the place of any other item is behind this one
   late_at : (j : ℕ) (c : Dump) (y : Seat) → slice_get es j ≡ Some c → slice_get s'.seats j ≡ Some y → y.finished ≡ false → key_lt (key_after (factor hs c.header) j c.items) behind ≡ false
@@ -199,6 +209,7 @@ module _ {X : Type 0} (rest : X → _) (hs : List Header) (lanes : List Lane) (d
           grown = grown_of rest hs lanes es s s' limit is_limit ready seats tokens t.given behind j o.0 o.3 late;
           late = fault_late rest hs lanes es s s' limit is_limit ready seats tokens t.given behind j o.0 o.3 late;
           left = o.3.left;
+          later = faults_after rest hs lanes es s s' limit is_limit ready seats tokens t.given j o.0 o.3;
         },
       )
 
@@ -240,6 +251,7 @@ module _ {X : Type 0} (rest : X → _) (hs : List Header) (lanes : List Lane) (d
     pub own : n ≡ input → entire hs limit w ≡ own_dump
     pub cut_is : n ≡ input → w.left ≡ cut_at cut w.lane.input
     pub left : n ≢ input → w.left ≡ w.lane.input
+    pub behind : HasLaterFault hs limit s.seats n w
 
   stop_at : (k : ℕ) (l : Lane) (d : Dump) → slice_get lanes k ≡ Some l → slice_get ds k ≡ Some d → (k ≡ input) ⊎ (k ≢ input) → (w : Whole hs limit) × (w.lane ≡ l) × (w.dump ≡ d) × StopFits k w
   stop_at k l d at_l at_d (inl e) =
@@ -262,6 +274,7 @@ module _ {X : Type 0} (rest : X → _) (hs : List Header) (lanes : List Lane) (d
           own = λ same. refl;
           cut_is = λ same. refl;
           left = λ other. absurd (other e);
+          behind = λ b later f is. later has.next.seat (ap (slice_get s.seats) e ∙ has.next.there) has.next.unfinished;
         },
       )
   stop_at k l d at_l at_d (inr other) =
@@ -277,6 +290,7 @@ module _ {X : Type 0} (rest : X → _) (hs : List Header) (lanes : List Lane) (d
           own = λ e. absurd (other e);
           cut_is = λ e. absurd (other e);
           left = λ n. o.3.left;
+          behind = faults_after rest hs lanes ds s s limit is_limit ready refl refl g k o.0 o.3;
         },
       )
 

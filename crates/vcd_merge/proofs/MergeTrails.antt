@@ -16,7 +16,7 @@ use Rattle.vcd_body.specs.Device.{Grows}
 use Rattle.vcd_merge.specs.MergeOrder.{IsNext}
 use Rattle.vcd_merge.specs.MergeParts.{part_len, spot_at}
 use Rattle.vcd_merge.specs.MergeStep.{AreMarked, Gives, Holds, IsReady, ReadsOne, Standing, last_written}
-use Rattle.vcd_merge.specs.MergeTrail.{RunGives, Stage, TakesOn, Trail, Stands, Further, TurnsAt, spot_in}
+use Rattle.vcd_merge.specs.MergeTrail.{GoOn, ReadInTurn, RunGives, Stage, TakesOn, Trail, Stands, Further, TurnsAt, spot_in}
 use Rattle.vcd_merge.specs.Order.{IsFirstBefore}
 use Rattle.vcd_merge.specs.Seat.{GivesOne, IsSeated, Lane, ReadsNoMore, Spot, Turns}
 use Rattle.vcd_body.specs.declared.answer.More.{More}
@@ -27,6 +27,7 @@ use Rattle.vcd_body.specs.declared.answer.Stop.TheVariants.{Write}
 use Rattle.vcd_merge.specs.declared.seat.Seat.{Seat}
 use Rattle.vcd_body.proofs.Results.{writes-none}
 use Rattle.vcd_merge.proofs.MergeAnswers.{Found, again, are_marked, chunk_len, ended, open_with, stopped, taken, token_len, written_with_it}
+use Rattle.vcd_merge.proofs.InTurn.{go_item, go_still, go_through, in_turn, turn_on}
 use Rattle.vcd_merge.proofs.MergeCounts.{map_set}
 use Rattle.vcd_merge.proofs.MergeSteps.{get_map, same_or_not}
 use Rattle.vcd_merge.proofs.PartLemmas.{get_other, get_set, len_put, parts_same, seated_put, spot_other, spot_put}
@@ -73,7 +74,9 @@ pub record Arrives {X : Type 0} (rest : X → Option (List ℕ)) (failures : X �
   pub stay : (j : ℕ) → j ≢ k → slice_get mid.sources j ≡ slice_get s.sources j
   pub failures_are : map failures mid.sources ≡ map failures s.sources
   pub grows : Grows out b.out (merge_open hs (merged_items ds)) (merge_open hs (merged_items dumps))
-  pub reads : (j : ℕ) (l : Lane) (x : X) → slice_get lanes j ≡ Some l → slice_get mid.sources j ≡ Some x → (slice_get s.sources j ≡ Some x) ⊎ ReadsNoMore (part_len (length s.seats) s.tokens) (part_len (length s.seats) s.chunks) l l.input (rest x)
+  pub goes : GoOn ds s.seats dumps mid.seats
+  pub reads : (j : ℕ) (l : Lane) (x : X) → slice_get lanes j ≡ Some l → slice_get mid.sources j ≡ Some x
+      → (slice_get s.sources j ≡ Some x) ⊎ ReadInTurn (part_len (length s.seats) s.tokens) (part_len (length s.seats) s.chunks) hs dumps mid.seats j l l.input (rest x)
   pub by_one : before ≡ 0 → (dumps ≡ ds) × (mid ≡ s) × (b.out ≡ out)
 
 module _ {X : Type 0} (rest : X → Option (List ℕ)) (failures : X → ℕ) (hs : List Header) (lanes : List Lane) (ds : List Dump) (s : Standing X) (holds : Holds rest hs lanes ds s) (ready : IsReady s) (k before : ℕ) (d : Dump) (l : Lane) (next : IsNext s.seats k)
@@ -109,6 +112,7 @@ module _ {X : Type 0} (rest : X → Option (List ℕ)) (failures : X → ℕ) (h
     stay = λ j other. refl;
     failures_are = refl;
     grows = ([], sym (append-nil _), writes-none a.out);
+    goes = go_still ds s.seats;
     reads = λ j m x at_m at_x. inl at_x;
     by_one = λ none. (refl, refl, refl);
   }
@@ -187,18 +191,33 @@ module _ {X : Type 0} (rest : X → Option (List ℕ)) (failures : X → ℕ) (h
         let own = get_or_from_slice_get (map failures m.mid.sources) k (failures b.source) 0 (get_map failures m.mid.sources k b.source m.source_at) in
         map_set failures m.mid.sources k c.source ∙ ap (slice_set (map failures m.mid.sources) k) (on.failures_are ∙ sym own) ∙ set-get_or (map failures m.mid.sources) k 0
 
-    new_reads : (j : ℕ) (n : Lane) (x : X) → (j ≡ k) ⊎ (j ≢ k) → slice_get lanes j ≡ Some n → slice_get new.sources j ≡ Some x → (slice_get s.sources j ≡ Some x) ⊎ ReadsNoMore (part_len (length s.seats) s.tokens) (part_len (length s.seats) s.chunks) n n.input (rest x)
-    new_reads j n x (inr other) at_n at_x = m.reads j n x at_n (sym (new_stay j other) ∙ at_x)
+    step_goes : GoOn m.dumps m.mid.seats (with_item m.dumps k m.dump on.item) new.seats
+    step_goes = go_item m.dumps m.mid.seats new.seats k m.next (λ j other. get_other m.mid.seats k j c.seat other) m.dump on.item m.dump_at
+
+    abbrev IsReadIn : List Dump → List Seat → ℕ → Lane → X → Type 0
+    IsReadIn dumps seats j n x = ReadInTurn (part_len (length s.seats) s.tokens) (part_len (length s.seats) s.chunks) hs dumps seats j n n.input (rest x)
+
+    own_read : IsReadIn (with_item m.dumps k m.dump on.item) new.seats k l c.source
+    own_read =
+        let own : ReadsNoMore (length c.token) (length c.chunk) l m.dump.items l.input (rest c.source) = one.3 in
+        let own = subst (λ (i : ℕ). ReadsNoMore i (length c.chunk) l m.dump.items l.input (rest c.source)) (on.token ∙ m.token) own in
+        let own = subst (λ (i : ℕ). ReadsNoMore (part_len (length s.seats) s.tokens) i l m.dump.items l.input (rest c.source)) (on.chunk ∙ m.chunk) own in
+        in_turn rest hs lanes m.dumps m.mid m.holds.given k m.dump l m.next m.ready.sources m.dump_at at_l (part_len (length s.seats) s.tokens) (part_len (length s.seats) s.chunks) l.input (rest c.source) (with_item m.dumps k m.dump on.item) new.seats step_goes own
+
+    still_read : {P : Type 0} (j : ℕ) (n : Lane) (x : X) → P ⊎ IsReadIn m.dumps m.mid.seats j n x → P ⊎ IsReadIn (with_item m.dumps k m.dump on.item) new.seats j n x
+    still_read j n x (inl p) = inl p
+    still_read j n x (inr r) = inr (turn_on (part_len (length s.seats) s.tokens) (part_len (length s.seats) s.chunks) hs m.dumps (with_item m.dumps k m.dump on.item) m.mid.seats new.seats j n n.input (rest x) step_goes r)
+
+    new_reads : (j : ℕ) (n : Lane) (x : X) → (j ≡ k) ⊎ (j ≢ k) → slice_get lanes j ≡ Some n → slice_get new.sources j ≡ Some x → (slice_get s.sources j ≡ Some x) ⊎ IsReadIn (with_item m.dumps k m.dump on.item) new.seats j n x
+    new_reads j n x (inr other) at_n at_x = still_read j n x (m.reads j n x at_n (sym (new_stay j other) ∙ at_x))
     new_reads j n x (inl e) at_n at_x =
         let is : Some c.source ≡ Some x = sym (get_set m.mid.sources k c.source in_sources) ∙ ap (slice_get new.sources) (sym e) ∙ at_x in
         let same : c.source ≡ x = cc in
         let lane_is : Some l ≡ Some n = sym at_l ∙ ap (slice_get lanes) (sym e) ∙ at_n in
         let lane : l ≡ n = cc in
-        let own : ReadsNoMore (length c.token) (length c.chunk) l l.input (rest c.source) = on.one.3 in
-        let own = subst (λ (i : ℕ). ReadsNoMore i (length c.chunk) l l.input (rest c.source)) (on.token ∙ m.token) own in
-        let own = subst (λ (i : ℕ). ReadsNoMore (part_len (length s.seats) s.tokens) i l l.input (rest c.source)) (on.chunk ∙ m.chunk) own in
-        let own = subst (λ (y : X). ReadsNoMore (part_len (length s.seats) s.tokens) (part_len (length s.seats) s.chunks) l l.input (rest y)) same own in
-        inr (subst (λ (y : Lane). ReadsNoMore (part_len (length s.seats) s.tokens) (part_len (length s.seats) s.chunks) y y.input (rest x)) lane own)
+        let read = subst (λ (y : X). IsReadIn (with_item m.dumps k m.dump on.item) new.seats k l y) same own_read in
+        let read = subst (λ (y : Lane). IsReadIn (with_item m.dumps k m.dump on.item) new.seats k y x) lane read in
+        inr (subst (λ (i : ℕ). IsReadIn (with_item m.dumps k m.dump on.item) new.seats i n x) (sym e) read)
 
     one_more : Arrives rest failures hs lanes ds s k before a.out c
     one_more =
@@ -228,6 +247,7 @@ module _ {X : Type 0} (rest : X → Option (List ℕ)) (failures : X → ℕ) (h
           stay = λ j other. new_stay j other ∙ m.stay j other;
           failures_are = failures_still ∙ m.failures_are;
           grows = (m.grows.0 ++ due, opens ∙ ap (λ (t : List ℕ). t ++ due) m.grows.1 ∙ append_assoc (merge_open hs (merged_items ds)) m.grows.0 due, both-written a.out b.out c.out m.grows.0 due m.grows.2 writes);
+          goes = go_through ds m.dumps (with_item m.dumps k m.dump on.item) s.seats m.mid.seats new.seats m.goes step_goes;
           reads = λ j n x at_n at_x. new_reads j n x (same_or_not j k) at_n at_x;
           by_one = λ none. let e = on.early in absurd (omega (arith, e, none));
         }
@@ -297,6 +317,7 @@ module _ {X : Type 0} (rest : X → Option (List ℕ)) (failures : X → ℕ) (h
       tokens = (there r t).tokens;
       failures_are = (there r t).failures_are;
       grows = (there r t).grows;
+      goes = (there r t).goes;
       reads = (there r t).reads;
       last = gives;
       by_one = λ e. (there r t).by_one (none e);
@@ -317,7 +338,7 @@ module _ {X : Type 0} (rest : X → Option (List ℕ)) (failures : X → ℕ) (h
 
   -- all inputs have ended
   module _ (all : All (λ (x : Seat). x.finished ≡ true) s'.seats) where
-    done : {A : Type 0} (u : A) (t : IsTurned (Ok u)) → Holds rest hs lanes (there (Ok u) t).dumps s' × Writes t.turns.mid.out out' [] × ReadsOne rest lanes (there (Ok u) t).mid s' k None
+    done : {A : Type 0} (u : A) (t : IsTurned (Ok u)) → Holds rest hs lanes (there (Ok u) t).dumps s' × Writes t.turns.mid.out out' [] × ReadsOne rest lanes (there (Ok u) t).dumps (there (Ok u) t).mid s' k None
     done {A} u t =
         let m = there (Ok u) t in
         ended rest hs lanes m.dumps m.mid m.holds k m.dump f.lane m.next m.ready.sources m.dump_at f.lane_there s' p (mid_heads (Ok u) t) (mid_many (Ok u) t) sources at_p (mid_others (Ok u) t) (mid_token (Ok u) t) (mid_chunk (Ok u) t) (mid_stay (Ok u) t) A t.turns.mid.out out' u all (told (Ok u) t)

@@ -13,12 +13,14 @@ use Rattle.vcd_model.proofs.MergedPrefix.{AreGrown, GrownOne, NoneBefore, Others
 use Rattle.vcd_model.proofs.MergeOutcome.{dump_under, dumps_under}
 use Rattle.vcd_text.specs.Device.{Device, Supply}
 use Rattle.vcd_text.specs.ReadAhead.{ReadsAsNeeded}
-use Rattle.vcd_merge.specs.MergeRun.{AreLeft, AreOpened, Belongs, Follows}
+use Rattle.vcd_merge.specs.MergeRun.{AreLeft, AreOpened, Belongs, Follows, settles_among}
 use Rattle.vcd_body.specs.Answer.{IsLeft}
 use Rattle.vcd_merge.specs.Seat.{HasDump, Lane}
 use Rattle.vcd_body.specs.declared.answer.Done.{Done}
 use Rattle.vcd_body.specs.declared.answer.Stop.{Stop}
 use Rattle.vcd_model.proofs.MergeSoFar.{AreLate}
+use Rattle.vcd_merge.proofs.MergeReads.{unmap}
+use Rattle.vcd_merge.proofs.MergeSteps.{get_map}
 
 -- an input: its lane, what was merged of it so far, what is left of it, and its dump
 pub record Whole (hs : List Header) (limit : ℕ) : Type 0 where
@@ -92,11 +94,11 @@ module _ (hs : List Header) (limit : ℕ) where
   opened_all [] = refl
   opened_all (w ∷ ws) = (refl, w.has.tokens, opened_all ws)
 
-  opened_headers : (ws : List (Whole hs limit)) → map (λ (o : Opened). o.header) (map opened_of ws) ≡ map (λ (l : Lane). l.header) (lanes_of ws)
+  pub opened_headers : (ws : List (Whole hs limit)) → map (λ (o : Opened). o.header) (map opened_of ws) ≡ map (λ (l : Lane). l.header) (lanes_of ws)
   opened_headers [] = refl
   opened_headers (w ∷ ws) = ap (λ (l : List Header). w.lane.header ∷ l) (opened_headers ws)
 
-  opened_dumps : (ws : List (Whole hs limit)) → map (dump_under hs) (map opened_of ws) ≡ entire_of ws
+  pub opened_dumps : (ws : List (Whole hs limit)) → map (dump_under hs) (map opened_of ws) ≡ entire_of ws
   unfolding dump_under body_of
   opened_dumps [] = refl
   opened_dumps (w ∷ ws) =
@@ -107,16 +109,31 @@ module _ (hs : List Header) (limit : ℕ) where
   entire_headers [] = refl
   entire_headers (w ∷ ws) = ap (λ (l : List Header). w.dump.header ∷ l) (entire_headers ws)
 
+  -- of each no more was read than what settles the merge
+  abbrev pub AreNeeded : (chunk : ℕ) → List (Whole hs limit) → (olds news : List Supply) → Type 0
+  AreNeeded chunk ws olds news = (k : ℕ) (w : Whole hs limit) (old new : Supply) → slice_get ws k ≡ Some w → slice_get olds k ≡ Some old → slice_get news k ≡ Some new
+      → ReadsAsNeeded limit chunk old new w.left w.lane.front (settles_among (map opened_of ws) k w.lane.header)
+
+  needed_all : (chunk : ℕ) (ws : List (Whole hs limit)) (olds news : List Supply) → AreNeeded chunk ws olds news
+      → (k : ℕ) (l : Lane) (s t : Supply) (i : Input) → slice_get (lanes_of ws) k ≡ Some l → slice_get olds k ≡ Some s → slice_get news k ≡ Some t → slice_get (lefts_of ws) k ≡ Some i → ReadsAsNeeded limit chunk s t i l.front (settles_among (map opened_of ws) k l.header)
+  needed_all chunk ws olds news needed k l s t i at_l at_s at_t at_i =
+      let w = unmap (λ (w : Whole hs limit). w.lane) ws k l at_l in
+      let left : Some w.0.left ≡ Some i = sym (get_map (λ (w : Whole hs limit). w.left) ws k w.0 w.1) ∙ at_i in
+      let is : w.0.left ≡ i = cc in
+      subst (λ (j : Input). ReadsAsNeeded limit chunk s t j l.front (settles_among (map opened_of ws) k l.header)) is
+      (subst (λ (m : Lane). ReadsAsNeeded limit chunk s t w.0.left m.front (settles_among (map opened_of ws) k m.header)) w.2 (needed k w.0 s t w.1 at_s at_t))
+
   -- a merge over them has the outcome of their dumps
   pub follows : (chunk : ℕ) (ws : List (Whole hs limit)) (lanes : List Lane) (names : List (List ℕ)) (olds news : List Supply) (begin new : Device) (result : Result Done Stop) → lanes_of ws ≡ lanes → map (λ (l : Lane). l.header) lanes ≡ hs
-      → AreLeft limit chunk (lanes_of ws) olds news (lefts_of ws) → Belongs (merge_outcome names (entire_of ws)) names begin new result → Follows limit chunk lanes names olds news begin new result
-  follows chunk ws lanes names olds news begin new result e headers left belongs =
+      → AreLeft limit chunk (lanes_of ws) olds news (lefts_of ws) → AreNeeded chunk ws olds news → Belongs (merge_outcome names (entire_of ws)) names begin new result → Follows limit chunk lanes names olds news begin new result
+  follows chunk ws lanes names olds news begin new result e headers left needed belongs =
       let dumps = dumps_under (map opened_of ws) hs (opened_headers ws ∙ ap (map (λ (l : Lane). l.header)) e ∙ headers) ∙ opened_dumps ws in
       subst (λ (ls : List Lane). Follows limit chunk ls names olds news begin new result) e (record {
         lefts = lefts_of ws;
         are_left = left;
         opened = map opened_of ws;
         are_opened = opened_all ws;
+        needed = needed_all chunk ws olds news needed;
         belongs = subst (λ (ds : List Dump). Belongs (merge_outcome names ds) names begin new result) (sym dumps) belongs;
       })
 

@@ -1,12 +1,10 @@
 -- Where an input of a merge stands behind one item more, at its end, and at a fault, and how much
 -- of it was read.
 use Rattle.std.proofs.Common.{◌≡◌, ℕ, ◌+◌, ◌*◌, ◌^◌, ◌<◌, ◌≤◌, Bool, true, false, List, [], ◌∷◌, ◌++◌, Option, None, Err, refl, sym, ap, ◌∙◌, arith}
-use Rattle.std.specs.List.{list_any}
 use Rattle.std.proofs.lemmas.Bool.{le-leb, lt-leb}
 use Rattle.vcd_model.specs.Items.{BodyItem, time_after}
 use Rattle.vcd_model.specs.Merge.{is_too_large}
 use Rattle.vcd_model.specs.Input.{Input}
-use Rattle.vcd_model.specs.Outcome.{Request, ends_early}
 use Rattle.vcd_model.specs.Tokens.{Token}
 use Rattle.vcd_model.proofs.BodyFacts.{all_append}
 use Rattle.vcd_text.specs.Feed.{chunk_len_of, limit_of, token_of, seen, supply_of}
@@ -29,14 +27,9 @@ use Rattle.vcd_merge.specs.declared.seat.Seat.{Seat}
 use Rattle.vcd_body.proofs.Results.{writes-none}
 use Rattle.vcd_merge.proofs.Dumps.{has_dump}
 use Rattle.vcd_body.proofs.CallerLemmas.{last_given}
-use Rattle.vcd_body.proofs.AskedLemmas.{read_to_end, read_to_item, read_to_stop}
+use Rattle.vcd_merge.proofs.AskedTokens.{read_to_end, read_to_item, read_to_stop}
 
 -- ---- how much was read
-
--- no item ends a merge
-none_early : (items : List BodyItem) → list_any (ends_early Request.Merge) items ≡ false
-none_early [] = refl
-none_early (x ∷ items) = none_early items
 
 -- what holds whatever the source was before holds however many of its reads have failed
 however_many : (limit chunk : ℕ) (new : Supply) (i : Input) (front : List Token) (settled : List Token → Bool) → ((old : Supply) → ReadsAsNeeded limit chunk old new i front settled) → (old : Supply) (failures : ℕ)
@@ -49,19 +42,22 @@ however_many limit chunk new i front settled asked old failures = by_extent (ask
     by_extent (ToEnd asked all so_far near) = ToEnd asked all so_far near
 
 module _ {X : Type 0} {g : Ghosts X} (l : Lane) (left : Input) (items : List BodyItem) (f : Feed X g) where
+  abbrev NoMore : Type 0
+  NoMore = ReadsNoMore (limit_of f) (chunk_len_of f) l items left (supply_of f).rest
+
   -- where the body was refused, where it has ended, and at an item
-  pub no_more_at_stop : StopsAt l.header.codes left l.front items f → ReadsNoMore (limit_of f) (chunk_len_of f) l left (supply_of f).rest
-  no_more_at_stop s = however_many (limit_of f) (chunk_len_of f) (supply_of f) left l.front _ (λ old. read_to_stop Request.Merge l.header left l.front items f (limit_of f) (chunk_len_of f) old refl refl refl (none_early items) s)
+  pub no_more_at_stop : StopsAt l.header.codes left l.front items f → NoMore
+  no_more_at_stop s = λ old failures settled on. however_many (limit_of f) (chunk_len_of f) (supply_of f) left l.front settled (λ before. read_to_stop l.header.codes left l.front items f before settled on s) old failures
 
-  pub no_more_at_end : (r : Regs) → GaveAll l.header.codes left l.front items f r → ReadsNoMore (limit_of f) (chunk_len_of f) l left (supply_of f).rest
-  no_more_at_end r a = however_many (limit_of f) (chunk_len_of f) (supply_of f) left l.front _ (λ old. read_to_end Request.Merge l.header left l.front items f (limit_of f) (chunk_len_of f) old refl refl refl (none_early items) r a)
+  pub no_more_at_end : (r : Regs) → GaveAll l.header.codes left l.front items f r → NoMore
+  no_more_at_end r a = λ old failures settled on. however_many (limit_of f) (chunk_len_of f) (supply_of f) left l.front settled (λ before. read_to_end l.header.codes left l.front items f before settled on r a) old failures
 
-  pub no_more_at_item : (x : BodyItem) (r : Regs) → GaveItem l.header.codes left l.front items x f r → ReadsNoMore (limit_of f) (chunk_len_of f) l left (supply_of f).rest
-  no_more_at_item x r m = however_many (limit_of f) (chunk_len_of f) (supply_of f) left l.front _ (λ old. read_to_item Request.Merge l.header left l.front items f (limit_of f) (chunk_len_of f) old refl refl refl (none_early items) x r (last_given l.header.codes left l.front items x f r m))
+  -- even where its line is not known
+  pub no_more_at_last : (x : BodyItem) (r : Regs) → GaveLast l.header.codes left l.front items x f r → NoMore
+  no_more_at_last x r m = λ old failures settled on. however_many (limit_of f) (chunk_len_of f) (supply_of f) left l.front settled (λ before. read_to_item l.header.codes left l.front items f before settled on x r m) old failures
 
-  -- and where its line is not known
-  pub no_more_at_last : (x : BodyItem) (r : Regs) → GaveLast l.header.codes left l.front items x f r → ReadsNoMore (limit_of f) (chunk_len_of f) l left (supply_of f).rest
-  no_more_at_last x r m = however_many (limit_of f) (chunk_len_of f) (supply_of f) left l.front _ (λ old. read_to_item Request.Merge l.header left l.front items f (limit_of f) (chunk_len_of f) old refl refl refl (none_early items) x r m)
+  pub no_more_at_item : (x : BodyItem) (r : Regs) → GaveItem l.header.codes left l.front items x f r → NoMore
+  no_more_at_item x r m = no_more_at_last x r (last_given l.header.codes left l.front items x f r m)
 
 -- ---- where it stands
 

@@ -1,10 +1,12 @@
 -- What a whole merge leaves: what is left of its inputs, how much of each was read, and what stands
 -- on the output.
-use Rattle.std.specs.Prelude.{◌≡◌, ◌==◌, false, ℕ, List, [], ◌∷◌, ◌++◌, Result, Ok, Err}
+use Rattle.std.specs.Prelude.{◌≡◌, ◌==◌, Bool, false, ℕ, List, [], ◌∷◌, ◌++◌, map, slice_get, slice_set, Some, None, Result, Ok, Err}
+use Rattle.vcd_model.specs.Header.{Header}
 use Rattle.vcd_model.specs.Input.{Input}
-use Rattle.vcd_model.specs.Tokens.{stream_of}
+use Rattle.vcd_model.specs.Tokens.{Token, stream_of}
 use Rattle.vcd_model.specs.Outcome.{Opened, Outcome, Request, clean_outcome, dumps_of, fault_outcome, merge_outcome, name_at}
 use Rattle.vcd_model.specs.Settled.{is_settled_behind}
+use Rattle.vcd_model.specs.SettledMerge.{SeenBody, bodies_settle}
 use Rattle.vcd_text.specs.Device.{Device, Supply, Writes, WritesSome}
 use Rattle.vcd_text.specs.ReadAhead.{ReadsAsNeeded}
 use Rattle.vcd_body.specs.Answer.{IsLeft}
@@ -30,6 +32,17 @@ AreOpened limit (l ∷ ls) [] os = ⊥
 AreOpened limit (l ∷ ls) (i ∷ is) [] = ⊥
 AreOpened limit (l ∷ ls) (i ∷ is) (o ∷ os) = (o ≡ record { header = l.header; stream = stream_of limit i; rest = o.rest }) × ((stream_of limit i).tokens ≡ l.front ++ o.rest) × AreOpened limit ls is os
 
+-- an input after its header of which all is known, and one of which these first tokens are
+abbrev pub known_whole : Opened → SeenBody
+known_whole o = record { header = o.header; rest = o.rest; whole = Some o.stream }
+
+abbrev pub known_first : Header → List Token → SeenBody
+known_first h ts = record { header = h; rest = ts; whole = None }
+
+-- these first tokens of the input at a place settle the merge, were all of the others known
+abbrev pub settles_among : List Opened → ℕ → Header → List Token → Bool
+settles_among os k h ts = bodies_settle (slice_set (map known_whole os) k (known_first h ts))
+
 -- the answer and the output of a merge of inputs with these names that has this outcome; a failed
 -- write leaves a prefix of the output
 abbrev pub Belongs : Outcome → List (List ℕ) → Device → Device → Result Done Stop → Type 0
@@ -40,11 +53,13 @@ Belongs o names out out' (Err (Read input)) = ((line : ℕ) × (o ≡ fault_outc
 Belongs o names out out' (Err Write) = WritesSome out out' o.output
 Belongs o names out out' (Err (Unmatched place)) = ⊥
 
--- after these headers and their tokens, a merge over these inputs has this outcome; `old` and `new`
--- are their sources before and after it
+-- After these headers and their tokens, a merge over these inputs has this outcome; `old` and `new`
+-- are their sources before and after it. Of each of them no more was read than what settles the
+-- merge, and a chunk: even where all of the others were known.
 pub record Follows (limit chunk : ℕ) (lanes : List Lane) (names : List (List ℕ)) (old new : List Supply) (out out' : Device) (result : Result Done Stop) : Type 0 where
   pub lefts : List Input
   pub are_left : AreLeft limit chunk lanes old new lefts
   pub opened : List Opened
   pub are_opened : AreOpened limit lanes lefts opened
+  pub needed : (k : ℕ) (l : Lane) (s t : Supply) (i : Input) → slice_get lanes k ≡ Some l → slice_get old k ≡ Some s → slice_get new k ≡ Some t → slice_get lefts k ≡ Some i → ReadsAsNeeded limit chunk s t i l.front (settles_among opened k l.header)
   pub belongs : Belongs (merge_outcome names (dumps_of opened)) names out out' result

@@ -75,18 +75,21 @@ abbrev pub cut_at : Option ℕ → Input → Input
 cut_at None i = i
 cut_at (Some n) i = failed_after n i
 
--- What a step from s to s' has read. It is the turn of the input at this place: no more of it was
--- read than what settles it, and a chunk; where a read failed after n bytes, its source has the
--- others still. The other sources stay.
-pub record ReadsOne {X : Type 0} (rest : X → Option (List ℕ)) (lanes : List Lane) (s s' : Standing X) (k : ℕ) (cut : Option ℕ) : Type 0 where
+-- What a step from s to s' has read after these items. It is the turn of the input at this place:
+-- of it alone was read, and no more than a chunk past a token that comes after its items. Where a
+-- read failed after n bytes, its source has the others still. The other sources and seats stay.
+pub record ReadsOne {X : Type 0} (rest : X → Option (List ℕ)) (lanes : List Lane) (ds : List Dump) (s s' : Standing X) (k : ℕ) (cut : Option ℕ) : Type 0 where
   pub next : IsNext s.seats k
   pub lane : Lane
+  pub dump : Dump
   pub source : X
   pub lane_at : slice_get lanes k ≡ Some lane
+  pub dump_at : slice_get ds k ≡ Some dump
   pub source_at : slice_get s'.sources k ≡ Some source
-  pub no_more : ReadsNoMore (part_len (length s.seats) s.tokens) (part_len (length s.seats) s.chunks) lane (cut_at cut lane.input) (rest source)
+  pub no_more : ReadsNoMore (part_len (length s.seats) s.tokens) (part_len (length s.seats) s.chunks) lane dump.items (cut_at cut lane.input) (rest source)
   pub has_rest : IfSome cut (λ n. lane.input.mark ≡ Clean → HasRest (rest source) n lane.input)
   pub others : (j : ℕ) → j ≢ k → slice_get s'.sources j ≡ slice_get s.sources j
+  pub seats : (j : ℕ) → j ≢ k → slice_get s'.seats j ≡ slice_get s.seats j
 
 -- an input finishes: it did not count as finished before, and does so after
 pub record Finishes (old new : List Seat) (k : ℕ) : Type 0 where
@@ -154,7 +157,7 @@ module _ {X : Type 0} (rest : X → Option (List ℕ)) (hs : List Header) (lanes
     pub writes : Writes out out' []
     pub input : ℕ
     pub finishes : Finishes s.seats s'.seats input
-    pub reads : ReadsOne rest lanes s s' input None
+    pub reads : ReadsOne rest lanes ds s s' input None
 
   -- all inputs have finished, after an item more or after these; and what follows was written, all
   -- of it or a prefix
@@ -163,27 +166,27 @@ module _ {X : Type 0} (rest : X → Option (List ℕ)) (hs : List Header) (lanes
     pub finished : All (λ (x : Seat). x.finished ≡ true) s'.seats
     pub closes : Writes out out' (merge_close (merged_items ds))
     pub input : ℕ
-    pub reads : ReadsOne rest lanes s s' input None
+    pub reads : ReadsOne rest lanes ds s s' input None
 
   pub record IsEndSome (ds : List Dump) (s s' : Standing X) (out out' : Device) : Type 0 where
     pub given : AreGiven ds s'
     pub finished : All (λ (x : Seat). x.finished ≡ true) s'.seats
     pub closes : GrowsSome out out' [] (merge_close (merged_items ds))
     pub input : ℕ
-    pub reads : ReadsOne rest lanes s s' input None
+    pub reads : ReadsOne rest lanes ds s s' input None
 
   -- What a step from s after these items returns, by what it leaves. Where the merge goes on, an
   -- item was taken, or an input has finished that had not.
   abbrev pub Gives : List Dump → Standing X → Standing X → Device → Device → Result More Stop → Type 0
   Gives ds s s' out out' (Ok Again) =
       ((k : ℕ) × (d : Dump) × (x : BodyItem) × Takes ds s' k d x × (s'.written ≡ last_written (merged_items (with_item ds k d x)))
-      × Grows out out' (merge_open hs (merged_items ds)) (merge_open hs (merged_items (with_item ds k d x))) × ReadsOne rest lanes s s' k None)
+      × Grows out out' (merge_open hs (merged_items ds)) (merge_open hs (merged_items (with_item ds k d x))) × ReadsOne rest lanes ds s s' k None)
       ⊎ HasEnded ds s s' out out'
   Gives ds s s' out out' (Ok (Ended Whole)) = IsEnd ds s s' out out'
   Gives ds s s' out out' (Ok (Ended Early)) = ⊥
-  Gives ds s s' out out' (Err (Faulty input line fault)) = HasFault ds s input line fault None × ((fault == 31) ≡ false) × Writes out out' [] × ReadsOne rest lanes s s' input None
-  Gives ds s s' out out' (Err (Read input)) = ((n : ℕ) × (line : ℕ) × HasFault ds s input line 31 (Some n) × ReadsOne rest lanes s s' input (Some n)) × Writes out out' []
+  Gives ds s s' out out' (Err (Faulty input line fault)) = HasFault ds s input line fault None × ((fault == 31) ≡ false) × Writes out out' [] × ReadsOne rest lanes ds s s' input None
+  Gives ds s s' out out' (Err (Read input)) = ((n : ℕ) × (line : ℕ) × HasFault ds s input line 31 (Some n) × ReadsOne rest lanes ds s s' input (Some n)) × Writes out out' []
   Gives ds s s' out out' (Err Write) =
-      ((k : ℕ) × (d : Dump) × (x : BodyItem) × Takes ds s' k d x × GrowsSome out out' (merge_open hs (merged_items ds)) (merge_open hs (merged_items (with_item ds k d x))) × ReadsOne rest lanes s s' k None)
+      ((k : ℕ) × (d : Dump) × (x : BodyItem) × Takes ds s' k d x × GrowsSome out out' (merge_open hs (merged_items ds)) (merge_open hs (merged_items (with_item ds k d x))) × ReadsOne rest lanes ds s s' k None)
       ⊎ IsEndSome ds s s' out out'
   Gives ds s s' out out' (Err (Unmatched name)) = ⊥

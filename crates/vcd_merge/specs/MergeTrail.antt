@@ -1,8 +1,10 @@
 -- Several items of one input of a merge, taken one after another.
 use Rattle.std.specs.Prelude.{◌≡◌, ◌≢◌, ℕ, ◌+◌, ◌<◌, ◌⊎◌, Bool, true, false, List, [], ◌∷◌, ◌++◌, length, map, slice_get, Option, Some, Result, Ok, Err}
+use Rattle.std.specs.List.{AllByRecursion}
 use Rattle.vcd_model.specs.Header.{Header}
 use Rattle.vcd_model.specs.Items.{BodyItem}
-use Rattle.vcd_model.specs.Merge.{Dump, merge_open, merged_items}
+use Rattle.vcd_model.specs.Input.{Input}
+use Rattle.vcd_model.specs.Merge.{Dump, Key, factor, is_too_large, key_after, key_lt, merge_open, merged_items}
 use Rattle.vcd_model.specs.MergeByInput.{due_with, entry_for}
 use Rattle.vcd_text.specs.Device.{Device, Writes}
 use Rattle.vcd_text.specs.declared.device.Source.{Ghosts}
@@ -91,6 +93,34 @@ pub record TurnsAt {X A : Type 0} (rest : X → Option (List ℕ)) (failures : X
   pub source_at : slice_get sources k ≡ Some source
   pub turns : RunTurns rest failures k scale first l before (record { items = items; written = written; seat = seat; source = source; chunk = chunk; token = token; out = out }) written' s' out' result
 
+-- ---- whose turn it was
+
+-- an input that has not finished had not before, and has the items that it had, and maybe more
+pub record GoesOn (ds : List Dump) (seats : List Seat) (k : ℕ) (d' : Dump) : Type 0 where
+  pub dump : Dump
+  pub seat : Seat
+  pub dump_at : slice_get ds k ≡ Some dump
+  pub seat_at : slice_get seats k ≡ Some seat
+  pub unfinished : seat.finished ≡ false
+  pub header : d'.header ≡ dump.header
+  pub more : List BodyItem
+  pub items : d'.items ≡ dump.items ++ more
+
+abbrev pub GoOn : (ds : List Dump) (seats : List Seat) → (ds' : List Dump) (seats' : List Seat) → Type 0
+GoOn ds seats ds' seats' = (k : ℕ) (d' : Dump) (s' : Seat) → slice_get ds' k ≡ Some d' → slice_get seats' k ≡ Some s' → s'.finished ≡ false → GoesOn ds seats k d'
+
+-- no other input that has not finished stands before this place of the input number k
+abbrev pub IsReached : List Header → List Dump → List Seat → ℕ → Key → Type 0
+IsReached hs ds seats k place = (j : ℕ) (d : Dump) (s : Seat) → j ≢ k → slice_get ds j ≡ Some d → slice_get seats j ≡ Some s → s.finished ≡ false → key_lt place (key_after (factor hs d.header) j d.items) ≡ true
+
+-- of the input number k, of which this is left, was read on its turn, no more than a chunk past a
+-- token that came after these items
+pub record ReadInTurn (limit chunk : ℕ) (hs : List Header) (ds : List Dump) (seats : List Seat) (k : ℕ) (l : Lane) (left : Input) (rest : Option (List ℕ)) : Type 0 where
+  pub items : List BodyItem
+  pub small : AllByRecursion (λ x. is_too_large (factor hs l.header) x ≡ false) items
+  pub reached : IsReached hs ds seats k (key_after (factor hs l.header) k items)
+  pub no_more : ReadsNoMore limit chunk l items left rest
+
 -- What a run of steps of one input leaves: it has gone on for some items, to `mid`, and the last
 -- step gives this. With one item alone there is that step and no other.
 pub record RunGives {X : Type 0} (rest : X → Option (List ℕ)) (failures : X → ℕ) (hs : List Header) (lanes : List Lane) (alone : Bool) (ds : List Dump) (s s' : Standing X) (out out' : Device) (result : Result More Stop) : Type 0 where
@@ -107,7 +137,9 @@ pub record RunGives {X : Type 0} (rest : X → Option (List ℕ)) (failures : X 
   pub tokens : length mid.tokens ≡ length s.tokens
   pub failures_are : map failures mid.sources ≡ map failures s.sources
   pub grows : Grows out between (merge_open hs (merged_items ds)) (merge_open hs (merged_items dumps))
-  pub reads : (j : ℕ) (l : Lane) (x : X) → slice_get lanes j ≡ Some l → slice_get mid.sources j ≡ Some x → (slice_get s.sources j ≡ Some x) ⊎ ReadsNoMore (part_len (length s.seats) s.tokens) (part_len (length s.seats) s.chunks) l l.input (rest x)
+  pub goes : GoOn ds s.seats dumps mid.seats
+  pub reads : (j : ℕ) (l : Lane) (x : X) → slice_get lanes j ≡ Some l → slice_get mid.sources j ≡ Some x
+      → (slice_get s.sources j ≡ Some x) ⊎ ReadInTurn (part_len (length s.seats) s.tokens) (part_len (length s.seats) s.chunks) hs dumps mid.seats j l l.input (rest x)
   pub last : Gives rest hs lanes dumps mid s' between out' result
   pub by_one : alone ≡ true → (dumps ≡ ds) × (mid ≡ s) × (between ≡ out)
 

@@ -1,5 +1,5 @@
 -- Where an input of a merge stands, and what a step of it gives.
-use Rattle.std.specs.Prelude.{◌≡◌, ◌≢◌, ℕ, ◌+◌, ◌*◌, ◌^◌, ◌<◌, ◌==◌, ◌⊎◌, true, false, List, [], ◌∷◌, ◌++◌, length, Option, Some, None, Result, Ok, Err}
+use Rattle.std.specs.Prelude.{◌≡◌, ◌≢◌, ℕ, ◌+◌, ◌*◌, ◌^◌, ◌<◌, ◌==◌, ◌⊎◌, Bool, true, false, List, [], ◌∷◌, ◌++◌, length, Option, Some, None, Result, Ok, Err}
 use Rattle.std.specs.List.{AllByRecursion}
 use Rattle.vcd_model.specs.Input.{Clean, Input}
 use Rattle.vcd_model.specs.Tokens.{Token, stream_of}
@@ -7,12 +7,11 @@ use Rattle.vcd_model.specs.Header.{Header}
 use Rattle.vcd_model.specs.Declarations.{IdCode}
 use Rattle.vcd_model.specs.Items.{BodyItem, time_after}
 use Rattle.vcd_model.specs.BodyPhrases.{BodyPhrase, items_of}
-use Rattle.vcd_model.specs.BodyReading.{body_grammar, read_body, body_fault_of}
+use Rattle.vcd_model.specs.BodyReading.{body_grammar, body_items, read_body, body_fault_of}
 use Rattle.vcd_model.specs.Merge.{dump_of, is_too_large}
 use Rattle.vcd_model.specs.MergeByInput.{due_with, entry_for, written_with}
-use Rattle.vcd_model.specs.Outcome.{Request}
 use Rattle.vcd_model.specs.Reading.{Fault, Placed, phrases_of}
-use Rattle.vcd_model.specs.Settled.{is_settled_behind}
+use Rattle.vcd_model.specs.Settled.{is_faulty}
 use Rattle.vcd_model.specs.SoFar.{IsSoFar}
 use Rattle.vcd_text.specs.Answer.{failed_after}
 use Rattle.vcd_text.specs.Feed.{HasGivenParked, parked_answer}
@@ -92,31 +91,38 @@ pub record SameSeat (old new : Seat) : Type 0 where
   pub factor : new.factor ≡ old.factor
   pub first : new.first ≡ old.first
 
--- Of an input, of which this is left, no more was read than what settles it, and a chunk, where its
--- source has this rest: whatever that was before, and however many of its reads have failed.
-abbrev pub ReadsNoMore : (limit chunk : ℕ) → Lane → Input → Option (List ℕ) → Type 0
-ReadsNoMore limit chunk l left rest = (old : Supply) (failures : ℕ) → ReadsAsNeeded limit chunk old (record { rest = rest; failures = failures }) left l.front (is_settled_behind Request.Merge l.header)
+-- these first tokens of a body have just these items, and no fault
+abbrev pub HaveJust : List IdCode → List BodyItem → List Token → Type 0
+HaveJust codes items ts = (is_faulty (read_body codes ts).ending ≡ false) × (body_items (read_body codes ts) ≡ items)
+
+-- Of an input, of which this is left and whose source has this rest, at most a chunk was read past
+-- a token that was asked for where those before it had just these items: so no more than what
+-- settles any work that such tokens do not settle, whatever the source was before, and however many
+-- of its reads have failed.
+abbrev pub ReadsNoMore : (limit chunk : ℕ) → Lane → List BodyItem → Input → Option (List ℕ) → Type 0
+ReadsNoMore limit chunk l items left rest = (old : Supply) (failures : ℕ) (settled : List Token → Bool) → ((ts : List Token) → HaveJust l.header.codes items ts → settled ts ≡ false)
+    → ReadsAsNeeded limit chunk old (record { rest = rest; failures = failures }) left l.front settled
 
 -- the same of an input that stands so
-abbrev pub HasReadNoMore : Lane → Input → Spot → Type 0
-HasReadNoMore l left s = ReadsNoMore (length s.token) (length s.chunk) l left s.rest
+abbrev pub HasReadNoMore : Lane → List BodyItem → Input → Spot → Type 0
+HasReadNoMore l items left s = ReadsNoMore (length s.token) (length s.chunk) l items left s.rest
 
 -- one item more was given, and what is due with it was written
 abbrev pub GivesOne : ℕ → ℕ → Lane → List BodyItem → Option ℕ → Option ℕ → Spot → BodyItem → Type 0
-GivesOne scale first l items written written' s x = (s.seat.finished ≡ false) × AtSeat scale first l (items ++ x ∷ []) s × (written' ≡ written_with written (entry_for scale first l.header items x)) × HasReadNoMore l l.input s
+GivesOne scale first l items written written' s x = (s.seat.finished ≡ false) × AtSeat scale first l (items ++ x ∷ []) s × (written' ≡ written_with written (entry_for scale first l.header items x)) × HasReadNoMore l items l.input s
 
 -- what the step of input number k after these items leaves: an item more, or that it has finished;
 -- or why the merge stops
 abbrev pub Turns : {A : Type 0} → ℕ → ℕ → ℕ → Lane → List BodyItem → Option ℕ → Option ℕ → Spot → Device → Device → Result A Stop → Type 0
 Turns k scale first l items written written' s out out' (Ok u) =
     ((x : BodyItem) × GivesOne scale first l items written written' s x × Writes out out' (due_with written (entry_for scale first l.header items x)))
-    ⊎ ((s.seat.finished ≡ true) × AtSeat scale first l items s × (written' ≡ written) × Writes out out' [] × HasReadNoMore l l.input s)
+    ⊎ ((s.seat.finished ≡ true) × AtSeat scale first l items s × (written' ≡ written) × Writes out out' [] × HasReadNoMore l items l.input s)
 Turns k scale first l items written written' s out out' (Err (Faulty input line fault)) =
-    (input ≡ k) × ((fault == 31) ≡ false) × HasDump scale (length s.token) l.header l.front l.input items (Some (record { number = fault; line = line })) × Writes out out' [] × HasReadNoMore l l.input s
+    (input ≡ k) × ((fault == 31) ≡ false) × HasDump scale (length s.token) l.header l.front l.input items (Some (record { number = fault; line = line })) × Writes out out' [] × HasReadNoMore l items l.input s
 Turns k scale first l items written written' s out out' (Err (Read input)) =
     (input ≡ k)
-    × ((n : ℕ) × (line : ℕ) × HasDump scale (length s.token) l.header l.front (failed_after n l.input) items (Some (record { number = 31; line = line })) × HasReadNoMore l (failed_after n l.input) s × (l.input.mark ≡ Clean → HasRest s.rest n l.input))
+    × ((n : ℕ) × (line : ℕ) × HasDump scale (length s.token) l.header l.front (failed_after n l.input) items (Some (record { number = 31; line = line })) × HasReadNoMore l items (failed_after n l.input) s × (l.input.mark ≡ Clean → HasRest s.rest n l.input))
     × Writes out out' []
 Turns k scale first l items written written' s out out' (Err Write) =
-    (x : BodyItem) × AtSeat scale first l (items ++ x ∷ []) s × WritesSome out out' (due_with written (entry_for scale first l.header items x)) × HasReadNoMore l l.input s
+    (x : BodyItem) × AtSeat scale first l (items ++ x ∷ []) s × WritesSome out out' (due_with written (entry_for scale first l.header items x)) × HasReadNoMore l items l.input s
 Turns k scale first l items written written' s out out' (Err (Unmatched name)) = ⊥

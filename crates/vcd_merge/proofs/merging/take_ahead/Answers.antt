@@ -1,4 +1,4 @@
-use Rattle.std.proofs.Common.{[], refl, sym, arith}
+use Rattle.std.proofs.Common.{[], refl, arith}
 use Rattle.vcd_text.specs.Ahead.{lines_of}
 use Rattle.vcd_text.specs.Device.{Device}
 use Rattle.vcd_merge.specs.MergeAhead.{Stands, StageAhead}

@@ -9,7 +9,7 @@ use Rattle.vcd_body.specs.declared.answer.More.{More}
 use Rattle.vcd_body.specs.declared.answer.Stop.{Stop}
 use Rattle.vcd_body.specs.declared.answer.More.TheVariants.{Again, Ended}
 use Rattle.vcd_merge.specs.declared.windows.Windows.{Windows}
-use Rattle.vcd_merge.proofs.MergeRuns.{advances_on, ended_merge, keeps_limit, long, reads_on, same_failures, still_low, stopped_merge}
+use Rattle.vcd_merge.proofs.MergeRuns.{advances_on, ended_merge, keeps_limit, long, same_failures, still_low, stopped_merge}
 use Rattle.vcd_merge.proofs.MergeCounts.{still_named}
 use Rattle.vcd_merge.proofs.MergeRunOn.{mid_chunk, mid_counts, mid_limit, mid_next, mid_read, mid_writes}
 use Rattle.vcd_merge.proofs.merge_state.Merge.finish.Goals as goal
@@ -51,8 +51,7 @@ items-preserved g c =
           let mid_lim = mid_limit g.S.Source.rest g.S.Source.failures hs lanes false e.0 s s' out new (Ok c.in_ok-run_step.field-0) r lim chu limit chunk in
           let mid_chu = mid_chunk g.S.Source.rest g.S.Source.failures hs lanes false e.0 s s' out new (Ok c.in_ok-run_step.field-0) r lim chu limit chunk in
           let count = mid_counts g.S.Source.rest g.S.Source.failures hs lanes false e.0 s s' out new (Ok c.in_ok-run_step.field-0) r st.runs.input (Ok Again) counts in
-          let on = advances_on g.S.Source.rest g.S.Source.failures hs lanes r.dumps r.mid s' begin r.between new written gives in
-          (on.0, on.1, on.2, reads_on g.S.Source.rest g.S.Source.failures hs lanes _ _ _ r.mid s' mid_lim mid_chu read r.dumps r.between new st.runs.input count gives);
+          advances_on g.S.Source.rest g.S.Source.failures hs lanes lim chu _ r.dumps r.mid s' r.holds r.ready mid_lim mid_chu read begin r.between new st.runs.input written count gives;
     }
 
 pub returns-in_err-run_step-clause-gives : goal.returns-in_err-run_step-clause-gives
@@ -80,7 +79,7 @@ returns-in_err-run_step-clause-gives g c = λ hs lanes ds names begin holds w.
     let is : c.from_residual.result ≡ Err stop = search rules in
     let next = mid_next g.S.Source.rest g.S.Source.failures hs lanes false e.0 s s' out new (Err c.in_err-run_step.field-0.0) r st.runs.input st.runs.next in
     let counts = mid_counts g.S.Source.rest g.S.Source.failures hs lanes false e.0 s s' out new (Err c.in_err-run_step.field-0.0) r st.runs.input (Err stop) st.runs.leaves.touches.reads in
-    rw is (stopped_merge g.S.Source.rest g.S.Source.failures hs lanes _ _ _ r.mid s' mid_lim mid_chu read r.dumps names begin r.between new r.ready r.holds many written seats tokens stop st.runs.input next counts r.last)
+    rw is (stopped_merge g.S.Source.rest g.S.Source.failures hs lanes lim chu _ r.dumps r.mid s' r.holds r.ready mid_lim mid_chu read names begin r.between new many written seats tokens stop st.runs.input next counts r.last)
 
 pub returns-in_err-run_step-clause-reads : goal.returns-in_err-run_step-clause-reads
 returns-in_err-run_step-clause-reads g c =
@@ -118,7 +117,7 @@ returns-in-Ended-clause-gives g c = λ hs lanes ds names begin holds w.
     let tokens = st.runs.leaves.touches.tokens ∙ sym r.tokens in
     let gives = subst (λ (a : Result More Stop). Gives g.S.Source.rest hs lanes r.dumps r.mid s' r.between new a) is r.last in
     let count = mid_counts g.S.Source.rest g.S.Source.failures hs lanes false e.0 s s' out new (Ok c.in_ok-run_step.field-0) r st.runs.input (Ok (Ended c.in-Ended.done)) counts in
-    ended_merge g.S.Source.rest g.S.Source.failures hs lanes _ _ _ r.mid s' mid_lim mid_chu read r.dumps names begin r.between new r.ready r.holds many written seats tokens c.in-Ended.done st.runs.input count gives
+    ended_merge g.S.Source.rest g.S.Source.failures hs lanes lim chu _ r.dumps r.mid s' r.holds r.ready mid_lim mid_chu read names begin r.between new many written seats tokens c.in-Ended.done st.runs.input count gives
 
 pub returns-in-Ended-clause-reads : goal.returns-in-Ended-clause-reads
 returns-in-Ended-clause-reads g c =

@@ -21,7 +21,7 @@ invariant-items g l = record {
   heads : l.self.heads.now ≡ l.fn.self.heads.now;
   holds : (hs : List Header) (lanes : List Lane) (ds : List Dump) (begin : Device) → Holds g.S.Source.rest hs lanes ds (standing_of l.fn.self l.fn.sources l.fn.windows) → Writes begin (g.W.Sink.device l.fn.out) (merge_open hs (merged_items ds))
       → (es : List Dump) × Holds g.S.Source.rest hs lanes es (standing_of l.self l.sources l.windows) × Writes begin (g.W.Sink.device l.out) (merge_open hs (merged_items es))
-      × AreReadSoFar g.S.Source.rest g.S.Source.failures (part_len (length l.fn.self.seats.now) l.fn.windows.tokens.now) (part_len (length l.fn.self.seats.now) l.fn.windows.chunks.now) lanes (map (supply g.S.Source.rest g.S.Source.failures) l.fn.sources) l.sources;
+      × AreReadSoFar g.S.Source.rest g.S.Source.failures hs (part_len (length l.fn.self.seats.now) l.fn.windows.tokens.now) (part_len (length l.fn.self.seats.now) l.fn.windows.chunks.now) lanes (map (supply g.S.Source.rest g.S.Source.failures) l.fn.sources) es l.self.seats.now l.sources;
 }
 
 abbrev pub decreases-items : goal.decreases-items

@@ -1,0 +1,81 @@
+-- How much was read of an input of a merge: the tokens before the last one that was asked for have
+-- just the items so far, and no fault.
+use Rattle.std.proofs.Common.{◌≡◌, ℕ, Bool, false, List, [], ◌∷◌, ◌++◌, length, inl, inr, ◌⊎◌, refl, sym, ap, subst, ◌∙◌}
+use Rattle.std.proofs.lemmas.List.{append_assoc}
+use Rattle.vcd_model.specs.Input.{Input}
+use Rattle.vcd_model.specs.Tokens.{Token, end_of_tokens, stream_of}
+use Rattle.vcd_model.specs.Laws.{IsPrefixOf}
+use Rattle.vcd_model.specs.Declarations.{IdCode}
+use Rattle.vcd_model.specs.Items.{BodyItem}
+use Rattle.vcd_model.specs.BodyPhrases.{BodyPhrase, items_of}
+use Rattle.vcd_model.specs.BodyReading.{body_grammar, read_body}
+use Rattle.vcd_model.specs.Reading.{Placed, phrases_of}
+use Rattle.vcd_model.specs.SoFar.{IsSoFar}
+use Rattle.vcd_model.proofs.SoFarLemmas.{so_far-nothing, without-last, earlier-so_far}
+use Rattle.vcd_text.specs.Device.{Supply}
+use Rattle.vcd_text.specs.ReadAhead.{Near, ReadsAsNeeded}
+use Rattle.vcd_text.specs.ReadAhead.ReadsAsNeeded.{ToToken, ToEnd}
+use Rattle.vcd_text.specs.Feed.{supply_of, token_of, limit_of, chunk_len_of}
+use Rattle.vcd_text.specs.declared.device.Source.{Ghosts}
+use Rattle.vcd_text.specs.declared.feed.Feed.{Feed}
+use Rattle.vcd_body.specs.Ahead.{GaveLast}
+use Rattle.vcd_body.specs.Reads.{GaveAll, StopsAt}
+use Rattle.vcd_body.specs.Reads.StopsAt.{AtToken, AtEnd}
+use Rattle.vcd_body.specs.declared.item.Regs.{Regs}
+use Rattle.vcd_body.proofs.AskedLemmas.{split_last}
+use Rattle.vcd_merge.specs.Seat.{HaveJust}
+
+-- ---- lists and their last
+
+not_nil : {A B : Type 0} (xs : List A) (x : A) → xs ++ x ∷ [] ≡ [] → B
+not_nil [] x e = cc
+not_nil (y ∷ xs) x e = cc
+
+tail_is : {A : Type 0} (x y : A) (xs ys : List A) → x ∷ xs ≡ y ∷ ys → (x ≡ y) × (xs ≡ ys)
+tail_is x y xs ys e = (cc, cc)
+
+-- lists with one more each have the same front
+front_is : {A : Type 0} (xs ys : List A) (x y : A) → xs ++ x ∷ [] ≡ ys ++ y ∷ [] → xs ≡ ys
+front_is [] [] x y e = refl
+front_is [] (b ∷ ys) x y e = not_nil ys y (sym (tail_is x b [] (ys ++ y ∷ []) e).1)
+front_is (a ∷ xs) [] x y e = not_nil xs x (tail_is a y (xs ++ x ∷ []) [] e).1
+front_is (a ∷ xs) (b ∷ ys) x y e =
+    let t = tail_is a b (xs ++ x ∷ []) (ys ++ y ∷ []) e in
+    ap (λ c. c ∷ xs) t.0 ∙ ap (λ l. b ∷ l) (front_is xs ys x y t.1)
+
+-- ---- the tokens before the last
+
+-- whole phrases with these items, and maybe the first tokens of one more
+just : (codes : List IdCode) (items : List BodyItem) (ts : List Token) (placed : List (Placed BodyPhrase)) (before : List (List ℕ)) → IsSoFar (body_grammar codes) ts placed before → items_of (phrases_of placed) ≡ items → HaveJust codes items ts
+unfolding read_body
+just codes items ts placed before so_far are = (rw so_far refl, rw so_far are)
+
+module _ {X : Type 0} {g : Ghosts X} (codes : List IdCode) (i : Input) (front : List Token) (items : List BodyItem) (f : Feed X g) (before : Supply) (settled : List Token → Bool) (open_still : (ts : List Token) → HaveJust codes items ts → settled ts ≡ false) where
+  -- where the body was refused
+  pub read_to_stop : StopsAt codes i front items f → ReadsAsNeeded (limit_of f) (chunk_len_of f) before (supply_of f) i front settled
+  read_to_stop (AtToken placed begun are looks near) = ToToken looks.given (token_of f) looks.stands.given_first (open_still looks.given (just codes items looks.given placed begun looks.so_far are)) near
+  read_to_stop (AtEnd placed begun are ends) = ToEnd ends.reads.given ends.all (open_still ends.reads.given (just codes items ends.reads.given placed begun ends.reads.so_far are)) ends.reads.stands.near_halt
+
+  -- where the body has ended
+  pub read_to_end : (r : Regs) → GaveAll codes i front items f r → ReadsAsNeeded (limit_of f) (chunk_len_of f) before (supply_of f) i front settled
+  read_to_end r a = ToEnd a.gave.given a.all (open_still a.gave.given (just codes items a.gave.given a.gave.placed [] a.gave.so_far a.gave.items_are)) a.gave.stands.near_halt
+
+  -- and at an item
+  pub read_to_item : (x : BodyItem) (r : Regs) → GaveLast codes i front items x f r → ReadsAsNeeded (limit_of f) (chunk_len_of f) before (supply_of f) i front settled
+  read_to_item x r m = by_tokens (split_last m.gave.given)
+    where
+      by_tokens : (m.gave.given ≡ []) ⊎ ((asked : List Token) × (last : Token) × (m.gave.given ≡ asked ++ last ∷ [])) → ReadsAsNeeded (limit_of f) (chunk_len_of f) before (supply_of f) i front settled
+      by_tokens (inl none) =
+          let nothing = sym (subst (λ ts. IsSoFar (body_grammar codes) ts m.gave.placed []) none m.gave.so_far) ∙ so_far-nothing (body_grammar codes) in
+          not_nil m.before (record { phrase = BodyPhrase.Gives x; line = m.line }) (sym m.last ∙ ap (λ r. r.placed) nothing)
+      by_tokens (inr s) =
+          let asked = s.0 in
+          let last = s.1 in
+          let so_far = subst (λ ts. IsSoFar (body_grammar codes) ts m.gave.placed []) s.2 m.gave.so_far in
+          let a = without-last (body_grammar codes) asked last m.gave.placed [] so_far in
+          let p = a.last refl in
+          let earlier = front_is a.earlier m.before p.0 _ (sym p.1 ∙ m.last) in
+          let pre : front ++ m.gave.given ≡ front ++ asked ++ last ∷ [] = ap (λ l. front ++ l) s.2 ∙ sym (append_assoc front asked (last ∷ [])) in
+          ToToken asked last (subst (λ ts. IsPrefixOf ts (stream_of (limit_of f) i).tokens) pre m.gave.stands.given_first)
+          (open_still asked (just codes items asked a.earlier a.begun (earlier-so_far (body_grammar codes) asked m.gave.placed [] a) (ap (λ l. items_of (phrases_of l)) earlier ∙ m.before_are)))
+          (subst (λ ts. Near (chunk_len_of f) (supply_of f).rest (end_of_tokens i.bytes (length ts)) i) pre m.near)

@@ -1,0 +1,92 @@
+-- Inputs that go on after an input was read on its turn: none of the others comes to stand before
+-- its place.
+use Rattle.std.proofs.Common.{◌≡◌, ◌≢◌, ℕ, true, false, List, [], ◌∷◌, ◌++◌, length, slice_get, Option, Some, ◌⊎◌, inl, inr, refl, sym, ap, subst, ◌∙◌, append-nil, append_assoc}
+use Rattle.std.specs.List.{AllByRecursion}
+use Rattle.std.proofs.lemmas.Option.{slice_get_within}
+use Rattle.vcd_model.specs.Header.{Header}
+use Rattle.vcd_model.specs.Input.{Input}
+use Rattle.vcd_model.specs.Items.{BodyItem}
+use Rattle.vcd_model.specs.Merge.{Dump, Key, factor, is_too_large, key_after, key_lt}
+use Rattle.vcd_model.specs.MergeByInput.{with_item}
+use Rattle.vcd_model.proofs.MergeSoFar.{still_later}
+use Rattle.vcd_merge.specs.MergeOrder.{IsNext}
+use Rattle.vcd_merge.specs.MergeStep.{AreGiven, Standing}
+use Rattle.vcd_merge.specs.MergeTrail.{GoOn, GoesOn, IsReached, ReadInTurn}
+use Rattle.vcd_merge.specs.Seat.{Lane, ReadsNoMore}
+use Rattle.vcd_merge.specs.declared.seat.Seat.{Seat}
+use Rattle.vcd_merge.proofs.MergeSteps.{next_first, same_header, same_or_not, seat_spot}
+use Rattle.vcd_merge.proofs.PartLemmas.{get_other, get_set}
+
+-- ---- inputs that go on
+
+pub go_still : (ds : List Dump) (seats : List Seat) → GoOn ds seats ds seats
+go_still ds seats = λ k d y at_d at_y on. record { dump = d; seat = y; dump_at = at_d; seat_at = at_y; unfinished = on; header = refl; more = []; items = sym (append-nil d.items) }
+
+pub go_through : (ds ms es : List Dump) (seats mids news : List Seat) → GoOn ds seats ms mids → GoOn ms mids es news → GoOn ds seats es news
+go_through ds ms es seats mids news first second = λ k e y at_e at_y on.
+    let g = second k e y at_e at_y on in
+    let f = first k g.dump g.seat g.dump_at g.seat_at g.unfinished in
+    record {
+      dump = f.dump;
+      seat = f.seat;
+      dump_at = f.dump_at;
+      seat_at = f.seat_at;
+      unfinished = f.unfinished;
+      header = g.header ∙ f.header;
+      more = f.more ++ g.more;
+      items = g.items ∙ ap (λ (l : List BodyItem). l ++ g.more) f.items ∙ append_assoc f.dump.items f.more g.more;
+    }
+
+-- one input alone goes on, which had not finished
+module _ (ds es : List Dump) (seats news : List Seat) (k : ℕ) (next : IsNext seats k) (seats_stay : (j : ℕ) → j ≢ k → slice_get news j ≡ slice_get seats j) (d : Dump) (at : slice_get ds k ≡ Some d) where
+  go_by : (e : Dump) (more : List BodyItem) → slice_get es k ≡ Some e → e.header ≡ d.header → e.items ≡ d.items ++ more → ((j : ℕ) → j ≢ k → slice_get es j ≡ slice_get ds j) → GoOn ds seats es news
+  go_by e more own header items dumps_stay = λ j c y at_c at_y on. by_place j c y (same_or_not j k) at_c at_y on
+    where
+      by_place : (j : ℕ) (c : Dump) (y : Seat) → (j ≡ k) ⊎ (j ≢ k) → slice_get es j ≡ Some c → slice_get news j ≡ Some y → y.finished ≡ false → GoesOn ds seats j c
+      by_place j c y (inl here) at_c at_y on =
+          let both : Some e ≡ Some c = sym own ∙ ap (slice_get es) (sym here) ∙ at_c in
+          let is : e ≡ c = cc in
+          record {
+            dump = d;
+            seat = next.seat;
+            dump_at = ap (slice_get ds) here ∙ at;
+            seat_at = ap (slice_get seats) here ∙ next.there;
+            unfinished = next.unfinished;
+            header = ap (λ (z : Dump). z.header) (sym is) ∙ header;
+            more = more;
+            items = ap (λ (z : Dump). z.items) (sym is) ∙ items;
+          }
+      by_place j c y (inr other) at_c at_y on =
+          record { dump = c; seat = y; dump_at = sym (dumps_stay j other) ∙ at_c; seat_at = sym (seats_stay j other) ∙ at_y; unfinished = on; header = refl; more = []; items = sym (append-nil c.items) }
+
+-- by no item, and by one
+pub go_same : (ds : List Dump) (seats news : List Seat) (k : ℕ) → IsNext seats k → ((j : ℕ) → j ≢ k → slice_get news j ≡ slice_get seats j) → (d : Dump) → slice_get ds k ≡ Some d → GoOn ds seats ds news
+go_same ds seats news k next stay d at = go_by ds ds seats news k next stay d at d [] at refl (sym (append-nil d.items)) (λ j other. refl)
+
+pub go_item : (ds : List Dump) (seats news : List Seat) (k : ℕ) → IsNext seats k → ((j : ℕ) → j ≢ k → slice_get news j ≡ slice_get seats j) → (d : Dump) (x : BodyItem) → slice_get ds k ≡ Some d → GoOn ds seats (with_item ds k d x) news
+go_item ds seats news k next stay d x at =
+    let e : Dump = record { header = d.header; items = d.items ++ x ∷ []; fault = d.fault } in
+    go_by ds (with_item ds k d x) seats news k next stay d at e (x ∷ []) (get_set ds k e (slice_get_within ds k d at)) refl refl (λ j other. get_other ds k j e other)
+
+-- ---- a place that was reached
+
+pub reached_on : (hs : List Header) (ds es : List Dump) (seats news : List Seat) (k : ℕ) (place : Key) → GoOn ds seats es news → IsReached hs ds seats k place → IsReached hs es news k place
+reached_on hs ds es seats news k place go reached = λ j e y other at_e at_y on.
+    let g = go j e y at_e at_y on in
+    let r = still_later place (factor hs g.dump.header) j g.dump.items g.more (reached j g.dump g.seat other g.dump_at g.seat_at g.unfinished) in
+    subst (λ (h : Header). key_lt place (key_after (factor hs h) j e.items) ≡ true) (sym g.header) (subst (λ (l : List BodyItem). key_lt place (key_after (factor hs g.dump.header) j l) ≡ true) (sym g.items) r)
+
+pub turn_on : (limit chunk : ℕ) (hs : List Header) (ds es : List Dump) (seats news : List Seat) (k : ℕ) (l : Lane) (left : Input) (rest : Option (List ℕ)) → GoOn ds seats es news → ReadInTurn limit chunk hs ds seats k l left rest → ReadInTurn limit chunk hs es news k l left rest
+turn_on limit chunk hs ds es seats news k l left rest go r = record { items = r.items; small = r.small; reached = reached_on hs ds es seats news k (key_after (factor hs l.header) k r.items) go r.reached; no_more = r.no_more }
+
+-- the input whose turn it is was read
+module _ {X : Type 0} (rest : X → Option (List ℕ)) (hs : List Header) (lanes : List Lane) (ds : List Dump) (s : Standing X) (g : AreGiven rest hs lanes ds s) (k : ℕ) (d : Dump) (l : Lane) (next : IsNext s.seats k) (same : length s.sources ≡ length s.seats)
+    (at_d : slice_get ds k ≡ Some d) (at_l : slice_get lanes k ≡ Some l) where
+  reached : IsReached hs ds s.seats k (key_after (factor hs l.header) k d.items)
+  reached = subst (λ (h : Header). IsReached hs ds s.seats k (key_after (factor hs h) k d.items)) (sym (same_header rest hs lanes ds s g k l d at_l at_d)) (λ j c y other a b on. next_first rest hs lanes ds s g k d l next same at_d at_l j c y other a b on)
+
+  small : AllByRecursion (λ x. is_too_large (factor hs l.header) x ≡ false) d.items
+  small = let p = seat_spot rest s k next.seat same next.there in (g.at k l d p.0 at_l at_d p.1).small
+
+  pub in_turn : (limit chunk : ℕ) (left : Input) (more : Option (List ℕ)) (es : List Dump) (news : List Seat) → GoOn ds s.seats es news → ReadsNoMore limit chunk l d.items left more → ReadInTurn limit chunk hs es news k l left more
+  in_turn limit chunk left more es news go no_more = record { items = d.items; small = small; reached = reached_on hs ds es s.seats news k (key_after (factor hs l.header) k d.items) go reached; no_more = no_more }
