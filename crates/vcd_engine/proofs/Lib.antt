@@ -10,6 +10,7 @@ pub mod PieceLemmas
 pub mod CheckLemmas
 pub mod RoomLemmas
 pub mod RunLemmas
+pub mod WaitLemmas
 pub mod ItemTextLemmas
 pub mod PickLemmas
 pub mod CutLemmas

@@ -1,5 +1,5 @@
 -- What is written and what is held, where text is due.
-use Rattle.std.proofs.Common.{◌≡◌, ℕ, ◌+◌, ◌-◌, ◌≤◌, length, refl, List, [], ◌++◌, slice_range, Result, Ok, Err, sym, ap, subst, ◌∙◌, append-nil, append_assoc, arith, take, drop, IfOk, ap₂}
+use Rattle.std.proofs.Common.{◌≡◌, ℕ, ◌+◌, ◌-◌, ◌≤◌, length, refl, List, [], ◌++◌, slice_range, Result, Ok, Err, sym, ap, subst, ◌∙◌, append-nil, append_assoc, arith, take, drop, IfOk}
 use Rattle.std.proofs.lemmas.List.{length-append, length-take-le, take-take}
 use Rattle.std.proofs.Math.Seq.{take-append-add}
 use Rattle.vcd_text.specs.Device.{Device, Puts, Writes, WritesSome, failures_after}
@@ -36,60 +36,14 @@ none_between bytes from to e = let none : to - from ≡ 0 = omega arith in ap (�
 -- ---- what is held
 
 -- how long it is
-pub held_long : (bytes : List ℕ) (p : Pieces) → IsPart bytes p → length (held_in bytes p) ≡ p.gathered.now.len + (p.to - p.from)
-held_long bytes p part =
-    let g = p.gathered.now in
-    let room = g.room in
-    let size = g.size in
-    let front = length-take-le g.len g.bytes (omega (arith, room, size)) in
-    let last = length-ahead bytes p.from p.to part.1 in
-    omega (arith, length-append (take g.len g.bytes) (slice_range bytes p.from p.to), front, last)
+pub held_long : (bytes : List ℕ) (p : Pieces) → IsPart bytes p → length (held_in bytes p) ≡ p.to - p.from
+held_long bytes p part = length-ahead bytes p.from p.to part.1
 
--- nothing
-pub held_none : (bytes : List ℕ) (p : Pieces) → p.gathered.now.len ≡ 0 → p.to ≤ p.from → held_in bytes p ≡ []
-held_none bytes p none e = ap₂ (λ n l. take n p.gathered.now.bytes ++ l) none (none_between bytes p.from p.to e)
-
--- the last piece grows
-pub held_grown : (g bytes : List ℕ) (n a b from to : ℕ) → a ≤ b → from ≡ b → from ≤ to → (take n g ++ slice_range bytes a b) ++ slice_range bytes from to ≡ take n g ++ slice_range bytes a to
-held_grown g bytes n a b from to le e on = append_assoc (take n g) (slice_range bytes a b) (slice_range bytes from to) ∙ ap (λ l. take n g ++ l) (joined bytes a b from to le e on)
-
--- a piece begins where the one before is no more
-pub held_begun : (g bytes : List ℕ) (n a b from to : ℕ) → a ≡ b → (take n g ++ slice_range bytes a b) ++ slice_range bytes from to ≡ take n g ++ slice_range bytes from to
-held_begun g bytes n a b from to e = ap (λ l. (take n g ++ l) ++ slice_range bytes from to) (none_between bytes a b (omega (arith, e))) ∙ ap (λ l. l ++ slice_range bytes from to) (append-nil (take n g))
-
--- some bytes of those that were copied behind what was gathered
-pub copied : (g g' bytes : List ℕ) (n a b k : ℕ) → n ≤ length g → a + k ≤ length bytes → a ≤ b → b ≤ a + k → take (n + k) g' ≡ take n g ++ slice_range bytes a (a + k) → take (n + (b - a)) g' ≡ take n g ++ slice_range bytes a b
-copied g g' bytes n a b k room there le few e =
-    let m = b - a in
-    let size : length (take n g) ≡ n = length-take-le n g room in
-    let all : a + k - a ≡ k = omega arith in
-    sym (take-take (n + m) (n + k) g' (omega arith))
-    ∙ ap (take (n + m)) e
-    ∙ ap (λ i. take (i + m) (take n g ++ slice_range bytes a (a + k))) (sym size)
-    ∙ take-append-add (take n g) (slice_range bytes a (a + k)) m
-    ∙ ap (λ l. take n g ++ l) (ap (λ i. take m (take i (drop a bytes))) all ∙ take-take m k (drop a bytes) (omega arith))
-
--- the last piece was gathered
-pub held_gathered : (g g' bytes : List ℕ) (n n' a b : ℕ) → take n' g' ≡ take n g ++ slice_range bytes a b → (take n g ++ slice_range bytes a b) ++ [] ≡ take n' g' ++ slice_range bytes b b
-held_gathered g g' bytes n n' a b e =
-    append-nil (take n g ++ slice_range bytes a b)
-    ∙ sym e
-    ∙ sym (append-nil (take n' g'))
-    ∙ ap (λ l. take n' g' ++ l) (sym (none_between bytes b b (omega arith)))
-
--- the last piece was gathered with the byte behind it, and another one begins
-pub held_apart : (g g' bytes : List ℕ) (n n' a b from k to : ℕ) → a ≤ b → from ≡ b → take n' g' ≡ take n g ++ slice_range bytes a (from + 1)
-    → (take n g ++ slice_range bytes a b) ++ (slice_range bytes from (from + 1) ++ slice_range bytes k to) ≡ take n' g' ++ slice_range bytes k to
-held_apart g g' bytes n n' a b from k to le e pushed =
-    sym (append_assoc (take n g ++ slice_range bytes a b) (slice_range bytes from (from + 1)) (slice_range bytes k to))
-    ∙ ap (λ l. l ++ slice_range bytes k to) (held_grown g bytes n a b from (from + 1) le e (omega arith) ∙ sym pushed)
+-- it begins the rest of these bytes
+pub front_is : (bytes : List ℕ) (from to : ℕ) → to ≤ length bytes → take (to - from) (slice_range bytes from (length bytes)) ≡ slice_range bytes from to
+front_is bytes from to le = take-take (to - from) (length bytes - from) (drop from bytes) (omega arith)
 
 -- ---- one call
-
--- the last piece was gathered behind what was held before it
-pub gathered_on : (g g' bytes : List ℕ) (n n' a b : ℕ) (out out' : Device) → PutsAll (take n g) (take n' g') out out' (slice_range bytes a b) → PutsAll (take n g ++ slice_range bytes a b) (take n' g' ++ slice_range bytes b b) out out' []
-gathered_on g g' bytes n n' a b out out' (written, e, w) =
-    (written, append-nil (take n g ++ slice_range bytes a b) ∙ e ∙ ap (λ l. written ++ l) (sym (append-nil (take n' g')) ∙ ap (λ l. take n' g' ++ l) (sym (none_between bytes b b (omega arith)))), w)
 
 -- nothing is written, and what is held grows
 pub held_on : (held held' due : List ℕ) (out : Device) → held ++ due ≡ held' → PutsAll held held' out out due
@@ -104,14 +58,9 @@ pub put_on : {A E : Type 0} (held held' due : List ℕ) (out mid out' : Device) 
 put_on held held' due out mid out' (Ok v) w e puts = (held ++ due, sym (ap (λ l. (held ++ due) ++ l) e ∙ append-nil (held ++ due)), both-written out mid out' held due w puts)
 put_on held held' due out mid out' (Err v) w e puts = some-behind out mid out' held due w puts
 
--- the same, and nothing more is due
-pub flushed_on : {A E : Type 0} (held held' : List ℕ) (out out' : Device) (r : Result A E) → Puts out out' held r → IfOk r (λ v. held' ≡ []) → PutsOn held held' out out' [] r
-flushed_on held held' out out' (Ok v) w e = (held, ap (λ l. held ++ l) (sym e), w)
-flushed_on held held' out out' (Err v) w e = some-first out out' held [] w
-
--- the same, and then a piece began
-pub begun_on : (held mid held' due : List ℕ) (out out' : Device) → PutsAll held mid out out' [] → mid ++ due ≡ held' → PutsAll held held' out out' due
-begun_on held mid held' due out out' (written, e, w) begun = (written, ap (λ l. l ++ due) (sym (append-nil held) ∙ e) ∙ append_assoc written mid due ∙ ap (λ l. written ++ l) begun, w)
+-- what was held was written, and what is due is held
+pub begun_on : (held due : List ℕ) (out out' : Device) → Writes out out' held → PutsAll held due out out' due
+begun_on held due out out' w = (held, refl, w)
 
 -- ---- two calls
 

@@ -73,7 +73,7 @@ goes_behind Request.Merge h can = ap is_some can.matched
 -- ---- the outcome of a body
 
 -- each name of the request selects something
-over_matched : (t : Request) (name : List ℕ) (o : Opened) → reads_body t ≡ true → first_unmatched (names_of t) o.header.declarations ≡ None → over_dump t name o ≡ over_body t o.header (items_in o) name (fault_in o)
+pub over_matched : (t : Request) (name : List ℕ) (o : Opened) → reads_body t ≡ true → first_unmatched (names_of t) o.header.declarations ≡ None → over_dump t name o ≡ over_body t o.header (items_in o) name (fault_in o)
 unfolding over_dump
 over_matched Request.Check name o b e = refl
 over_matched Request.Listing name o b e = cc
@@ -186,7 +186,7 @@ early_outcome t h items more x name fault on e =
     ap (λ l. over_body t h l name fault) (append_assoc items (x ∷ []) more) ∙ rw (any_at (ends_early t) items more x e, over_body) (ap (λ l. clean_outcome (open_text t h l)) (up_to_here (ends_early t) items more x on e))
 
 -- a body's outcome begins with what is due behind its first items, up to an early end
-begins_with : (t : Request) (h : Header) (p more : List BodyItem) (name : List ℕ) (fault : Option Fault) → IsValid t → list_any (ends_early t) p ≡ false → IsPrefixOf (open_text t h p) (over_body t h (p ++ more) name fault).output
+pub begins_with : (t : Request) (h : Header) (p more : List BodyItem) (name : List ℕ) (fault : Option Fault) → IsValid t → list_any (ends_early t) p ≡ false → IsPrefixOf (open_text t h p) (over_body t h (p ++ more) name fault).output
 unfolding over_body
 begins_with t h p more name fault valid on = by_end (list_any (ends_early t) (p ++ more)) refl
   where
@@ -254,7 +254,7 @@ pub written_behind : (begin out new : Device) (text more : List ℕ) → Writes 
 written_behind begin out new text more w due = subst (Writes begin new) (sym due.1) (both-written begin out new text due.0 w due.2)
 
 -- or a prefix of it
-some_written : (begin out new : Device) (text more : List ℕ) → Writes begin out text → GrowsSome out new text more → WritesSome begin new more
+pub some_written : (begin out new : Device) (text more : List ℕ) → Writes begin out text → GrowsSome out new text more → WritesSome begin new more
 some_written begin out new text more w due = subst (WritesSome begin new) (sym due.1) (some-behind begin out new text due.0 w due.2)
 
 -- `out` holds what is due behind these items; several steps took the run from there to `new`
@@ -315,6 +315,13 @@ module _ {X : Type 0} {g : Ghosts X} (t : Request) (h : Header) (i : Input) (fro
     -- it has ended
     pub steps_end : (done : Done) → (supply_of f).failures ≡ before.failures → StepsGive t h i front items e f out new (Ok (Ended done)) → Follows t limit chunk i front h name before (supply_of f) begin new (Ok done)
     steps_end done q s = followed t h i front items s.more name limit chunk before begin out new can s.on open_is e f same size done q s.last
+
+    -- how much was read where it goes on
+    pub steps_read : StepsGive t h i front items e f out new (Ok Again) → ReadsAsNeeded limit chunk before (supply_of f) i front (is_settled_behind t h)
+    steps_read s =
+        let all = items ++ s.more in
+        let step = s.last.2 in
+        read_to_item t h i front all f limit chunk before same size (goes_behind t h can) s.on step.0 e.regs (last_given h.codes i front all step.0 f e.regs step.3)
 
     -- it has stopped
     pub steps_stop : (stop : Stop) → (supply_of f).failures ≡ before.failures + reads_failed {A = Done} (Err stop) → StepsGive t h i front items e f out new (Err stop) → Follows t limit chunk i front h name before (supply_of f) begin new (Err stop)

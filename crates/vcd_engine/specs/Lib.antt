@@ -17,6 +17,7 @@ pub mod Pieces
 pub mod Ahead
 pub mod Step
 pub mod Next
+pub mod Waits
 pub mod Walks
 pub mod Quiet
 pub mod Names

@@ -1,5 +1,5 @@
--- Text that is due, and of which the last pieces are not yet written.
-use Rattle.std.specs.Prelude.{◌≡◌, ℕ, ◌<◌, ◌≤◌, List, ◌++◌, length, take, slice_range, Result, Ok, Err, IfOk}
+-- Text that is due, and of which the last piece is not yet written.
+use Rattle.std.specs.Prelude.{◌≡◌, ℕ, ◌<◌, ◌≤◌, List, ◌++◌, length, slice_range, Result, Ok, Err, IfOk}
 use Rattle.vcd_model.specs.ItemText.{time_line}
 use Rattle.vcd_text.specs.Ahead.{bytes_of, passed_of}
 use Rattle.vcd_text.specs.Device.{Counts, Device, Writes, WritesSome}
@@ -10,7 +10,6 @@ use Rattle.vcd_body.specs.Ahead.{HasBits, IsSizedItem}
 use Rattle.vcd_body.specs.Spelled.{HasSpelled}
 use Rattle.vcd_body.specs.declared.item.Form.{Form}
 use Rattle.vcd_body.specs.declared.item.Item.TheVariants.{Change}
-use Rattle.vcd_engine.specs.declared.gathered.Gathered.{Gathered}
 use Rattle.vcd_engine.specs.declared.pieces.InPlace.{InPlace}
 use Rattle.vcd_engine.specs.declared.pieces.Pieces.{Pieces}
 
@@ -37,13 +36,9 @@ IsLine bytes line time = line.0 < line.1 → (line.1 ≤ length bytes) × (slice
 abbrev pub IsPart : List ℕ → Pieces → Type 0
 IsPart bytes p = (p.from ≤ p.to) × (p.to ≤ length bytes)
 
--- the short pieces that were gathered
-abbrev pub gathered_in : Gathered → List ℕ
-gathered_in g = take g.len g.bytes
-
--- the text that is held: what was gathered, and the last piece
+-- the text that is held: the last piece
 abbrev pub held_in : List ℕ → Pieces → List ℕ
-held_in bytes p = gathered_in p.gathered.now ++ slice_range bytes p.from p.to
+held_in bytes p = slice_range bytes p.from p.to
 
 -- what was written and what is held make the text that was held and then what is due
 abbrev pub PutsAll : List ℕ → List ℕ → Device → Device → List ℕ → Type 0

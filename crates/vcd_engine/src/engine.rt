@@ -1,11 +1,15 @@
 //! A run over the items of a body, one item a step. It names no command.
 ghost use Rattle.std.specs.Prelude.{◌≡◌, ◌≢◌, ◌-◌, ◌^◌, ◌<◌, [], List, true, false, MatchBool, Ok, MatchResult};
-ghost use Rattle.vcd_engine.specs.Names.{Advances, Again, BeginsAs, BodyItem, CallEnd, CanRun, close_text, Counts, CountsOn, Early, EndsAsAsked, Finish, Finishes, HasBegun, HasRoomFor, Header, Holds, is_going, IsValid, IsViewOf, IsWithinEachBound, item_text, MayRun, MayStep, parts, request_of, request_of_begun, request_of_engine, room_in, room_of_begun, room_size, RunsTask, SameHold, SameWindows, seen, StartsOver, Steps, StepsAhead, StepsOn, StepsOver, Takes, view_in};
+ghost use Rattle.vcd_engine.specs.Names.{Advances, Again, BeginsAs, BodyItem, CallEnd, CanRun, close_text, Counts, CountsOn, Early, EndsAsAsked, Finish, Finishes, HasBegun, HasRoomFor, Header, Holds, is_going, IsValid, IsViewOf, IsWithinEachBound, item_text, MayRun, MayStep, parts, request_of, request_of_begun, request_of_engine, room_in, room_of_begun, room_size, RunsTask, SameHold, SameWindows, seen, StartsOver, Steps, StepsAhead, StepsOver, Takes, view_in};
+ghost use Rattle.vcd_engine.specs.Waits.{StepsOrStops};
+ghost use Rattle.vcd_body.specs.Whole.{IsPrompt};
+ghost use Rattle.vcd_text.specs.Feed.{source_of};
 
-use crate::gathered::Gathered;
 use crate::machine::Machine;
 use crate::task::{Room, Task};
-use vcd_body::{Done, Item, More, Regs, Stop, change_text, keyword_comes, next_item, pass_items};
+use vcd_body::{
+    Done, Item, More, Regs, Stop, change_text, keyword_comes, next_item, pass_items, pass_on,
+};
 use vcd_text::{Feed, Sink, Source, WriteFailed};
 use vcd_view::HeadView;
 
@@ -144,7 +148,6 @@ impl<'v, 'n, 'r> Engine<'v, 'n, 'r> {
         &mut self,
         view: HeadView<'_>,
         feed: &mut Feed<'_, '_, '_, '_, S>,
-        gathered: &mut Gathered,
         out: &mut W,
     ) -> Result<(), WriteFailed>
         requires out_failures { (W.device out.old).failures < 2 ^ 64 - 1 }
@@ -154,6 +157,7 @@ impl<'v, 'n, 'r> Engine<'v, 'n, 'r> {
             (W.device out.old) (W.device out.new) result }
         ensures advances { Advances S.failures feed.old feed.new CallEnd.GoesOn }
         ensures bounded { seen feed.new < 2 ^ 63 }
+        ensures source { source_of feed.new ≡ source_of feed.old }
         ensures counts { Counts (W.device out.old) (W.device out.new) result }
         ensures going { MatchResult result
             (λ _. is_going self.new ≡ true) (λ _. is_going self.new ≡ false) }
@@ -161,9 +165,7 @@ impl<'v, 'n, 'r> Engine<'v, 'n, 'r> {
         ensures holds { SameHold self.old self.new }
         ensures view { parts self.new.view ≡ parts self.old.view }
     {
-        let taken = self
-            .machine
-            .take_ahead(view, self.regs, feed.ahead(), gathered, out);
+        let taken = self.machine.take_ahead(view, self.regs, feed.ahead(), out);
         self.regs = taken.regs;
         pass_items(feed, taken.passed);
         match taken.written {
@@ -182,7 +184,6 @@ impl<'v, 'n, 'r> Engine<'v, 'n, 'r> {
         &mut self,
         view: HeadView<'_>,
         feed: &mut Feed<'_, '_, '_, '_, S>,
-        gathered: &mut Gathered,
         out: &mut W,
     ) -> Result<(), WriteFailed>
         requires out_failures { (W.device out.old).failures < 2 ^ 64 - 1 }
@@ -192,6 +193,7 @@ impl<'v, 'n, 'r> Engine<'v, 'n, 'r> {
             (W.device out.old) (W.device out.new) result }
         ensures advances { Advances S.failures feed.old feed.new CallEnd.GoesOn }
         ensures bounded { seen feed.new < 2 ^ 63 }
+        ensures source { source_of feed.new ≡ source_of feed.old }
         ensures counts { Counts (W.device out.old) (W.device out.new) result }
         ensures going { MatchResult result
             (λ _. is_going self.new ≡ true) (λ _. is_going self.new ≡ false) }
@@ -202,28 +204,53 @@ impl<'v, 'n, 'r> Engine<'v, 'n, 'r> {
         if keyword_comes(feed.ahead()) {
             return Ok(());
         }
-        self.walk_ahead(view, feed, gathered, out)
+        self.walk_ahead(view, feed, out)
+    }
+
+    /// Takes the next item, as `step_over` does. A read of it may wait: by then nothing is kept back
+    /// of what is due.
+    #[inline(always)]
+    fn read_on<S: Source, W: Sink>(
+        &mut self,
+        view: HeadView<'_>,
+        feed: &mut Feed<'_, '_, '_, '_, S>,
+        out: &mut W,
+    ) -> Result<More, Stop>
+        requires step { MayStep S.failures self.old feed.old (W.device out.old) }
+        requires view { parts view ≡ parts self.old.view }
+        requires prompt { IsPrompt (W.kept_back out.old) feed.old }
+        ensures gives { Steps W.device self.old self.new feed.old feed.new out.old out.new result }
+        ensures over { StepsOver S.failures self.old self.new feed.old feed.new
+            (W.device out.old) (W.device out.new) result }
+    {
+        self.step_over(view, feed, out)
     }
 
     /// Takes the items that lie whole ahead, and then the next one, which may need more of the
-    /// input.
+    /// input: before that all that is due is passed on.
     #[inline(always)]
     fn advance<S: Source, W: Sink>(
         &mut self,
         view: HeadView<'_>,
         feed: &mut Feed<'_, '_, '_, '_, S>,
-        gathered: &mut Gathered,
         out: &mut W,
     ) -> Result<More, Stop>
         requires step { MayStep S.failures self.old feed.old (W.device out.old) }
         requires view { parts view ≡ parts self.old.view }
-        ensures gives { StepsOn self.old self.new feed.old feed.new
+        ensures gives { StepsOrStops self.old self.new feed.old feed.new
             (W.device out.old) (W.device out.new) result }
         ensures over { StepsOver S.failures self.old self.new feed.old feed.new
             (W.device out.old) (W.device out.new) result }
     {
-        self.take_ahead(view, feed, gathered, out)?;
-        self.step_over(view, feed, out)
+        self.take_ahead(view, feed, out)?;
+        match pass_on(feed, out) {
+            Ok(()) => {}
+            Err(failed) => {
+                self.going = false;
+                return Err(failed.into());
+            }
+        }
+        self.read_on(view, feed, out)
     }
 
     /// Writes what is due at the clean end. It is no part of the loop over steps, so that the loop
@@ -255,9 +282,8 @@ impl<'v, 'n, 'r> Engine<'v, 'n, 'r> {
         ensures windows { SameWindows feed.old feed.new }
     {
         let view = self.view;
-        let mut gathered = Gathered::new();
         'items: loop {
-            match self.advance(view, feed, &mut gathered, out)? {
+            match self.advance(view, feed, out)? {
                 More::Again => {}
                 More::Ended(done) => return Ok(done),
             }

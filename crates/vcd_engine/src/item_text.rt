@@ -5,7 +5,7 @@ ghost use Rattle.vcd_engine.specs.Names.{as_line, BodyItem, closing, Counts, Ent
 
 use crate::machine::walk::Copying;
 use crate::pieces::{InPlace, Pieces};
-use vcd_body::{Form, Id, Item, Section, left_out, put_change, put_time_unless};
+use vcd_body::{Id, Item, Section, left_out, put_change, put_time_unless};
 use vcd_text::{Sink, WriteFailed, put};
 use vcd_view::HeadView;
 
@@ -101,7 +101,7 @@ impl ItemText {
         time: u64,
         change: InPlace<'_>,
         line: &Copying,
-        pieces: &mut Pieces<'_>,
+        pieces: &mut Pieces,
         out: &mut W,
     ) -> Result<(), WriteFailed>
         requires failures { (W.device out.old).failures < 2 ^ 64 - 1 }
@@ -119,14 +119,6 @@ impl ItemText {
             return self.put(view, time, change.plain.item, change.plain.text, out);
         };
         self.put_time_behind(time, change.bytes, line, pieces, out)?;
-        // A vector alone may leave digits out.
-        if let Item::Change {
-            form: Form::Vector,
-            ..
-        } = change.plain.item
-        {
-            return pieces.append_without(change.bytes, change.from, change.to, n, out);
-        }
         pieces.append_parts(change.bytes, change.from, change.to, n, out)
     }
 
@@ -137,7 +129,7 @@ impl ItemText {
         time: u64,
         bytes: &[u8],
         line: &Copying,
-        pieces: &mut Pieces<'_>,
+        pieces: &mut Pieces,
         out: &mut W,
     ) -> Result<(), WriteFailed>
         requires failures { (W.device out.old).failures < 2 ^ 64 - 1 }

@@ -27,8 +27,7 @@
 //! - `commands`: `check`, `pick`, `cut`, `sample`, `edges`
 //! - `choice`: which codes are chosen, a byte a code
 //! - `item_text`: kept items as lines, each after the line of its time
-//! - `pieces`: text that is due and is in the chunk already, which is written at once; `gathered`:
-//!   short pieces of it, copied together
+//! - `pieces`: text that is due and is in the chunk already, which is written piece by piece
 //! - `selection`: the variables that names select, as flags and as chosen codes
 //! - `report`, `rows`, `tally`: the seven lines of `check`; `list`; the counters of `edges`, and
 //!   its rows
@@ -52,7 +51,6 @@
 mod choice;
 mod commands;
 mod engine;
-mod gathered;
 mod item_text;
 mod leads;
 mod machine;

@@ -9,7 +9,6 @@ pub(crate) mod pick;
 pub(crate) mod sample;
 pub(crate) mod walk;
 
-use crate::gathered::Gathered;
 use crate::machine::walk::{Copying, Keeping, Taken, take_each};
 use crate::task::{Room, Task};
 use vcd_body::{Item, Regs, Stop};
@@ -96,14 +95,12 @@ impl<'n, 'r> Machine<'n, 'r> {
     }
 
     /// Takes the items that lie ahead, one after the other, and writes what is due after each.
-    /// Short pieces of that are gathered in memory that is lent.
     // A loop for each task, so that none asks for each item what the task is.
     pub(crate) fn take_ahead<W: Sink>(
         &mut self,
         view: HeadView<'_>,
         regs: Regs,
         ahead: Ahead<'_>,
-        gathered: &mut Gathered,
         out: &mut W,
     ) -> Taken
         requires failures { (W.device out.old).failures < 2 ^ 64 - 1 }
@@ -112,25 +109,19 @@ impl<'n, 'r> Machine<'n, 'r> {
             (W.device out.old) (W.device out.new) result }
     {
         match self {
-            Machine::Check(check) => {
-                take_each::<Keeping, _, _>(check, view, regs, ahead, gathered, out)
-            }
-            Machine::Pick(pick) => {
-                take_each::<Copying, _, _>(pick, view, regs, ahead, gathered, out)
-            }
+            Machine::Check(check) => { take_each::<Keeping, _, _>(check, view, regs, ahead, out) }
+            Machine::Pick(pick) => { take_each::<Copying, _, _>(pick, view, regs, ahead, out) }
             Machine::Cut(cut) => {
                 if cut.has_begun() {
-                    take_each::<Copying, _, _>(cut, view, regs, ahead, gathered, out)
+                    take_each::<Copying, _, _>(cut, view, regs, ahead, out)
                 } else {
-                    take_each::<Keeping, _, _>(cut, view, regs, ahead, gathered, out)
+                    take_each::<Keeping, _, _>(cut, view, regs, ahead, out)
                 }
             }
             Machine::Sample(sample) => {
-                take_each::<Keeping, _, _>(sample, view, regs, ahead, gathered, out)
+                take_each::<Keeping, _, _>(sample, view, regs, ahead, out)
             }
-            Machine::Edges(edges) => {
-                take_each::<Keeping, _, _>(edges, view, regs, ahead, gathered, out)
-            }
+            Machine::Edges(edges) => { take_each::<Keeping, _, _>(edges, view, regs, ahead, out) }
         }
     }
 

@@ -98,7 +98,7 @@ impl Command<Keeping> for Check {
         _regs: Regs,
         change: InPlace<'_>,
         _line: &Keeping,
-        _pieces: &mut Pieces<'_>,
+        _pieces: &mut Pieces,
         _out: &mut W,
     ) -> Result<(), WriteFailed> {
         self.take(change.plain.item);

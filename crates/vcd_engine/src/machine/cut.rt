@@ -228,7 +228,7 @@ impl<'r> Command<Keeping> for Cut<'r> {
         _regs: Regs,
         change: InPlace<'_>,
         _line: &Keeping,
-        _pieces: &mut Pieces<'_>,
+        _pieces: &mut Pieces,
         _out: &mut W,
     ) -> Result<(), WriteFailed> {
         let plain = change.plain;
@@ -262,7 +262,7 @@ impl<'r> Command<Copying> for Cut<'r> {
         regs: Regs,
         change: InPlace<'_>,
         line: &Copying,
-        pieces: &mut Pieces<'_>,
+        pieces: &mut Pieces,
         out: &mut W,
     ) -> Result<(), WriteFailed> {
         if !may_keep(view, regs, change.plain.item) {

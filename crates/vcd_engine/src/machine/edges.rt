@@ -121,7 +121,7 @@ impl<'n, 'r> Command<Keeping> for Edges<'n, 'r> {
         regs: Regs,
         change: InPlace<'_>,
         _line: &Keeping,
-        _pieces: &mut Pieces<'_>,
+        _pieces: &mut Pieces,
         _out: &mut W,
     ) -> Result<(), WriteFailed> {
         let plain = change.plain;

@@ -134,7 +134,7 @@ impl<'n, 'r> Command<Copying> for Pick<'n, 'r> {
         regs: Regs,
         change: InPlace<'_>,
         line: &Copying,
-        pieces: &mut Pieces<'_>,
+        pieces: &mut Pieces,
         out: &mut W,
     ) -> Result<(), WriteFailed> {
         if !self.keeps(view, regs, change.plain.item) {

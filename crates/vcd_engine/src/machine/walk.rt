@@ -11,7 +11,6 @@ ghost use Rattle.vcd_engine.specs.Room.{SameTask};
 ghost use Rattle.vcd_engine.specs.declared.machine.Machine.{Machine};
 ghost use Rattle.vcd_engine.specs.declared.pieces.Pieces.{Pieces};
 
-use crate::gathered::Gathered;
 use crate::pieces::{InPlace, Pieces};
 use vcd_body::{Plain, Regs, Visit, is_mark_line, walk_ahead};
 use vcd_text::{Ahead, Sink, WriteFailed};
@@ -138,7 +137,7 @@ pub(crate) trait Command<L: Kind> {
         regs: Regs,
         change: InPlace<'_>,
         line: &L,
-        pieces: &mut Pieces<'_>,
+        pieces: &mut Pieces,
         out: &mut W,
     ) -> Result<(), WriteFailed>
         requires failures { (W.device out.old).failures < 2 ^ 64 - 1 }
@@ -157,12 +156,12 @@ pub(crate) trait Command<L: Kind> {
 /// What a walk has at hand beside a command: the text that is due and not yet written, and what is
 /// known of the line of the last time.
 #[derive(Drop)]
-struct Held<'p, L> {
-    pieces: Pieces<'p>,
+struct Held<L> {
+    pieces: Pieces,
     line: L,
 }
 
-impl<'p, L: Kind, C: Command<L>> Visit<C> for Held<'p, L> {
+impl<L: Kind, C: Command<L>> Visit<C> for Held<L> {
     ghost use Rattle.std.specs.Prelude.{false};
     ghost use Rattle.vcd_engine.specs.Walks.{CanTake, TakesHeld};
 
@@ -215,8 +214,7 @@ impl<'p, L: Kind, C: Command<L>> Visit<C> for Held<'p, L> {
     }
 }
 
-/// Takes the items that lie ahead, one after the other. What is due with them is copied in pieces,
-/// of which short ones are gathered in memory that is lent.
+/// Takes the items that lie ahead, one after the other. What is due with them is written in pieces.
 // The loop of each command is a function, so that none has less registers for what another one
 // does.
 #[inline(never)]
@@ -225,7 +223,6 @@ pub(crate) fn take_each<L: Kind, C: Command<L>, W: Sink>(
     view: HeadView<'_>,
     regs: Regs,
     ahead: Ahead<'_>,
-    gathered: &mut Gathered,
     out: &mut W,
 ) -> Taken
     requires failures { (W.device out.old).failures < 2 ^ 64 - 1 }
@@ -234,7 +231,7 @@ pub(crate) fn take_each<L: Kind, C: Command<L>, W: Sink>(
     ensures { RunsOver view.entry ahead.entry regs (C.machine command.old) (C.machine command.new)
         (W.device out.old) (W.device out.new) result }
 {
-    let pieces = Pieces::new(gathered);
+    let pieces = Pieces::new();
     let line = L::new();
     let walked = walk_ahead(command, Held { pieces, line }, view, regs, ahead, out);
     let ahead = walked.ahead;

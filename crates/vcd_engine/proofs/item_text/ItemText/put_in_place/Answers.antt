@@ -24,23 +24,6 @@ returns-in_err-put_time_behind g c =
       part = tt;
     })
 
-pub returns-in-Change-default-Vector : goal.returns-in-Change-default-Vector
-returns-in-Change-default-Vector g c =
-    let l = c.args.change in
-    let bytes = l.bytes.now in
-    let both = twice_behind bytes c.args.pieces.now c.put_time_behind.new.pieces c.append_without.new.self _ (bytes_without bytes l.from l.to c.in-Some.n) _ _ _ _ c.append_without.result c.in_ok-put_time_behind.ensures.puts c.append_without.ensures in
-    record {
-      text = λ h before kept e views is at has tells.
-          let t = c.args.self.now in
-          let line = c.in-Some.ensures.1 c.args.view h e.item c.requires.place.spelled c.requires.place.bits c.requires.place.sized views is in
-          let puts = subst (λ k. PutsOn (held_in bytes c.args.pieces.now) (held_in bytes c.append_without.new.self) (g.W.Sink.device c.args.out.now) (g.W.Sink.device c.append_without.new.out) (time_due t.written c.args.time ++ k) c.append_without.result) line both.puts in (
-            (time_due t.written c.args.time ++ item_line e.item, text_with before kept e c.args.time t at has tells, puts),
-            if_ok c.append_without.result _ (subst (λ o. HasWritten before (kept ++ e ∷ []) (record { written = o })) (sym c.in_ok-put_time_behind.ensures.written) (written_with before kept e c.args.time at)),
-          );
-      counts = both.counts;
-      part = both.part;
-    }
-
 pub returns : goal.returns
 returns g c =
     let l = c.args.change in
