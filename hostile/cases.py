@@ -25,13 +25,17 @@ NESTED = (b"$var event 1 % go $end\n$scope module tb $end\n$var wire 1 ! clk $en
           b"$scope module u $end\n$var reg 4 \" q [3:0] $end\n$upscope $end\n"
           b"$var real 1 # r $end\n$enddefinitions $end\n")
 CLOCK = A + b"#0\n0!\n#5\n1!\n"
+OTHER_SIZE = (b"$var wire 1 abcdefgh a $end\n$var wire 2 abcdefgh b $end\n$enddefinitions $end\n"
+              b"#0\n" + 5 * b"$comment x $end\n")
 TENS = (b"$timescale 10ns $end\n$var wire 1 ! a $end\n$enddefinitions $end\n"
         b"#0\n0!\n#1\n1!\n#2\n0!\n#3\n1!\n")
 
 
 class Case:
-    def __init__(self, name, command, inputs, options=(), names=()):
+    def __init__(self, name, command, inputs, options=(), names=(), known_code=False):
         self.name, self.command = name, command
+        # Whether the fault is that of a long code which was declared before.
+        self.known_code = known_code
         self.inputs, self.options, self.names = list(inputs), list(options), list(names)
 
     def words(self, files):
@@ -51,6 +55,7 @@ class Case:
 CASES = [
     Case("check", "check", [ON_D]),
     Case("check_cut_off", "check", [BAD]),
+    Case("check_other_size", "check", [OTHER_SIZE], known_code=True),
     Case("list", "list", [ON_D]),
     Case("pick_scope", "pick", [ON_A], names=[b"tb"]),
     Case("pick_alias", "pick", [ON_D], names=[b"top.inner.alias", b"top.inner.wide"]),

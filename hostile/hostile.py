@@ -7,7 +7,8 @@ are cut off after each byte. What it writes has to be what the evaluator says. D
 built as a shared library.
 
 memory   refuses each request of a run in turn: no output, the line `vcdkit: out of memory` and
-         status 3; or the whole outcome, if a library asked for more than it needs. A body with
+         status 3; or the whole outcome, if a library asked for more than it needs, and if the
+         request is for the key of a code that was declared with another size. A body with
          5,000 comments after it makes as many requests, of as many bytes, as one with five. All
          requests are below a bound: the windows, four times what is kept of the headers, and 64 KB
          for the command line and the buffer of the output.
@@ -111,12 +112,15 @@ def memory(place, case):
     requests, _, asked = place.counts(case, files)
     whole = wanted(case, files, case.inputs)
     yield from too_much(case, asked)
-    for n in range(1, requests + 1):
-        got = place.run(case, files, refuse=n)
+    got = [place.run(case, files, refuse=n) for n in range(1, requests + 1)]
+    for n in range(requests):
         # A library asks for more than it needs in some places, or to give some back, and goes on
         # where that is refused.
-        if got not in ((b"", b"vcdkit: out of memory\n", 3), whole):
-            yield say(case, "request %d of %d refused" % (n, requests), whole, got)
+        if got[n] not in ((b"", b"vcdkit: out of memory\n", 3), whole):
+            yield say(case, "request %d of %d refused" % (n + 1, requests), whole, got[n])
+    # The last three are for the code as a key, for the variable's type, and for the key again.
+    if case.known_code and not got[-3] == got[-1] == whole:
+        yield say(case, "the key of a known code refused", [whole, whole], [got[-3], got[-1]])
     # How the last variable of a header is read, and so what it asks for, depends on whether 64
     # bytes lie behind it in the chunk: five comments are more. The names of the files are as long,
     # since they are copied too.
