@@ -8,7 +8,7 @@ use Rattle.std.proofs.Math.Pow.{pow_mono}
 use Rattle.std.specs.Int.Digits.{AllBelowBase, number_from_digits, number_from_digits_after}
 use Rattle.std.specs.Str.{byte}
 use Rattle.vcd_model.specs.Values.{extend, extension}
-use Rattle.vcd_changes.specs.Digits.{is_known, is_one, number_where}
+use Rattle.vcd_changes.specs.Digits.{is_one, number_where}
 
 regroup : (n b p q x y : ℕ) → q ≡ 2 * p → y ≡ (0 * 2 + b) * p + x → (n * 2 + b) * p + x ≡ n * q + y
 regroup n b p q x y e f = rw (e, f) (omega arith)

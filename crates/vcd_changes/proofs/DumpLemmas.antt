@@ -1,5 +1,5 @@
 -- A reading that goes on finds the header that it began with.
-use Rattle.std.proofs.Common.{◌≡◌, ◌∙◌, ◌++◌, ℕ, List, [], ap, refl, subst, sym}
+use Rattle.std.proofs.Common.{◌≡◌, ◌∙◌, ℕ, List, [], ap, refl, subst, sym}
 use Rattle.vcd_model.specs.Declarations.{IdCode}
 use Rattle.vcd_model.specs.Header.{header_of}
 use Rattle.vcd_model.specs.HeaderPhrases.{HeaderPhrase}
@@ -16,7 +16,7 @@ use Rattle.vcd_text.specs.declared.feed.Feed.{Feed}
 use Rattle.vcd_view.specs.Shown.{HeadShown}
 use Rattle.vcd_head.specs.Reads.{GivesHead}
 use Rattle.vcd_changes.specs.declared.reading.Reading.{Reading}
-use Rattle.vcd_changes.specs.declared.rows.ChangeRow.{ChangeRow}
+use Rattle.vcd_changes.specs.declared.row.ChangeRow.{ChangeRow}
 use Rattle.vcd_changes.specs.Reading.{Finds, GoesOnAt, HasCodes, IsAfter}
 use Rattle.vcd_changes.specs.declared.reading.Place.{Place}
 use Rattle.vcd_changes.proofs.HeaderLemmas.{one_whole}

@@ -1,5 +1,5 @@
 -- A dump has one header.
-use Rattle.std.proofs.Common.{◌≡◌, ◌∙◌, ◌⊎◌, inl, inr, ℕ, Bool, true, false, cond, List, [], ◌∷◌, ◌++◌, ap, find, refl, sym, subst, append-nil, bytes_eq, Option, Some}
+use Rattle.std.proofs.Common.{◌≡◌, ◌∙◌, ◌⊎◌, inl, inr, ℕ, Bool, true, false, cond, List, [], ◌∷◌, ◌++◌, ap, find, refl, sym, subst, append-nil, Some}
 use Rattle.vcd_model.specs.Declarations.{IdCode, has_text}
 use Rattle.vcd_view.proofs.ListLemmas.{same_bytes}
 use Rattle.vcd_model.specs.Reading.{Grammar, Placed, Reading, reading_of}

@@ -4,3 +4,4 @@ pub mod FaultLemmas
 pub mod HeaderLemmas
 pub mod PlaceLemmas
 pub mod RowLemmas
+pub mod WalkLemmas

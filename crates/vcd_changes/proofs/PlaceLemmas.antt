@@ -2,13 +2,13 @@
 -- failed read.
 use Rattle.std.proofs.Common.{◌≡◌, ◌≢◌, ◌∙◌, ◌==◌, ◌++◌, ℕ, Bool, true, false, not, cond, List, Option, Some, None, Ok, Err, ap, refl, sym, subst, length, inl, inr, arith}
 use Rattle.vcd_model.specs.Declarations.{IdCode}
-use Rattle.vcd_model.specs.Input.{Clean, Failed, Input, Mark}
+use Rattle.vcd_model.specs.Input.{Clean, Failed, Input}
 use Rattle.vcd_model.specs.Items.{BodyItem}
 use Rattle.vcd_model.specs.Tokens.{Token}
 use Rattle.vcd_text.specs.Advances.{HasNotFailed}
 use Rattle.vcd_text.specs.Answer.{whole}
 use Rattle.vcd_text.specs.Feed.{HasGiven, HasGivenTo, chunk_len_of, limit_of}
-use Rattle.vcd_text.specs.Given.{HasGivenAt, InPhase}
+use Rattle.vcd_text.specs.Given.{InPhase}
 use Rattle.vcd_text.specs.Registers.{IsOffset, settled}
 use Rattle.vcd_text.specs.declared.answer.Halt.TheVariants as halt
 use Rattle.vcd_text.specs.declared.device.Source.{Ghosts}
@@ -25,7 +25,7 @@ use Rattle.vcd_body.specs.declared.item.Section.TheVariants.{Vars, Off, On, All}
 use Rattle.vcd_changes.specs.declared.reading.Place.{Place}
 use Rattle.vcd_changes.specs.Rows.{EndsSo}
 use Rattle.vcd_changes.specs.declared.reading.Reading.{Reading}
-use Rattle.vcd_changes.specs.declared.rows.ChangeRow.{ChangeRow}
+use Rattle.vcd_changes.specs.declared.row.ChangeRow.{ChangeRow}
 use Rattle.vcd_changes.specs.declared.rows.Filled.{Filled}
 use Rattle.vcd_changes.specs.declared.rows.Filled.TheVariants as filled
 use Rattle.vcd_changes.specs.Reading.{EndsAt, IsAfter, status_of, place_of, regs_of, section_at, section_number}

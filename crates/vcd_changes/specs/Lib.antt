@@ -1,3 +1,4 @@
 pub mod Digits
 pub mod Rows
+pub mod Walk
 pub mod Reading

@@ -1,5 +1,5 @@
 -- Where a reading of changes goes on, and what a call of it finds.
-use Rattle.std.specs.Prelude.{◌≡◌, ◌≢◌, ◌⊎◌, ℕ, ◌==◌, Bool, true, not, cond, find, List, [], ◌∷◌, ◌++◌, length, take, Option, Some, None}
+use Rattle.std.specs.Prelude.{◌≡◌, ◌≢◌, ◌⊎◌, ℕ, ◌==◌, not, cond, find, List, [], ◌++◌, length, take, Option, Some, None}
 use Rattle.vcd_model.specs.BodyPhrases.{BodyPhrase, items_of}
 use Rattle.vcd_model.specs.BodyReading.{body_grammar}
 use Rattle.vcd_model.specs.Declarations.{IdCode, has_text}
@@ -27,7 +27,7 @@ use Rattle.vcd_body.specs.declared.item.Section.TheVariants.{Vars, Off, On, All}
 use Rattle.vcd_changes.specs.Rows.{rows_of}
 use Rattle.vcd_changes.specs.declared.reading.Place.{Place}
 use Rattle.vcd_changes.specs.declared.reading.Reading.{Reading}
-use Rattle.vcd_changes.specs.declared.rows.ChangeRow.{ChangeRow}
+use Rattle.vcd_changes.specs.declared.row.ChangeRow.{ChangeRow}
 use Rattle.vcd_changes.specs.declared.rows.Filled.{Filled}
 use Rattle.vcd_changes.specs.declared.rows.Filled.TheVariants as filled
 
@@ -77,10 +77,10 @@ pub data GoesOnAt (dump : List ℕ) (items : List BodyItem) (p : Place) : Type 0
   AtBegin : (new : p.begun ≡ 0) (none : items ≡ []) → GoesOnAt dump items p
   Behind : (front : List Token) (codes : List IdCode) (has : HasCodes dump front codes) (after : IsAfter codes (whole dump) front items p) → GoesOnAt dump items p
 
--- the header was refused: where memory ran out the status says so, else the fault and its line are
--- noted
+-- the header was refused, and there are no rows: where memory ran out the status says so, else the
+-- fault and its line are noted
 abbrev pub Refused : HeadFault → (line : ℕ) → Reading → (status : ℕ) → Type 0
-Refused fault line r status = ((fault ≡ OutOfMemory) × (status ≡ 3)) ⊎ ((fault ≡ OutOfMemory → ⊥) × (status ≡ 1) × (r.count ≡ 0) × (r.fault ≡ fault_number fault) × (r.line ≡ line))
+Refused fault line r status = (r.count ≡ 0) × (((fault ≡ OutOfMemory) × (status ≡ 3)) ⊎ ((fault ≡ OutOfMemory → ⊥) × (status ≡ 1) × (r.fault ≡ fault_number fault) × (r.line ≡ line)))
 
 -- the status of a reading that has met no fault
 abbrev pub status_of : Filled → ℕ
@@ -105,6 +105,6 @@ pub record Finds (codes : List IdCode) (i : Input) (front : List Token) (items :
 -- what a call finds in a dump behind these items of its body
 pub data FindsIn (dump : List ℕ) (items : List BodyItem) (code : List ℕ) (r : Reading) (rows : List ChangeRow) (status : ℕ) : Type 0 where
   Found : (front : List Token) (codes : List IdCode) (has : HasCodes dump front codes) (finds : Finds codes (whole dump) front items code r rows status) → FindsIn dump items code r rows status
-  NoCode : (front : List Token) (codes : List IdCode) (has : HasCodes dump front codes) (none : find (has_text code) codes ≡ None) (status_is : status ≡ 2) → FindsIn dump items code r rows status
+  NoCode : (front : List Token) (codes : List IdCode) (has : HasCodes dump front codes) (none : find (has_text code) codes ≡ None) (count_is : r.count ≡ 0) (status_is : status ≡ 2) → FindsIn dump items code r rows status
   BadHeader : (fault : header_fault_of (stream_of 65536 (whole dump)) (read_header 16777216 (stream_of 65536 (whole dump))) ≡ Some (record { number = r.fault; line = r.line })) (none : r.count ≡ 0) (status_is : status ≡ 1) → FindsIn dump items code r rows status
-  NoMemory : (status_is : status ≡ 3) → FindsIn dump items code r rows status
+  NoMemory : (count_is : r.count ≡ 0) (status_is : status ≡ 3) → FindsIn dump items code r rows status

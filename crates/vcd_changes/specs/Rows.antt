@@ -10,13 +10,12 @@ use Rattle.vcd_text.specs.declared.feed.Feed.{Feed}
 use Rattle.vcd_body.specs.Items.{model_form}
 use Rattle.vcd_body.specs.Reads.{Fails, GaveAll, GaveItems}
 use Rattle.vcd_body.specs.declared.fault.BodyFault.{BodyFault}
-use Rattle.vcd_body.specs.declared.item.Form.{Form}
 use Rattle.vcd_body.specs.declared.item.Item.{Item}
 use Rattle.vcd_body.specs.declared.item.Item.TheVariants as item
 use Rattle.vcd_body.specs.declared.item.Regs.{Regs}
 use Rattle.vcd_changes.specs.Digits.{digits_of}
 use Rattle.vcd_changes.specs.declared.digits.Digits.{Digits}
-use Rattle.vcd_changes.specs.declared.rows.ChangeRow.{ChangeRow}
+use Rattle.vcd_changes.specs.declared.row.ChangeRow.{ChangeRow}
 use Rattle.vcd_changes.specs.declared.rows.Filled.{Filled}
 use Rattle.vcd_changes.specs.declared.rows.Filled.TheVariants.{All, Full}
 
@@ -49,6 +48,14 @@ row_added place time text (item.Change code form) = cond (code == place) (row_of
 row_added place time text other = []
 
 module _ {X : Type 0} {g : Ghosts X} (codes : List IdCode) (i : Input) (front : List Token) where
+  -- behind these items others were given, whose changes of this code have the rows that were added
+  pub record GaveRows (items : List BodyItem) (code : List ℕ) (f : Feed X g) (r : Regs) (old new : List ChangeRow) : Type 0 where
+    pub more : List BodyItem
+    pub added : List ChangeRow
+    pub gave : GaveItems codes i front (items ++ more) f r
+    pub rows_are : rows_of code (items ++ more) ≡ rows_of code items ++ added
+    pub new_are : new ≡ old ++ added
+
   -- how a reading ends that has these items: they are all of the body's; or the rows are full; or
   -- the body has this fault
   abbrev pub EndsSo : List BodyItem → Feed X g → Regs → (count : ℕ) → List ChangeRow → Result Filled BodyFault → Type 0

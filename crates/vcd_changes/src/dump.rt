@@ -1,5 +1,5 @@
 //! The changes of one variable of a dump in memory.
-ghost use Rattle.std.specs.Prelude.{◌≡◌, ℕ, IfOk, List, Some, drop, slice_get};
+ghost use Rattle.std.specs.Prelude.{◌≡◌, ◌≤◌, ℕ, IfErr, IfOk, List, Some, drop, length, slice_get};
 ghost use Rattle.vcd_body.specs.Reads.{GaveItems};
 ghost use Rattle.vcd_head.specs.Model.Header.{Header};
 ghost use Rattle.vcd_head.specs.Model.Tokens.{Token};
@@ -11,7 +11,8 @@ ghost use Rattle.vcd_text.specs.Feed.{chunk_len_of, limit_of};
 ghost use Rattle.vcd_changes.specs.Reading.{Finds, FindsIn, GoesOnAt, IsAfter, Refused, status_of};
 
 use crate::reading::{Reading, place_of, regs_of};
-use crate::rows::{ChangeRow, Filled, collect};
+use crate::row::ChangeRow;
+use crate::rows::{Filled, collect};
 use std::alloc::{AllocError, Global};
 use std::hash::BuildHasher;
 use vcd_body::Regs;
@@ -64,11 +65,12 @@ fn read_on(
     rows: &mut [ChangeRow],
 ) -> u8
     requires { (limit_of feed.old ≡ 65536) × (chunk_len_of feed.old ≡ 65536) }
-    ensures { (h : Header) (dump : List ℕ) (front : List Token) (items : List BodyItem)
+    ensures finds { (h : Header) (dump : List ℕ) (front : List Token) (items : List BodyItem)
         (code : IdCode) → IsViewOf view.entry h
         → GaveItems h.codes (whole dump) front items feed.old regs
         → slice_get h.codes place ≡ Some code
         → Finds h.codes (whole dump) front items code.text reading.new rows.new result }
+    ensures most { reading.new.count ≤ length rows.new }
 {
     let mut regs = regs;
     let mut count = 0;
@@ -96,11 +98,14 @@ fn go_on(
     reading: &mut Reading,
     rows: &mut [ChangeRow],
 ) -> Result<u8, AllocError>
-    ensures { (h : Header) (front : List Token) (items : List BodyItem) (code : IdCode)
+    requires { reading.old.count ≡ 0 }
+    ensures finds { (h : Header) (front : List Token) (items : List BodyItem) (code : IdCode)
         → IsViewOf view.entry h
         → IsAfter h.codes (whole dump.now) front items reading.old.place
         → slice_get h.codes place ≡ Some code
         → IfOk result (Finds h.codes (whole dump.now) front items code.text reading.new rows.new) }
+    ensures most { reading.new.count ≤ length rows.new }
+    ensures none { IfErr result (λ _. reading.new.count ≡ 0) }
 {
     let mut chunk = vec![in alloc; 0u8; LIMIT]?;
     let mut token = vec![in alloc; 0u8; LIMIT]?;
@@ -125,14 +130,14 @@ fn after(dump: &[u8], n: u64) -> &[u8]
     &dump[n as usize..]
 }
 
-/// Notes the fault of a header at this line, and returns the status.
+/// Notes the fault of a header at this line, and that there are no rows, and returns the status.
 fn refused(fault: HeadFault, line: u64, reading: &mut Reading) -> u8
     ensures { Refused fault line reading.new result }
 {
+    reading.count = 0;
     if fault == HeadFault::OutOfMemory {
         return NO_MEMORY;
     }
-    reading.count = 0;
     reading.fault = u64::from(fault.number());
     reading.line = line;
     FAULT
@@ -147,8 +152,11 @@ fn read_changes<B: BuildHasher>(
     reading: &mut Reading,
     rows: &mut [ChangeRow],
 ) -> Result<u8, AllocError>
-    ensures { (items : List BodyItem) → GoesOnAt dump.now items reading.old.place
+    requires { reading.old.count ≡ 0 }
+    ensures finds { (items : List BodyItem) → GoesOnAt dump.now items reading.old.place
         → IfOk result (FindsIn dump.now items code.now reading.new rows.new) }
+    ensures most { reading.new.count ≤ length rows.new }
+    ensures none { IfErr result (λ _. reading.new.count ≡ 0) }
 {
     let mut chunk = vec![in alloc; 0u8; LIMIT]?;
     let mut token = vec![in alloc; 0u8; LIMIT]?;
@@ -172,7 +180,9 @@ fn read_changes<B: BuildHasher>(
 /// Fills the rows with the changes of the variables with this identifier code, from the place of
 /// the reading on, and returns the status: `DONE`, `FAULT`, `NO_CODE`, `NO_MEMORY`, `FULL` or
 /// `BAD_PLACE`. Each call reads the header anew, and then goes on in the body at once. Identifier
-/// codes are hashed by numbers that the hasher gives; what is found is the same by each.
+/// codes are hashed by numbers that the hasher gives; what is found is the same by each. No more
+/// rows are counted than there are, whatever the place is; none with `NO_CODE` and `NO_MEMORY`, and
+/// where the header has a fault.
 pub fn changes<B: BuildHasher>(
     alloc: Global,
     dump: &[u8],
@@ -181,8 +191,9 @@ pub fn changes<B: BuildHasher>(
     reading: &mut Reading,
     rows: &mut [ChangeRow],
 ) -> u8
-    ensures { (items : List BodyItem) → GoesOnAt dump.now items reading.old.place
+    ensures finds { (items : List BodyItem) → GoesOnAt dump.now items reading.old.place
         → FindsIn dump.now items code.now reading.new rows.new result }
+    ensures most { reading.new.count ≤ length rows.new }
 {
     reading.count = 0;
     match read_changes(alloc, dump, code, hasher, reading, rows) {

@@ -7,18 +7,22 @@
 //! # The modules
 //!
 //! - `dump`: from a dump to rows and a status
-//! - `rows`: `ChangeRow`, and the loop over items
+//! - `rows`: the loop over the items of the body
+//! - `walk`: those that lie whole ahead
+//! - `row`: `ChangeRow`, a change as numbers
 //! - `reading`: where a reading goes on, as numbers
 //! - `digits`: the digits of a value as numbers
 //!
-//! In `specs/`: `Digits`; `Rows`; `Reading`, which has what a call finds.
+//! In `specs/`: `Digits`; `Rows`; `Walk`; `Reading`, which has what a call finds.
 #![tactic(auto)]
 
 mod digits;
 mod dump;
 mod reading;
+mod row;
 mod rows;
+mod walk;
 
 pub use dump::{BAD_PLACE, DONE, FAULT, FULL, NO_CODE, NO_MEMORY, changes};
 pub use reading::{Place, Reading};
-pub use rows::ChangeRow;
+pub use row::ChangeRow;

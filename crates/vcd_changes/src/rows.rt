@@ -1,6 +1,5 @@
-//! The changes of a code as rows of numbers.
+//! The changes of a code in a body, one row for each.
 ghost use Rattle.std.specs.Prelude.{◌≡◌, ◌-◌, ◌^◌, ◌<◌, ◌≤◌, ◌++◌, List, Some, length, slice_get, take};
-ghost use Rattle.vcd_body.specs.Items.{model_form};
 ghost use Rattle.vcd_body.specs.Given.{item_text};
 ghost use Rattle.vcd_body.specs.Fault.{call_end};
 ghost use Rattle.vcd_body.specs.Reads.{GaveItems};
@@ -12,25 +11,13 @@ ghost use Rattle.vcd_head.specs.Model.Tokens.{Token};
 ghost use Rattle.vcd_head.specs.Views.{IsViewOf};
 ghost use Rattle.vcd_text.specs.Advances.{Advances};
 ghost use Rattle.vcd_text.specs.Feed.{source_of};
-ghost use Rattle.vcd_changes.specs.Rows.{Collects, row_added, row_of};
+ghost use Rattle.vcd_changes.specs.Rows.{Collects, row_added};
 
-use crate::digits::digits_of;
-use vcd_body::{BodyFault, Form, Item, Regs, change_text, next_item};
+use crate::row::{ChangeRow, row_of};
+use crate::walk::take_ahead;
+use vcd_body::{BodyFault, Item, Regs, change_text, next_item};
 use vcd_head::HeadView;
 use vcd_text::{Feed, Source};
-
-/// A change of a variable's value: its time in ticks, the last 64 digits, and which of them are 0
-/// or 1.
-#[repr(C)]
-#[derive(Clone, Copy, PartialEq, Eq, Debug)]
-pub struct ChangeRow {
-    /// The time in ticks.
-    pub time: u64,
-    /// Which digits are 1.
-    pub value: u64,
-    /// Which digits are 0 or 1: all where the whole value is known, none of a real number.
-    pub known: u64,
-}
 
 /// Why no more rows were filled.
 #[derive(Clone, Copy, PartialEq, Eq, Debug)]
@@ -39,27 +26,6 @@ pub(crate) enum Filled {
     All,
     /// The rows are full.
     Full,
-}
-
-/// Returns the row of a change.
-fn row_of(time: u64, form: Form, text: &[u8]) -> ChangeRow
-    ensures { result ≡ row_of time (model_form form) text.now }
-{
-    match form {
-        Form::Scalar | Form::Vector => {
-            let digits = digits_of(text);
-            ChangeRow {
-                time,
-                value: digits.value,
-                known: digits.known,
-            }
-        }
-        Form::RealText => ChangeRow {
-            time,
-            value: 0,
-            known: 0,
-        },
-    }
 }
 
 /// Puts the row of the item that was read last after the first `count` rows, where it is a change
@@ -101,10 +67,12 @@ pub(crate) fn collect<S: Source>(
         (code : IdCode) → IsViewOf view.entry h → GaveItems h.codes i front items feed.old regs.old
         → slice_get h.codes place ≡ Some code
         → Collects h.codes i front items code.text feed.new regs.new count.new rows.new result }
+    ensures most { count.new ≤ length rows.new }
     ensures advances { Advances S.failures feed.old feed.new (call_end result) }
 {
     *count = 0;
     'items: loop {
+        *count = take_ahead(feed, view, place, regs, rows, *count);
         if *count == rows.len() {
             return Ok(Filled::Full);
         }

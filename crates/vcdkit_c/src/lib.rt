@@ -11,7 +11,7 @@ mod lent;
 mod seed;
 mod words;
 
-ghost use Rattle.std.specs.Prelude.{List, map};
+ghost use Rattle.std.specs.Prelude.{◌≤◌, List, length, map};
 ghost use Rattle.vcdkit_c.specs.Names.{BodyItem, bytes_of, FindsIn, GoesOnAt, RunsInto};
 
 use crate::fill::fill;
@@ -83,8 +83,9 @@ pub extern "C" fn vcdkit_changes(
     reading: &mut Reading,
     rows: &mut [ChangeRow],
 ) -> u8
-    ensures { (items : List BodyItem) → GoesOnAt dump.now items reading.old.place
+    ensures finds { (items : List BodyItem) → GoesOnAt dump.now items reading.old.place
         → FindsIn dump.now items code.now reading.new rows.new result }
+    ensures most { reading.new.count ≤ length rows.new }
 {
     changes(alloc, dump, code, &Seed::new(seed), reading, rows)
 }

@@ -1,6 +1,5 @@
-use Rattle.std.proofs.Common.{◌≡◌, ◌∙◌, ◌+◌, ◌-◌, ◌^◌, ◌<◌, ap, cond, length, rules, subst, sym, arith}
-use Rattle.vcd_model.specs.Values.{extension}
-use Rattle.vcd_changes.specs.Digits.{is_known, number_where}
+use Rattle.std.proofs.Common.{◌+◌, ◌^◌, ◌<◌, sym, arith}
+use Rattle.vcd_changes.specs.Digits.{is_known}
 use Rattle.vcd_changes.proofs.DigitLemmas.{fits_extended, number_extended}
 use Rattle.vcd_changes.proofs.digits.known_in_all.Goals as goal
 

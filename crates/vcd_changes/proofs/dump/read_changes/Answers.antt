@@ -1,7 +1,4 @@
-use Rattle.std.proofs.Common.{◌≡◌, ◌∙◌, ℕ, List, [], Option, Result, Some, Err, ap, arith, inl, inr, refl, subst, sym}
-use Rattle.vcd_model.specs.HeaderReading.{header_fault_of, read_header}
-use Rattle.vcd_model.specs.Tokens.{stream_of}
-use Rattle.vcd_model.specs.Items.{BodyItem}
+use Rattle.std.proofs.Common.{◌≡◌, ◌∙◌, ℕ, [], Result, Err, ap, arith, inl, inr, refl, subst, sym}
 use Rattle.vcd_text.specs.Answer.{whole}
 use Rattle.vcd_text.specs.Feed.{limit_of, token_of}
 use Rattle.vcd_head.specs.Fault.{fault_number}
@@ -25,31 +22,31 @@ use Rattle.vcd_changes.proofs.dump.read_changes.Goals as goal
 as_err : (a b : HeadFault) → a ≡ b → ◌≡◌ {A = Result Head HeadFault} (Err a) (Err b)
 as_err a b e = ap (λ (x : HeadFault). Err x) e
 
-pub returns-in-Err : goal.returns-in-Err
-returns-in-Err g c = λ items goes.
+pub returns-in-Err-clause-finds : goal.returns-in-Err-clause-finds
+returns-in-Err-clause-finds g c = λ items goes.
     let dump = c.args.dump.now in
     let f = c.read_head_with_hasher.new.feed in
     let stands = c.new-feed.ensures.begins.stands in
     let limit : limit_of f ≡ 65536 = c.in-Err.ensures.lengths.0 ∙ omega (arith, c.in_ok-token.ensures.len, c.deref_mut-2.ensures.len, c.new-feed.ensures.begins.limit) in
     let not_read : c.in-Err.fault ≡ ReadFailed → ⊥ = λ e. let more = c.in-Err.ensures.failed (has_not_failed c.new-feed.result dump [] stands) (as_err c.in-Err.fault ReadFailed e) in absurd (omega arith) in
-    elim c.refused.ensures [
-      | inl h ↦ FindsIn.NoMemory h.1
+    elim c.refused.ensures.1 [
+      | inl h ↦ FindsIn.NoMemory c.refused.ensures.0 h.1
       | inr h ↦
           let has = subst (λ (n : ℕ). HasFault 16777216 n (whole dump) (fault_number c.in-Err.fault) (token_of f).line) limit (head_fault_is f (whole dump) 16777216 c.in-Err.fault not_read h.0 (c.in-Err.ensures.reads (whole dump) stands)) in
-          FindsIn.BadHeader (has ∙ some_fault (fault_number c.in-Err.fault) _ (token_of f).line _ h.3 (h.4 ∙ c.line.ensures)) h.2 h.1
+          FindsIn.BadHeader (has ∙ some_fault (fault_number c.in-Err.fault) _ (token_of f).line _ h.2 (h.3 ∙ c.line.ensures)) c.refused.ensures.0 h.1
     ]
 
-pub returns-in_default : goal.returns-in_default
-returns-in_default g c = λ items goes.
+pub returns-in_default-clause-finds : goal.returns-in_default-clause-finds
+returns-in_default-clause-finds g c = λ items goes.
     let dump = c.args.dump.now in
     let stands = c.new-feed.ensures.begins.stands in
     let limit : limit_of c.read_head_with_hasher.new.feed ≡ 65536 = c.in-Ok.ensures.lengths.0 ∙ omega (arith, c.in_ok-token.ensures.len, c.deref_mut-2.ensures.len, c.new-feed.ensures.begins.limit) in
     let head = c.in-Ok.ensures.reads (whole dump) stands in
     let views = subst (λ (s : HeadShown). Views s (header_of (phrases_of head.placed))) (sym c.view-shown.ensures) head.views in
-    FindsIn.NoCode head.given (codes_in head.placed) (has_codes c.read_head_with_hasher.new.feed dump _ head limit) (c.in_default.ensures.found (header_of (phrases_of head.placed)) views) refl
+    FindsIn.NoCode head.given (codes_in head.placed) (has_codes c.read_head_with_hasher.new.feed dump _ head limit) (c.in_default.ensures.found (header_of (phrases_of head.placed)) views) c.requires refl
 
-pub returns-then-reading-eq0 : goal.returns-then-reading-eq0
-returns-then-reading-eq0 g c = λ items goes.
+pub returns-then-reading-eq0-clause-finds : goal.returns-then-reading-eq0-clause-finds
+returns-then-reading-eq0-clause-finds g c = λ items goes.
     let dump = c.args.dump.now in
     let f = c.read_head_with_hasher.new.feed in
     let stands = c.new-feed.ensures.begins.stands in
@@ -59,12 +56,12 @@ returns-then-reading-eq0 g c = λ items goes.
     let views = subst (λ (s : HeadShown). Views s h) (sym c.view-shown.ensures) head.views in
     let at = c.in-Some.ensures.found h views in
     let none = none_before dump items c.args.reading.now.place goes c.if-reading-eq0.true in
-    let finds = c.read_on.ensures h dump head.given [] at.0 views (gave_nothing h.codes (whole dump) head.given f c.new.result head.stands c.new.ensures.known) at.1 in
+    let finds = c.read_on.ensures.finds h dump head.given [] at.0 views (gave_nothing h.codes (whole dump) head.given f c.new.result head.stands c.new.ensures.known) at.1 in
     FindsIn.Found head.given (codes_in head.placed) (has_codes f dump _ head limit)
     (finds_for h.codes (whole dump) head.given [] items at.0.text c.args.code.now _ _ _ none (found_text h.codes c.args.code.now at.0 at.2) finds)
 
-pub returns : goal.returns
-returns g c = λ items goes.
+pub returns-clause-finds : goal.returns-clause-finds
+returns-clause-finds g c = λ items goes.
     let dump = c.args.dump.now in
     let f = c.read_head_with_hasher.new.feed in
     let stands = c.new-feed.ensures.begins.stands in
@@ -77,4 +74,4 @@ returns g c = λ items goes.
     let after = goes_behind dump items c.args.reading.now.place goes c.if-reading-eq0.false head.given (codes_in head.placed) has in
     IfOk-weaker c.go_on.result _ _
     (λ status finds. FindsIn.Found head.given (codes_in head.placed) has (finds_for h.codes (whole dump) head.given items items at.0.text c.args.code.now _ _ _ refl (found_text h.codes c.args.code.now at.0 at.2) finds))
-    (c.go_on.ensures h head.given items at.0 views after at.1)
+    (c.go_on.ensures.finds h head.given items at.0 views after at.1)

@@ -1,18 +1,16 @@
-use Rattle.std.proofs.Common.{◌≡◌, ◌∙◌, ◌++◌, ℕ, List, Some, Err, ap, arith, inl, inr, refl, subst, sym}
+use Rattle.std.proofs.Common.{◌≡◌, ◌∙◌, ◌++◌, ℕ, Some, Err, ap, arith, inl, inr, refl, subst}
 use Rattle.vcd_text.specs.Answer.{whole}
 use Rattle.vcd_text.specs.Feed.{chunk_len_of, limit_of, token_of}
 use Rattle.vcd_body.specs.Fault.{call_end, fault_number}
 use Rattle.vcd_body.specs.Reads.{BodyHas}
 use Rattle.vcd_body.specs.declared.fault.BodyFault.{BodyFault}
-use Rattle.vcd_body.specs.declared.fault.BodyFault.TheVariants.{ReadFailed}
 use Rattle.vcd_changes.specs.Rows.{EndsSo}
-use Rattle.vcd_changes.specs.declared.rows.Filled.{Filled}
 use Rattle.vcd_changes.proofs.FaultLemmas.{body_fault_is, some_fault}
 use Rattle.vcd_changes.proofs.PlaceLemmas.{ends_well, has_not_failed, is_after}
 use Rattle.vcd_changes.proofs.dump.read_on.Goals as goal
 
-pub returns-in-Ok : goal.returns-in-Ok
-returns-in-Ok c = λ h dump front items code views gave at.
+pub returns-in-Ok-clause-finds : goal.returns-in-Ok-clause-finds
+returns-in-Ok-clause-finds c = λ h dump front items code views gave at.
     let f = c.collect-ended.new.feed in
     let s = c.collect-ended.ensures.reads h (whole dump) front items code views gave at in
     let ends = subst (EndsSo h.codes (whole dump) front (items ++ s.more) f c.collect-ended.new.regs c.collect-ended.new.count c.collect-ended.new.rows) c.in-Ok.is s.ends in
@@ -25,8 +23,8 @@ returns-in-Ok c = λ h dump front items code views gave at.
           (λ all. is_after h.codes (whole dump) front (items ++ s.more) f c.collect-ended.new.regs c.offset.result all limit chunk c.offset.ensures.given c.offset.ensures.comes));
     }
 
-pub returns-in-Err : goal.returns-in-Err
-returns-in-Err c = λ h dump front items code views gave at.
+pub returns-in-Err-clause-finds : goal.returns-in-Err-clause-finds
+returns-in-Err-clause-finds c = λ h dump front items code views gave at.
     let f = c.collect-ended.new.feed in
     let s = c.collect-ended.ensures.reads h (whole dump) front items code views gave at in
     let fails = subst (EndsSo h.codes (whole dump) front (items ++ s.more) f c.collect-ended.new.regs c.collect-ended.new.count c.collect-ended.new.rows) c.in-Err.is s.ends in

@@ -5,9 +5,9 @@ use Rattle.vcd_changes.proofs.RowLemmas.{not_both}
 use Rattle.vcd_changes.proofs.dump.refused.Goals as goal
 
 pub returns-then-eq : goal.returns-then-eq
-returns-then-eq c = let is : c.args.fault ≡ OutOfMemory = search rules in inl (is, refl)
+returns-then-eq c = let is : c.args.fault ≡ OutOfMemory = search rules in (refl, inl (is, refl))
 
 pub returns : goal.returns
 returns c =
     let number : c.from-reading.result ≡ fault_number c.args.fault = omega arith in
-    inr (λ is. let same : c.eq.result ≡ true = search rules in not_both c.eq.result same c.if-eq.false, refl, refl, number, refl)
+    (refl, inr (λ is. let same : c.eq.result ≡ true = search rules in not_both c.eq.result same c.if-eq.false, refl, number, refl))

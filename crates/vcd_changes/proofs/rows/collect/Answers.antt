@@ -1,4 +1,4 @@
-use Rattle.std.proofs.Common.{◌≡◌, ◌∙◌, ◌++◌, ◌∷◌, ℕ, List, [], true, ap, append_assoc, append-nil, arith, length, rules, subst, sym, take}
+use Rattle.std.proofs.Common.{◌≡◌, ◌∙◌, ◌++◌, ◌∷◌, List, [], true, ap, append_assoc, append-nil, arith, length, rules, subst, sym, take}
 use Rattle.std.proofs.lemmas.Result.{err_from_is_err_and}
 use Rattle.vcd_model.specs.Items.{BodyItem}
 use Rattle.vcd_text.specs.Advances.{CallEnd}
@@ -7,7 +7,7 @@ use Rattle.vcd_body.specs.Given.{GivesItem, item_text}
 use Rattle.vcd_body.specs.Reads.{GaveItems}
 use Rattle.vcd_body.specs.declared.item.Item.TheVariants.{Finish}
 use Rattle.vcd_changes.specs.Rows.{row_added, rows_of}
-use Rattle.vcd_changes.proofs.RowLemmas.{filled_more, filled_none, not_both, taken}
+use Rattle.vcd_changes.proofs.RowLemmas.{filled_ahead, filled_more, filled_none, not_both, taken}
 use Rattle.vcd_changes.proofs.rows.collect.Goals as goal
 
 pub items-init : goal.items-init
@@ -21,34 +21,39 @@ pub returns-in_err-item-clause-reads : goal.returns-in_err-item-clause-reads
 returns-in_err-item-clause-reads g c =
     let p = err_from_is_err_and c.from_residual.result c.from_residual.ensures.1 in
     rw (p.1, p.2) (λ h i front items code views gave at.
-    let s = c.items.invariant.2 h i front items code views gave at in
+    let t = c.items.invariant.2 h i front items code views gave at in
+    let s = filled_ahead code.text h.codes i front items t.0 _ _ _ _ t.2 (c.take_ahead.ensures.reads h i front (items ++ t.0) code views t.1 at) in
     record { more = s.0; rows_are = s.2; ends = c.in_err-item.ensures.reads h i front (items ++ s.0) views s.1 })
 
 pub returns-then-count-rows-clause-reads : goal.returns-then-count-rows-clause-reads
 returns-then-count-rows-clause-reads g c = λ h i front items code views gave at.
-    let s = c.items.invariant.2 h i front items code views gave at in
-    let full : c.items.count ≡ length c.items.rows = omega arith in
+    let t = c.items.invariant.2 h i front items code views gave at in
+    let s = filled_ahead code.text h.codes i front items t.0 _ _ _ _ t.2 (c.take_ahead.ensures.reads h i front (items ++ t.0) code views t.1 at) in
+    let full : c.take_ahead.result ≡ length c.take_ahead.new.rows = omega arith in
     record { more = s.0; rows_are = s.2; ends = (s.1, full) }
 
 pub returns-then-eq : goal.returns-then-eq
 returns-then-eq g c =
     let is : c.in_ok-item.item ≡ Finish = search rules in record {
       reads = λ h i front items code views gave at.
-          let s = c.items.invariant.2 h i front items code views gave at in
+          let t = c.items.invariant.2 h i front items code views gave at in
+          let s = filled_ahead code.text h.codes i front items t.0 _ _ _ _ t.2 (c.take_ahead.ensures.reads h i front (items ++ t.0) code views t.1 at) in
           record { more = s.0; rows_are = s.2; ends = subst (GivesItem h.codes i front (items ++ s.0) c.next_item.new.feed c.next_item.new.regs) is (c.in_ok-item.ensures.reads h i front (items ++ s.0) views s.1) };
-      advances = advances_on g.S.Source.failures c.args.feed.now c.items.feed c.next_item.new.feed CallEnd.GoesOn c.items.invariant.0 c.in_ok-item.ensures.advances;
+      most = c.take_ahead.ensures.most;
+      advances = advances_on g.S.Source.failures c.args.feed.now c.take_ahead.new.feed c.next_item.new.feed CallEnd.GoesOn (advances_on g.S.Source.failures c.args.feed.now c.items.feed c.take_ahead.new.feed CallEnd.GoesOn c.items.invariant.0 c.take_ahead.ensures.advances) c.in_ok-item.ensures.advances;
     }
 
 pub items-preserved : goal.items-preserved
 items-preserved g c = (
-  advances_on g.S.Source.failures c.args.feed.now c.items.feed c.next_item.new.feed CallEnd.GoesOn c.items.invariant.0 c.in_ok-item.ensures.advances,
+  advances_on g.S.Source.failures c.args.feed.now c.take_ahead.new.feed c.next_item.new.feed CallEnd.GoesOn (advances_on g.S.Source.failures c.args.feed.now c.items.feed c.take_ahead.new.feed CallEnd.GoesOn c.items.invariant.0 c.take_ahead.ensures.advances) c.in_ok-item.ensures.advances,
   c.put_row.ensures.most,
   λ h i front items code views gave at.
-      let s = c.items.invariant.2 h i front items code views gave at in
+      let a = c.items.invariant.2 h i front items code views gave at in
+      let s = filled_ahead code.text h.codes i front items a.0 _ _ _ _ a.2 (c.take_ahead.ensures.reads h i front (items ++ a.0) code views a.1 at) in
       let gives = c.in_ok-item.ensures.reads h i front (items ++ s.0) views s.1 in
       let t = taken h.codes _ views.index c.args.place code at i front (items ++ s.0) c.next_item.new.feed c.next_item.new.regs c.in_ok-item.item gives (λ is. let same : c.eq.result ≡ true = search rules in not_both c.eq.result same c.if-eq.false) in (
         s.0 ++ t.0 ∷ [],
         subst (λ (l : List BodyItem). GaveItems h.codes i front l c.next_item.new.feed c.next_item.new.regs) (append_assoc items s.0 (t.0 ∷ [])) t.1,
-        filled_more code.text items s.0 t.0 (take c.items.count c.items.rows) (row_added c.args.place c.next_item.new.regs.time (item_text c.next_item.new.feed c.in_ok-item.item) c.in_ok-item.item) s.2 t.2 ∙ ap (λ l. rows_of code.text items ++ l) (sym c.put_row.ensures.rows),
+        filled_more code.text items s.0 (t.0 ∷ []) (take c.take_ahead.result c.take_ahead.new.rows) (row_added c.args.place c.next_item.new.regs.time (item_text c.next_item.new.feed c.in_ok-item.item) c.in_ok-item.item) s.2 t.2 ∙ ap (λ l. rows_of code.text items ++ l) (sym c.put_row.ensures.rows),
       ),
 )

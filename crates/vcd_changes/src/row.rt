@@ -1,0 +1,43 @@
+//! A change as a row of numbers.
+ghost use Rattle.std.specs.Prelude.{◌≡◌};
+ghost use Rattle.vcd_body.specs.Items.{model_form};
+ghost use Rattle.vcd_changes.specs.Rows.{row_of};
+
+use crate::digits::digits_of;
+use vcd_body::Form;
+
+/// A change of a variable's value: its time in ticks, the last 64 digits, and which of them are 0
+/// or 1.
+#[repr(C)]
+#[derive(Clone, Copy, PartialEq, Eq, Debug)]
+pub struct ChangeRow {
+    /// The time in ticks.
+    pub time: u64,
+    /// Which digits are 1.
+    pub value: u64,
+    /// Which digits are 0 or 1: all where the whole value is known, none of a real number.
+    pub known: u64,
+}
+
+/// Returns the row of a change.
+// Not inlined: few of the changes of a dump are those of one code.
+#[inline(never)]
+pub(crate) fn row_of(time: u64, form: Form, text: &[u8]) -> ChangeRow
+    ensures { result ≡ row_of time (model_form form) text.now }
+{
+    match form {
+        Form::Scalar | Form::Vector => {
+            let digits = digits_of(text);
+            ChangeRow {
+                time,
+                value: digits.value,
+                known: digits.known,
+            }
+        }
+        Form::RealText => ChangeRow {
+            time,
+            value: 0,
+            known: 0,
+        },
+    }
+}

@@ -1,0 +1,196 @@
+//! The changes of a code among the items that lie whole ahead in a feed's chunk.
+ghost use Rattle.std.specs.Prelude.{◌≡◌, ◌-◌, ◌^◌, ◌<◌, ◌≤◌, List, Some, false, length, slice_get, take};
+ghost use Rattle.vcd_body.specs.Reads.{GaveItems};
+ghost use Rattle.vcd_body.specs.declared.item.Regs.{Regs};
+ghost use Rattle.vcd_head.specs.Model.Header.{Header};
+ghost use Rattle.vcd_head.specs.Model.Input.{Input};
+ghost use Rattle.vcd_head.specs.Model.Tokens.{Token};
+ghost use Rattle.vcd_head.specs.Views.{IsViewOf};
+ghost use Rattle.vcd_model.specs.Declarations.{IdCode};
+ghost use Rattle.vcd_model.specs.Items.{BodyItem};
+ghost use Rattle.vcd_text.specs.Ahead.{passed_of};
+ghost use Rattle.vcd_text.specs.Advances.{Advances, CallEnd};
+ghost use Rattle.vcd_text.specs.Feed.{seen};
+ghost use Rattle.vcd_changes.specs.Rows.{GaveRows};
+ghost use Rattle.vcd_changes.specs.Walk.{Came, HasRoom, is_full, rows_at};
+
+use crate::row::{ChangeRow, row_of};
+use std::io;
+use vcd_body::{Item, Plain, Regs, Visit, Walked, keyword_comes, pass_items, walk_ahead};
+use vcd_head::HeadView;
+use vcd_text::{Ahead, Feed, Sink, Source, Watch, WriteFailed};
+
+/// The rows that a walk over the items ahead fills.
+#[derive(Drop)]
+struct Rows<'r> {
+    rows: &'r mut [ChangeRow],
+}
+
+impl<'r> Rows<'r> {
+    /// Returns these rows.
+    #[inline(always)]
+    fn new(rows: &'r mut [ChangeRow]) -> Rows<'r>
+        ensures loan { result.rows.ghost_name ≡ rows.entry.ghost_name }
+        ensures rows { result.rows.now ≡ rows.old }
+    {
+        Rows { rows }
+    }
+}
+
+/// What such a walk has at hand: how many rows are filled, and how many there are.
+#[derive(Clone, Copy)]
+struct Collecting {
+    count: usize,
+    room: usize,
+    // The place of the code among the header's.
+    place: usize,
+    // How many bytes are passed with the change of the last row.
+    end: usize,
+}
+
+impl Collecting {
+    ghost use Rattle.vcd_changes.specs.Walk.{is_full, passed_with};
+
+    /// Returns whether the rows are full.
+    #[inline(always)]
+    fn is_full(&self) -> bool
+        ensures { result ≡ is_full self.now }
+    {
+        self.room <= self.count
+    }
+
+    /// Returns how many bytes ahead are passed: none after the change of the last row.
+    #[inline(always)]
+    fn passed(&self, ahead: Ahead<'_>) -> usize
+        ensures { result ≡ passed_with ahead.entry self.now }
+    {
+        if self.is_full() {
+            self.end
+        } else {
+            ahead.passed()
+        }
+    }
+}
+
+// A walk is not over before a mark. So once the rows are full, it leaves the next mark, and takes
+// the changes before it in vain.
+impl<'r> Visit<Rows<'r>> for Collecting {
+    ghost use Rattle.std.specs.Prelude.{false};
+    ghost use Rattle.vcd_changes.specs.Walk.{HasRoom, TakesRow, is_full};
+
+    ghost stands = { λ collecting rows _ _. HasRoom collecting rows };
+
+    ghost takes = { λ view s t result. TakesRow view s t result };
+
+    ghost is_left = { λ collecting _ _. is_full collecting };
+
+    ghost over = { λ _. false };
+
+    #[inline(always)]
+    fn leaves(&self, _rows: &Rows<'r>, _time: u64) -> bool {
+        self.is_full()
+    }
+
+    #[inline(always)]
+    fn is_over(&self) -> bool
+        ensures { result ≡ false }
+    {
+        false
+    }
+
+    #[inline(always)]
+    fn take_mark(
+        &mut self,
+        _rows: &mut Rows<'r>,
+        _view: HeadView<'_>,
+        _regs: Regs,
+        _time: u64,
+        _mark: Plain<'_>,
+        _ahead: Ahead<'_>,
+        _next: Ahead<'_>,
+    ) {}
+
+    #[inline(always)]
+    fn take_change<W: Sink>(
+        &mut self,
+        rows: &mut Rows<'r>,
+        _view: HeadView<'_>,
+        regs: Regs,
+        change: Plain<'_>,
+        _ahead: Ahead<'_>,
+        next: Ahead<'_>,
+        _out: &mut W,
+    ) -> Result<(), WriteFailed> {
+        let Item::Change { code, form } = change.item else {
+            return Ok(());
+        };
+        if code == self.place && !self.is_full() {
+            rows.rows[self.count] = row_of(regs.time, form, change.text);
+            self.count += 1;
+            self.end = next.passed();
+        }
+        Ok(())
+    }
+}
+
+/// Takes the items that lie ahead, one after the other, and fills the rows with the changes of the
+/// code, until they are full.
+// Not inlined, so that the loop has all registers.
+#[inline(never)]
+fn walk_rows<'a>(
+    rows: &mut Rows<'_>,
+    collecting: Collecting,
+    view: HeadView<'_>,
+    regs: Regs,
+    ahead: Ahead<'a>,
+) -> Walked<'a, Collecting>
+    requires room { HasRoom collecting rows.old }
+    requires some { is_full collecting ≡ false }
+    requires first { passed_of ahead ≡ 0 }
+    ensures loan { rows.new.rows.ghost_name ≡ rows.old.rows.ghost_name }
+    ensures came { Came view.entry (rows_at ahead.entry regs collecting rows.old)
+        (rows_at result.ahead result.regs result.visit rows.new) }
+{
+    let mut out = Watch::new(io::sink());
+    walk_ahead(rows, collecting, view, regs, ahead, &mut out)
+}
+
+/// Takes the items that lie whole ahead in the feed's chunk, until the rows are full, fills those
+/// after the first `count` with the changes of the code at this place, and returns how many there
+/// are then. Where a keyword comes, none is taken.
+pub(crate) fn take_ahead<S: Source>(
+    feed: &mut Feed<'_, '_, '_, '_, S>,
+    view: HeadView<'_>,
+    place: usize,
+    regs: &mut Regs,
+    rows: &mut [ChangeRow],
+    count: usize,
+) -> usize
+    requires { count ≤ length rows.old }
+    ensures reads { (h : Header) (i : Input) (front : List Token) (items : List BodyItem)
+        (code : IdCode) → IsViewOf view.entry h → GaveItems h.codes i front items feed.old regs.old
+        → slice_get h.codes place ≡ Some code
+        → GaveRows h.codes i front items code.text feed.new regs.new
+        (take count rows.old) (take result rows.new) }
+    ensures most { result ≤ length rows.new }
+    ensures advances { Advances S.failures feed.old feed.new CallEnd.GoesOn }
+    ensures bounded { seen feed.new < 2 ^ 63 }
+{
+    let ahead = feed.ahead();
+    if rows.len() <= count || keyword_comes(ahead) {
+        return count;
+    }
+    let collecting = Collecting {
+        count,
+        room: rows.len(),
+        place,
+        end: 0,
+    };
+    let mut lent = Rows::new(rows);
+    let walked = walk_rows(&mut lent, collecting, view, *regs, ahead);
+    let passed = walked.visit.passed(walked.ahead);
+    *regs = walked.regs;
+    let count = walked.visit.count;
+    pass_items(feed, passed);
+    count
+}
