@@ -25,15 +25,17 @@ status() { "$@" 2>&1; echo "status $?"; }
 
 dump=samples/nested.vcd
 
-# The package, in both ways, with numpy and without: a Python with numpy is looked for, and numpy is
-# hidden by a folder that has an empty one.
+# The package, in both ways, with numpy and without: a Python with pandas, else with numpy, is looked
+# for, and numpy is hidden by a folder that has an empty one.
 library=
 [[ ! -e libvcdkit.so ]] || library=$PWD/libvcdkit.so
 mkdir "$folder/hidden"
 echo 'raise ImportError("hidden")' > "$folder/hidden/numpy.py"
 with_numpy=
-for python in python3 /usr/bin/python3; do
-    [[ -n $with_numpy ]] || ! "$python" -c 'import numpy' 2> /dev/null || with_numpy=$python
+for module in pandas numpy; do
+    for python in python3 /usr/bin/python3; do
+        [[ -n $with_numpy ]] || ! "$python" -c "import $module" 2> /dev/null || with_numpy=$python
+    done
 done
 # package WHAT COMMAND ..: the tests of the package by this Python
 package() {
@@ -43,6 +45,8 @@ package() {
 package 'without numpy' env PYTHONPATH="$folder/hidden" python3
 if [[ -n $with_numpy ]]; then
     package 'with numpy' "$with_numpy"
+    "$with_numpy" -c 'import pandas' 2> /dev/null ||
+        echo 'the package is not tried with pandas: there is none'
 else
     echo 'the package is not tried with numpy: there is none'
 fi
@@ -163,6 +167,11 @@ same 'vcdkit-diff: values that are written again' 'status 0' \
 same 'vcdkit-diff: nothing in common' 'timescale 100ps 1ns
 alone A bench 24
 alone B clk 1' "$(vcdkit-diff $dump samples/counter.vcd | head -n 3)"
+sed 's/b101010/b101011/' "$folder/small.vcd" > "$folder/again.vcd"
+same 'vcdkit-diff: a body on the line of the header' 'differs 5ns q 101010 101011
+status 1' "$(status vcdkit-diff "$folder/small.vcd" "$folder/again.vcd")"
+sed '2s/.*/another date/' $dump > "$folder/again.vcd"
+same 'vcdkit-diff: another date' 'status 0' "$(status vcdkit-diff $dump "$folder/again.vcd")"
 same 'vcdkit-diff: no such file' 'vcdkit-diff: samples/none.vcd: No such file or directory
 status 3' "$(status vcdkit-diff $dump samples/none.vcd)"
 
@@ -180,6 +189,9 @@ print(*[text for text in texts if text in ("9", "A", "B")],
       sum(one.get("class") == "mark" for one in of.iter()))
 END
 )"
+same 'vcdkit-wave --around, --span: as much on each side' \
+    "$(vcdkit-wave --from 65ns --to 75ns --mark 70ns $dump bench.slow | cksum)" \
+    "$(vcdkit-wave --around 70ns --span 5ns $dump bench.slow | cksum)"
 same 'vcdkit-wave: nothing there' 'status 2' \
     "$(status vcdkit-wave --from 2us --to 3us $dump bench.slow | tail -n 1)"
 same 'vcdkit-wave: an unknown name' 'status 1' \

@@ -11,13 +11,20 @@ from ..times import UNITS
 
 STATUSES = """
 exit status:
-  %s
+  0  %s
   1  %s
   2  usage error
   3  I/O error, out of memory, or no vcdkit
 
-FILE may be packed (gzip, xz, bzip2, zstd; FST where fst2vcd is on the PATH), a pipe, or - for
-standard input. VCDKIT names the program, else it is vcdkit on the PATH.
+A dump may be packed (gzip, xz, bzip2, zstd; FST where fst2vcd is on the PATH), a pipe, or - for
+standard input. A pipe is stored in a temporary file, in TMPDIR or /tmp, as it is read more than
+once. VCDKIT names the program, else it is vcdkit on the PATH.
+"""
+STATUSES_OF_A_FILTER = """
+exit status:
+  0  all was written
+  2  usage error
+  3  I/O error
 """
 TIMES = "TIME is a number of ticks, or has a unit, as 115ns or 1.5us.\n"
 
@@ -28,17 +35,30 @@ class _Parser(argparse.ArgumentParser):
         return text + TIMES if "TIME" in text else text
 
 
-
-def parser(name: str, text: str, done: str = "0  all was written",
+def parser(name: str, text: str, done: str = "all was written",
            failed: str = "a name selects nothing, or not a valid dump") -> argparse.ArgumentParser:
-    """Returns a parser of words, whose help has the text of a command and its exit statuses."""
+    """Returns a parser of words, whose help has the text of a command and its exit statuses, those
+    of a filter where nothing is said of status 1."""
     first, _, rest = text.partition("\n")
+    statuses = STATUSES % (done, failed) if failed else STATUSES_OF_A_FILTER
     made = _Parser(
-        prog=name, description=first, epilog=rest.strip("\n") + "\n" * bool(rest.strip())
-        + STATUSES % (done, failed), formatter_class=argparse.RawDescriptionHelpFormatter,
-        allow_abbrev=False)
+        prog=name, description=first, epilog=rest.strip("\n") + "\n" + statuses,
+        formatter_class=argparse.RawDescriptionHelpFormatter, allow_abbrev=False)
     made.add_argument("--version", action="version", version="%s %s" % (name, __version__))
     return made
+
+
+def add_file(to: argparse.ArgumentParser, names: str = "") -> None:
+    """Adds FILE, and NAMEs, whose count is as of argparse: + or *."""
+    to.add_argument("file", metavar="FILE", help="the dump")
+    if names:
+        add_names(to, names)
+
+
+def add_names(to: argparse.ArgumentParser, count: str) -> None:
+    """Adds NAMEs."""
+    to.add_argument("names", metavar="NAME", nargs=count,
+                    help="a path of vcdkit list, or a scope with all that it has")
 
 
 def add_window(to: argparse.ArgumentParser) -> None:

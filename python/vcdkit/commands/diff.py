@@ -1,13 +1,12 @@
 """Compares two dumps: the first difference of values, and what one of them alone has
 
 A line says what it is of, and then both sides, A first:
-  timescale 1ns 100ps                the time scales differ (times are compared all the same)
-  alone A tb.dut.core[1] 9           a variable or a scope, and how many variables in it
-  size tb.q 4 8                      bits; or types, of which one alone is real or event
-  differs 35ns tb.dut.count 0011 1011
-                                     of each that differs at the first such time (-: no value yet;
-                                     an event: whether it is triggered)
-  ends 122ns 92ns                    the last timestamps
+  timescale 1ns 100ps     the time scales (times are compared all the same)
+  alone A tb.core[1] 9    a variable or a scope, and how many are in it
+  size tb.q 4 8           bits; or types, where one is real or event
+  differs 35ns tb.q 1 0   each that differs at the first such time (-: no
+                          value yet; an event: whether it is triggered)
+  ends 122ns 92ns         the last timestamps
 
 Values are compared at the end of each time, up to the earlier end. Codes, types as reg and wire,
 the order within a time, values that are written again and sections do not matter. Names are looked
@@ -22,10 +21,11 @@ from concurrent.futures import ThreadPoolExecutor
 from math import gcd, inf
 
 from .. import Dump, RunFailed, _body, merge
-from . import command, parser
+from . import add_names, command, parser
 from .find import names_for
 
-BLOCK = 1 << 20
+BLOCK = 1 << 16
+END_OF_HEADER = b"$enddefinitions"
 MOST_LINES = 20
 
 
@@ -82,6 +82,15 @@ def read_alike(one, other):
             return tail + mine, tail + its
         at = mine.rfind(b"\n#")
         tail = bytearray(mine[at:]) if at >= 0 else tail + mine
+
+
+def have_one_text(dumps):
+    """Whether the texts of two dumps are alike from the ends of their headers on."""
+    with dumps[0].open() as one, dumps[1].open() as other:
+        fronts = [next(line[line.index(END_OF_HEADER):] for line in out if END_OF_HEADER in line)
+                  for out in (one, other)]
+        mine, its = read_alike(one, other)
+        return fronts[0] == fronts[1] and mine == its
 
 
 def blocks(out, rest):
@@ -277,6 +286,8 @@ def first_difference(sides, pairs, factors):
     dumps = [side.dump for side in sides]
     is_all = all(len(pairs) == len(side.dump.signals) for side in sides)
     alike = all(a.code == b.code for a, b in pairs)
+    if alike and factors[0] == factors[1] and have_one_text(dumps):
+        return None
     if not is_all or not alike:
         paths = list(dict.fromkeys(pair[0].path for pair in pairs))
         dumps = [side.picked(paths) for side in sides]
@@ -357,16 +368,16 @@ def say(lines):
 
 @command
 def main(words):
-    of = parser("vcdkit-diff", __doc__, "0  no difference",
+    of = parser("vcdkit-diff", __doc__, "no difference",
                 "a difference; or a name selects nothing, or not a valid dump")
     of.add_argument("--window", metavar="TIME", help="at a difference of values, write the dumps "
                     "from so much before it to so much after it, as diff.a.vcd and diff.b.vcd")
     of.add_argument("--into", metavar="FOLDER", default=".", help="where these go (here)")
     of.add_argument("--all", action="store_true",
                     help="all that one side alone has, not the first %d" % MOST_LINES)
-    of.add_argument("one", metavar="A")
-    of.add_argument("other", metavar="B")
-    of.add_argument("names", metavar="NAME", nargs="*")
+    of.add_argument("one", metavar="A", help="a dump")
+    of.add_argument("other", metavar="B", help="the other one")
+    add_names(of, "*")
     asked = of.parse_args(words)
     with ThreadPoolExecutor(2) as pool:
         sides = list(pool.map(lambda file: Side(file, asked.names), (asked.one, asked.other)))

@@ -12,7 +12,7 @@ import shlex
 import sys
 
 from .. import Dump, DumpFault
-from . import command, parser
+from . import add_file, command, parser
 
 WIDTH = 100
 FRONT = 1 << 16  # how much before a fault is looked at
@@ -160,10 +160,10 @@ def explain(dump, fault, unpacker):
 
 @command
 def main(words):
-    of = parser("vcdkit-explain", __doc__, "0  a valid dump, as far as it goes", "not a valid dump")
+    of = parser("vcdkit-explain", __doc__, "a valid dump, as far as it goes", "not a valid dump")
     of.add_argument("--token-limit", type=int, metavar="N",
                     help="how long a token may be, in bytes")
-    of.add_argument("file", metavar="FILE")
+    add_file(of)
     asked = of.parse_args(words)
     dump = Dump(asked.file, token_limit=asked.token_limit)
     unpacker = dump.unpacker()

@@ -15,7 +15,7 @@ import sys
 import warnings
 
 from .. import Dump, UsageError
-from . import command, parser
+from . import add_file, command, parser
 
 
 def names_for(chosen, signals):
@@ -43,8 +43,8 @@ def main(words):
     for name, what in (("pick", "write the dump of these variables"), ("json", "rows as JSON"),
                        ("csv", "rows as CSV")):
         form.add_argument("--" + name, dest="form", action="store_const", const=name, help=what)
-    of.add_argument("file", metavar="FILE")
-    of.add_argument("patterns", metavar="REGEX", nargs="*")
+    add_file(of)
+    of.add_argument("patterns", metavar="REGEX", nargs="*", help="what a path has to match")
     asked = of.parse_args(words)
     dump = Dump(asked.file)
     warnings.simplefilter("ignore", FutureWarning)  # of [[ in an expression

@@ -12,7 +12,7 @@ import json
 from collections import Counter
 
 from .. import Dump, _body
-from . import command, parser
+from . import add_file, command, parser
 
 
 def first_tick(dump):
@@ -54,7 +54,7 @@ def main(words):
     of.add_argument("--json", action="store_true", help="as one object of JSON")
     of.add_argument("--scopes", type=int, default=5, metavar="N",
                     help="how many of the largest scopes (5)")
-    of.add_argument("file", metavar="FILE")
+    add_file(of)
     asked = of.parse_args(words)
     dump = Dump(asked.file)
     facts = {"file": dump.name, **dict(of_header(dump, asked.scopes))}

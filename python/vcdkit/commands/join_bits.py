@@ -4,12 +4,13 @@
 `$var wire 8 # q [7:0] $end`: neighbouring lines of one name, whose indices go up or down by one. A
 bit whose code has a second name stays as it is. It goes by lines: each declaration and each change
 has to be on a line of its own. A vector is written once a time, and once a section, after the
-changes of all its bits. It calls no vcdkit.
+changes of all its bits. It reads its input once, and calls no vcdkit.
 
 example:
   vcdkit-join-bits < sim.vcd | vcdkit sample --at 15ns tb.q"""
 import re
 import sys
+from contextlib import nullcontext
 
 from .. import Dump
 from . import command, parser
@@ -85,11 +86,12 @@ def write_header(lines, vectors, out):
 
 @command
 def main(words):
-    of = parser("vcdkit-join-bits", __doc__, failed="(none)")
-    of.add_argument("file", metavar="FILE", nargs="?", default="-")
+    of = parser("vcdkit-join-bits", __doc__, failed="")
+    of.add_argument("file", metavar="FILE", nargs="?", default="-",
+                    help="the dump, which may be packed; without it standard input, plain text")
     asked = of.parse_args(words)
     out, vectors = sys.stdout, Vectors()
-    with Dump(asked.file).open() as text:
+    with nullcontext(sys.stdin.buffer) if asked.file == "-" else Dump(asked.file).open() as text:
         lines = (line.decode("utf-8", "surrogateescape") for line in text)
         write_header(lines, vectors, out)
         for line in lines:

@@ -5,9 +5,9 @@ A row for each time at which one of them changed, with their values at its end. 
 as a flip-flop takes them. With --at, a row for each of these times. So what comes and goes within
 one time is not seen, and events have no column.
 
-Values have all their digits; --hex and --decimal change them, where an x or a z is: --hex shows x
-or z for four such digits, X for others, and --decimal leaves them. `-` is no value yet. Times are
-whole numbers of the unit of the time scale, or exact ones of --unit.
+Values have all their digits, or are numbers (--hex, --decimal). Where a value has an x or a z,
+--hex writes x or z for four such digits and X for a mixture, and --decimal leaves all digits. `-`
+is no value yet. Times are whole numbers of the unit of the time scale, or exact ones of --unit.
 
 examples:
   vcdkit-table --hex --at 10ns,20ns,30ns sim.vcd tb.pc tb.bus
@@ -17,7 +17,7 @@ import csv
 import sys
 
 from .. import Dump, Value
-from . import add_form, add_window, command, parser, unit
+from . import add_file, add_form, add_window, command, parser, unit
 
 
 def shown(value, size, form):
@@ -41,8 +41,7 @@ def main(words):
     which.add_argument("--at", metavar="TIME,..", help="a row at each of these times")
     add_window(of)
     of.add_argument("--unit", type=unit, help="the unit of the times: tick, s, ms, us, ns, ps, fs")
-    of.add_argument("file", metavar="FILE")
-    of.add_argument("names", metavar="NAME", nargs="+")
+    add_file(of, "+")
     asked = of.parse_args(words)
     whole = Dump(asked.file)
     columns = [one for one in whole.select(asked.names) if one.type != "event"]

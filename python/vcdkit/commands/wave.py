@@ -2,17 +2,16 @@
 
 Signals of one bit are lines, vectors are lanes with their values, real numbers are lanes too, and
 events are ticks; x is red, z is orange. What changes more often than the picture has room for is a
-grey block. --mark draws a line at a time, that of a failure for one. A NAME is a path of vcdkit
-list, or a scope with all that it has.
+grey block. --mark draws a line at a time, that of a failure for one.
 
 examples:
   vcdkit-wave --from 100ns --to 200ns --mark 158ns sim.vcd tb.clk tb.bus > failure.svg
-  vcdkit-wave --around 158ns --span 40ns sim.vcd.gz tb.cpu > failure.svg"""
+  vcdkit-wave --around 158ns --span 20ns sim.vcd.gz tb.cpu > failure.svg"""
 from xml.sax.saxutils import escape
 
 from .. import Dump, UsageError, Value, _body
 from ..times import UNITS
-from . import add_form, add_window, command, parser
+from . import add_file, add_form, add_window, command, parser
 
 ROW, HIGH, PAD, TOP, CHAR = 26, 16, 10, 34, 6.7  # pixels
 X, Z, GREEN, LANE, BLOCK, BACK = "#ff4040", "#ffa020", "#3fd07f", "#58a6ff", "#5b6570", "#10161d"
@@ -174,24 +173,23 @@ def window_of(dump, asked):
     """Returns the window that the words ask for, begin and end."""
     if asked.around is None:
         return asked.begin, asked.end
-    at, half = dump.ticks(asked.around), dump.ticks(asked.span or "0") // 2
-    if not half:
-        raise UsageError("--around needs --span TIME, the width of the window")
-    return max(at - half, 0), at + half
+    at, span = dump.ticks(asked.around), dump.ticks(asked.span or "0")
+    if not span:
+        raise UsageError("--around needs --span TIME, how much before and after it")
+    return max(at - span, 0), at + span
 
 
 @command
 def main(words):
-    of = parser("vcdkit-wave", __doc__, "0  the picture was written")
+    of = parser("vcdkit-wave", __doc__, "the picture was written")
     add_window(of)
     of.add_argument("--around", metavar="TIME", help="the middle of the window, and a mark")
-    of.add_argument("--span", metavar="TIME", help="how long a window around a time is")
+    of.add_argument("--span", metavar="TIME", help="how much before and after it, each")
     of.add_argument("--mark", metavar="TIME", help="draw a line at this time")
     of.add_argument("--width", type=int, default=1000, metavar="N",
                     help="width of the traces, in pixels (1000)")
     add_form(of)
-    of.add_argument("file", metavar="FILE")
-    of.add_argument("names", metavar="NAME", nargs="+")
+    add_file(of, "+")
     asked = of.parse_args(words)
     dump = Dump(asked.file)
     chosen = dump.select(asked.names)

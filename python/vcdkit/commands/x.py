@@ -8,17 +8,16 @@ examples:
   vcdkit-x --from 100ns sim.vcd tb.cpu
   vcdkit-x --z --from 1us --to 2us sim.vcd | head"""
 from .. import Dump, _body
-from . import add_window, command, parser
+from . import add_file, add_window, command, parser
 
 
 @command
 def main(words):
-    of = parser("vcdkit-x", __doc__, "0  no such value", "there is one; or a name selects nothing, "
+    of = parser("vcdkit-x", __doc__, "no such value", "there is one; or a name selects nothing, "
                 "or not a valid dump")
     of.add_argument("--z", action="store_true", help="also values with a z")
     add_window(of)
-    of.add_argument("file", metavar="FILE")
-    of.add_argument("names", metavar="NAME", nargs="*")
+    add_file(of, "*")
     asked = of.parse_args(words)
     dump = Dump(asked.file)
     paths = {}
