@@ -21,6 +21,10 @@ if "VCDKIT" not in os.environ and os.path.exists(os.path.join(TOP, "vcdkit")):
     os.environ["VCDKIT"] = os.path.join(TOP, "vcdkit")
 LIBRARY = os.environ.setdefault("VCDKIT_LIBRARY", "")
 
+try:
+    import pandas
+except ImportError:
+    pandas = None
 import vcdkit
 from vcdkit import (Dump, DumpFault, Edges, NoTimescale, RunFailed, Timescale, UnknownName,
                     UsageError, Value, merge)
@@ -178,6 +182,16 @@ class Questions:
         times, values = Dump(text).changes("w")
         self.assertEqual((plain(times), values), ([3, 4], ["00001" + "0" * 65, "x" * 70]))
         self.assertEqual(values[0].hex(), "02" + "0" * 16)
+
+    @unittest.skipUnless(pandas, "there is no pandas")
+    def test_pandas(self):
+        dump = Dump(NESTED)
+        frame = pandas.DataFrame(dump.table(["bench.slow.count", "bench.level"]))
+        frame = frame.set_index("time")
+        self.assertEqual(frame.loc[1150].tolist(), [11, 3])
+        self.assertEqual(frame.isna().sum().tolist(), [2, 1])  # also after $dumpoff
+        series = pandas.Series(*reversed(dump.changes("bench.slow.count")))
+        self.assertEqual((series[50], series[1150], series.isna().sum()), (0, 11, 2))
 
     def test_rows(self):
         dump = Dump(NESTED)
