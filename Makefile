@@ -17,8 +17,8 @@
 # make dist-check          tries them without the kit, and that they come out the same byte for
 #     byte: a minute
 # make clean   drops what was built, and what the proofs kept
-# make install [PREFIX=/usr/local] [DESTDIR=]    puts ./vcdkit, as it was built, its man page,
-#     completions, scripts, Python package (PYTHON_FOLDER=) and documents in place, and the
+# make install [PREFIX=/usr/local] [DESTDIR=]    puts ./vcdkit, as it was built, completions,
+#     scripts, man pages, Python package (PYTHON_FOLDER=) and documents in place, and the
 #     library where there is one
 # make uninstall [PREFIX=..] [DESTDIR=..]        takes them away again
 # make completions-check    compares the completions and the man page with the help of ./vcdkit: a
@@ -118,6 +118,8 @@ install:
 	install -m 755 vcdkit $(addprefix extras/,$(filter-out $(commands),$(scripts))) "$(bin)"
 	for name in $(commands); do install -m 755 extras/launch "$(bin)/$$name"; done
 	install -m 644 man/vcdkit.1 "$(man)/vcdkit.1"
+	if command -v python3 > /dev/null; then \
+	    packaging/manuals.py "$(man)" $(addprefix extras/,$(scripts)); fi
 	install -m 644 completions/vcdkit.bash "$(bash_words)/vcdkit"
 	install -m 644 completions/_vcdkit "$(zsh_words)/_vcdkit"
 	install -m 644 python/vcdkit/*.py python/vcdkit/py.typed "$(python)"
@@ -133,7 +135,7 @@ install:
 	packaging/pages.sh "$(documents)"
 
 uninstall:
-	rm -f "$(bin)/vcdkit" $(foreach script,$(scripts),"$(bin)/$(script)") "$(man)/vcdkit.1" \
+	rm -f $(foreach name,vcdkit $(scripts),"$(bin)/$(name)" "$(man)/$(name).1") \
 	    "$(bash_words)/vcdkit" "$(zsh_words)/_vcdkit"
 	rm -f "$(library)"/libvcdkit.a "$(library)"/libvcdkit.so* "$(library)/pkgconfig/vcdkit.pc"
 	rm -f "$(headers)/vcdkit.h"

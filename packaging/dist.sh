@@ -96,7 +96,7 @@ if command -v dpkg-deb > /dev/null; then
     gzip -9n "$tree/usr/share/man/man1/"*.1
     licences "$tree/usr/share/doc/vcdkit/licences"
     python=$folder/python3-vcdkit
-    mkdir -p "$python/usr/bin" "$python/usr/lib"
+    mkdir -p "$python/usr/bin" "$python/usr/lib" "$python/usr/share/man/man1"
     mv "$tree/usr/lib/python3" "$python/usr/lib"
     rm -rf "$tree/usr/lib" "$tree/usr/include"  # the library for C is in the tarball
     for script in "$tree"/usr/bin/vcdkit-*; do
@@ -104,11 +104,12 @@ if command -v dpkg-deb > /dev/null; then
         sed '1s,.*,#!/usr/bin/python3,' "$script" > "$python/usr/bin/${script##*/}"
         chmod 755 "$python/usr/bin/${script##*/}"
         rm "$script"
+        mv "$tree/usr/share/man/man1/${script##*/}.1.gz" "$python/usr/share/man/man1"
     done
     # It is static so that it runs on any machine; NOTICE.md says what that asks.
     mkdir -p "$tree/usr/share/lintian/overrides"
-    echo 'vcdkit: statically-linked-binary [usr/bin/vcdkit]' \
-        > "$tree/usr/share/lintian/overrides/vcdkit"
+    printf 'vcdkit: %s [usr/bin/vcdkit]\n' statically-linked-binary \
+        shared-library-lacks-prerequisites > "$tree/usr/share/lintian/overrides/vcdkit"
     deb vcdkit amd64 <<'END'
 Section: electronics
 Priority: optional

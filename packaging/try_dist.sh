@@ -76,11 +76,14 @@ if [[ -n $package ]]; then
         tries "the sums of ${one##*/}" bash -c 'dpkg-deb -e "$1" "$2/control" && cd "$2/deb" &&
             md5sum --quiet -c ../control/md5sums' - "$one" "$folder"
         ! command -v lintian > /dev/null ||
-            tries "lintian on ${one##*/}" bash -c '! lintian "$1" | grep "^E: "' - "$one"
+            tries "lintian on ${one##*/}" \
+                bash -c '! lintian "$1" | grep -E "^E: |manual-page"' - "$one"
     done
     tries 'links of its pages' without_kit packaging/links.py "$folder/deb/usr/share/doc/vcdkit"
-    tries 'its man page' bash -c 'gzip -dc "$1" | groff -man -ww -z 2>&1 | { ! grep .; }' - \
-        "$folder/deb/usr/share/man/man1/vcdkit.1.gz"
+    for page in "$folder"/deb/usr/share/man/man1/*; do
+        tries "${page##*/}" bash -c 'gzip -dc "$1" | groff -man -ww -z 2>&1 | { ! grep .; }' - \
+            "$page"
+    done
     tries 'a script of the package' bash -c 'export PATH=$1/usr/bin:/usr/bin:/bin
         export PYTHONPATH=$1/usr/lib/python3/dist-packages
         vcdkit-find samples/counter.vcd | grep -q count0' - "$folder/deb"
