@@ -57,7 +57,7 @@ def add_file(to: argparse.ArgumentParser, names: str = "") -> None:
 
 def add_names(to: argparse.ArgumentParser, count: str) -> None:
     """Adds NAMEs."""
-    to.add_argument("names", metavar="NAME", nargs=count,
+    to.add_argument("names", metavar="NAME", nargs=count, default=[],
                     help="a path of vcdkit list, or a scope with all that it has")
 
 

@@ -44,7 +44,8 @@ def main(words):
                        ("csv", "rows as CSV")):
         form.add_argument("--" + name, dest="form", action="store_const", const=name, help=what)
     add_file(of)
-    of.add_argument("patterns", metavar="REGEX", nargs="*", help="what a path has to match")
+    of.add_argument("patterns", metavar="REGEX", nargs="*", default=[],
+                    help="what a path has to match")
     asked = of.parse_args(words)
     dump = Dump(asked.file)
     warnings.simplefilter("ignore", FutureWarning)  # of [[ in an expression
