@@ -124,7 +124,7 @@ left-parsed words asked files input host after left out err status f i n holds (
   where
     by_end : Opened files input asked readers host after → (texts : List Text) → HaveTexts files input asked texts
         → Leaves words want limit (map called asked) texts (map (supply bytes_of no_failures) readers) (map (supply bytes_of no_failures) done) (holding []) (holding out) (holding []) (holding err) status → IsLeftOf words asked files input left ⊎ IsOutOfMemory left
-    by_end o texts have (Leaves.WithOutcome inputs read leaves) =
+    by_end o texts have (Leaves.WithOutcome inputs read needed leaves) =
         let all = all-read (is_settled want) limit 65536 [] texts readers done inputs read in
         inl (IsLeftOf.Ran (record { want = want; limit = limit }) is texts have (is-left left after out err status asked (command_outcome words (map called asked) (map whole texts)) holds (o.notes ∙ ap (λ l. l ++ asked) n)
         (subst (λ l. IsOutcome (command_outcome words (map called asked) l) (holding []) (holding out) (holding []) (holding err) status) all leaves)))

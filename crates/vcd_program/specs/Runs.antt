@@ -16,7 +16,7 @@ use Rattle.vcd_text.specs.declared.device.Source.{Ghosts}
 use Rattle.vcd_words.specs.Words.{parse_status_of, program_app, words_used}
 use Rattle.vcdkit.specs.Failure.{CountsReads, writes_failed}
 use Rattle.vcdkit.specs.Message.{Shows, end_message, end_status, unopened_outcome}
-use Rattle.vcdkit.specs.Run.{AreRead, IsOutcome}
+use Rattle.vcdkit.specs.Run.{AreNeeded, AreRead, IsOutcome}
 use Rattle.vcd_program.specs.Asked.{inputs_asked}
 use Rattle.vcd_program.specs.Opens.{Opens, OpensSome, OpensUpTo, called}
 use Rattle.vcd_program.specs.declared.host.OpenFault.{OpenFault}
@@ -43,7 +43,7 @@ EndsSo names asked before after out out' err err' status =
 -- over inputs with these names and texts: the outcome of the words and of what was read of each,
 -- and no more was read than what settles it; or nothing where memory ran out
 pub data Leaves (words : Option Words) (want : Want) (limit : ℕ) (names texts : List Text) (old new : List Supply) (out out' err err' : Device) (status : ℕ) : Type 0 where
-  WithOutcome : (inputs : List Input) (read : AreRead (is_settled want) limit 65536 [] texts old new inputs) (leaves : IsOutcome (command_outcome words names inputs) out out' err err' status)
+  WithOutcome : (inputs : List Input) (read : AreRead (is_settled want) limit 65536 [] texts old new inputs) (needed : AreNeeded want limit 65536 old new inputs) (leaves : IsOutcome (command_outcome words names inputs) out out' err err' status)
       → Leaves words want limit names texts old new out out' err err' status
   NoMemory : (inputs : List Input) (read : AreRead is_header_over limit 65536 [] texts old new inputs) (fails : Fails (codes "out of memory") out out' err err' status)
       → Leaves words want limit names texts old new out out' err err' status

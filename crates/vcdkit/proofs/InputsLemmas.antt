@@ -1,6 +1,6 @@
 -- The headers of inputs in order: what was read of each input, and how the definitions open them.
 use Rattle.std.proofs.Common.{◌≡◌, ◌==◌, ℕ, suc, ◌+◌, Bool, false, ◌++◌, inl, inr, List, [], ◌∷◌, length, map, Some, None, Ok, Err, refl, sym, ap, ap₂, subst, ◌∙◌, arith, append_assoc}
-use Rattle.std.proofs.lemmas.List.{append-nil, length-append}
+use Rattle.std.proofs.lemmas.List.{append-nil, length-append, length_push}
 use Rattle.vcd_model.specs.Input.{Input}
 use Rattle.vcd_model.specs.Job.{Want, request_of}
 use Rattle.vcd_model.specs.Settled.{is_header_over, is_settled, is_settled_behind, is_settled_by}
@@ -20,6 +20,7 @@ use Rattle.vcdkit.specs.declared.failure.Failure.{Failure}
 use Rattle.vcdkit.specs.declared.failure.Failure.TheVariants.{Stopped, Refused, OutOfMemory}
 use Rattle.vcdkit.specs.Inputs.{AreBegun, HasFailed, IsBegun, IsWhy, Stops, headers_in}
 use Rattle.vcdkit.specs.Run.{AreRead, header_behind}
+use Rattle.vcdkit.proofs.NeededLemmas.{AreNeededFrom, ArePassed, header_needed, needed_before, passed_more, shifted, unread_needed}
 use Rattle.vcdkit.proofs.HeaderLemmas.{all_read, header_only, header_read, left_since, no_fault, reads_for, rest_read, settled_run, unsettled_header}
 
 -- ---- one input more
@@ -96,12 +97,6 @@ module _ (settled : ℕ → List Token → Bool) (on : (most : ℕ) (ts : List T
         subst (λ (h : Header). AreRead settled limit chunk (earlier ++ h ∷ []) texts old new inputs) (sym header) others,
       )
 
-  -- of all of them
-  pub headers_read : (earlier : List Header) (texts : List (List ℕ)) (old new : List Supply) (lanes : List Lane) → AreBegun limit chunk earlier texts old new lanes → AreRead settled limit chunk earlier texts old new (map whole texts)
-  headers_read earlier [] [] [] [] b = refl
-  headers_read earlier (text ∷ texts) (s ∷ old) (t ∷ new) (l ∷ lanes) b = header_only_of earlier text texts s t old new (map whole texts) l b.0 (headers_read (earlier ++ l.header ∷ []) texts old new lanes b.1)
-  headers_read earlier texts old new lanes b = absurd b
-
 -- the first fault of the headers is this one, or memory ran out
 abbrev pub IsFirst : ℕ → List Header → List Input → Failure → Type 0
 IsFirst limit earlier inputs (Stopped (Dump input line fault)) = ((fault == 31) ≡ false) × (open_from limit earlier inputs ≡ Err (input, record { number = fault; line = line }))
@@ -135,6 +130,7 @@ first_behind limit chunk earlier i inputs l s t OutOfMemory b f = tt
 pub record HaveStopped (settled : ℕ → List Token → Bool) (limit chunk : ℕ) (earlier : List Header) (texts : List (List ℕ)) (old new : List Supply) (why : Failure) : Type 0 where
   pub lefts : List Input
   pub read : AreRead settled limit chunk earlier texts old new lefts
+  pub needed : (all pre : List Input) → all ≡ pre ++ lefts → ArePassed limit pre earlier → AreNeededFrom limit chunk all (length pre) old new lefts
   pub first : IsFirst limit earlier lefts why
 
 module _ (settled : ℕ → List Token → Bool) (on : (most : ℕ) (ts : List Token) → is_header_over most ts ≡ false → settled most ts ≡ false) (limit chunk : ℕ) where
@@ -145,6 +141,9 @@ module _ (settled : ℕ → List Token → Bool) (on : (most : ℕ) (ts : List T
       record {
         lefts = h.0.left ∷ map whole texts;
         read = (h.0.is_left, reads_for limit chunk s t h.0.left [] (is_header_over most) (settled most) (on most) h.0.read, same);
+        needed = λ all pre is passed.
+            needed_before limit chunk all (length pre) s t h.0.left old new (map whole texts) (header_needed limit chunk all pre (map whole texts) earlier passed h.0.left is s t h.0.read)
+            (subst (λ (ts : List Supply). AreNeededFrom limit chunk all (length pre + 1) old ts (map whole texts)) (sym h.1) (unread_needed limit chunk all (length pre + 1) old (map whole texts)));
         first = first_here limit earlier h.0.left (map whole texts) why (subst (λ n. IsWhy most limit n h.0.left why) (sym many) h.0.is_why);
       }
   stops_read place earlier (text ∷ texts) (s ∷ old) (t ∷ new) why many (inr h) =
@@ -153,6 +152,11 @@ module _ (settled : ℕ → List Token → Bool) (on : (most : ℕ) (ts : List T
       record {
         lefts = whole text ∷ others.lefts;
         read = header_only_of settled on limit chunk earlier text texts s t old new others.lefts h.0 h.1 others.read;
+        needed = λ all pre is passed.
+            let one = header_needed limit chunk all pre others.lefts earlier passed (whole text) is s t (header_only (allowed_after earlier) limit chunk (whole text) h.0 s t h.1 t refl) in
+            let next = passed_more limit chunk pre earlier (whole text) (whole text) h.0 s t h.1.given_first.0 h.1 h.1.given_first.1 passed in
+            let more = others.needed all (pre ++ whole text ∷ []) (is ∙ shifted pre others.lefts (whole text)) next in
+            needed_before limit chunk all (length pre) s t (whole text) old new others.lefts one (subst (λ (n : ℕ). AreNeededFrom limit chunk all n old new others.lefts) (length_push pre (whole text)) more);
         first = first_behind limit chunk earlier (whole text) others.lefts h.0 s t why h.1 others.first;
       }
   stops_read place earlier texts old new why many stops = absurd stops

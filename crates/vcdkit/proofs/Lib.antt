@@ -1,7 +1,8 @@
 mod MessageLemmas
 mod OutcomeLemmas
 pub mod HeaderLemmas
-pub mod InputsLemmas
+pub mod NeededLemmas
+mod InputsLemmas
 pub mod OpenLemmas
 mod EndLemmas
 mod RunLemmas

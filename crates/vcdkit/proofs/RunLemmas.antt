@@ -37,6 +37,7 @@ use Rattle.vcd_words.specs.Refusal.{model_refusal}
 use Rattle.vcd_words.specs.Job.{is_merge, model_want, names_asked}
 use Rattle.vcdkit.specs.Inputs.{HasFailed, IsBegun}
 use Rattle.vcdkit.specs.Run.{Ends, EndsAll, IsAfter, IsOfJob, Leaves, LeavesAll, settled_for}
+use Rattle.vcdkit.proofs.NeededLemmas.{none_others}
 use Rattle.vcdkit.proofs.HeaderLemmas.{all_read, left_since, reads_for, settled_header, settled_run, unsettled_header}
 use Rattle.vcd_merge.specs.Seat.{Lane}
 use Rattle.vcdkit.proofs.OutcomeLemmas.{after_header, at_header, names_due, over_none, over_one}
@@ -294,7 +295,7 @@ abbrev pub ReadersEnd : {X : Type 0} → (X → Option (List ℕ)) → (X → �
 ReadersEnd rest failures readers readers' wanted limit chunk names texts out out' end =
     EndsAll (model_want wanted) (names_asked wanted) limit chunk names texts (map (supply rest failures) readers) (map (supply rest failures) readers') out out' end
 
-module _ {X : Type 0} (rest : X → Option (List ℕ)) (failures : X → ℕ) (r r' : X) (wanted : Want) (limit chunk : ℕ) (out out' : Device) (end : Result Done Failure) where
+module _ {X : Type 0} (rest : X → Option (List ℕ)) (failures : X → ℕ) (r r' : X) (wanted : Want) (limit chunk : ℕ) (out out' : Device) (end : Result Done Failure) (one : is_merge wanted ≡ false) where
   abbrev pub OneEnds : Type 0
   OneEnds = (text name : List ℕ) → rest r ≡ Some text → InputEnds wanted limit chunk (whole text) name (supply rest failures r) (supply rest failures r') out out' end
 
@@ -306,6 +307,7 @@ module _ {X : Type 0} (rest : X → Option (List ℕ)) (failures : X → ℕ) (r
       record {
         lefts = g.left ∷ [];
         read = (g.is_left, g.read, refl);
+        needed = none_others wanted limit chunk _ _ _ one;
         leaves = subst (λ (o : Outcome). LeavesAll (name ∷ []) (names_asked wanted) o out out' end) same (leaves_one (names_asked wanted) g.due name out out' end g.leaves);
       }
   one_ends name (t ∷ u ∷ texts) c h = cc

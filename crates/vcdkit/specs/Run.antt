@@ -1,5 +1,5 @@
 -- What a run leaves.
-use Rattle.std.specs.Prelude.{◌≡◌, ◌==◌, false, ℕ, Bool, List, [], ◌∷◌, ◌++◌, codes, Result, Ok, Err}
+use Rattle.std.specs.Prelude.{◌≡◌, ◌==◌, false, ℕ, Bool, List, [], ◌∷◌, ◌++◌, codes, map, slice_get, slice_set, Some, Result, Ok, Err}
 use Rattle.vcd_model.specs.Input.{Input}
 use Rattle.vcd_model.specs.Job as model
 use Rattle.vcd_model.specs.Header.{Header, header_of}
@@ -8,6 +8,7 @@ use Rattle.vcd_model.specs.Outcome.{Outcome, Request, allowed_after, clean_outco
 use Rattle.vcd_model.specs.Reading.{phrases_of}
 use Rattle.vcd_model.specs.Settled.{is_header_over, is_settled}
 use Rattle.vcd_model.specs.Tokens.{Token, stream_of}
+use Rattle.vcd_model.specs.SettledMerge.{Seen, is_settled_merge}
 use Rattle.vcd_text.specs.Answer.{whole}
 use Rattle.vcd_text.specs.Device.{Device, Supply, Writes, WritesSome}
 use Rattle.vcd_text.specs.ReadAhead.{ReadsAsNeeded}
@@ -89,11 +90,26 @@ LeavesAll names asked o out out' (Err (Stopped (Unmatched place))) = (o ≡ unma
 LeavesAll names asked o out out' (Err (Refused why)) = (o ≡ model.refusal_outcome (name_at names 0) (model_refusal why)) × Writes out out' []
 LeavesAll names asked o out out' (Err OutOfMemory) = Writes out out' []
 
+-- all that these inputs are
+abbrev pub known : ℕ → List Input → List Seen
+known limit inputs = map (λ (i : Input). Seen.All (stream_of limit i)) inputs
+
+-- these first tokens of the input at a place settle a merge, where all of the others are known
+abbrev pub settles_among : ℕ → List Input → ℕ → List Token → Bool
+settles_among limit inputs k ts = is_settled_merge (slice_set (known limit inputs) k (Seen.First ts))
+
+-- of each input of a merge no more was read than what settles the merge, and a chunk, even where
+-- all of the others are known
+abbrev pub AreNeeded : model.Want → (limit chunk : ℕ) → (old new : List Supply) → List Input → Type 0
+AreNeeded model.Want.Merge limit chunk old new inputs = (k : ℕ) (s t : Supply) (i : Input) → slice_get old k ≡ Some s → slice_get new k ≡ Some t → slice_get inputs k ≡ Some i → ReadsAsNeeded limit chunk s t i [] (settles_among limit inputs k)
+AreNeeded want limit chunk old new inputs = Unit {0}
+
 -- how a run over readers with these texts ends: with the outcome of what is left of them, and no
 -- more was read of each than what settles it
 pub record EndsAll (want : model.Want) (asked : List (List ℕ)) (limit chunk : ℕ) (names texts : List (List ℕ)) (old new : List Supply) (out out' : Device) (result : Result Done Failure) : Type 0 where
   pub lefts : List Input
   pub read : AreRead (λ most. settled_for result (is_settled want most) (is_header_over most)) limit chunk [] texts old new lefts
+  pub needed : AreNeeded want limit chunk old new lefts
   pub leaves : LeavesAll names asked (model.outcome want limit names lefts) out out' result
 
 -- a run leaves this outcome on its output, on the error stream and in its status, as far as its
@@ -107,7 +123,7 @@ pub data IsOutcome (o : Outcome) (out out' err err' : Device) (status : ℕ) : T
 -- how a job ends over readers with these texts
 pub data HasRun (want : model.Want) (limit chunk : ℕ) (names texts : List (List ℕ)) (old new : List Supply) (out out' err err' : Device) (status : ℕ) : Type 0 where
   -- with the outcome of its inputs
-  WithOutcome : (inputs : List Input) (read : AreRead (is_settled want) limit chunk [] texts old new inputs) (leaves : IsOutcome (model.outcome want limit names inputs) out out' err err' status)
+  WithOutcome : (inputs : List Input) (read : AreRead (is_settled want) limit chunk [] texts old new inputs) (needed : AreNeeded want limit chunk old new inputs) (leaves : IsOutcome (model.outcome want limit names inputs) out out' err err' status)
       → HasRun want limit chunk names texts old new out out' err err' status
   -- without output, where memory ran out; no more was read than the headers
   NoMemory : (inputs : List Input) (read : AreRead is_header_over limit chunk [] texts old new inputs) (written : Writes out out' []) (shown : Shows err err' (program_line (codes "out of memory"))) (status_is : status ≡ 3)

@@ -12,7 +12,7 @@ use Rattle.vcdkit.proofs.whole_run.run_merge.Goals as goal
 pub returns-in_err-memory-clause-ends : goal.returns-in_err-memory-clause-ends
 returns-in_err-memory-clause-ends g c = λ texts names h.
     let e : c.from_residual.result ≡ Err OutOfMemory = search rules in
-    rw e (stopped Want.Merge [] c.args.job.now.limit c.args.job.now.chunk names texts _ _ _ OutOfMemory (nothing_stops _ _ g.S.Source.rest g.S.Source.failures c.args.readers.now texts c.requires.readers.some h))
+    rw e (stopped c.args.job.now.limit c.args.job.now.chunk names texts _ _ _ OutOfMemory (nothing_stops _ _ g.S.Source.rest g.S.Source.failures c.args.readers.now texts c.requires.readers.some h))
 
 pub open_inputs-requires-clause-parts : goal.open_inputs-requires-clause-parts
 open_inputs-requires-clause-parts g c =
@@ -27,7 +27,7 @@ returns-in_err-inputs-clause-ends g c = λ texts names h.
     let e : c.from_residual-in_err-inputs.result ≡ Err why = search rules in
     let chunk = part_is (length c.args.readers.now) c.args.job.now.chunk c.deref_mut.result.now c.requires.readers.some (c.deref_mut.ensures.len ∙ c.in_ok-memory.ensures.0) in
     let limit = part_is (length c.args.readers.now) c.args.job.now.limit c.deref_mut-2.result.now c.requires.readers.some (c.deref_mut-2.ensures.len ∙ c.in_ok-memory.ensures.1) in
-    rw e (stopped Want.Merge [] c.args.job.now.limit c.args.job.now.chunk names texts _ _ _ why (rw (limit, chunk) at (c.in_err-inputs.ensures.begins texts h)))
+    rw e (stopped c.args.job.now.limit c.args.job.now.chunk names texts _ _ _ why (rw (limit, chunk) at (c.in_err-inputs.ensures.begins texts h)))
 
 pub merge-requires-clause-parts : goal.merge-requires-clause-parts
 merge-requires-clause-parts g c =
