@@ -9,13 +9,13 @@
 //! # The relations
 //!
 //! `Follows limit chunk lanes names .. result` (`MergeRun`) says what a merge leaves: each input,
-//! whole, or what its source gave until a read failed; that no more of it was read than settles it;
-//! and that output and result belong to the definitions' outcome for all of them. Between steps a
-//! merge `Holds` the items that its inputs have given (`MergeStep`). A step `Gives` one item more,
-//! the next of the merged list, and the output grows by exactly what is due with it; or an input
-//! has finished, and nothing is written; or all have, and what is due at the end is written. A
-//! fault is that of the input whose turn it is, and nothing is written there. Where a write fails,
-//! a prefix was written.
+//! whole, or what its source gave until a read failed; that no more of it was read than settles the
+//! merge, even where all others are known; and that output and result belong to the definitions'
+//! outcome for all of them. Between steps a merge `Holds` the items that its inputs have given
+//! (`MergeStep`). A step `Gives` one item more, the next of the merged list, and the output grows
+//! by exactly what is due with it; or an input has finished, and nothing is written; or all have,
+//! and what is due at the end is written. A fault is that of the input whose turn it is, and
+//! nothing is written there. Where a write fails, a prefix was written.
 //!
 //! # The modules
 //!
