@@ -1,12 +1,12 @@
 -- How much a run has read of its input: what it has asked for had not settled it before the last
 -- token.
-use Rattle.std.proofs.Common.{◌≡◌, ℕ, false, List, [], ◌∷◌, ◌++◌, length, inl, inr, ◌⊎◌, refl, sym, ap, subst, ◌∙◌}
-use Rattle.std.specs.Prelude.{IfSome}
+use Rattle.std.proofs.Common.{◌≡◌, ℕ, Bool, false, List, [], ◌∷◌, ◌++◌, length, inl, inr, ◌⊎◌, refl, sym, ap, subst, ◌∙◌}
 use Rattle.std.specs.List.{list_any}
 use Rattle.std.proofs.lemmas.List.{append_assoc}
 use Rattle.vcd_model.specs.Input.{Input}
-use Rattle.vcd_model.specs.Tokens.{Token, end_of_tokens, halt_place, stream_of}
+use Rattle.vcd_model.specs.Tokens.{Token, end_of_tokens, stream_of}
 use Rattle.vcd_model.specs.Laws.{IsPrefixOf}
+use Rattle.vcd_model.specs.Declarations.{IdCode}
 use Rattle.vcd_model.specs.Header.{Header}
 use Rattle.vcd_model.specs.Items.{BodyItem}
 use Rattle.vcd_model.specs.BodyPhrases.{BodyPhrase, items_of}
@@ -23,6 +23,7 @@ use Rattle.vcd_text.specs.Feed.{supply_of, token_of, limit_of, chunk_len_of}
 use Rattle.vcd_text.specs.declared.device.Source.{Ghosts}
 use Rattle.vcd_text.specs.declared.feed.Feed.{Feed}
 use Rattle.vcd_body.specs.Ahead.{GaveLast}
+use Rattle.vcd_body.specs.Asked.{HaveJust}
 use Rattle.vcd_body.specs.Reads.{GaveAll, StopsAt}
 use Rattle.vcd_body.specs.Reads.StopsAt.{AtToken, AtEnd}
 use Rattle.vcd_body.specs.declared.item.Regs.{Regs}
@@ -53,53 +54,63 @@ split_last (x ∷ xs) = by_rest (split_last xs)
     by_rest (inl e) = inr ([], x, ap (λ l. x ∷ l) e)
     by_rest (inr s) = inr (x ∷ s.0, s.1, ap (λ l. x ∷ l) s.2)
 
--- ---- nothing is settled yet
+-- ---- the tokens before the last
 
--- before the token that is asked for next
-unsettled : (t : Request) (h : Header) (ts : List Token) (placed : List (Placed BodyPhrase)) (before : List (List ℕ)) (items : List BodyItem) → header_settles t h ≡ false → list_any (ends_early t) items ≡ false → IsSoFar (body_grammar h.codes) ts placed before
-    → items_of (phrases_of placed) ≡ items → is_settled_behind t h ts ≡ false
+-- whole phrases with these items, and maybe the first tokens of one more
+just : (codes : List IdCode) (items : List BodyItem) (ts : List Token) (placed : List (Placed BodyPhrase)) (before : List (List ℕ)) → IsSoFar (body_grammar codes) ts placed before → items_of (phrases_of placed) ≡ items → HaveJust codes items ts
 unfolding read_body
-unsettled t h ts placed before items still on so_far are = rw (still, so_far, are) on
+just codes items ts placed before so_far are = (rw so_far refl, rw so_far are)
 
-module _ {X : Type 0} {g : Ghosts X} (t : Request) (h : Header) (i : Input) (front : List Token) (items : List BodyItem) (f : Feed X g) (limit chunk : ℕ) (before : Supply) (same : limit_of f ≡ limit) (size : chunk_len_of f ≡ chunk) (still : header_settles t h ≡ false) (on : list_any (ends_early t) items ≡ false) where
-  -- these are the first tokens, under the limit of the run
-  first_given : (ts : List Token) → IsPrefixOf ts (stream_of (limit_of f) i).tokens → IsPrefixOf ts (stream_of limit i).tokens
-  first_given ts p = subst (λ n. IsPrefixOf ts (stream_of n i).tokens) same p
-
-  near_given : (place : ℕ) → Near (chunk_len_of f) (supply_of f).rest place i → Near chunk (supply_of f).rest place i
-  near_given place n = subst (λ k. Near k (supply_of f).rest place i) size n
-
-  near_halted : IfSome (halt_place (limit_of f) i) (λ place. Near (chunk_len_of f) (supply_of f).rest place i) → IfSome (halt_place limit i) (λ place. Near chunk (supply_of f).rest place i)
-  near_halted n = subst (λ k. IfSome (halt_place limit i) (λ place. Near k (supply_of f).rest place i)) size (subst (λ k. IfSome (halt_place k i) (λ place. Near (chunk_len_of f) (supply_of f).rest place i)) same n)
+-- what was read of an input, for any work that such tokens do not settle
+module _ {X : Type 0} {g : Ghosts X} (codes : List IdCode) (i : Input) (front : List Token) (items : List BodyItem) (f : Feed X g) (before : Supply) (settled : List Token → Bool) (open_still : (ts : List Token) → HaveJust codes items ts → settled ts ≡ false) where
+  abbrev IsRead : Type 0
+  IsRead = ReadsAsNeeded (limit_of f) (chunk_len_of f) before (supply_of f) i front settled
 
   -- where the body was refused
-  pub read_to_stop : StopsAt h.codes i front items f → ReadsAsNeeded limit chunk before (supply_of f) i front (is_settled_behind t h)
-  read_to_stop (AtToken placed begun are looks near) =
-      ToToken looks.given (token_of f) (first_given (front ++ looks.given ++ token_of f ∷ []) looks.stands.given_first) (unsettled t h looks.given placed begun items still on looks.so_far are)
-      (near_given (end_of_tokens i.bytes (length (front ++ looks.given ++ token_of f ∷ []))) near)
-  read_to_stop (AtEnd placed begun are ends) =
-      ToEnd ends.reads.given (ap (λ n. (stream_of n i).tokens) (sym same) ∙ ends.all) (unsettled t h ends.reads.given placed begun items still on ends.reads.so_far are) (near_halted ends.reads.stands.near_halt)
+  pub asked_to_stop : StopsAt codes i front items f → IsRead
+  asked_to_stop (AtToken placed begun are looks near) = ToToken looks.given (token_of f) looks.stands.given_first (open_still looks.given (just codes items looks.given placed begun looks.so_far are)) near
+  asked_to_stop (AtEnd placed begun are ends) = ToEnd ends.reads.given ends.all (open_still ends.reads.given (just codes items ends.reads.given placed begun ends.reads.so_far are)) ends.reads.stands.near_halt
 
   -- where the body has ended
-  pub read_to_end : (r : Regs) → GaveAll h.codes i front items f r → ReadsAsNeeded limit chunk before (supply_of f) i front (is_settled_behind t h)
-  read_to_end r a = ToEnd a.gave.given (ap (λ n. (stream_of n i).tokens) (sym same) ∙ a.all) (unsettled t h a.gave.given a.gave.placed [] items still on a.gave.so_far a.gave.items_are) (near_halted a.gave.stands.near_halt)
+  pub asked_to_end : (r : Regs) → GaveAll codes i front items f r → IsRead
+  asked_to_end r a = ToEnd a.gave.given a.all (open_still a.gave.given (just codes items a.gave.given a.gave.placed [] a.gave.so_far a.gave.items_are)) a.gave.stands.near_halt
 
   -- and at an item
-  pub read_to_item : (x : BodyItem) (r : Regs) → GaveLast h.codes i front items x f r → ReadsAsNeeded limit chunk before (supply_of f) i front (is_settled_behind t h)
-  read_to_item x r m = by_tokens (split_last m.gave.given)
+  pub asked_to_item : (x : BodyItem) (r : Regs) → GaveLast codes i front items x f r → IsRead
+  asked_to_item x r m = by_tokens (split_last m.gave.given)
     where
-      by_tokens : (m.gave.given ≡ []) ⊎ ((asked : List Token) × (last : Token) × (m.gave.given ≡ asked ++ last ∷ [])) → ReadsAsNeeded limit chunk before (supply_of f) i front (is_settled_behind t h)
+      by_tokens : (m.gave.given ≡ []) ⊎ ((asked : List Token) × (last : Token) × (m.gave.given ≡ asked ++ last ∷ [])) → ReadsAsNeeded (limit_of f) (chunk_len_of f) before (supply_of f) i front settled
       by_tokens (inl none) =
-          let nothing = sym (subst (λ ts. IsSoFar (body_grammar h.codes) ts m.gave.placed []) none m.gave.so_far) ∙ so_far-nothing (body_grammar h.codes) in
+          let nothing = sym (subst (λ ts. IsSoFar (body_grammar codes) ts m.gave.placed []) none m.gave.so_far) ∙ so_far-nothing (body_grammar codes) in
           not_nil m.before (record { phrase = BodyPhrase.Gives x; line = m.line }) (sym m.last ∙ ap (λ r. r.placed) nothing)
       by_tokens (inr s) =
           let asked = s.0 in
           let last = s.1 in
-          let so_far = subst (λ ts. IsSoFar (body_grammar h.codes) ts m.gave.placed []) s.2 m.gave.so_far in
-          let a = without-last (body_grammar h.codes) asked last m.gave.placed [] so_far in
+          let so_far = subst (λ ts. IsSoFar (body_grammar codes) ts m.gave.placed []) s.2 m.gave.so_far in
+          let a = without-last (body_grammar codes) asked last m.gave.placed [] so_far in
           let p = a.last refl in
           let earlier = front_is a.earlier m.before p.0 _ (sym p.1 ∙ m.last) in
           let pre : front ++ m.gave.given ≡ front ++ asked ++ last ∷ [] = ap (λ l. front ++ l) s.2 ∙ sym (append_assoc front asked (last ∷ [])) in
-          ToToken asked last (first_given (front ++ asked ++ last ∷ []) (subst (λ ts. IsPrefixOf ts (stream_of (limit_of f) i).tokens) pre m.gave.stands.given_first))
-          (unsettled t h asked a.earlier a.begun items still on (earlier-so_far (body_grammar h.codes) asked m.gave.placed [] a) (ap (λ l. items_of (phrases_of l)) earlier ∙ m.before_are))
-          (near_given (end_of_tokens i.bytes (length (front ++ asked ++ last ∷ []))) (subst (λ ts. Near (chunk_len_of f) (supply_of f).rest (end_of_tokens i.bytes (length ts)) i) pre m.near))
+          ToToken asked last (subst (λ ts. IsPrefixOf ts (stream_of (limit_of f) i).tokens) pre m.gave.stands.given_first)
+          (open_still asked (just codes items asked a.earlier a.begun (earlier-so_far (body_grammar codes) asked m.gave.placed [] a) (ap (λ l. items_of (phrases_of l)) earlier ∙ m.before_are)))
+          (subst (λ ts. Near (chunk_len_of f) (supply_of f).rest (end_of_tokens i.bytes (length ts)) i) pre m.near)
+
+-- ---- a run of one input
+
+-- tokens with just these items do not settle it
+pub unsettled : (t : Request) (h : Header) (items : List BodyItem) (ts : List Token) → header_settles t h ≡ false → list_any (ends_early t) items ≡ false → HaveJust h.codes items ts → is_settled_behind t h ts ≡ false
+unsettled t h items ts still on have = rw (still, have.0, have.1) on
+
+module _ {X : Type 0} {g : Ghosts X} (t : Request) (h : Header) (i : Input) (front : List Token) (items : List BodyItem) (f : Feed X g) (limit chunk : ℕ) (before : Supply) (same : limit_of f ≡ limit) (size : chunk_len_of f ≡ chunk) (still : header_settles t h ≡ false) (on : list_any (ends_early t) items ≡ false) where
+  -- under the limit of the run
+  under : ReadsAsNeeded (limit_of f) (chunk_len_of f) before (supply_of f) i front (is_settled_behind t h) → ReadsAsNeeded limit chunk before (supply_of f) i front (is_settled_behind t h)
+  under read = subst (λ n. ReadsAsNeeded n chunk before (supply_of f) i front (is_settled_behind t h)) same (subst (λ n. ReadsAsNeeded (limit_of f) n before (supply_of f) i front (is_settled_behind t h)) size read)
+
+  pub read_to_stop : StopsAt h.codes i front items f → ReadsAsNeeded limit chunk before (supply_of f) i front (is_settled_behind t h)
+  read_to_stop s = under (asked_to_stop h.codes i front items f before (is_settled_behind t h) (λ ts have. unsettled t h items ts still on have) s)
+
+  pub read_to_end : (r : Regs) → GaveAll h.codes i front items f r → ReadsAsNeeded limit chunk before (supply_of f) i front (is_settled_behind t h)
+  read_to_end r a = under (asked_to_end h.codes i front items f before (is_settled_behind t h) (λ ts have. unsettled t h items ts still on have) r a)
+
+  pub read_to_item : (x : BodyItem) (r : Regs) → GaveLast h.codes i front items x f r → ReadsAsNeeded limit chunk before (supply_of f) i front (is_settled_behind t h)
+  read_to_item x r m = under (asked_to_item h.codes i front items f before (is_settled_behind t h) (λ ts have. unsettled t h items ts still on have) x r m)

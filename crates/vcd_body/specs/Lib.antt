@@ -4,6 +4,7 @@ pub mod Items
 pub mod Words
 pub mod Whole
 pub mod Reads
+pub mod Asked
 pub mod Given
 pub mod Calls
 pub mod Changes
