@@ -1,6 +1,5 @@
 pub mod MergeItem
 pub mod AheadTrails
-pub mod AskedTokens
 pub mod Dumps
 pub mod SeatAhead
 pub mod SeatLemmas

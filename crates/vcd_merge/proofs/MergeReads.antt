@@ -15,7 +15,8 @@ use Rattle.vcd_body.specs.Answer.{IsLeft, reads_failed}
 use Rattle.vcd_merge.specs.MergeParts.{part_len}
 use Rattle.vcd_merge.specs.MergeStep.{AreGiven, ReadsOne, Standing, cut_at, failures_with}
 use Rattle.vcd_merge.specs.MergeTrail.{GoOn, ReadInTurn}
-use Rattle.vcd_merge.specs.Seat.{HaveJust, Lane, ReadsNoMore}
+use Rattle.vcd_body.specs.Asked.{HaveJust}
+use Rattle.vcd_merge.specs.Seat.{Lane, ReadsNoMore}
 use Rattle.vcd_merge.specs.declared.seat.Seat.{Seat}
 use Rattle.vcd_body.specs.declared.answer.Stop.{Stop}
 use Rattle.vcd_merge.proofs.InTurn.{in_turn, turn_on}

@@ -1,11 +1,11 @@
 -- A merge as a loop over steps.
-use Rattle.std.proofs.Common.{◌≡◌, ◌≢◌, ◌∙◌, ℕ, zero, suc, ◌+◌, ◌-◌, ◌^◌, ◌/◌, ◌<◌, ◌++◌, Bool, true, false, ◌||◌, List, [], ◌∷◌, length, map, slice_get, slice_set, Some, None, ap, sym, subst, refl, Result, Ok, Err, arith, ◌⊎◌, inl, inr, append-nil}
-use Rattle.std.specs.Prelude.{All, get_or}
+use Rattle.std.proofs.Common.{◌≡◌, ◌≢◌, ◌∙◌, ℕ, zero, suc, ◌+◌, ◌-◌, ◌^◌, ◌/◌, ◌<◌, ◌++◌, Bool, true, false, List, [], ◌∷◌, length, map, slice_get, slice_set, Some, None, ap, ap₂, sym, subst, refl, Result, Ok, Err, arith, ◌⊎◌, inl, inr, append-nil}
+use Rattle.std.specs.Prelude.{All, Option, get_or, option_map}
 use Rattle.std.specs.List.{list_any}
 use Rattle.std.proofs.lemmas.List.{set-get_or}
 use Rattle.vcd_model.specs.Header.{Header}
 use Rattle.vcd_model.specs.Items.{BodyItem}
-use Rattle.vcd_model.specs.BodyReading.{body_fault_of, body_items, read_body}
+use Rattle.vcd_model.specs.BodyReading.{body_fault_of, read_body}
 use Rattle.vcd_model.specs.Settled.{is_settled_behind}
 use Rattle.vcd_model.specs.Merge.{Dump, dump_of, factor, headers_of, key_after, key_lt, merge_close, merge_open, merged_items}
 use Rattle.vcd_model.specs.MergeByInput.{with_item}
@@ -23,7 +23,9 @@ use Rattle.vcd_merge.specs.MergeParts.{part_len}
 use Rattle.vcd_merge.specs.MergeRun.{Belongs, Follows, settles_among}
 use Rattle.vcd_merge.specs.MergeStep.{AreGiven, Gives, HasFault, Holds, IsReady, ReadsOne, Standing, failures_with}
 use Rattle.vcd_merge.specs.MergeTrail.{GoOn, ReadInTurn}
-use Rattle.vcd_merge.specs.Seat.{HaveJust, Lane}
+use Rattle.vcd_body.specs.Asked.{HaveJust}
+use Rattle.vcd_body.proofs.AskedLemmas.{unsettled as unsettled_alone}
+use Rattle.vcd_merge.specs.Seat.{Lane}
 use Rattle.vcd_merge.specs.declared.seat.Seat.{Seat}
 use Rattle.vcd_body.specs.declared.answer.Done.{Done}
 use Rattle.vcd_body.specs.declared.answer.Done.TheVariants.{Whole, Early}
@@ -36,7 +38,7 @@ use Rattle.vcd_merge.proofs.MergeReads as reads
 use Rattle.vcd_merge.proofs.InTurn.{go_item, go_same, go_still}
 use Rattle.vcd_merge.proofs.MergeReads.{AreReadSoFar, IsRead, cut_left, left_whole, other_left, read_more, reads_for}
 use Rattle.vcd_merge.proofs.MergeSteps.{get_map, len_map, same_or_not}
-use Rattle.vcd_merge.proofs.MergeStops.{EndFits, HasLaterFault, StopFits, WriteFits, clean_is, ends, fault_merged, one_next, stops, writes, written_some}
+use Rattle.vcd_merge.proofs.MergeStops.{BackFits, EndFits, HasLaterFault, StopFits, WriteFits, backs, clean_is, ends, fault_merged, kept_some, one_next, stops, writes, written_some}
 use Rattle.vcd_merge.proofs.MergeWholes as whole
 use Rattle.vcd_merge.proofs.MergeWholes.{AreNeeded, Wholes, choose_all, entire, entire_headers, entire_of, fit_at, follows, left_all, opened_dumps, opened_headers, opened_of}
 use Rattle.vcd_merge.proofs.Unsettled.{unsettled}
@@ -70,7 +72,7 @@ still_low f (x ∷ xs) (y ∷ ys) e h =
 
 -- tokens with just these items do not settle an input
 open_behind : (h : Header) (items : List BodyItem) (ts : List Token) → HaveJust h.codes items ts → is_settled_behind Request.Merge h ts ≡ false
-open_behind h items ts have = ap (λ (b : Bool). b || list_any (ends_early Request.Merge) (body_items (read_body h.codes ts))) have.0 ∙ none_early (body_items (read_body h.codes ts))
+open_behind h items ts have = unsettled_alone Request.Merge h items ts refl (none_early items) have
   where
     none_early : (xs : List BodyItem) → list_any (ends_early Request.Merge) xs ≡ false
     none_early [] = refl
@@ -110,6 +112,18 @@ module _ {X : Type 0} (rest : X → _) (failures : X → ℕ) (hs : List Header)
     -- .. by which this one was
     read_item : {A : Type 0} (k j : ℕ) (r : Result A Stop) (d : Dump) (x : BodyItem) → slice_get ds j ≡ Some d → reads_failed r ≡ 0 → map failures s'.sources ≡ failures_with (map failures s.sources) k r → ReadsOne rest lanes ds s s' j None → AreReadTo (with_item ds j d x) s'.seats
     read_item k j r d x at none counts one = read_on (with_item ds j d x) s'.seats k j r (go_item ds s.seats s'.seats j one.next one.seats d x at) none counts one
+
+    -- nothing was read
+    unread : map failures s'.sources ≡ map failures s.sources → ((j : ℕ) → option_map rest (slice_get s'.sources j) ≡ option_map rest (slice_get s.sources j)) → AreReadTo ds s.seats
+    unread same rests = record {
+      each = λ j l old new at_l at_old at_new.
+          let x = reads.unmap (supply rest failures) s'.sources j new at_new in
+          let y = reads.unmap failures s.sources j (failures x.0) (ap (λ (ns : List ℕ). slice_get ns j) (sym same) ∙ get_map failures s'.sources j x.0 x.1) in
+          let both : Some (rest y.0) ≡ Some (rest x.0) = ap (option_map rest) (sym y.1) ∙ sym (rests j) ∙ ap (option_map rest) x.1 in
+          let is : rest y.0 ≡ rest x.0 = cc in
+          let supplies : supply rest failures y.0 ≡ new = ap₂ (λ (r : Option (List ℕ)) (n : ℕ). record { rest = r; failures = n }) is y.2 ∙ x.2 in
+          so_far.each j l old new at_l at_old (get_map (supply rest failures) s.sources j y.0 y.1 ∙ ap (λ (z : Supply). Some z) supplies);
+    }
 
     -- the merge goes on: it holds an item more, or the same, and the output has what is due
     pub advances_on : (begin out new : Device) (k : ℕ) → Writes begin out (merge_open hs (merged_items ds)) → map failures s'.sources ≡ failures_with {A = More} (map failures s.sources) k (Ok Again) → Gives rest hs lanes ds s s' out new (Ok Again)
@@ -273,13 +287,17 @@ module _ {X : Type 0} (rest : X → _) (failures : X → ℕ) (hs : List Header)
           let some = written_some rest hs lanes ds s s' limit is_limit ready seats tokens t.0 t.1 t.2 t.3 names begin out new w t.4 in
           all_whole (WriteFits rest hs lanes ds s s' limit is_limit ready seats tokens t.0 t.1 t.2 t.3) (with_item ds t.0 t.1 t.2) s'.seats ws (λ j x p. p.later) (Err Write) (new_many {A = More} k (Err Write) counts)
           (read_item {A = More} k t.0 (Err Write) t.1 t.2 t.3.dump_at refl counts t.5) (λ j x p. p.left) some
-      cut_short k counts (inr t) =
+      cut_short k counts (inr (inl t)) =
           let ws = ends rest hs lanes ds s s' limit is_limit ready seats tokens t.given t.finished in
           let outcome = clean_is rest hs lanes ds s s' limit is_limit ready seats tokens t.given t.finished names in
           let due = t.closes in
           let some : WritesSome begin new (merge_open hs (merged_items ds) ++ merge_close (merged_items ds)) = some-behind begin out new (merge_open hs (merged_items ds)) (merge_close (merged_items ds)) w (subst (WritesSome out new) (sym due.1) due.2) in
           all_whole (EndFits rest hs lanes ds s s' limit is_limit ready seats tokens t.given) ds s'.seats ws (λ j x p. p.later) (Err Write) (new_many {A = More} k (Err Write) counts) (read_same {A = More} k t.input (Err Write) refl counts t.reads) (λ j x p. p.left)
           (subst (λ (o : Outcome). WritesSome begin new o.output) (sym outcome) some)
+      cut_short k counts (inr (inr t)) =
+          let ws = backs rest hs lanes ds s limit is_limit ready holds.given t.input t.next in
+          all_whole (BackFits rest hs lanes ds s limit is_limit ready holds.given t.input t.next) ds s.seats ws (λ j x p. p.later) (Err Write) (new_many {A = More} k (Err Write) counts) (unread (counts ∙ plain {A = More} (map failures s.sources) k (Err Write) refl) t.unread) (λ j x p. p.left)
+          (kept_some rest hs lanes ds s limit is_limit ready holds.given t.input t.next names begin out new w t.writes)
 
       -- it has stopped: the fault is the first of the merged inputs, and what stands is what comes
       -- before it; or a write failed

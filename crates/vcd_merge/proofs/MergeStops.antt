@@ -25,7 +25,7 @@ use Rattle.vcd_merge.specs.Seat.{AtSeat, HasDump, Lane, Spot}
 use Rattle.vcd_merge.specs.declared.seat.Seat.{Seat}
 use Rattle.vcd_merge.proofs.MergeAnswers.{token_len}
 use Rattle.vcd_model.proofs.MergeSoFar.{after_key, all_keyed, fault_outcome_is, none_between, outcome_begins, still_late, still_later, up_to_last}
-use Rattle.vcd_merge.proofs.MergeSteps.{all_before, get_map, len_map, next_first, same_header, same_or_not, seat_spot, some_at}
+use Rattle.vcd_merge.proofs.MergeSteps.{all_before, dump_at, get_map, lane_at, len_map, next_first, same_header, same_or_not, seat_spot, some_at}
 use Rattle.vcd_merge.proofs.MergeWholes.{AllFit, Whole, Wholes, choose_all, entire, entire_headers, entire_of, fit_at, grown_all, late_all, others_all, so_far}
 use Rattle.vcd_merge.proofs.WholeInputs.{finished, goes_on}
 
@@ -231,6 +231,68 @@ module _ {X : Type 0} (rest : X → _) (hs : List Header) (lanes : List Lane) (d
       let begins = outcome_begins names hs es (entire_of hs limit writes.list) behind t.given.dumps_are (entire_headers hs limit writes.list ∙ headers) grown all_up_to late in
       let some : WritesSome begin new (merge_open hs (merged_items es)) = subst (WritesSome begin new) (sym due.1) (some-behind begin out new (merge_open hs (merged_items ds)) due.0 w due.2) in
       subst (WritesSome begin new) (sym begins.1) (some-first begin new (merge_open hs (merged_items es)) begins.0 some)
+
+-- ---- what is kept back was not passed on, before the input whose turn it is was read
+
+module _ {X : Type 0} (rest : X → _) (hs : List Header) (lanes : List Lane) (ds : List Dump) (s : Standing X) (limit : ℕ) (is_limit : part_len (length s.seats) s.tokens ≡ limit) (ready : IsReady s) (g : AreGiven rest hs lanes ds s) (k : ℕ) (next : IsNext s.seats k) where
+  pub turn_of : (l : Lane) × (d : Dump) × (slice_get lanes k ≡ Some l) × (slice_get ds k ≡ Some d)
+  turn_of =
+      let w = slice_get_within s.seats k next.seat next.there in
+      let l = lane_at rest hs lanes ds s g k w in
+      let d = dump_at rest hs lanes ds s g k w in
+      (l.0, d.0, l.1, d.1)
+
+  abbrev place_next : Key
+  place_next = key_after (factor hs turn_of.1.header) k turn_of.1.items
+
+  pub record BackFits (n : ℕ) (w : Whole hs limit) : Type 0 where
+    pub grown : GrownOne place_next hs n w.dump (entire hs limit w)
+    pub late : (f : Fault) → w.fault ≡ Some f → key_lt (key_after (factor hs w.dump.header) n w.items) place_next ≡ false
+    pub left : w.left ≡ w.lane.input
+    pub later : HasLaterFault hs limit s.seats n w
+
+  -- no key stands before itself
+  not_itself : (a : Key) → key_lt a a ≡ false
+  not_itself a = by_test (key_lt a a) refl
+    where
+      by_test : (b : Bool) → key_lt a a ≡ b → b ≡ false
+      by_test false e = refl
+      by_test true e = let n = key_never a a e in cc
+
+  late_back : (j : ℕ) (c : Dump) (y : Seat) → (j ≡ k) ⊎ (j ≢ k) → slice_get ds j ≡ Some c → slice_get s.seats j ≡ Some y → y.finished ≡ false → key_lt (key_after (factor hs c.header) j c.items) place_next ≡ false
+  late_back j c y (inr other) at_c at_y on = key_never place_next (key_after (factor hs c.header) j c.items) (next_first rest hs lanes ds s g k turn_of.1 turn_of.0 next ready.sources turn_of.3 turn_of.2 j c y other at_c at_y on)
+  late_back j c y (inl here) at_c at_y on =
+      let both : Some turn_of.1 ≡ Some c = sym turn_of.3 ∙ ap (slice_get ds) (sym here) ∙ at_c in
+      let is : turn_of.1 ≡ c = cc in
+      subst (λ (i : ℕ). key_lt (key_after (factor hs c.header) i c.items) place_next ≡ false) (sym here) (subst (λ (d : Dump). key_lt (key_after (factor hs d.header) k d.items) place_next ≡ false) is (not_itself place_next))
+
+  back_at : (j : ℕ) (l : Lane) (c : Dump) → slice_get lanes j ≡ Some l → slice_get ds j ≡ Some c → (w : Whole hs limit) × (w.lane ≡ l) × (w.dump ≡ c) × BackFits j w
+  back_at j l c at_l at_c =
+      let o = may_go rest hs lanes ds s s limit is_limit ready refl refl g j l c at_l at_c in
+      let late = λ (on : o.3.seat.finished ≡ false). late_back j o.0.dump o.3.seat (same_or_not j k) (at_c ∙ ap (λ (z : Dump). Some z) (sym o.2)) o.3.there on in (
+        o.0,
+        o.1,
+        o.2,
+        record {
+          grown = grown_of rest hs lanes ds s s limit is_limit ready refl refl g place_next j o.0 o.3 late;
+          late = fault_late rest hs lanes ds s s limit is_limit ready refl refl g place_next j o.0 o.3 late;
+          left = o.3.left;
+          later = faults_after rest hs lanes ds s s limit is_limit ready refl refl g j o.0 o.3;
+        },
+      )
+
+  pub backs : Wholes hs limit BackFits 0 lanes ds
+  backs = choose_all hs limit BackFits lanes ds (as_many rest hs lanes ds s s limit is_limit ready refl refl g) back_at
+
+  pub kept_some : (names : List (List ℕ)) (begin out new : Device) → Writes begin out (merge_open hs (merged_items ds)) → WritesSome out new [] → WritesSome begin new (merge_outcome names (entire_of hs limit backs.list)).output
+  kept_some names begin out new w back =
+      let headers = ap headers_of backs.dumps_are ∙ g.dumps_are in
+      let grown = subst (λ (l : List Dump). AreGrown place_next hs 0 l (entire_of hs limit backs.list)) backs.dumps_are (grown_all hs limit BackFits place_next (λ n v fit. fit.grown) 0 backs.list backs.fit) in
+      let late = late_all hs limit BackFits place_next (λ n v fit. fit.late) 0 backs.list backs.fit in
+      let all = all_before rest hs lanes ds s g k turn_of.1 turn_of.0 next ready.sources turn_of.3 turn_of.2 in
+      let begins = outcome_begins names hs ds (entire_of hs limit backs.list) place_next g.dumps_are (entire_headers hs limit backs.list ∙ headers) grown all late in
+      let some : WritesSome begin new (merge_open hs (merged_items ds)) = subst (WritesSome begin new) (append-nil (merge_open hs (merged_items ds))) (some-behind begin out new (merge_open hs (merged_items ds)) [] w back) in
+      subst (WritesSome begin new) (sym begins.1) (some-first begin new (merge_open hs (merged_items ds)) begins.0 some)
 
 -- ---- a fault of the input whose turn it is
 

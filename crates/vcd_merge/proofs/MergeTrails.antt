@@ -1,6 +1,6 @@
 -- What a merge holds behind several items of the input whose turn it is.
 use Rattle.std.proofs.Common.{◌≡◌, ◌≢◌, ℕ, ◌+◌, ◌-◌, ◌*◌, ◌/◌, ◌<◌, ◌≤◌, ◌⊎◌, Bool, true, false, List, [], ◌∷◌, ◌++◌, length, map, take, slice_get, slice_set, Option, Some, None, Result, Ok, Err, refl, sym, ap, subst, ◌∙◌, arith, inl, inr, append-nil, append_assoc}
-use Rattle.std.specs.Prelude.{All}
+use Rattle.std.specs.Prelude.{All, option_map}
 use Rattle.std.proofs.lemmas.List.{set-get_or}
 use Rattle.std.proofs.lemmas.Option.{get_or_from_slice_get, slice_get_within}
 use Rattle.std.proofs.Math.ListN.{length-set}
@@ -16,17 +16,17 @@ use Rattle.vcd_body.specs.Device.{Grows}
 use Rattle.vcd_merge.specs.MergeOrder.{IsNext}
 use Rattle.vcd_merge.specs.MergeParts.{part_len, spot_at}
 use Rattle.vcd_merge.specs.MergeStep.{AreMarked, Gives, Holds, IsReady, ReadsOne, Standing, last_written}
-use Rattle.vcd_merge.specs.MergeTrail.{GoOn, ReadInTurn, RunGives, Stage, TakesOn, Trail, Stands, Further, TurnsAt, spot_in}
+use Rattle.vcd_merge.specs.MergeTrail.{GoOn, ReadInTurn, RunGives, Stage, StaysBack, TakesOn, Trail, Stands, Further, TurnsAt, spot_in}
 use Rattle.vcd_merge.specs.Order.{IsFirstBefore}
 use Rattle.vcd_merge.specs.Seat.{GivesOne, IsSeated, Lane, ReadsNoMore, Spot, Turns}
 use Rattle.vcd_body.specs.declared.answer.More.{More}
 use Rattle.vcd_body.specs.declared.answer.More.TheVariants.{Again, Ended}
 use Rattle.vcd_body.specs.declared.answer.Done.TheVariants.{Whole}
 use Rattle.vcd_body.specs.declared.answer.Stop.{Stop}
-use Rattle.vcd_body.specs.declared.answer.Stop.TheVariants.{Write}
+use Rattle.vcd_body.specs.declared.answer.Stop.TheVariants.{Dump as Faulty, Read, Write, Unmatched}
 use Rattle.vcd_merge.specs.declared.seat.Seat.{Seat}
 use Rattle.vcd_body.proofs.Results.{writes-none}
-use Rattle.vcd_merge.proofs.MergeAnswers.{Found, again, are_marked, chunk_len, ended, open_with, stopped, taken, token_len, written_with_it}
+use Rattle.vcd_merge.proofs.MergeAnswers.{Found, again, are_marked, chunk_len, ended, open_with, spot_source, stopped, taken, token_len, written_with_it}
 use Rattle.vcd_merge.proofs.InTurn.{go_item, go_still, go_through, in_turn, turn_on}
 use Rattle.vcd_merge.proofs.MergeCounts.{map_set}
 use Rattle.vcd_merge.proofs.MergeSteps.{get_map, same_or_not}
@@ -277,11 +277,23 @@ module _ {X : Type 0} (rest : X → Option (List ℕ)) (failures : X → ℕ) (h
       let token = ap (λ (q : Spot). length q.token) (sym t.spot_is) ∙ token_len rest s s k f.spot ready within refl refl f.spot_there in
       arrives rest failures hs lanes ds s holds ready k before f.dump f.lane next f.dump_there f.lane_there early (stage r t) refl refl spot t.source_at chunk token t.turns.mid t.turns.trail
 
-  told : {A : Type 0} (r : Result A Stop) (t : IsTurned r) → Turns k (factor hs f.lane.header) (first_number (take k hs)) f.lane (there r t).dump.items (there r t).mid.written s'.written p t.turns.mid.out out' r
-  told r t =
+  -- what its last step gave
+  abbrev Gave : {A : Type 0} (r : Result A Stop) → IsTurned r → Type 0
+  Gave {A = A} r t = Turns {A = A} k (factor hs f.lane.header) (first_number (take k hs)) f.lane t.turns.mid.items t.turns.mid.written s'.written p t.turns.mid.out out' r
+
+  told : {A : Type 0} (r : Result A Stop) (t : IsTurned r) → Gave r t → Turns k (factor hs f.lane.header) (first_number (take k hs)) f.lane (there r t).dump.items (there r t).mid.written s'.written p t.turns.mid.out out' r
+  told r t last =
       let m = there r t in
       subst (λ (w : Option ℕ). Turns k (factor hs f.lane.header) (first_number (take k hs)) f.lane m.dump.items w s'.written p t.turns.mid.out out' r) (sym m.written_is)
-      (subst (λ (xs : List BodyItem). Turns k (factor hs f.lane.header) (first_number (take k hs)) f.lane xs t.turns.mid.written s'.written p t.turns.mid.out out' r) (sym m.items_are) t.turns.last)
+      (subst (λ (xs : List BodyItem). Turns k (factor hs f.lane.header) (first_number (take k hs)) f.lane xs t.turns.mid.written s'.written p t.turns.mid.out out' r) (sym m.items_are) last)
+
+  -- where it goes on all was passed on
+  gave : {A : Type 0} (u : A) (t : IsTurned (Ok u)) → Gave (Ok u) t
+  gave {A} u t = by_last t.turns.last
+    where
+      by_last : Gave {A = A} (Ok u) t ⊎ StaysBack {A = A} rest t.turns.mid p out' (Ok u) → Gave {A = A} (Ok u) t
+      by_last (inl turns) = turns
+      by_last (inr back) = absurd back
 
   module _ {A : Type 0} (r : Result A Stop) (t : IsTurned r) where
     mid_heads : s'.heads ≡ (there r t).mid.heads
@@ -327,21 +339,49 @@ module _ {X : Type 0} (rest : X → Option (List ℕ)) (failures : X → ℕ) (h
   pub went_on : {A : Type 0} (u : A) → IsTurned (Ok u) → RunGives rest failures hs lanes alone ds s s' out out' (Ok Again)
   went_on {A} u t =
       let m = there (Ok u) t in
-      runs (Ok u) t (Ok Again) out' (again rest hs lanes m.dumps m.mid m.holds k m.dump f.lane m.next m.ready.sources m.dump_at f.lane_there s' p (mid_heads (Ok u) t) (mid_many (Ok u) t) sources at_p (mid_others (Ok u) t) (mid_token (Ok u) t) (mid_chunk (Ok u) t) (mid_stay (Ok u) t) A t.turns.mid.out out' u (told (Ok u) t))
+      runs (Ok u) t (Ok Again) out' (again rest hs lanes m.dumps m.mid m.holds k m.dump f.lane m.next m.ready.sources m.dump_at f.lane_there s' p (mid_heads (Ok u) t) (mid_many (Ok u) t) sources at_p (mid_others (Ok u) t) (mid_token (Ok u) t) (mid_chunk (Ok u) t) (mid_stay (Ok u) t) A t.turns.mid.out out' u (told (Ok u) t (gave u t)))
 
   -- it stops
+  module _ {A : Type 0} (stop : Stop) (t : IsTurned {A = A} (Err stop)) where
+    by_turn : Gave {A = A} (Err stop) t → RunGives rest failures hs lanes alone ds s s' out out' (Err stop)
+    by_turn last =
+        let r : Result A Stop = Err stop in
+        let m = there r t in
+        runs r t (Err stop) out' (stopped rest hs lanes m.dumps m.mid m.holds k m.dump f.lane m.next m.ready.sources m.dump_at f.lane_there s' p (mid_heads r t) (mid_many r t) sources at_p (mid_others r t) (mid_token r t) (mid_chunk r t) (mid_stay r t) A t.turns.mid.out out' stop (told r t last))
+
+  -- before a read, since what is kept back was not passed on
+  module _ {A : Type 0} (t : IsTurned {A = A} (Err Write)) (back : StaysBack {A = A} rest t.turns.mid p out' (Err Write)) where
+    unread : (j : ℕ) → (j ≡ k) ⊎ (j ≢ k) → option_map rest (slice_get s'.sources j) ≡ option_map rest (slice_get (there {A = A} (Err Write) t).mid.sources j)
+    unread j (inr other) = ap (option_map rest) (mid_stay {A = A} (Err Write) t j other)
+    unread j (inl here) =
+        let y = spot_source rest s' k p at_p in
+        let new : option_map rest (slice_get s'.sources k) ≡ Some (rest y.0) = ap (option_map rest) y.1 in
+        let old : option_map rest (slice_get (there {A = A} (Err Write) t).mid.sources k) ≡ Some (rest t.turns.mid.source) = ap (option_map rest) (there {A = A} (Err Write) t).source_at in
+        let same : rest y.0 ≡ rest t.turns.mid.source = sym y.2 ∙ back.1 in
+        subst (λ (i : ℕ). option_map rest (slice_get s'.sources i) ≡ option_map rest (slice_get (there {A = A} (Err Write) t).mid.sources i)) (sym here) (new ∙ ap (λ (r : Option (List ℕ)). Some r) same ∙ sym old)
+
+    was_kept : RunGives rest failures hs lanes alone ds s s' out out' (Err Write)
+    was_kept =
+        let r : Result A Stop = Err Write in
+        let m = there r t in
+        runs r t (Err Write) out' (inr (inr (record { input = k; next = m.next; writes = back.0; unread = λ j. unread j (same_or_not j k) })))
+
   pub was_stopped : {A : Type 0} (stop : Stop) → IsTurned {A = A} (Err stop) → RunGives rest failures hs lanes alone ds s s' out out' (Err stop)
-  was_stopped {A} stop t =
-      let r : Result A Stop = Err stop in
-      let m = there r t in
-      runs r t (Err stop) out' (stopped rest hs lanes m.dumps m.mid m.holds k m.dump f.lane m.next m.ready.sources m.dump_at f.lane_there s' p (mid_heads r t) (mid_many r t) sources at_p (mid_others r t) (mid_token r t) (mid_chunk r t) (mid_stay r t) A t.turns.mid.out out' stop (told r t))
+  was_stopped {A} stop t = by_last stop t t.turns.last
+    where
+      by_last : (stop : Stop) (t : IsTurned {A = A} (Err stop)) → Gave {A = A} (Err stop) t ⊎ StaysBack {A = A} rest t.turns.mid p out' (Err stop) → RunGives rest failures hs lanes alone ds s s' out out' (Err stop)
+      by_last stop t (inl turns) = by_turn stop t turns
+      by_last Write t (inr back) = was_kept t back
+      by_last (Faulty input line fault) t (inr back) = absurd back
+      by_last (Read input) t (inr back) = absurd back
+      by_last (Unmatched place) t (inr back) = absurd back
 
   -- all inputs have ended
   module _ (all : All (λ (x : Seat). x.finished ≡ true) s'.seats) where
     done : {A : Type 0} (u : A) (t : IsTurned (Ok u)) → Holds rest hs lanes (there (Ok u) t).dumps s' × Writes t.turns.mid.out out' [] × ReadsOne rest lanes (there (Ok u) t).dumps (there (Ok u) t).mid s' k None
     done {A} u t =
         let m = there (Ok u) t in
-        ended rest hs lanes m.dumps m.mid m.holds k m.dump f.lane m.next m.ready.sources m.dump_at f.lane_there s' p (mid_heads (Ok u) t) (mid_many (Ok u) t) sources at_p (mid_others (Ok u) t) (mid_token (Ok u) t) (mid_chunk (Ok u) t) (mid_stay (Ok u) t) A t.turns.mid.out out' u all (told (Ok u) t)
+        ended rest hs lanes m.dumps m.mid m.holds k m.dump f.lane m.next m.ready.sources m.dump_at f.lane_there s' p (mid_heads (Ok u) t) (mid_many (Ok u) t) sources at_p (mid_others (Ok u) t) (mid_token (Ok u) t) (mid_chunk (Ok u) t) (mid_stay (Ok u) t) A t.turns.mid.out out' u all (told (Ok u) t (gave u t))
 
     marked : {A : Type 0} (u : A) (t : IsTurned (Ok u)) → AreMarked hs (there (Ok u) t).dumps s'.seats
     marked u t = are_marked rest hs lanes (there (Ok u) t).dumps s' (done u t).0.given sources
@@ -357,7 +397,7 @@ module _ {X : Type 0} (rest : X → Option (List ℕ)) (failures : X → ℕ) (h
         let e = done u t in
         let w = closes (there (Ok u) t).dumps (marked u t) e.0.written in
         let some = some-behind t.turns.mid.out out' new [] (merge_close (merged_items (there (Ok u) t).dumps)) e.1 w in
-        runs (Ok u) t (Err Write) new (inr (record { given = e.0.given; finished = all; closes = (merge_close (merged_items (there (Ok u) t).dumps), refl, some); input = k; reads = e.2 }))
+        runs (Ok u) t (Err Write) new (inr (inl (record { given = e.0.given; finished = all; closes = (merge_close (merged_items (there (Ok u) t).dumps), refl, some); input = k; reads = e.2 })))
 
 -- one item alone is one step
 pub one_step : {X : Type 0} (rest : X → Option (List ℕ)) (failures : X → ℕ) (hs : List Header) (lanes : List Lane) (ds : List Dump) (s s' : Standing X) (out out' : Device) (result : Result More Stop) → RunGives rest failures hs lanes true ds s s' out out' result → Gives rest hs lanes ds s s' out out' result

@@ -112,7 +112,7 @@ module _ {X : Type 0} {g : Ghosts X} (scale first : ℕ) (l : Lane) (behind : Li
     -- the stages of the run, over the feed as it would be
     reaches : (b : StageAhead) → Trails b → Reaches g.rest failures scale first l before start (stage_with (behind ++ b.items) b.written s f b.out)
     unfolding feed_at
-    reaches b Stands = record { mid = start; trail = Trail.Stands; items_are = sym (append-nil behind); written_is = refl; out_is = refl; failures_are = refl; chunk = refl; token = refl }
+    reaches b Stands = record { mid = start; trail = Trail.Stands; items_are = sym (append-nil behind); written_is = refl; out_is = refl; rest_is = refl; failures_are = refl; chunk = refl; token = refl }
     reaches _ (Further b c x so_far items_are one early) =
         let new = feed_at c.at one.ahead.gave.tokens one.ahead.gave.passed in
         let from : Stage X = stage_with (behind ++ b.items) b.written s f b.out in
@@ -129,7 +129,7 @@ module _ {X : Type 0} {g : Ghosts X} (scale first : ℕ) (l : Lane) (behind : Li
           token = refl;
         } in
         let t = reaches_on g.rest failures scale first l before start from (reaches b so_far) to by in
-        record { mid = t.mid; trail = t.trail; items_are = t.items_are ∙ append_assoc behind b.items (x ∷ []) ∙ ap (λ xs. behind ++ xs) (sym items_are); written_is = t.written_is; out_is = t.out_is; failures_are = t.failures_are; chunk = t.chunk; token = t.token }
+        record { mid = t.mid; trail = t.trail; items_are = t.items_are ∙ append_assoc behind b.items (x ∷ []) ∙ ap (λ xs. behind ++ xs) (sym items_are); written_is = t.written_is; out_is = t.out_is; rest_is = t.rest_is; failures_are = t.failures_are; chunk = t.chunk; token = t.token }
 
     -- once the feed has passed them
     module _ (new : Feed X g) (n : ℕ) (r : Regs) (time : ℕ) (written : Option ℕ) (out : Device) (source : source_of new ≡ source_of f) (limit : limit_of new ≡ limit_of f) (chunk : chunk_len_of new ≡ chunk_len_of f)
@@ -145,7 +145,7 @@ module _ {X : Type 0} {g : Ghosts X} (scale first : ℕ) (l : Lane) (behind : Li
           let q = reaches m t.trail in (
             behind ++ m.items,
             seat_at new (behind ++ m.items) n m.items r time refl a (gives m.items a.gave a.known),
-            record { mid = q.mid; trail = q.trail; items_are = q.items_are; written_is = q.written_is ∙ sym t.ends.1; out_is = q.out_is ∙ sym t.ends.2; failures_are = q.failures_are ∙ ap failures (sym source); chunk = q.chunk ∙ sym chunk; token = q.token ∙ sym limit },
+            record { mid = q.mid; trail = q.trail; items_are = q.items_are; written_is = q.written_is ∙ sym t.ends.1; out_is = q.out_is ∙ sym t.ends.2; rest_is = q.rest_is ∙ ap g.rest (sym source); failures_are = q.failures_are ∙ ap failures (sym source); chunk = q.chunk ∙ sym chunk; token = q.token ∙ sym limit },
           )
       ahead_turns (Ok true) t =
           let m = t.mid in

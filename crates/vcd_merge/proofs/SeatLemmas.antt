@@ -27,7 +27,7 @@ use Rattle.vcd_merge.specs.declared.seat.Seat.{Seat}
 use Rattle.vcd_body.proofs.Results.{writes-none}
 use Rattle.vcd_merge.proofs.Dumps.{has_dump}
 use Rattle.vcd_body.proofs.CallerLemmas.{last_given}
-use Rattle.vcd_merge.proofs.AskedTokens.{read_to_end, read_to_item, read_to_stop}
+use Rattle.vcd_body.proofs.AskedLemmas.{asked_to_end, asked_to_item, asked_to_stop}
 
 -- ---- how much was read
 
@@ -47,14 +47,14 @@ module _ {X : Type 0} {g : Ghosts X} (l : Lane) (left : Input) (items : List Bod
 
   -- where the body was refused, where it has ended, and at an item
   pub no_more_at_stop : StopsAt l.header.codes left l.front items f → NoMore
-  no_more_at_stop s = λ old failures settled on. however_many (limit_of f) (chunk_len_of f) (supply_of f) left l.front settled (λ before. read_to_stop l.header.codes left l.front items f before settled on s) old failures
+  no_more_at_stop s = λ old failures settled on. however_many (limit_of f) (chunk_len_of f) (supply_of f) left l.front settled (λ before. asked_to_stop l.header.codes left l.front items f before settled on s) old failures
 
   pub no_more_at_end : (r : Regs) → GaveAll l.header.codes left l.front items f r → NoMore
-  no_more_at_end r a = λ old failures settled on. however_many (limit_of f) (chunk_len_of f) (supply_of f) left l.front settled (λ before. read_to_end l.header.codes left l.front items f before settled on r a) old failures
+  no_more_at_end r a = λ old failures settled on. however_many (limit_of f) (chunk_len_of f) (supply_of f) left l.front settled (λ before. asked_to_end l.header.codes left l.front items f before settled on r a) old failures
 
   -- even where its line is not known
   pub no_more_at_last : (x : BodyItem) (r : Regs) → GaveLast l.header.codes left l.front items x f r → NoMore
-  no_more_at_last x r m = λ old failures settled on. however_many (limit_of f) (chunk_len_of f) (supply_of f) left l.front settled (λ before. read_to_item l.header.codes left l.front items f before settled on x r m) old failures
+  no_more_at_last x r m = λ old failures settled on. however_many (limit_of f) (chunk_len_of f) (supply_of f) left l.front settled (λ before. asked_to_item l.header.codes left l.front items f before settled on x r m) old failures
 
   pub no_more_at_item : (x : BodyItem) (r : Regs) → GaveItem l.header.codes left l.front items x f r → NoMore
   no_more_at_item x r m = no_more_at_last x r (last_given l.header.codes left l.front items x f r m)

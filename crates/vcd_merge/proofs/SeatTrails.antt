@@ -1,17 +1,18 @@
 -- Items of one input of a merge, taken one after another over its feed.
-use Rattle.std.proofs.Common.{◌≡◌, ℕ, ◌<◌, Bool, true, false, List, [], ◌∷◌, ◌++◌, Option, Result, Ok, Err, refl, sym, ap, subst, ◌∙◌, inl, inr}
+use Rattle.std.proofs.Common.{◌≡◌, ℕ, ◌<◌, Bool, true, false, List, [], ◌∷◌, ◌++◌, Option, Result, Ok, Err, ◌⊎◌, refl, sym, ap, subst, ◌∙◌, inl, inr}
 use Rattle.vcd_model.specs.Items.{BodyItem}
 use Rattle.vcd_text.specs.Advances.{HasNotFailed}
 use Rattle.vcd_model.specs.MergeByInput.{due_with, entry_for}
-use Rattle.vcd_text.specs.Device.{Device, Writes}
+use Rattle.vcd_text.specs.Device.{Device, Writes, WritesSome}
+use Rattle.vcd_text.proofs.Writes.{both-written, some-behind}
 use Rattle.vcd_text.specs.Feed.{chunk_len_of, limit_of, source_of}
 use Rattle.vcd_text.specs.declared.device.Source.{Ghosts}
 use Rattle.vcd_text.specs.declared.device.WriteFailed.{WriteFailed}
 use Rattle.vcd_text.specs.declared.feed.Feed.{Feed}
-use Rattle.vcd_merge.specs.MergeTrail.{AheadTurns, Reaches, RunTurns, Stage, TakesOn, Trail, Further, Stands, spot_in, stage_with}
+use Rattle.vcd_merge.specs.MergeTrail.{AheadTurns, Reaches, RunTurns, Stage, StaysBack, TakesOn, Trail, Further, Stands, spot_in, stage_with}
 use Rattle.vcd_merge.specs.Seat.{AtSeat, GivesOne, Lane, Spot, Turns, spot_with}
 use Rattle.vcd_body.specs.declared.answer.Stop.{Stop}
-use Rattle.vcd_body.specs.declared.answer.Stop.TheVariants.{Write}
+use Rattle.vcd_body.specs.declared.answer.Stop.TheVariants.{Dump as Faulty, Read, Write, Unmatched}
 use Rattle.vcd_merge.specs.declared.seat.Seat.{Seat}
 
 -- ---- trails
@@ -33,10 +34,10 @@ module _ {X : Type 0} (rest : X → Option (List ℕ)) (failures : X → ℕ) (s
   }
 
   pub reaches_on : (c : Stage X) → TakesOn rest failures scale first l before b c → Reaches rest failures scale first l before a c
-  reaches_on c on = record { mid = c; trail = Further r.mid c r.trail (on_like c on); items_are = refl; written_is = refl; out_is = refl; failures_are = refl; chunk = refl; token = refl }
+  reaches_on c on = record { mid = c; trail = Further r.mid c r.trail (on_like c on); items_are = refl; written_is = refl; out_is = refl; rest_is = refl; failures_are = refl; chunk = refl; token = refl }
 
 pub at_once : {X : Type 0} (rest : X → Option (List ℕ)) (failures : X → ℕ) (scale first : ℕ) (l : Lane) (before : ℕ) (a : Stage X) → Reaches rest failures scale first l before a a
-at_once rest failures scale first l before a = record { mid = a; trail = Stands; items_are = refl; written_is = refl; out_is = refl; failures_are = refl; chunk = refl; token = refl }
+at_once rest failures scale first l before a = record { mid = a; trail = Stands; items_are = refl; written_is = refl; out_is = refl; rest_is = refl; failures_are = refl; chunk = refl; token = refl }
 
 -- and a trail
 module _ {X : Type 0} (rest : X → Option (List ℕ)) (failures : X → ℕ) (scale first : ℕ) (l : Lane) (before : ℕ) (a b : Stage X) (r : Reaches rest failures scale first l before a b) where
@@ -47,20 +48,46 @@ module _ {X : Type 0} (rest : X → Option (List ℕ)) (failures : X → ℕ) (s
   pub reaches_to : (c : Stage X) → Reaches rest failures scale first l before b c → Reaches rest failures scale first l before a c
   reaches_to c s =
       let q = along s.mid s.trail in
-      record { mid = q.mid; trail = q.trail; items_are = q.items_are ∙ s.items_are; written_is = q.written_is ∙ s.written_is; out_is = q.out_is ∙ s.out_is; failures_are = q.failures_are ∙ s.failures_are; chunk = q.chunk ∙ s.chunk; token = q.token ∙ s.token }
+      record { mid = q.mid; trail = q.trail; items_are = q.items_are ∙ s.items_are; written_is = q.written_is ∙ s.written_is; out_is = q.out_is ∙ s.out_is; rest_is = q.rest_is ∙ s.rest_is; failures_are = q.failures_are ∙ s.failures_are; chunk = q.chunk ∙ s.chunk; token = q.token ∙ s.token }
 
   -- and the step that ends them
   pub turns_at : {A : Type 0} (k : ℕ) (written : Option ℕ) (s : Spot) (out : Device) (result : Result A Stop) → Turns k scale first l b.items b.written written s b.out out result → RunTurns rest failures k scale first l before a written s out result
   turns_at k written s out result t = record {
     mid = r.mid;
     trail = r.trail;
-    last = subst (λ (o : Device). Turns k scale first l r.mid.items r.mid.written written s o out result) (sym r.out_is)
-        (subst (λ (w : Option ℕ). Turns k scale first l r.mid.items w written s b.out out result) (sym r.written_is) (subst (λ (xs : List BodyItem). Turns k scale first l xs b.written written s b.out out result) (sym r.items_are) t));
+    last = inl (subst (λ (o : Device). Turns k scale first l r.mid.items r.mid.written written s o out result) (sym r.out_is)
+        (subst (λ (w : Option ℕ). Turns k scale first l r.mid.items w written s b.out out result) (sym r.written_is) (subst (λ (xs : List BodyItem). Turns k scale first l xs b.written written s b.out out result) (sym r.items_are) t)));
   }
+
+  -- or what is kept back was not passed on
+  pub stays_at : {A : Type 0} (k : ℕ) (written : Option ℕ) (s : Spot) (out : Device) → WritesSome b.out out [] → s.rest ≡ rest b.source → RunTurns {A = A} rest failures k scale first l before a written s out (Err Write)
+  stays_at k written s out some same = record { mid = r.mid; trail = r.trail; last = inr (subst (λ (o : Device). WritesSome o out []) (sym r.out_is) some, same ∙ sym r.rest_is) }
 
 module _ {X : Type 0} (rest : X → Option (List ℕ)) (failures : X → ℕ) (scale first : ℕ) (l : Lane) (before : ℕ) (a b : Stage X) (r : Reaches rest failures scale first l before a b) where
   pub run_on : {A : Type 0} (k : ℕ) (written : Option ℕ) (s : Spot) (out : Device) (result : Result A Stop) → RunTurns rest failures k scale first l before b written s out result → RunTurns rest failures k scale first l before a written s out result
-  run_on k written s out result t = turns_at rest failures scale first l before a t.mid (along rest failures scale first l before a b r t.mid t.trail) k written s out result t.last
+  run_on {A} k written s out result t = by_last result t.last
+    where
+      mid : Reaches rest failures scale first l before a t.mid
+      mid = along rest failures scale first l before a b r t.mid t.trail
+
+      by_last : (result : Result A Stop) → Turns k scale first l t.mid.items t.mid.written written s t.mid.out out result ⊎ StaysBack rest t.mid s out result → RunTurns rest failures k scale first l before a written s out result
+      by_last result (inl turns) = turns_at rest failures scale first l before a t.mid mid k written s out result turns
+      by_last (Err Write) (inr back) = stays_at rest failures scale first l before a t.mid mid k written s out back.0 back.1
+      by_last (Ok u) (inr back) = absurd back
+      by_last (Err (Faulty input line fault)) (inr back) = absurd back
+      by_last (Err (Read input)) (inr back) = absurd back
+      by_last (Err (Unmatched place)) (inr back) = absurd back
+
+-- ---- an output that nothing was added to before
+
+-- where what is kept back was passed on first
+pub turns_after : {A : Type 0} (k scale first : ℕ) (l : Lane) (items : List BodyItem) (written written' : Option ℕ) (s : Spot) (out mid new : Device) (result : Result A Stop) → Writes out mid [] → Turns k scale first l items written written' s mid new result → Turns k scale first l items written written' s out new result
+turns_after k scale first l items written written' s out mid new (Ok u) w (inl t) = inl (t.0, t.1, both-written out mid new [] (due_with written (entry_for scale first l.header items t.0)) w t.2)
+turns_after k scale first l items written written' s out mid new (Ok u) w (inr t) = inr (t.0, t.1, t.2, both-written out mid new [] [] w t.3, t.4)
+turns_after k scale first l items written written' s out mid new (Err (Faulty input line fault)) w t = (t.0, t.1, t.2, both-written out mid new [] [] w t.3, t.4)
+turns_after k scale first l items written written' s out mid new (Err (Read input)) w t = (t.0, t.1, both-written out mid new [] [] w t.2)
+turns_after k scale first l items written written' s out mid new (Err Write) w t = (t.0, t.1, some-behind out mid new [] (due_with written (entry_for scale first l.header items t.0)) w t.2, t.3)
+turns_after k scale first l items written written' s out mid new (Err (Unmatched place)) w t = absurd t
 
 -- ---- over a feed
 

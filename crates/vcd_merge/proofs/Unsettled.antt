@@ -18,7 +18,7 @@ use Rattle.vcd_model.proofs.MergeOutcome.{dump_under}
 use Rattle.vcd_model.proofs.MergeSoFar.{AreLate, first_late}
 use Rattle.vcd_model.specs.SettledMerge.{SeenBody, are_past, dump_seen, fault_met, is_at_its_end, is_past}
 use Rattle.vcd_merge.specs.MergeRun.{known_first, known_whole, settles_among}
-use Rattle.vcd_merge.specs.Seat.{HaveJust}
+use Rattle.vcd_body.specs.Asked.{HaveJust}
 use Rattle.vcd_merge.proofs.MergeCounts.{map_set}
 use Rattle.vcd_merge.proofs.MergeSteps.{get_map, same_or_not}
 use Rattle.vcd_merge.proofs.PartLemmas.{get_other, get_set}

@@ -1,5 +1,5 @@
 -- What a merge holds after the items that its inputs have given, and what a step of it leaves.
-use Rattle.std.specs.Prelude.{◌≡◌, ◌≢◌, ℕ, ◌+◌, ◌==◌, ◌⊎◌, ◌*◌, ◌-◌, ◌^◌, cond, sum_by, Bool, true, false, not, List, [], ◌∷◌, ◌++◌, length, take, map, slice_get, slice_set, get_or, Option, Some, None, IfSome, Result, Ok, Err, All}
+use Rattle.std.specs.Prelude.{◌≡◌, ◌≢◌, ℕ, ◌+◌, ◌==◌, ◌⊎◌, ◌*◌, ◌-◌, ◌^◌, cond, sum_by, Bool, true, false, not, List, [], ◌∷◌, ◌++◌, length, take, map, slice_get, slice_set, get_or, Option, Some, None, IfSome, option_map, Result, Ok, Err, All}
 use Rattle.std.specs.List.{AllByRecursion, last_or}
 use Rattle.vcd_model.specs.Header.{Header}
 use Rattle.vcd_model.specs.Input.{Clean, Input}
@@ -14,7 +14,7 @@ use Rattle.vcd_text.specs.ReadAhead.{HasRest}
 use Rattle.vcd_head.specs.Shown.{shown}
 use Rattle.vcd_view.specs.Views.{Views}
 use Rattle.vcd_head.specs.declared.head.Head.{Head}
-use Rattle.vcd_text.specs.Device.{Device, Writes}
+use Rattle.vcd_text.specs.Device.{Device, Writes, WritesSome}
 use Rattle.vcd_body.specs.Device.{Grows, GrowsSome}
 use Rattle.vcd_body.specs.Answer.{reads_failed}
 use Rattle.vcd_merge.specs.MergeOrder.{IsNext}
@@ -175,8 +175,17 @@ module _ {X : Type 0} (rest : X → Option (List ℕ)) (hs : List Header) (lanes
     pub input : ℕ
     pub reads : ReadsOne rest lanes ds s s' input None
 
+  -- what is kept back could not be passed on before the input whose turn it is was read: nothing
+  -- was read, and nothing written
+  pub record KeepsBack (s s' : Standing X) (out out' : Device) : Type 0 where
+    pub input : ℕ
+    pub next : IsNext s.seats input
+    pub writes : WritesSome out out' []
+    pub unread : (j : ℕ) → option_map rest (slice_get s'.sources j) ≡ option_map rest (slice_get s.sources j)
+
   -- What a step from s after these items returns, by what it leaves. Where the merge goes on, an
-  -- item was taken, or an input has finished that had not.
+  -- item was taken, or an input has finished that had not. A write fails with an item, at the end,
+  -- or before a read.
   abbrev pub Gives : List Dump → Standing X → Standing X → Device → Device → Result More Stop → Type 0
   Gives ds s s' out out' (Ok Again) =
       ((k : ℕ) × (d : Dump) × (x : BodyItem) × Takes ds s' k d x × (s'.written ≡ last_written (merged_items (with_item ds k d x)))
@@ -188,5 +197,5 @@ module _ {X : Type 0} (rest : X → Option (List ℕ)) (hs : List Header) (lanes
   Gives ds s s' out out' (Err (Read input)) = ((n : ℕ) × (line : ℕ) × HasFault ds s input line 31 (Some n) × ReadsOne rest lanes ds s s' input (Some n)) × Writes out out' []
   Gives ds s s' out out' (Err Write) =
       ((k : ℕ) × (d : Dump) × (x : BodyItem) × Takes ds s' k d x × GrowsSome out out' (merge_open hs (merged_items ds)) (merge_open hs (merged_items (with_item ds k d x))) × ReadsOne rest lanes ds s s' k None)
-      ⊎ IsEndSome ds s s' out out'
+      ⊎ (IsEndSome ds s s' out out' ⊎ KeepsBack s s' out out')
   Gives ds s s' out out' (Err (Unmatched name)) = ⊥

@@ -6,7 +6,7 @@ use Rattle.vcd_model.specs.Items.{BodyItem}
 use Rattle.vcd_model.specs.Input.{Input}
 use Rattle.vcd_model.specs.Merge.{Dump, Key, factor, is_too_large, key_after, key_lt, merge_open, merged_items}
 use Rattle.vcd_model.specs.MergeByInput.{due_with, entry_for}
-use Rattle.vcd_text.specs.Device.{Device, Writes}
+use Rattle.vcd_text.specs.Device.{Device, Writes, WritesSome}
 use Rattle.vcd_text.specs.declared.device.Source.{Ghosts}
 use Rattle.vcd_text.specs.declared.feed.Feed.{Feed}
 use Rattle.vcd_body.specs.Answer.{NamesInput, writes_failed}
@@ -58,23 +58,29 @@ pub data Trail {X : Type 0} (rest : X → Option (List ℕ)) (failures : X → �
   Stands : Trail rest failures scale first l before a a
   Further : (b c : Stage X) (so_far : Trail rest failures scale first l before a b) (on : TakesOn rest failures scale first l before b c) → Trail rest failures scale first l before a c
 
--- such items lead to a stage like this one: behind the same items, with the same output, source and
--- windows
+-- such items lead to a stage like this one: behind the same items, with the same output, the same
+-- rest of the source and windows
 pub record Reaches {X : Type 0} (rest : X → Option (List ℕ)) (failures : X → ℕ) (scale first : ℕ) (l : Lane) (before : ℕ) (a b : Stage X) : Type 0 where
   pub mid : Stage X
   pub trail : Trail rest failures scale first l before a mid
   pub items_are : mid.items ≡ b.items
   pub written_is : mid.written ≡ b.written
   pub out_is : mid.out ≡ b.out
+  pub rest_is : rest mid.source ≡ rest b.source
   pub failures_are : failures mid.source ≡ failures b.source
   pub chunk : length mid.chunk ≡ length b.chunk
   pub token : length mid.token ≡ length b.token
+
+-- what is kept back could not be passed on before the next item: nothing was read, nor written
+abbrev pub StaysBack : {X A : Type 0} → (X → Option (List ℕ)) → Stage X → Spot → Device → Result A Stop → Type 0
+StaysBack rest a s out (Err Write) = WritesSome a.out out [] × (s.rest ≡ rest a.source)
+StaysBack rest a s out result = ⊥
 
 -- and then the step that ends them
 pub record RunTurns {X A : Type 0} (rest : X → Option (List ℕ)) (failures : X → ℕ) (k scale first : ℕ) (l : Lane) (before : ℕ) (a : Stage X) (written : Option ℕ) (s : Spot) (out : Device) (result : Result A Stop) : Type 0 where
   pub mid : Stage X
   pub trail : Trail rest failures scale first l before a mid
-  pub last : Turns k scale first l mid.items mid.written written s mid.out out result
+  pub last : Turns k scale first l mid.items mid.written written s mid.out out result ⊎ StaysBack rest mid s out result
 
 -- what the items that lie ahead leave: all of them were taken; or, with the last of them, the run
 -- has ended, or a write failed

@@ -7,11 +7,10 @@ use Rattle.vcd_model.specs.Header.{Header}
 use Rattle.vcd_model.specs.Declarations.{IdCode}
 use Rattle.vcd_model.specs.Items.{BodyItem, time_after}
 use Rattle.vcd_model.specs.BodyPhrases.{BodyPhrase, items_of}
-use Rattle.vcd_model.specs.BodyReading.{body_grammar, body_items, read_body, body_fault_of}
+use Rattle.vcd_model.specs.BodyReading.{body_grammar, read_body, body_fault_of}
 use Rattle.vcd_model.specs.Merge.{dump_of, is_too_large}
 use Rattle.vcd_model.specs.MergeByInput.{due_with, entry_for, written_with}
 use Rattle.vcd_model.specs.Reading.{Fault, Placed, phrases_of}
-use Rattle.vcd_model.specs.Settled.{is_faulty}
 use Rattle.vcd_model.specs.SoFar.{IsSoFar}
 use Rattle.vcd_text.specs.Answer.{failed_after}
 use Rattle.vcd_text.specs.Feed.{HasGivenParked, parked_answer}
@@ -20,6 +19,7 @@ use Rattle.vcd_text.specs.declared.device.Source.{Ghosts}
 use Rattle.vcd_text.specs.declared.feed.Feed.{Feed}
 use Rattle.vcd_text.specs.declared.registers.Parked.{Parked}
 use Rattle.vcd_text.specs.declared.answer.Halt.TheVariants as halt
+use Rattle.vcd_body.specs.Asked.{HaveJust}
 use Rattle.vcd_body.specs.Items.{AreRegsAfter}
 use Rattle.vcd_body.specs.declared.item.Regs.{Regs}
 use Rattle.vcd_text.specs.Device.{Device, Supply, Writes, WritesSome}
@@ -90,10 +90,6 @@ pub record IsSeated (chunk limit : ℕ) (s : Seat) : Type 0 where
 pub record SameSeat (old new : Seat) : Type 0 where
   pub factor : new.factor ≡ old.factor
   pub first : new.first ≡ old.first
-
--- these first tokens of a body have just these items, and no fault
-abbrev pub HaveJust : List IdCode → List BodyItem → List Token → Type 0
-HaveJust codes items ts = (is_faulty (read_body codes ts).ending ≡ false) × (body_items (read_body codes ts) ≡ items)
 
 -- Of an input, of which this is left and whose source has this rest, at most a chunk was read past
 -- a token that was asked for where those before it had just these items: so no more than what

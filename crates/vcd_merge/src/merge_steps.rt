@@ -224,7 +224,8 @@ fn order_of(seats: &mut [Seat], most: u64) -> Order
 /// Takes the next item of the input whose turn it is, and writes what is due after it; at the end
 /// of all inputs, what is due there. Nothing is written where an input has a fault, nor at the end
 /// of one input while others go on: that input, which did not count as finished before the call,
-/// does so after it. After any answer but `Again` the merge is over.
+/// does so after it. Before a read that may wait, what is kept back of the output is passed on; if
+/// that fails, nothing is read. After any answer but `Again` the merge is over.
 pub fn merge_step<S: Source, W: Sink>(
     merge: &mut Merge<'_, '_>,
     sources: &mut [S],

@@ -4,12 +4,13 @@ ghost use Rattle.vcd_merge.specs.Names.{Advances, AheadTurns, AtSeat, BodyItem, 
 ghost use Rattle.vcd_body.specs.declared.answer.Stop.TheVariants as stop;
 ghost use Rattle.vcd_body.specs.declared.item.Item.TheVariants as item;
 ghost use Rattle.vcd_body.specs.declared.item.Regs.{Regs};
+ghost use Rattle.vcd_body.specs.Whole.{IsPrompt};
 
 use crate::order::Run;
 use crate::seat::Seat;
 use vcd_body::{
     Form, Item, Plain, Regs, Stop, Viewed, Visit, change_text, keyword_comes, next_item,
-    pass_items, put_renamed, put_renamed_ahead, put_time, walk_ahead,
+    pass_items, pass_on, put_renamed, put_renamed_ahead, put_time, walk_ahead,
 };
 use vcd_head::Head;
 use vcd_text::{Ahead, Feed, Sink, Source, WriteFailed};
@@ -235,8 +236,9 @@ fn too_large(input: usize, line: u64) -> Stop
     }
 }
 
-/// Takes the next item of an input over its feed, and writes what is due with it. The seat's
-/// registers are those after it; the place of the feed is left to the caller.
+/// Takes the next item of an input over its feed, and writes what is due with it. A read of it may
+/// wait: by then nothing is kept back of what is due. The seat's registers are those after it; the
+/// place of the feed is left to the caller.
 #[inline(always)]
 fn take_item<S: Source, W: Sink>(
     head: &Head,
@@ -249,6 +251,7 @@ fn take_item<S: Source, W: Sink>(
     requires feed_failures { S.failures (source_of feed.old) < 2 ^ 64 - 1 }
     requires out_failures { (W.device out.old).failures < 2 ^ 64 - 1 }
     requires unfinished { seat.old.finished ≡ false }
+    requires prompt { IsPrompt (W.kept_back out.old) feed.old }
     ensures turns { (scale first : ℕ) (l : Lane) (items : List BodyItem)
         → Views (shown head.now) l.header → AtSeat scale first l items (spot_with seat.old feed.old)
         → Turns input scale first l items written.old written.new (spot_with seat.new feed.new)
@@ -285,7 +288,8 @@ fn take_item<S: Source, W: Sink>(
 }
 
 /// Takes items of an input over its feed as long as its time is before the run's end: one item, and
-/// those that follow while it is. Those that lie ahead are taken first.
+/// those that follow while it is. Those that lie ahead are taken first, and what is due is passed on
+/// before more is read.
 #[inline(always)]
 fn take_run<S: Source, W: Sink>(
     head: &Head,
@@ -314,6 +318,7 @@ fn take_run<S: Source, W: Sink>(
         if take_ahead(head, run.before, feed, seat, written, out)? {
             return Ok(());
         }
+        pass_on(feed, out)?;
         take_item(head, run.input, feed, seat, written, out)?;
         if seat.finished || seat.time >= run.before {
             return Ok(());
