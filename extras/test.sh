@@ -440,6 +440,8 @@ for script in extras/vcdkit-*; do
     [[ $name == vcdkit-diff ]] ||
         same "$name: a full device" "3 $name: write failed" \
             "$(said=$("$name" "${words[@]}" 2>&1 > /dev/full); echo "$? $said")"
+    same "$name: a closed output" "3 $name: write failed" \
+        "$(said=$("$name" "${words[@]}" 2>&1 >&-); echo "$? $said")"
 done
 
 # The times at which a dump on standard input gives a code a value, by its lines.

@@ -6,7 +6,7 @@ import sys
 from typing import Callable, List, Optional
 
 from .. import __version__, _program
-from ..errors import UsageError, VcdkitError
+from ..errors import RunFailed, VcdkitError
 from ..times import UNITS
 
 STATUSES = """
@@ -91,8 +91,11 @@ def command(function: Callable[[List[str]], int]) -> Callable[[Optional[List[str
         # Pipes to the program hold no output in memory, so they come first here.
         if _program.path():
             os.environ.setdefault("VCDKIT_WAY", "program")
-        sys.stdout.reconfigure(encoding="utf-8", errors="surrogateescape", newline="\n")
+        sys.stderr = sys.stderr or open(os.devnull, "w")  # None where it was closed
         sys.stderr.reconfigure(encoding="utf-8", errors="surrogateescape")
+        if sys.stdout is None:
+            return _said(name, "write failed", RunFailed.status)
+        sys.stdout.reconfigure(encoding="utf-8", errors="surrogateescape", newline="\n")
         try:
             status = function(sys.argv[1:] if words is None else words)
             sys.stdout.flush()
@@ -103,14 +106,15 @@ def command(function: Callable[[List[str]], int]) -> Callable[[Optional[List[str
             if isinstance(error, KeyboardInterrupt):
                 return 130
             os.dup2(os.open(os.devnull, os.O_WRONLY), 1)  # what is left goes nowhere
-            return _said(name, "write failed", UsageError.status + 1)
+            return _said(name, "write failed", RunFailed.status)
 
     return main
 
 
 def _said(name: str, text: str, status: int) -> int:
     try:
-        sys.stdout.flush()
+        if sys.stdout:
+            sys.stdout.flush()
     except OSError:
         os.dup2(os.open(os.devnull, os.O_WRONLY), 1)
     print("%s: %s" % (name, text), file=sys.stderr)

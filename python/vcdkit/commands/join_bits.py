@@ -10,7 +10,6 @@ example:
   vcdkit-join-bits < sim.vcd | vcdkit sample --at 15ns tb.q"""
 import re
 import sys
-from contextlib import nullcontext
 
 from .. import Dump
 from . import command, parser
@@ -91,7 +90,8 @@ def main(words):
                     help="the dump, which may be packed; without it standard input, plain text")
     asked = of.parse_args(words)
     out, vectors = sys.stdout, Vectors()
-    with nullcontext(sys.stdin.buffer) if asked.file == "-" else Dump(asked.file).open() as text:
+    is_file = asked.file != "-"
+    with Dump(asked.file).open() if is_file else open(0, "rb", closefd=False) as text:
         lines = (line.decode("utf-8", "surrogateescape") for line in text)
         write_header(lines, vectors, out)
         for line in lines:
