@@ -46,13 +46,13 @@ counted f (Change code Vector) = record f { vectors = f.vectors + 1 }
 counted f (Change code RealText) = record f { reals = f.reals + 1 }
 counted f other = f
 
--- the body behind these tokens has no fault, and so many changes
+-- the body after these tokens has no fault, and this many changes
 pub record BodyCounts (codes : List IdCode) (i : Input) (front : List Token) (limit : ℕ) (f : Forms) : Type 0 where
   pub items : List BodyItem
   pub body : BodyHas codes i front limit items None
   pub counts : AreForms items f
 
--- the text begins with a whole header with no fault, and its body has so many changes
+-- the text begins with a whole header with no fault, and its body has this many changes
 pub record DumpCounts (text : List ℕ) (f : Forms) : Type 0 where
   pub front : List Token
   pub placed : List (Placed HeaderPhrase)

@@ -18,7 +18,8 @@ is_variable Scope = false
 is_variable Up = false
 is_variable Var = true
 
--- the first tokens of the text are a whole header with no fault, and it declares so many variables
+-- the first tokens of the text are a whole header with no fault, and it declares this many
+-- variables
 pub record HasVariables (text : List ℕ) (number : ℕ) : Type 0 where
   pub given : List Token
   pub first : IsPrefixOf given (stream_of 65536 (whole text)).tokens

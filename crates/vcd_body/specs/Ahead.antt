@@ -42,7 +42,7 @@ IsSizedItem codes item most = most ≡ 0
 abbrev pub HasBits : Item → List ℕ → Option Bits → Type 0
 HasBits item text bits = IfSome bits (λ b. (code : ℕ) × (item ≡ Change code form.Vector) × (text ≡ binary_digits b.len b.number))
 
--- it looks over these bytes, for tokens of at most so many
+-- it looks over these bytes, for tokens of at most this many
 abbrev pub LooksOver : ℕ → List ℕ → Ahead → Type 0
 LooksOver limit bytes a = (longest_of a ≡ limit) × (bytes_of a ≡ bytes)
 
@@ -68,7 +68,7 @@ pub record GaveAhead (codes : List IdCode) (limit lines : ℕ) (bytes : List ℕ
   -- there are no more of them than bytes
   pub few : length items ≤ n
 
--- Behind these items one more was given; its phrase ends with the last token given, and at most a
+-- After these items one more was given; its phrase ends with the last token given, and at most a
 -- chunk was read past that.
 pub record GaveLast {X : Type 0} {g : Ghosts X} (codes : List IdCode) (i : Input) (front : List Token) (items : List BodyItem) (x : BodyItem) (f : Feed X g) (r : Regs) : Type 0 where
   pub gave : GaveItems codes i front (items ++ x ∷ []) f r

@@ -18,7 +18,7 @@ abbrev pub reads_failed : {A : Type 0} → Result A Stop → ℕ
 reads_failed (Err (Read input)) = 1
 reads_failed result = 0
 
--- a failed read is one of the input at this place
+-- a failed read is one of the input at this index
 abbrev pub NamesInput : {A : Type 0} → ℕ → Result A Stop → Type 0
 NamesInput place (Err (Read input)) = input ≡ place
 NamesInput place result = Unit {0}

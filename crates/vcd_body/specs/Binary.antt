@@ -3,7 +3,7 @@
 use Rattle.std.specs.Prelude.{ℕ, zero, suc, ◌+◌, ◌/◌, ◌%◌, ◌^◌, ◌==◌, ◌&&◌, cond, nat_lt, min, Bool, List, [], ◌∷◌}
 use Rattle.std.specs.Str.{byte}
 
--- the last digits of a number, so many
+-- the last digits of a number, this many
 abbrev pub binary_digits : ℕ → ℕ → List ℕ
 binary_digits zero n = []
 binary_digits (suc l) n = (byte "0" + n / 2 ^ l % 2) ∷ binary_digits l n

@@ -22,11 +22,11 @@ id_line id size event form text = line_under (id_text id) size event form text
 abbrev pub extended : List ℕ → ℕ → List ℕ
 extended digits size = extend (str_to_ascii_lowercase digits) size
 
--- without so many, the digits are the shortest of their value at each size
+-- without this many, the digits are the shortest of their value at each size
 abbrev pub IsNeedless : List ℕ → ℕ → Type 0
 IsNeedless digits k = (k ≤ length digits) × ((size : ℕ) → drop k digits ≡ short (extend (str_to_ascii_lowercase digits) size))
 
--- the byte at a place of these is a digit of a value, is in lower case, or is a binary digit
+-- the byte at an offset of these is a digit of a value, is in lower case, or is a binary digit
 abbrev pub IsDigitAt : List ℕ → ℕ → Type 0
 IsDigitAt bytes at = is_value_digit (slice_index bytes at) ≡ true
 
@@ -40,6 +40,6 @@ IsBinaryAt bytes at = slice_index bytes at ≡ byte "0" + bit_of (slice_index by
 abbrev pub bit_in : List ℕ → ℕ → ℕ
 bit_in bytes at = bit_of (slice_index bytes at)
 
--- n bytes from a place on are binary digits
+-- n bytes from an offset on are binary digits
 abbrev pub AreBitsAt : List ℕ → ℕ → ℕ → Type 0
 AreBitsAt bytes at n = (k : ℕ) → k < n → IsBinaryAt bytes (at + k)

@@ -1,4 +1,4 @@
--- What a table keeps of the codes, as a map from a code's place.
+-- What a table keeps of the codes, as a map from a code's index.
 use Rattle.std.specs.Prelude.{◌≡◌, ℕ, ◌+◌, ◌-◌, ◌≤◌, min, Bool, false, Some, List, [], ◌∷◌, length, map, unwrap_or, option_map, option_and_then, slice_get, Option}
 use Rattle.vcd_model.specs.Cut.{line_if_set}
 use Rattle.vcd_model.specs.Declarations.{IdCode}
@@ -20,7 +20,7 @@ use Rattle.vcd_body.specs.declared.slot.Shown.TheVariants as shown
 use Rattle.vcd_body.specs.declared.table.Table.{Table}
 use Rattle.vcd_body.specs.declared.value.Value.{Value as ChangeValue}
 
--- how many codes it has places for
+-- how many codes it has slots for
 abbrev pub codes_in : Table → ℕ
 codes_in t = min (length t.slots.now) (length t.shares.now)
 
@@ -39,20 +39,20 @@ pub record KeepsTable (old new : Table) : Type 0 where
   pub codes : codes_in new ≡ codes_in old
   pub bytes : bytes_in new ≡ bytes_in old
 
--- what is kept of the code at a place, none where there is no code
+-- what is kept of the code at an index, none where there is no code
 abbrev pub kept_at : Table → ℕ → Option Kept
 kept_at t code = kept_in t.values.now t.slots.now t.shares.now code
 
--- a call changes what is kept of the code at a place, and nothing else; where there is no code it
+-- a call changes what is kept of the code at an index, and nothing else; where there is no code it
 -- changes nothing
 abbrev pub ChangesCode : ℕ → (Kept → Kept) → Table → Table → Type 0
 ChangesCode code f old new = ChangesAt code f old.values.now old.slots.now old.shares.now new.values.now new.slots.now new.shares.now
 
--- the value of the code at a place, as it was last written
+-- the value of the code at an index, as it was last written
 abbrev pub held_at : Table → ℕ → Held
 held_at t code = unwrap_or (option_map (λ (k : Kept). k.held) (kept_at t code)) Held.Unset
 
--- a call gives the code at a place the value of a change with this text, where that may have it
+-- a call gives the code at an index the value of a change with this text, where that may have it
 abbrev pub GivesValue : Form → List ℕ → ℕ → Table → Table → Type 0
 GivesValue form text code old new = (c : Code) (k : Kept) → IsText form c text → c.event ≡ false → kept_at old code ≡ Some k → share_of c.size ≤ k.room → value_at_size c.size (held_at new code) ≡ Some (value_with c.size (model_form form) text)
 
@@ -60,13 +60,13 @@ GivesValue form text code old new = (c : Code) (k : Kept) → IsText form c text
 abbrev pub GivesText : ChangeValue → ℕ → Table → Table → Type 0
 GivesText value code old new = IsLaidOut old → GivesValue (form_in value) (text_of_value value) code old new
 
--- a call makes this of the code at a place where the table is laid out, and keeps the table
+-- a call makes this of the code at an index where the table is laid out, and keeps the table
 pub record SetsCode (code : ℕ) (f : Kept → Kept) (old new : Table) : Type 0 where
   pub keeps : KeepsTable old new
   pub changes : IsLaidOut old → ChangesCode code f old new
 
--- a call gives the code at a place binary digits, in any table; with room for 8 bytes it is the same
--- as by their text
+-- a call gives the code at an index binary digits, in any table; with room for 8 bytes it is the
+-- same as by their text
 pub record SetsNumber (code : ℕ) (b : Bits) (old new : Table) : Type 0 where
   pub changes : ChangesCode code (with_number b.len b.number) old new
   pub as_text : (k : Kept) → kept_at old code ≡ Some k → 8 ≤ k.room → ChangesCode code (with_text form.Vector (binary_digits b.len b.number)) old new
@@ -75,7 +75,7 @@ pub record SetsNumber (code : ℕ) (b : Bits) (old new : Table) : Type 0 where
 abbrev pub counts_at : Table → ℕ → List ℕ
 counts_at t code = unwrap_or (option_map (λ (k : Kept). k.counts) (kept_at t code)) (0 ∷ 0 ∷ 0 ∷ [])
 
--- the code at a place is chosen
+-- the code at an index is chosen
 abbrev pub is_chosen : Table → ℕ → Bool
 is_chosen t code = unwrap_or (option_map (λ (k : Kept). k.chosen) (kept_at t code)) false
 
@@ -102,10 +102,10 @@ shown_code text c = record { text = text_in text c.start c.len; size = c.size; e
 abbrev pub codes_shown : HeadView → List IdCode
 codes_shown v = map (shown_code v.text.now) v.codes.now
 
--- the value of the code at a place among these, at its size
+-- the value of the code at an index among these, at its size
 abbrev pub value_in : List IdCode → Table → ℕ → Option Value
 value_in codes t code = option_and_then (λ (c : IdCode). value_at_size c.size (held_at t code)) (slice_get codes code)
 
--- the line that gives the code at a place its value, nothing where it is unset
+-- the line that gives the code at an index its value, nothing where it is unset
 abbrev pub line_of : List IdCode → Table → ℕ → List ℕ
 line_of codes t code = unwrap_or (option_map (λ (c : IdCode). line_if_set c (value_in codes t code)) (slice_get codes code)) []

@@ -49,7 +49,7 @@ IsText Scalar code text = (d : ℕ) × IsTrue (is_value_digit d) × (text ≡ d 
 IsText Vector code text = (0 < length text) × IsTrue (list_all is_value_digit text) × (code.event ≡ false → length text ≤ code.size)
 IsText RealText code text = (0 < length text) × (length text ≤ 64)
 
--- the code at this place may have this text
+-- the code at this index may have this text
 abbrev pub IsGoodText : List Code → ℕ → Form → List ℕ → Type 0
 IsGoodText codes place form text = (code : Code) × (slice_get codes place ≡ Some code) × IsText form code text
 

@@ -56,7 +56,7 @@ with_held h k = record { held = h; counts = k.counts; chosen = k.chosen; room = 
 abbrev pub with_text : Form → List ℕ → Kept → Kept
 with_text f text k = with_held (cond (fits f (length text) k.room) (held_as f text) k.held) k
 
--- the value is that of so many binary digits, as their number; they need no room
+-- the value is that of this many binary digits, as their number; they need no room
 abbrev pub with_number : ℕ → ℕ → Kept → Kept
 with_number count number k = with_held (Digits (binary_digits count number)) k
 
@@ -66,7 +66,7 @@ value_at_size size Unset = None
 value_at_size size (Digits ds) = Some (Value.Bits (extend ds size))
 value_at_size size (Text text) = Some (Value.Real text)
 
--- the digit of a value at a place, from the left; none where it has none
+-- the digit of a value at an index, from the left; none where it has none
 abbrev pub digit_in : Option Value → ℕ → Option ℕ
 digit_in None place = None
 digit_in (Some (Value.Bits ds)) place = slice_get ds place
@@ -118,7 +118,7 @@ real_text (Text text) = text
 
 -- ---- counters and choice
 
--- one more in the counter at a place, of which there are three; a full one stays
+-- one more in the counter at an index, of which there are three; a full one stays
 abbrev pub counts_with : List ℕ → ℕ → List ℕ
 counts_with counts which = slice_set counts which (min (get_or counts which 0 + 1) (2 ^ 64 - 1))
 
@@ -143,7 +143,7 @@ with_counted old new k = cond (differs old new) (with_step (goes_from (byte "0")
 abbrev pub with_change : ℕ → Form → List ℕ → Kept → Kept
 with_change size f text k = cond (nat_lt 0 (length text)) (with_counted (value_at_size size k.held) (value_with size (model_form f) text) (with_text f text k)) k
 
--- the same of so many binary digits, which need no room
+-- binary digits are held, this many, and their step at this size is counted; they need no room
 abbrev pub with_number_change : ℕ → ℕ → ℕ → Kept → Kept
 with_number_change size count number k = with_counted (value_at_size size k.held) (value_with size (model_form form.Vector) (binary_digits count number)) (with_number count number k)
 

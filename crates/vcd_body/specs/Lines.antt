@@ -11,11 +11,11 @@ use Rattle.vcd_body.specs.declared.bits.Bits.{Bits}
 use Rattle.vcd_body.specs.declared.item.Form.{Form}
 use Rattle.vcd_body.specs.declared.item.Form.TheVariants as form
 
--- a digit and a code, which begins at this place, are the line
+-- a digit and a code, which begins at this offset, are the line
 abbrev pub IsDigitLine : List ℕ → ℕ → ℕ → ℕ → Type 0
 IsDigitLine bytes from to code_at = (text code : List ℕ) → HasChange bytes from to form.Scalar text code → slice_index bytes (to - 1) ≡ 10 → to ≡ code_at + length code + 1 → slice_range bytes from to ≡ str_to_ascii_lowercase text ++ (code ++ 10 ∷ [])
 
--- a letter, a text, a blank and a code, which begins at this place, are the line
+-- a letter, a text, a blank and a code, which begins at this offset, are the line
 abbrev pub IsTextLine : List ℕ → ℕ → ℕ → ℕ → List ℕ → ℕ → Type 0
 IsTextLine bytes from to first text code_at = (code : List ℕ) → HasChange bytes from to form.Vector text code → slice_index bytes (to - 1) ≡ 10 → to ≡ code_at + length code + 1 → slice_range bytes from to ≡ first ∷ text ++ (32 ∷ code ++ 10 ∷ [])
 
@@ -23,11 +23,11 @@ IsTextLine bytes from to first text code_at = (code : List ℕ) → HasChange by
 abbrev pub MayBe : Option Bits → List ℕ → Type 0
 MayBe bits digits = IfSome bits (λ b. digits ≡ binary_digits b.len b.number)
 
--- without so many, the digits are the shortest, where their number is this
+-- without this many, the digits are the shortest, where their number is this
 abbrev pub LeavesShortest : List ℕ → Option Bits → ℕ → Type 0
 LeavesShortest digits bits k = (k ≤ length digits) × (MayBe bits digits → (size : ℕ) → drop k digits ≡ short (extend (str_to_ascii_lowercase digits) size))
 
--- without so many after the `b` the bytes are the line
+-- without this many after the `b` the bytes are the line
 abbrev pub LeavesLine : List ℕ → ℕ → ℕ → List ℕ → Option Bits → ℕ → ℕ → Type 0
 LeavesLine bytes from to digits bits code_at k = (k ≤ length digits) × ((code : List ℕ) → HasChange bytes from to form.Vector digits code → slice_index bytes (to - 1) ≡ 10 → to ≡ code_at + length code + 1 → MayBe bits digits → (size : ℕ)
     → bytes_without bytes from to k ≡ 98 ∷ short (extend (str_to_ascii_lowercase digits) size) ++ (32 ∷ code ++ 10 ∷ []))
@@ -37,15 +37,15 @@ LeavesLine bytes from to digits bits code_at k = (k ≤ length digits) × ((code
 abbrev pub IsFront : ℕ → Form → List ℕ → List ℕ → Type 0
 IsFront size form text front = (code : List ℕ) → line_under code size false form text ≡ front ++ (32 ∷ code ++ 10 ∷ [])
 
--- without so many after the first one the bytes are the line, whose number of digits is this
+-- without this many after the first one the bytes are the line, whose number of digits is this
 abbrev pub LeavesText : List ℕ → ℕ → ℕ → ℕ → Form → List ℕ → Option Bits → ℕ → ℕ → Type 0
 LeavesText bytes from to size form text bits code_at k = (from + 1 + k ≤ to) × (front : List ℕ) × (0 < length front) × IsFront size form text front
     × ((code : List ℕ) → HasChange bytes from to form text code → slice_index bytes (to - 1) ≡ 10 → to ≡ code_at + length code + 1 → MayBe bits text → bytes_without bytes from to k ≡ front ++ (32 ∷ code ++ 10 ∷ []))
 
--- without so many after the first one the bytes before the blank before the code are the front
+-- without this many after the first one the bytes before the blank before the code are the front
 abbrev pub LeavesFront : List ℕ → ℕ → ℕ → Form → List ℕ → ℕ → ℕ → Type 0
 LeavesFront bytes from size form text code_at k = (from + 2 + k ≤ code_at) × (code_at ≤ length bytes) × (front : List ℕ) × IsFront size form text front × (bytes_without bytes from (code_at - 1) k ≡ front)
 
--- an item that was taken ahead is spelled by these bytes, from one place up to another
+-- an item that was taken ahead is spelled by these bytes, from one offset up to another
 abbrev pub SpellsPlain : HeadView → List ℕ → ℕ → ℕ → Plain → Type 0
 SpellsPlain v bytes from to p = HasSpelled v bytes from to p.at p.code_at p.text.now p.item

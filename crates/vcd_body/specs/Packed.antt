@@ -16,7 +16,7 @@ code_of d = cond (d == byte "0") 0 (cond (d == byte "1") 1 (cond ((d == byte "x"
 abbrev pub digit_of : ℕ → ℕ
 digit_of c = cond (c == 0) (byte "0") (cond (c == 1) (byte "1") (cond (c == 3) (byte "x") (byte "z")))
 
--- the code of the digit at a place, 0 after the last
+-- the code of the digit at an index, 0 after the last
 abbrev pub code_or : List ℕ → ℕ → ℕ
 code_or text place = cond (nat_lt place (length text)) (code_of (get_or text place 0)) 0
 
@@ -24,15 +24,15 @@ code_or text place = cond (nat_lt place (length text)) (code_of (get_or text pla
 abbrev pub quarter_of : ℕ → ℕ
 quarter_of n = n / 4 + min 1 (n % 4)
 
--- the byte at a place: the digits that stand at it in each quarter
+-- the byte at an index: the digits at that index of each quarter
 abbrev pub four_codes : List ℕ → ℕ → ℕ → ℕ
 four_codes text quarter place = code_or text place + 4 * code_or text (place + quarter) + 16 * code_or text (place + 2 * quarter) + 64 * code_or text (place + (length text - quarter))
 
--- the code at a place before the last quarter, of quarters of this length
+-- the code at an index before the last quarter, of quarters of this length
 abbrev pub code_before : ℕ → List ℕ → ℕ → ℕ
 code_before quarter bytes place = cond (nat_lt place quarter) (get_or bytes place 0 % 4) (cond (nat_lt place (2 * quarter)) (get_or bytes (place - quarter) 0 / 4 % 4) (get_or bytes (place - 2 * quarter) 0 / 16 % 4))
 
--- the code at a place of n digits
+-- the code at an index of n digits
 abbrev pub code_among : ℕ → List ℕ → ℕ → ℕ
 code_among n bytes place = cond (nat_lt place (n - quarter_of n)) (code_before (quarter_of n) bytes place) (get_or bytes (place - (n - quarter_of n)) 0 / 64)
 
@@ -40,7 +40,7 @@ code_among n bytes place = cond (nat_lt place (n - quarter_of n)) (code_before (
 abbrev pub digits_in : ℕ → List ℕ → List ℕ
 digits_in n bytes = map (λ place. digit_of (code_among n bytes place)) (range_with_len 0 n)
 
--- a share has those digits at a place, or at each before the end of a quarter
+-- a share has those digits at an index, or at each before the end of a quarter
 abbrev pub HasFour : List ℕ → List ℕ → ℕ → ℕ → Type 0
 HasFour share text quarter place = get_or share place 0 ≡ four_codes text quarter place
 

@@ -84,7 +84,7 @@ module _ {X : Type 0} {g : Ghosts X} (codes : List IdCode) (i : Input) (front : 
     pub reads : Reads (placed ++ record { phrase = p; line = (token_of f).line } ∷ []) [] f
     pub near : HasReadTo i (front ++ reads.given) f
 
-  -- where a body is refused behind these items: at the feed's token, which was not looked at, or
+  -- where a body is refused after these items: at the feed's token, which was not looked at, or
   -- where no token is left
   pub data StopsAt (items : List BodyItem) (f : Feed X g) : Type 0 where
     AtToken : (placed : List (Placed BodyPhrase)) (before : List (List ℕ)) (items_are : items_of (phrases_of placed) ≡ items) (looks : Looks placed before f)
@@ -128,10 +128,10 @@ AsksForCode codes earlier first = (t : List ℕ) → declared_code codes t ≡ N
 abbrev pub FailsAfter : {X : Type 0} {g : Ghosts X} → List IdCode → Input → List Token → List (Placed BodyPhrase) → Feed X g → BodyFault → Type 0
 FailsAfter codes i front placed f fault = Fails codes i front (items_of (phrases_of placed)) fault f
 
--- a token is the change of the code at this place by a digit
+-- a token is the change of the code at this index by a digit
 abbrev pub PassesScalar : List IdCode → List BodyPhrase → List ℕ → ℕ → Type 0
 PassesScalar codes earlier token place = (c : IdCode) × (slice_get codes place ≡ Some c) × Passes codes earlier token (BodyItem.Changes (record { code = c; form = ChangeForm.Scalar; text = take 1 token }))
 
--- a change of the code at this place was read, by the kept value
+-- a change of the code at this index was read, by the kept value
 abbrev pub ReadsChange : {X : Type 0} {g : Ghosts X} → List IdCode → Input → List Token → List (Placed BodyPhrase) → Feed X g → ChangeForm → ℕ → Type 0
 ReadsChange codes i front placed f form place = (c : IdCode) × (slice_get codes place ≡ Some c) × ReadsPhrase codes i front placed f (BodyPhrase.Gives (BodyItem.Changes (record { code = c; form = form; text = drop 1 (value_of f) })))

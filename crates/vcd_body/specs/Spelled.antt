@@ -11,8 +11,7 @@ use Rattle.vcd_body.specs.declared.item.Form.TheVariants.{Scalar, Vector, RealTe
 use Rattle.vcd_body.specs.declared.item.Item.{Item}
 use Rattle.vcd_body.specs.declared.item.Item.TheVariants.{Time, Change}
 
--- from one place up to another stand white bytes, none or more, then this token, and one byte after
--- it
+-- from one offset up to another: white bytes, none or more, then this token, and one byte after it
 pub record HasToken (bytes : List ℕ) (from to : ℕ) (token : List ℕ) : Type 0 where
   pub start : ℕ
   pub before : AreWhite bytes from start
@@ -20,19 +19,18 @@ pub record HasToken (bytes : List ℕ) (from to : ℕ) (token : List ℕ) : Type
   pub within : to ≤ length bytes
   pub token_is : token ≡ slice_range bytes start (to - 1)
 
--- there stands a change of this form with this text and this code: a digit and the code at once, or
--- a letter and the text, and then the code
+-- there is a change of this form with this text and this code: a digit and the code right after it,
+-- or a letter and the text, and then the code
 abbrev pub HasChange : List ℕ → ℕ → ℕ → Form → List ℕ → List ℕ → Type 0
 HasChange bytes from to Scalar text code = (digit : ℕ) × (text ≡ digit ∷ []) × HasToken bytes from to (digit ∷ code)
 HasChange bytes from to Vector text code = (letter : ℕ) × (middle : ℕ) × HasToken bytes from middle (letter ∷ text) × HasToken bytes middle to code
 HasChange bytes from to RealText text code = (letter : ℕ) × (middle : ℕ) × HasToken bytes from middle (letter ∷ text) × HasToken bytes middle to code
 
--- the code at this place has these bytes, in each header that the view shows
+-- the code at this index has these bytes, in each header that the view shows
 abbrev pub Names : HeadView → ℕ → List ℕ → Type 0
 Names v place text = (h : Header) (c : IdCode) → IsViewOf v h → slice_get h.codes place ≡ Some c → c.text ≡ text
 
--- the text of the change stands at one place, and its code behind it at another, up to the last
--- byte
+-- the text of the change is at one offset, and its code after it at another, up to the last byte
 pub record HasPlaces (bytes : List ℕ) (from to at code_at : ℕ) (text code : List ℕ) : Type 0 where
   pub after : from ≤ at
   pub apart : at + length text ≤ code_at
@@ -41,7 +39,7 @@ pub record HasPlaces (bytes : List ℕ) (from to at code_at : ℕ) (text code : 
   pub text_is : text ≡ slice_range bytes at (at + length text)
   pub code_is : code ≡ slice_range bytes code_at (code_at + length code)
 
--- the decimal digits of a mark stand at this place, up to the last byte
+-- the decimal digits of a mark are at this offset, up to the last byte
 pub record HasMark (bytes : List ℕ) (from to at time : ℕ) : Type 0 where
   pub after : from < at
   pub before : at < to
@@ -50,17 +48,17 @@ pub record HasMark (bytes : List ℕ) (from to at time : ℕ) : Type 0 where
   pub value : decimal_value (slice_range bytes at (to - 1)) ≡ time
   pub fits : time < 2 ^ 64
 
--- a change stands there, with this text and with its code, at these places; or the digits of a mark
+-- a change is there, with this text and with its code, at these offsets; or the digits of a mark
 abbrev pub HasSpelled : HeadView → List ℕ → ℕ → ℕ → ℕ → ℕ → List ℕ → Item → Type 0
 HasSpelled v bytes from to at code_at text (Time time) = HasMark bytes from to at time
 HasSpelled v bytes from to at code_at text (Change place form) = (code : List ℕ) × HasChange bytes from to form text code × Names v place code × HasPlaces bytes from to at code_at text code
 HasSpelled v bytes from to at code_at text item = Unit {0}
 
--- the bytes from one place up to another, without so many behind the first one
+-- the bytes from one offset up to another, without this many after the first one
 abbrev pub bytes_without : List ℕ → ℕ → ℕ → ℕ → List ℕ
 bytes_without bytes from to n = slice_range bytes from (from + 1) ++ slice_range bytes (from + 1 + n) to
 
--- a text stands at a place of these bytes
+-- a text is at an offset of these bytes
 pub record StandsAt (bytes : List ℕ) (at : ℕ) (text : List ℕ) : Type 0 where
   pub within : at ≤ length bytes
   pub place : text ≡ slice_range bytes at (at + length text)

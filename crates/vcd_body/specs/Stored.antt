@@ -141,7 +141,7 @@ held_from values start v = held_by v.state (len_of v) (take (used v) (drop start
 abbrev pub held_of : List ℕ → Whole → Held
 held_of values w = held_by w.state w.len (take (used_by w.state w.len) (drop w.start values))
 
--- where the share at a place begins, and where it ends: where the next begins, or where the values
+-- where the share at an index begins, and where it ends: where the next begins, or where the values
 -- end
 abbrev pub start_or : ℕ → Option Share → ℕ
 start_or n None = n
@@ -157,11 +157,11 @@ end_at shares n code = start_or n (slice_get shares (code + 1))
 abbrev pub kept_with : List ℕ → ℕ → Whole → Kept
 kept_with values end w = record { held = held_of values w; counts = w.counts; chosen = w.chosen; room = end - w.start }
 
--- what is kept of the code at a place
+-- what is kept of the code at an index
 abbrev pub kept_in : List ℕ → List Slot → List Share → ℕ → Option Kept
 kept_in values slots shares code = option_map (kept_with values (end_at shares (length values) code)) (whole_at slots shares code)
 
--- of the code at a place is kept what f makes of it, and of the others what was kept
+-- of the code at an index is kept what f makes of it, and of the others what was kept
 abbrev pub ChangesAt : ℕ → (Kept → Kept) → List ℕ → List Slot → List Share → List ℕ → List Slot → List Share → Type 0
 ChangesAt code f values slots shares values' slots' shares' = (place : ℕ) → kept_in values' slots' shares' place ≡ cond (place == code) (option_map f (kept_in values slots shares place)) (kept_in values slots shares place)
 
@@ -225,7 +225,7 @@ share_of size = max (bytes_for size) 64
 abbrev pub room_of : List Code → ℕ
 room_of codes = sum_by (λ (c : Code). share_of c.size) codes
 
--- where the share of the code at a place begins, among n bytes
+-- where the share of the code at an index begins, among n bytes
 abbrev pub start_of : List Code → ℕ → ℕ → ℕ
 start_of codes n k = min (room_of (take k codes)) n
 

@@ -27,7 +27,7 @@ use Rattle.vcd_body.specs.declared.item.Item.TheVariants.{Change}
 use Rattle.vcd_body.specs.declared.item.Regs.{Regs}
 use Rattle.vcd_body.specs.declared.words.First.TheVariants as first
 
--- a token was taken, from one place ahead to another, and this is what it begins
+-- a token was taken, from one position ahead to another, and this is what it begins
 pub record Opens (a a' : Ahead) (o : Opening) : Type 0 where
   pub token : TakesToken a a' o.token.now
   pub begins : Begins o.token.now o.first
@@ -45,14 +45,14 @@ pub record OpensVector (a a' : Ahead) (t : VectorTokens) : Type 0 where
   pub at : t.at ≡ passed_of middle - 1 - length t.token.now
   pub code_at : t.code_at ≡ passed_of a' - 1 - length t.code.now
 
--- the code behind a digit was found: the token is the change of this code, which may have the digit
+-- the code after a digit was found: the token is the change of this code, which may have the digit
 pub record IsFoundScalar (v : HeadView) (token : List ℕ) (found : Found) : Type 0 where
   pub code : (h : Header) (earlier : List BodyPhrase) → IsViewOf v h → PassesScalar h.codes earlier token found.place
   pub sound : IsGoodText v.codes.now found.place form.Scalar (take 1 token)
   pub names : Names v found.place (drop 1 token)
   pub sized : IsSized v.codes.now found
 
--- the code that a token names was found, behind that of a change's text in this form: the two are a
+-- the code that a token names was found, after that of a change's text in this form: the two are a
 -- phrase, and the code may have the text
 pub record IsFound (v : HeadView) (form : Form) (first second : List ℕ) (found : Found) : Type 0 where
   pub code : (h : Header) → IsViewOf v h → GivesBoth h.codes (model_form form) first second found
@@ -60,7 +60,7 @@ pub record IsFound (v : HeadView) (form : Form) (first second : List ℕ) (found
   pub names : Names v found.place second
   pub sized : IsSized v.codes.now found
 
--- an item was taken, from one place ahead to another, where the registers before it are these
+-- an item was taken, from one position ahead to another, where the registers before it are these
 pub record TakesItem (v : HeadView) (a a' : Ahead) (r : Regs) (p : Plain) : Type 0 where
   -- it comes after the items given before and those taken ahead so far
   pub gives : (h : Header) (limit lines : ℕ) (bytes : List ℕ) (before items : List BodyItem) → IsViewOf v h → LooksOver limit bytes a → AreRegsAfter (before ++ items) r → GaveAhead h.codes limit lines bytes (passed_of a) before items
@@ -81,8 +81,8 @@ pub record TakesItem (v : HeadView) (a a' : Ahead) (r : Regs) (p : Plain) : Type
 abbrev pub IsChangeBy : Form → Plain → Type 0
 IsChangeBy form p = (place : ℕ) × (p.item ≡ Change place form)
 
--- wherever its first token was taken from, up to the first of these places, the item was taken from
--- there up to the second, whatever the registers before it are
+-- wherever its first token was taken from, up to the first of these positions, the item was taken
+-- from there up to the second, whatever the registers before it are
 abbrev pub TakesOpened : HeadView → (middle to : Ahead) → Opening → Plain → Type 0
 TakesOpened v middle to o p = (a : Ahead) (r : Regs) → Opens a middle o → TakesItem v a to r p
 

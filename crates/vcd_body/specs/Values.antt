@@ -1,4 +1,4 @@
--- A value that a change gives a code: the text that it stands for, and what a table makes of it.
+-- A value that a change gives a code: the text that it is, and what a table makes of it.
 use Rattle.std.specs.Prelude.{ℕ, List}
 use Rattle.vcd_body.specs.Binary.{binary_digits}
 use Rattle.vcd_body.specs.Kept.{Kept, with_change, with_number, with_number_change, with_text}

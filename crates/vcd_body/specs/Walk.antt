@@ -9,7 +9,7 @@ use Rattle.vcd_body.specs.Taken.{TakesItem}
 use Rattle.vcd_body.specs.declared.ahead.Plain.{Plain}
 use Rattle.vcd_body.specs.declared.item.Regs.{Regs}
 
--- where a walk stands: its place, the registers after the items so far, the visit and what it works
+-- where a walk is: its position, the registers after the items so far, the visit and what it works
 -- on, and the output
 pub record Stage (V C : Type 0) : Type 0 where
   pub ahead : Ahead
@@ -21,7 +21,7 @@ pub record Stage (V C : Type 0) : Type 0 where
 abbrev pub stage_at : {V C : Type 0} → Ahead → Regs → V → C → Device → Stage V C
 stage_at a r visit command out = record { ahead = a; regs = r; visit = visit; command = command; out = out }
 
--- a look-ahead at the same place
+-- a look-ahead at the same position
 abbrev pub IsSamePlace : Ahead → Ahead → Type 0
 IsSamePlace a a' = (passed_of a' ≡ passed_of a) × (bytes_of a' ≡ bytes_of a) × (longest_of a' ≡ longest_of a)
 

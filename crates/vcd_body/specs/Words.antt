@@ -1,4 +1,4 @@
--- What a token is that stands where a phrase of a body begins.
+-- What a token is that comes where a phrase of a body begins.
 use Rattle.std.specs.Prelude.{◌≡◌, ℕ, ◌^◌, Bool, true, false, cond, ◌&&◌, nat_lt, IsTrue, ◌==◌, List, [], ◌∷◌, drop, Option, Some, None}
 use Rattle.std.specs.List.{list_any}
 use Rattle.std.specs.Str.{byte}

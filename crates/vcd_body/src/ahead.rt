@@ -14,7 +14,8 @@ use crate::words::{
 use vcd_text::{Ahead, Feed, Sink, Source, WriteFailed, decimal_at};
 use vcd_view::{Found, HeadView, find_at_once, find_sized};
 
-/// An item that was taken ahead.
+/// An item that was taken ahead. The fields other than `item` and `at` are those of a change; for a
+/// mark they are empty.
 #[derive(Clone, Copy)]
 pub struct Plain<'a> {
     /// A time mark or a change.
@@ -81,7 +82,7 @@ fn change_of(
     }
 }
 
-/// Returns a time mark, whose digits begin at this place.
+/// Returns a time mark, whose digits begin at this offset. The fields of a change are empty.
 #[inline(always)]
 fn mark_of<'a>(time: u64, at: usize) -> Plain<'a>
     ensures item { result.item ≡ item.Time time }
@@ -142,6 +143,8 @@ pub(crate) struct Opening<'a> {
 }
 
 /// Returns the next token ahead, with what it begins; none where the look-ahead gives none.
+// Inlined to the end of each arm of `take_next`, so the compiler drops what cannot be, such as the
+// digits of a vector where a digit was taken.
 #[inline(always)]
 pub(crate) fn opening_ahead<'a>(ahead: &mut Ahead<'a>) -> Option<Opening<'a>>
     ensures opens { IfSome result (λ o. Opens ahead.old ahead.new o) }
@@ -155,8 +158,8 @@ pub(crate) fn opening_ahead<'a>(ahead: &mut Ahead<'a>) -> Option<Opening<'a>>
     })
 }
 
-/// Returns the next token ahead, with what it begins, where it comes at once, has two bytes and a
-/// line feed after them.
+/// Returns the next token ahead, with what it begins, where it begins right here, has two bytes and
+/// a line feed after them.
 #[inline(always)]
 fn short_opening<'a>(ahead: &mut Ahead<'a>) -> Option<Opening<'a>>
     ensures opens { IfSome result (λ o. Opens ahead.old ahead.new o) }
@@ -170,8 +173,8 @@ fn short_opening<'a>(ahead: &mut Ahead<'a>) -> Option<Opening<'a>>
     })
 }
 
-/// Returns the next token ahead where it begins a time mark, if it comes at once, has at most 15
-/// bytes and a line feed after them. Else `opening_ahead` may give one, and nothing has changed.
+/// Returns the next token ahead where it begins a time mark, if it begins right here, has at most
+/// 15 bytes and a line feed after them. Else `opening_ahead` may give one, and nothing has changed.
 #[inline(always)]
 pub(crate) fn near_mark<'a>(ahead: &mut Ahead<'a>) -> Option<Opening<'a>>
     ensures opens { IfSome result (λ o. Opens ahead.old ahead.new o) }
@@ -201,8 +204,8 @@ fn begin_of(token: &[u8], ahead: Ahead<'_>) -> usize
     ahead.passed() - 1 - token.len()
 }
 
-/// Returns the change that a digit begins, with its code at once. The place is that after the
-/// token; none where it is no such change.
+/// Returns the change that a digit with its code right after it is. The look-ahead is after their
+/// token. None where it is no such change.
 #[inline(always)]
 pub(crate) fn scalar_ahead<'a>(
     opening: Opening<'a>,
@@ -235,9 +238,9 @@ fn short_code(token: &[u8], view: HeadView<'_>) -> Option<Found>
     Some(found)
 }
 
-/// Returns the change that a `0` or a `1` begins, where its token comes at once, has two bytes and
-/// a line feed after them, and a look at one entry finds its code. None for any other item; then
-/// nothing has changed.
+/// Returns the change that a `0` or a `1` begins, where its token begins right here, has two bytes
+/// and a line feed after them, and a look at one entry finds its code. None for any other item;
+/// then nothing has changed.
 // No call is made, so that a loop over such changes keeps all that it needs in registers.
 #[inline(always)]
 pub(crate) fn short_ahead<'a>(ahead: &mut Ahead<'a>, view: HeadView<'_>) -> Option<Plain<'a>>
@@ -259,7 +262,7 @@ pub(crate) fn short_ahead<'a>(ahead: &mut Ahead<'a>, view: HeadView<'_>) -> Opti
     Some(change_of(found, Form::Scalar, text, None, at, at + 1))
 }
 
-/// Returns whether two lines of two bytes come at once: the begin of a run for `short_ahead`.
+/// Returns whether two lines of two bytes come right here: the begin of a run for `short_ahead`.
 #[inline(always)]
 pub(crate) fn has_run(ahead: Ahead<'_>) -> bool
     ensures { result ≡ true
@@ -274,6 +277,8 @@ pub(crate) fn has_run(ahead: Ahead<'_>) -> bool
 }
 
 /// Returns whether a short line comes, and then another one or a time mark.
+// Asked at one short line alone, `merge` of scalars takes 125.2 an item, as it is 121.9; of wide
+// vectors 758.1 and 749.0.
 #[inline(always)]
 pub(crate) fn has_short_run(ahead: Ahead<'_>) -> bool
     ensures { result ≡ true
@@ -285,6 +290,9 @@ pub(crate) fn has_short_run(ahead: Ahead<'_>) -> bool
 
 /// Returns whether the next token ahead begins with `$`, as a keyword does. Then no item lies ahead
 /// of it.
+// Asked before a loop over items ahead, since no such loop takes a keyword: of `$dumpon` and `$end`
+// in turn each takes 270 in `check` and 314 in `merge`; without this, `token_len` of the feed and
+// `command_of` inlined 675 and 623.
 #[inline(always)]
 pub fn keyword_comes(ahead: Ahead<'_>) -> bool
     ensures { result ≡ true → (start : ℕ)
@@ -341,8 +349,9 @@ pub(crate) struct VectorTokens<'a> {
     pub(crate) code_at: usize,
 }
 
-/// Returns the token that a `b` and digits begin, with the code that is the next one. The place is
-/// that after the digits, and then that after the code; none where the look-ahead gives none.
+/// Returns the tokens of a vector's change: that of the digits, which is given, and the next one,
+/// its code. The look-ahead is moved from after the first to after the second. None where it gives
+/// no second one.
 #[inline(always)]
 pub(crate) fn vector_tokens_ahead<'a>(
     opening: Opening<'a>,
@@ -426,8 +435,8 @@ pub(crate) fn real_ahead<'a>(
     Some(change_of(found, Form::RealText, rest_of(token), None, at + 1, code_at))
 }
 
-/// Returns the time of the mark that a token is; none where it spells none. The place is that after
-/// the token.
+/// Returns the time of the mark that a token is; none where it spells none. The offset is that
+/// after the token.
 #[inline(always)]
 pub(crate) fn time_ahead<'a>(opening: Opening<'a>, ahead: Ahead<'a>) -> Option<u64>
     requires opens { (a : Ahead) × Opens a ahead opening }
@@ -469,7 +478,7 @@ pub(crate) fn mark_ahead<'a>(
     }
 }
 
-/// Moves the feed past the items that were taken ahead, which are in so many bytes.
+/// Moves the feed past the items that were taken ahead, which have `bytes` bytes.
 pub fn pass_items<S: Source>(feed: &mut Feed<'_, '_, '_, '_, S>, bytes: usize)
     requires { (ts : List Token) × Passed (limit_of feed.old) (lines_of feed.old)
         (ahead_of feed.old) bytes ts }

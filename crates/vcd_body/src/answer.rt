@@ -26,18 +26,18 @@ pub enum More {
 /// Why a run stopped before its end.
 #[derive(Clone, Copy, PartialEq, Eq, Debug)]
 pub enum Stop {
-    /// The input at this place among all, counted from 0, has a fault: its number and its line.
+    /// The input at this index among all, counted from 0, has a fault: its number and its line.
     Dump { input: usize, line: u64, fault: u8 },
-    /// A read of the input at this place failed.
+    /// A read of the input at this index failed.
     Read { input: usize },
     /// A write failed. A prefix of the output was written.
     Write,
-    /// The name at this place among those of the task, the first such, selects nothing.
+    /// The name at this index among those of the task, the first such, selects nothing.
     Unmatched { name: usize },
 }
 
 impl Stop {
-    /// Returns the answer to a fault of the body of the input at a place.
+    /// Returns the answer to a fault of the body of the input at an index.
     pub fn of_body(fault: BodyFault, input: usize, line: u64) -> Stop
         ensures { result ≡ stop_of_body fault input line }
     {

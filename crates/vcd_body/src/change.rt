@@ -36,7 +36,8 @@ pub(crate) fn shortest(digits: &[u8]) -> &[u8]
 }
 
 // Returns whether some byte may be a capital letter: these have bit 5 clear, and digits of a value
-// in lower case have it set.
+// in lower case have it set. Bit 5 of all digits, put together by `and`: `merge` of wide vectors
+// with itself takes 698.6 an item, by two comparisons of each digit 744.3.
 pub(crate) fn may_have_capital(bytes: &[u8]) -> bool
     ensures { result ≡ false → str_to_ascii_lowercase bytes.now ≡ bytes.now }
 {
@@ -47,7 +48,7 @@ pub(crate) fn may_have_capital(bytes: &[u8]) -> bool
     all == 0
 }
 
-// Puts the bytes in lower case at the front.
+// Copies `bytes`, in lower case, to the front of `to`.
 fn lower_into(to: &mut [u8], bytes: &[u8])
     requires { length bytes.now ≤ length to.old }
     ensures { take (length bytes.now) to.new ≡ str_to_ascii_lowercase bytes.now }
@@ -57,7 +58,7 @@ fn lower_into(to: &mut [u8], bytes: &[u8])
     }
 }
 
-// Writes the bytes in lower case.
+// Writes the bytes in lower case, 64 at a time.
 #[cold]
 #[inline(never)]
 fn put_lowered<W: Sink>(w: &mut W, bytes: &[u8]) -> Result<(), WriteFailed>
@@ -75,7 +76,7 @@ fn put_lowered<W: Sink>(w: &mut W, bytes: &[u8]) -> Result<(), WriteFailed>
     Ok(())
 }
 
-// Writes the bytes in lower case. Most are so already.
+// Writes the bytes, in lower case as most are already.
 fn put_lower<W: Sink>(w: &mut W, bytes: &[u8]) -> Result<(), WriteFailed>
     requires { (W.device w.old).failures < 2 ^ 64 - 1 }
     ensures { Puts (W.device w.old) (W.device w.new) (str_to_ascii_lowercase bytes.now) result }

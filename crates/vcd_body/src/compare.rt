@@ -18,7 +18,7 @@ fn extension_of_text(text: &[u8]) -> u8
     }
 }
 
-// Returns the digit at a place of a text that is extended to a size; 0 where there is none.
+// Returns the digit at an index of a text that is extended to a size; 0 where there is none.
 #[inline(always)]
 fn text_digit(text: &[u8], size: usize, place: usize) -> u8
     ensures { result ≡ get_or (extend (str_to_ascii_lowercase text.now) size) place 0 }
@@ -33,7 +33,7 @@ fn text_digit(text: &[u8], size: usize, place: usize) -> u8
     }
 }
 
-// Returns the digit at a place of the held digits, which are extended to a size; 0 where there is
+// Returns the digit at an index of the held digits, which are extended to a size; 0 where there is
 // none.
 #[inline(always)]
 fn shown_digit(held: HeldValue<'_>, size: usize, place: usize) -> u8

@@ -21,7 +21,7 @@ pub(crate) fn count_of(held: HeldValue<'_>) -> usize
     }
 }
 
-/// Returns the digit at a place of those that are held.
+/// Returns the digit at an index of those that are held.
 #[inline(always)]
 pub(crate) fn digit_held(held: HeldValue<'_>, place: usize) -> Option<u8>
     ensures { result ≡ slice_get (digits_of held.entry) place }
@@ -35,7 +35,7 @@ pub(crate) fn digit_held(held: HeldValue<'_>, place: usize) -> Option<u8>
     }
 }
 
-/// Returns the digit at a place of the value at a size, from the left; none where it has none.
+/// Returns the digit at an index of the value at a size, from the left; none where it has none.
 #[inline(always)]
 pub(crate) fn digit_shown(held: HeldValue<'_>, size: usize, place: usize) -> Option<u8>
     ensures { result ≡ digit_in (value_at_size size (held_in held.entry)) place }

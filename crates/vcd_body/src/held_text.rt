@@ -7,7 +7,7 @@ use crate::held::{count_of, digit_held};
 use crate::slot::{HeldValue, State};
 use vcd_text::{Sink, WriteFailed, put};
 
-// Writes a digit so many times.
+// Writes a digit `count` times.
 fn put_repeated<W: Sink>(digit: u8, count: usize, w: &mut W) -> Result<(), WriteFailed>
     requires { (W.device w.old).failures < 2 ^ 64 - 1 }
     ensures { Puts (W.device w.old) (W.device w.new) (replicate count digit) result }
@@ -22,7 +22,7 @@ fn put_repeated<W: Sink>(digit: u8, count: usize, w: &mut W) -> Result<(), Write
     Ok(())
 }
 
-// Returns the digit at a place of those that are held, 0 where there is none.
+// Returns the digit at an index of those that are held, 0 where there is none.
 #[inline(always)]
 fn digit_or(held: HeldValue<'_>, place: usize) -> u8
     ensures { result ≡ get_or (digits_of held.entry) place 0 }
@@ -30,7 +30,7 @@ fn digit_or(held: HeldValue<'_>, place: usize) -> u8
     digit_held(held, place).unwrap_or(0)
 }
 
-// Puts the digits from a place on at the front.
+// Copies the digits from an index on to `to`.
 fn fill(held: HeldValue<'_>, from: usize, to: &mut [u8])
     requires { from + length to.old ≤ length (digits_of held) }
     ensures { to.new ≡ take (length to.old) (drop from (digits_of held.entry)) }
@@ -40,7 +40,7 @@ fn fill(held: HeldValue<'_>, from: usize, to: &mut [u8])
     }
 }
 
-// Writes the digits that are held, from a place on.
+// Writes the digits that are held, from an index on.
 fn put_from<W: Sink>(held: HeldValue<'_>, from: usize, w: &mut W) -> Result<(), WriteFailed>
     requires failures { (W.device w.old).failures < 2 ^ 64 - 1 }
     ensures { Puts (W.device w.old) (W.device w.new) (drop from (digits_of held.entry)) result }

@@ -17,7 +17,7 @@ pub enum Section {
 /// How a value change is written.
 #[derive(Clone, Copy, PartialEq, Eq, Debug)]
 pub enum Form {
-    /// A digit, and the code at once.
+    /// A digit, and the code right after it.
     Scalar,
     /// `b` and digits, then the code.
     Vector,
@@ -34,7 +34,7 @@ pub enum Item {
     Begin(Section),
     /// The section ends.
     End,
-    /// A value change of the code at this place among the header's codes. `change_text` gives its
+    /// A value change of the code at this index among the header's codes. `change_text` gives its
     /// text.
     Change { code: usize, form: Form },
     /// The body has ended, outside a section.
@@ -70,7 +70,9 @@ impl Regs {
 
     /// Takes a time mark, where one may come: outside a section, and at no time before the last
     /// one. Else returns its fault, and nothing changes.
-    // Not inlined, so that a loop over items keeps neither time nor mark at hand for it.
+    // Not inlined, so that a loop over items keeps neither time nor mark at hand for it. With the
+    // call `cut` of scalars before its window takes 6 % less; in `take_lines` `check` takes 31.6 an
+    // item, with the call 33.2.
     #[inline(never)]
     pub(crate) fn take_mark(&mut self, time: u64) -> Result<(), BodyFault>
         ensures may { MatchResult result (λ _. MayMark self.old time) (RefusesMark self.old time) }
@@ -79,8 +81,7 @@ impl Regs {
         self.take_mark_here(time)
     }
 
-    /// Takes a time mark, where one may come, in a call or not. Else returns its fault, and nothing
-    /// changes.
+    /// Takes a time mark as `take_mark` does, in a call where `call` says so.
     #[inline(always)]
     pub(crate) fn take_mark_by(&mut self, time: u64, call: bool) -> Result<(), BodyFault>
         ensures may { MatchResult result (λ _. MayMark self.old time) (RefusesMark self.old time) }
@@ -93,6 +94,7 @@ impl Regs {
         }
     }
 
+    /// Takes a time mark as `take_mark` does, without a call.
     #[inline(always)]
     fn take_mark_here(&mut self, time: u64) -> Result<(), BodyFault>
         ensures may { MatchResult result (λ _. MayMark self.old time) (RefusesMark self.old time) }

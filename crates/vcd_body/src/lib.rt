@@ -9,7 +9,7 @@
 //! that reads on: before a read may wait, a sink passes on what it keeps back. Where the bytes of
 //! such a change are the line that `put_change` would write, but for digits that it does not need
 //! (`left_out` counts them), the line may be copied from the chunk, and many such lines in a row
-//! at once. A `Table` keeps of each code its current value, three counters, and whether it is
+//! together. A `Table` keeps of each code its current value, three counters, and whether it is
 //! chosen. What is done with all items ends with a `Done` or a `Stop`; `put_time` writes the line
 //! of a time. None of them takes memory.
 //!
@@ -34,8 +34,8 @@
 //! `HasSpelled view bytes from to text item` says by which bytes a change that was taken ahead is
 //! spelled; `left_out` asks for it, and `put_renamed_ahead` for what it says of a change.
 //!
-//! `kept_at t code` is what is kept of the code at a place. A call of a table changes what is kept
-//! of the code at the place that it names, and nothing else (`ChangesCode`).
+//! `kept_at t code` is what is kept of the code at an index. A call of a table changes what is kept
+//! of the code at the index that it names, and nothing else (`ChangesCode`).
 //!
 //! # The modules
 //!

@@ -19,8 +19,7 @@ fn capitals_32(bytes: &[u8], at: usize) -> u64
     v.simd_eq(u8x32::splat(0)).to_bitmask()
 }
 
-/// Returns whether so many bytes from a place on are no capital letters. Those after them are
-/// looked at too.
+/// Returns whether n bytes from an offset on are no capital letters. The 32 bytes there are read.
 #[inline(always)]
 fn are_lower_at(bytes: &[u8], at: usize, n: usize) -> bool
     requires room { at + 32 ≤ length bytes.now }
@@ -38,8 +37,8 @@ fn are_all_lower(digits: &[u8]) -> bool
     !may_have_capital(digits)
 }
 
-/// Returns whether the digits, which begin at a place of these bytes, are in lower case. Most are
-/// few: they are looked at at once.
+/// Returns whether the digits, which begin at an offset of these bytes, are in lower case. Up to
+/// 32, as most are, are looked at in one load.
 #[inline(always)]
 fn are_lower(bytes: &[u8], at: usize, digits: &[u8]) -> bool
     requires { StandsAt bytes.now at digits.now }
@@ -52,7 +51,7 @@ fn are_lower(bytes: &[u8], at: usize, digits: &[u8]) -> bool
     are_all_lower(digits)
 }
 
-/// Returns whether there are digits, and none can be left out on the left.
+/// Returns true only where there are digits, and none can be left out on the left.
 #[inline(always)]
 fn are_shortest(digits: &[u8]) -> bool
     ensures { result ≡ true → (size : ℕ) → digits.now ≡ short (extend digits.now size) }
@@ -73,7 +72,7 @@ pub(crate) fn is_lower(digit: u8) -> bool
     digit & 0x20 != 0
 }
 
-/// Returns whether a digit is in lower case and the code begins right after it, at this place.
+/// Returns whether a digit is in lower case and the code begins right after it, at this offset.
 #[inline(always)]
 fn is_bit_line(bytes: &[u8], from: usize, to: usize, code_at: usize) -> bool
     requires { (text code : List ℕ) × HasChange bytes.now from to Form.Scalar text code }
@@ -83,7 +82,7 @@ fn is_bit_line(bytes: &[u8], from: usize, to: usize, code_at: usize) -> bool
 }
 
 /// Returns whether a value has this first byte, and just one blank is between it and the code that
-/// begins at this place.
+/// begins at this offset.
 #[inline(always)]
 fn has_one_blank(
     bytes: &[u8],
@@ -143,6 +142,8 @@ fn clear_bits(mask: u64, n: usize) -> usize
 
 /// Returns how many digits on the left the shortest ones leave out, where all of them are known to
 /// be `0` and `1`: the zeros that lead. None where they are many.
+// Zeros that lead are counted in the bytes: `pick` of five of 27,505 codes and of Verilator's takes
+// 115.2 and 149.6 an item, by the number 124.1 and 158.7; `pick` of all 1.6 % less by the number.
 #[inline(always)]
 fn left_out_known(bytes: &[u8], at: usize, digits: &[u8]) -> Option<usize>
     requires { StandsAt bytes.now at digits.now }
@@ -220,7 +221,7 @@ fn left_out_of(bytes: &[u8], at: usize, digits: &[u8], bits: Option<Bits>) -> Op
 }
 
 /// Returns how many digits after a `b` are left out, where the rest is the line with the code that
-/// begins at this place.
+/// begins at this offset.
 #[inline(always)]
 fn left_out_of_vector(
     bytes: &[u8],
@@ -315,8 +316,8 @@ pub(crate) fn left_out_of_front(
 }
 
 /// Returns whether the bytes of a time mark that was taken ahead are the line of its time: `#`, the
-/// digits without zeros that lead, and a line feed. Its token is passed from one place of the bytes
-/// up to another, and its digits begin at a third one.
+/// digits without zeros that lead, and a line feed. The mark has the bytes from `from` up to `to`,
+/// and its digits begin at `at`.
 #[inline(always)]
 pub fn is_mark_line(bytes: &[u8], from: usize, to: usize, at: usize) -> bool
     requires { (time : ℕ) × HasMark bytes.now from to at time }

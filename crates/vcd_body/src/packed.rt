@@ -45,7 +45,7 @@ pub(crate) fn held_digit(digit: u8) -> u8
     }
 }
 
-/// Returns the digit at a place of a share that holds a byte a digit; none after its end.
+/// Returns the digit at an index of a share that holds a byte a digit; none after its end.
 #[inline(always)]
 pub(crate) fn plain_digit_at(share: &[u8], place: usize) -> Option<u8>
     ensures { result ≡ slice_get (map held_digit share.now) place }
@@ -53,7 +53,7 @@ pub(crate) fn plain_digit_at(share: &[u8], place: usize) -> Option<u8>
     Some(held_digit(byte_at(share, place)?))
 }
 
-/// Returns the code of the digit at a place, 0 where there is none.
+/// Returns the code of the digit at an index, 0 where there is none.
 #[inline(always)]
 fn code_at(text: &[u8], place: usize) -> u8
     ensures small { result < 4 }
@@ -65,7 +65,7 @@ fn code_at(text: &[u8], place: usize) -> u8
     }
 }
 
-/// Returns the digits at a place of each quarter as a byte.
+/// Returns the digits at an index of each quarter as a byte.
 #[inline(always)]
 fn four_at(text: &[u8], quarter: usize, place: usize) -> u8
     requires few { quarter < 16 }
@@ -128,7 +128,7 @@ pub(crate) fn plain_ends_differ(share: &[u8], text: &[u8]) -> bool
     )
 }
 
-/// Returns the codes of the last digits of the 16 bytes from a place on.
+/// Returns the codes of the last digits of the 16 bytes from an offset on.
 #[inline(always)]
 fn last_codes_16(bytes: &[u8], at: usize) -> u8x16
     requires { at + 16 ≤ length bytes.now }
@@ -167,7 +167,8 @@ fn with_4_times(low: u8x16, high: u8x16) -> u8x16
     low + (twice + twice)
 }
 
-/// Packs the digits of 16 places of each quarter.
+/// Packs 16 digits of each quarter.
+// Four digits a byte, one of each quarter: 16 bytes by four loads and no shuffle.
 #[inline(always)]
 fn pack_16(share: &mut [u8], text: &[u8], quarter: usize, at: usize)
     requires within { at + 16 ≤ quarter }
@@ -214,8 +215,8 @@ fn are_bits(seen: u8x16) -> bool
     seen.simd_gt(u8x16::splat(1)).to_bitmask() == 0
 }
 
-/// Packs the digits of 16 places of each quarter as if they were 0 and 1. Returns what `are_bits`
-/// takes to say whether they were.
+/// Packs 16 digits of each quarter as if they were 0 and 1. Returns what `are_bits` takes to say
+/// whether they were.
 #[inline(always)]
 fn pack_bits_16(share: &mut [u8], text: &[u8], quarter: usize, at: usize) -> u8x16
     requires within { at + 16 ≤ quarter }
@@ -235,8 +236,8 @@ fn pack_bits_16(share: &mut [u8], text: &[u8], quarter: usize, at: usize) -> u8x
     either(either(first, second), either(third, last))
 }
 
-/// Packs the digits of each quarter, 16 places at a time, where the digits are 0 and 1 alone.
-/// Returns whether they are. Of the last 16 places some may have been packed before.
+/// Packs the digits of each quarter, 16 at a time, where the digits are 0 and 1 alone. Returns
+/// whether they are. Of the last 16 some may have been packed before.
 fn pack_bits(share: &mut [u8], text: &[u8], quarter: usize) -> bool
     requires { MayPack share.old text.now quarter }
     ensures { result ≡ true → ArePacked share.new text.now quarter }
@@ -251,7 +252,7 @@ fn pack_bits(share: &mut [u8], text: &[u8], quarter: usize) -> bool
     are_bits(either(seen, pack_bits_16(share, text, quarter, last)))
 }
 
-/// Packs the digits of each quarter, 16 places at a time, whatever digits they are.
+/// Packs the digits of each quarter, 16 at a time, whatever digits they are.
 #[inline(never)]
 fn pack_any(share: &mut [u8], text: &[u8], quarter: usize)
     requires { MayPack share.old text.now quarter }
@@ -276,7 +277,7 @@ fn pack_many(share: &mut [u8], text: &[u8], quarter: usize)
     }
 }
 
-/// Packs digits into the first bytes of a share: a byte for each place of a quarter of them.
+/// Packs digits into the first bytes of a share: a byte for each index in a quarter of them.
 #[inline(always)]
 pub(crate) fn pack(share: &mut [u8], text: &[u8])
     requires room { length text.now ≤ 4 * length share.old }
@@ -290,7 +291,7 @@ pub(crate) fn pack(share: &mut [u8], text: &[u8])
     }
 }
 
-/// Returns the byte at a place.
+/// Returns the byte at an index.
 #[inline(always)]
 fn byte_at(share: &[u8], place: usize) -> Option<u8>
     ensures { result ≡ slice_get share.now place }
@@ -298,7 +299,7 @@ fn byte_at(share: &[u8], place: usize) -> Option<u8>
     share.get(place).copied()
 }
 
-/// Returns the byte at a place, 0 where there is none.
+/// Returns the byte at an index, 0 where there is none.
 #[inline(always)]
 fn byte_or(share: &[u8], place: usize) -> u8
     ensures { result ≡ get_or share.now place 0 }
@@ -306,7 +307,7 @@ fn byte_or(share: &[u8], place: usize) -> u8
     byte_at(share, place).unwrap_or(0)
 }
 
-/// Returns the digit at a place of `len` digits in a share; none after the last.
+/// Returns the digit at an index of `len` digits in a share; none after the last.
 #[inline(always)]
 pub(crate) fn digit_at(share: &[u8], len: usize, place: usize) -> Option<u8>
     ensures { result ≡ slice_get (digits_in len share.now) place }

@@ -123,7 +123,7 @@ fn read_code<S: Source>(
     }
 }
 
-/// Returns whether the code that was found has room for so many digits, or is an event. The size
+/// Returns whether the code that was found has room for this many digits, or is an event. The size
 /// found with it is mostly enough; the code is read only where it is not.
 #[inline(always)]
 pub(crate) fn takes(codes: &[Code], found: Found, digits: usize) -> bool
@@ -134,7 +134,7 @@ pub(crate) fn takes(codes: &[Code], found: Found, digits: usize) -> bool
     digits <= found.most || codes[found.place].event || digits <= codes[found.place].size
 }
 
-/// Reads the rest of a vector's change, after its digits: returns its code's place.
+/// Reads the rest of a vector's change, after its digits: returns its code's index.
 #[inline(always)]
 pub(crate) fn read_vector<S: Source>(
     feed: &mut Feed<'_, '_, '_, '_, S>,
@@ -156,7 +156,7 @@ pub(crate) fn read_vector<S: Source>(
     Ok(found.place)
 }
 
-/// Reads the rest of a real number's change, after its text: returns its code's place.
+/// Reads the rest of a real number's change, after its text: returns its code's index.
 pub(crate) fn read_real<S: Source>(
     feed: &mut Feed<'_, '_, '_, '_, S>,
     view: HeadView<'_>,

@@ -28,6 +28,8 @@ struct End {
 
 /// Returns a byte, the code of a number below 830,584, which has up to three bytes, and a line
 /// feed. None of a greater number.
+// Eight bytes in a number, of which the first ones count, so that `write_few` copies them without a
+// length. The last digit of the code is what is left, without a division.
 #[inline(always)]
 fn short_end(first: u8, number: u64) -> Option<End>
     ensures few { IfSome result (λ end. end.len ≤ 8) }
@@ -86,7 +88,8 @@ pub(crate) fn put_code_line<W: Sink>(first: u8, number: u64, w: &mut W) -> Resul
     }
 }
 
-/// Writes a change as `put_change` does, under the new code of this number.
+/// Writes a change as `put_change` does, under the new code of this number. Where a write fails, a
+/// prefix was written.
 #[inline(always)]
 pub fn put_renamed<W: Sink>(
     size: usize,
@@ -103,8 +106,8 @@ pub fn put_renamed<W: Sink>(
     put_line(size, event, form, text, Id::Number(number), w)
 }
 
-/// Writes the bytes from `from` up to `end`, without so many after the first one, a blank, the code
-/// of a number and a line feed. The code is long.
+/// Writes the bytes from `from` up to `end`, without `left_out` after the first one, then a blank,
+/// the code of a number and a line feed. The code is long.
 #[cold]
 #[inline(never)]
 fn put_copied_slowly<W: Sink>(
@@ -126,9 +129,10 @@ fn put_copied_slowly<W: Sink>(
     put_any_code(b' ', number, w)
 }
 
-/// Writes the bytes from `from` up to `end`, without so many after the first one, a blank, the code
-/// of a number and a line feed. Those after them are looked at too.
-// Not inlined: two arms of a loop call it.
+/// Writes the bytes from `from` up to `end`, without `left_out` after the first one, then a blank,
+/// the code of a number and a line feed. The bytes after `end` may be read too.
+// Not inlined: two arms of a loop call it. One write for most lines: of Verilator's it takes 58.6 a
+// line, as three writes 85.4.
 #[inline(never)]
 fn put_copied<W: Sink>(
     bytes: &[u8],
@@ -181,6 +185,9 @@ fn put_renamed_text<W: Sink>(
 
 /// Writes a change that was taken ahead under the new code of this number. The bytes from `from` up
 /// to `to` spell it. Those before its code are copied where they are what its line begins with.
+/// Where a write fails, a prefix was written.
+// Digits are copied and not looked at one by one: `merge` of Verilator's takes 344 an item, without
+// 386; of wide vectors 770, 787; of scalars 153.6, 152.6.
 #[inline(always)]
 pub fn put_renamed_ahead<W: Sink>(
     plain: Plain<'_>,

@@ -28,11 +28,13 @@ pub(crate) enum State {
     Bits,
 }
 
-/// The number of `State::Bits` with no digit. With some digits it is so many more.
+/// The number of `State::Bits` with no digit. The number of a state with n digits is n more.
 pub(crate) const BITS: u8 = 8;
 
 /// What each change of a code looks at: its value where it is short, and how it is held. It is
 /// split from what few changes look at, and takes 8 bytes, so that many slots fit in the L1 cache.
+// With slots of 16 bytes in place of one record of 48 `cut` of 27,505 codes before its window took
+// 12 % less time, with 8 bytes 2 % less again, and `edges` 8 %.
 #[derive(Clone, Copy, PartialEq, Eq, Debug)]
 pub struct Slot {
     // The number of the binary digits; else the lowest 32 bits of how many digits, or bytes of a
@@ -79,7 +81,7 @@ pub(crate) struct HeldValue<'a> {
     ghost some: { 1 ≤ some_by holding.state (len_of holding) },
 }
 
-/// What one counts in the upper part of a length.
+/// What the upper part of a length counts in: 2^32.
 pub(crate) const UPPER: usize = 4_294_967_296;
 
 impl Holding {

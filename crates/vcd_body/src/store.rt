@@ -41,7 +41,7 @@ fn holds_some(holding: Holding) -> bool
 }
 
 impl<'a> Table<'a> {
-    /// Returns the value of the code at a place as it is held. None where there is no such code;
+    /// Returns the value of the code at an index as it is held. None where there is no such code;
     /// and where its share would not lie within the values, or would hold no digits where it should
     /// hold several. No code of a table that is laid out is so.
     #[inline(always)]
@@ -106,7 +106,7 @@ fn copy_front(to: &mut [u8], from: &[u8])
     to[..from.len()].copy_from_slice(from);
 }
 
-/// Notes in a slot and its share in which state so many digits, or bytes of a text, are held.
+/// Notes in a slot and its share in which state `len` digits, or bytes of a text, are held.
 #[inline(always)]
 fn hold_text(slot: &mut Slot, share: &mut Share, state: State, len: usize)
     requires text { state ≢ State.Bits }
@@ -129,7 +129,7 @@ fn least_bytes(form: Form, len: usize) -> usize
 }
 
 impl<'a> Table<'a> {
-    /// Returns where the share of the code at a place ends.
+    /// Returns where the share of the code at an index ends.
     #[inline(always)]
     pub(crate) fn end_of(&self, code: usize) -> usize
         requires { code < length self.now.shares.now }
@@ -141,7 +141,7 @@ impl<'a> Table<'a> {
         }
     }
 
-    /// Sets the value of the code at a place to a text, where it fits its share, which ends here.
+    /// Sets the value of the code at an index to a text, where it fits its share, which ends here.
     #[inline(always)]
     pub(crate) fn set_text_in(&mut self, code: usize, end: usize, form: Form, text: &[u8])
         requires several { form ≢ Form.RealText → length text.now ≢ 1 }
@@ -163,7 +163,7 @@ impl<'a> Table<'a> {
         hold_text(&mut slots[code], &mut shares[code], state, text.len());
     }
 
-    /// Sets the value of the code at a place to a text, where it fits its share.
+    /// Sets the value of the code at an index to a text, where it fits its share.
     #[inline(never)]
     pub(crate) fn set_text(&mut self, code: usize, form: Form, text: &[u8])
         requires { form ≢ Form.RealText → length text.now ≢ 1 }
@@ -174,10 +174,11 @@ impl<'a> Table<'a> {
         }
     }
 
-    /// Adds so many to the first counter of the code at a place, and to the others where the tests
+    /// Adds `more` to the first counter of the code at an index, and to the others where the tests
     /// hold, in its share. A full one stays.
     // It is given the table, and no parts of it, so that none is made ready for it where it is not
-    // called.
+    // called. Called once in 256 steps: handed the shares for each change, `edges` takes 2 to 5 %
+    // more.
     #[cold]
     #[inline(never)]
     pub(crate) fn add(&mut self, code: usize, more: u64, rises: bool, falls: bool)
@@ -237,6 +238,8 @@ pub(crate) enum Stepped {
 
 /// Sets the value of a code to the digit 0 or 1 over such a digit, and counts the step. Most
 /// changes are of this kind, and touch one slot alone.
+// A digit is a state of the slot, so no byte of values is touched: held as a number of one digit,
+// `edges` of scalars takes some 10 % more.
 #[inline(always)]
 pub(crate) fn turn_at(slots: &mut [Slot], code: usize, digit: u8) -> Stepped
     ensures counted { result ≡ Stepped.Counted → TurnsTo code digit slots.old slots.new }

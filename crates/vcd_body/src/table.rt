@@ -13,9 +13,9 @@ use crate::store::{Stepped, count_in_slot, lay_out, set_bits, set_how, step_at, 
 use crate::value::Value;
 use vcd_view::HeadView;
 
-/// What is kept of the codes of a header, by their places: the value of each, as it was last
+/// What is kept of the codes of a header, by their indexes: the value of each, as it was last
 /// written, three counters, and whether it is chosen. A call changes what it names and nothing
-/// else. It is total: of a place that is no code's nothing is kept, and nothing changes.
+/// else. It is total: under an index that is no code's nothing is kept, and nothing changes.
 #[derive(Drop)]
 pub struct Table<'a> {
     pub(crate) values: &'a mut [u8],
@@ -54,7 +54,7 @@ impl<'a> Table<'a> {
         }
     }
 
-    /// Sets the value of the code at a place by the text of a change: digits, or that of a real
+    /// Sets the value of the code at an index by the text of a change: digits, or that of a real
     /// number, as `change_text` gives it. A text that is empty or has no room is passed over. It
     /// takes as long as the text is, and one digit touches the code's slot alone.
     #[inline(always)]
@@ -65,7 +65,7 @@ impl<'a> Table<'a> {
         self.set_value(code, Value::of_text(form, text));
     }
 
-    /// Sets the value of the code at a place. A text that is empty or has no room is passed over;
+    /// Sets the value of the code at an index. A text that is empty or has no room is passed over;
     /// binary digits need none. It takes as long as the text is; one digit, and binary digits,
     /// touch the code's slot alone.
     #[inline(always)]
@@ -90,9 +90,11 @@ impl<'a> Table<'a> {
         }
     }
 
-    /// Sets the value of the code at a place as `set_value` does, and counts its step at this size
+    /// Sets the value of the code at an index as `set_value` does, and counts its step at this size
     /// as `count` does, where it differs. A text that is empty is passed over. One of the digits 0
     /// and 1 over another, and binary digits over others, touch the code's slot alone.
+    // In one call: `edges` would else ask three times whether the code exists, some 20 % more of
+    // scalars.
     #[inline(always)]
     pub fn follow(&mut self, code: usize, size: usize, value: Value<'_>)
         ensures sets { SetsCode code (with_value_change size value.entry) self.old self.new }
@@ -106,7 +108,7 @@ impl<'a> Table<'a> {
         }
     }
 
-    /// Sets the value of the code at a place to digits, and counts its step where it differs.
+    /// Sets the value of the code at an index to digits, and counts its step where it differs.
     #[inline(always)]
     fn follow_digits(&mut self, code: usize, size: usize, text: &[u8])
         ensures { SetsCode code (with_change size Form.Vector text.now) self.old self.new }
@@ -125,7 +127,7 @@ impl<'a> Table<'a> {
         }
     }
 
-    /// Sets the value of the code at a place to binary digits, and counts its step where it
+    /// Sets the value of the code at an index to binary digits, and counts its step where it
     /// differs.
     #[inline(always)]
     fn follow_bits(&mut self, code: usize, size: usize, bits: Bits)
@@ -138,7 +140,7 @@ impl<'a> Table<'a> {
         }
     }
 
-    /// Sets the value of the code at a place by the text of a change, and counts its step where it
+    /// Sets the value of the code at an index by the text of a change, and counts its step where it
     /// differs, whatever the value was.
     #[inline(never)]
     fn follow_any(&mut self, code: usize, size: usize, form: Form, text: &[u8])
@@ -154,7 +156,7 @@ impl<'a> Table<'a> {
         }
     }
 
-    /// Sets the value of the code at a place to binary digits, and counts its step where it
+    /// Sets the value of the code at an index to binary digits, and counts its step where it
     /// differs, whatever the value was.
     #[inline(never)]
     fn follow_any_bits(&mut self, code: usize, size: usize, bits: Bits)
@@ -170,7 +172,7 @@ impl<'a> Table<'a> {
         }
     }
 
-    /// Returns the step from the value of the code at a place to that of a text. Where there is no
+    /// Returns the step from the value of the code at an index to that of a text. Where there is no
     /// value it does not differ.
     #[inline(always)]
     fn step_to(&self, code: usize, size: usize, form: Form, text: &[u8]) -> Step
@@ -189,7 +191,7 @@ impl<'a> Table<'a> {
         )
     }
 
-    /// Returns what the value of the code at a place is.
+    /// Returns what the value of the code at an index is.
     #[inline]
     pub fn get(&self, code: usize) -> Shown
         ensures { result ≡ shown_as (held_at self.now code) }
@@ -204,7 +206,7 @@ impl<'a> Table<'a> {
         }
     }
 
-    /// Returns the digit at a place of the value of a code, extended to the code's size, from the
+    /// Returns the digit at an index of the value of a code, extended to the code's size, from the
     /// left and in lower case. None where the value has no digits, or fewer.
     #[inline]
     pub fn digit(&self, view: HeadView<'_>, code: usize, place: usize) -> Option<u8>
@@ -215,8 +217,8 @@ impl<'a> Table<'a> {
         digit_shown(self.held(code)?, declared.size, place)
     }
 
-    /// Returns the text of the real number that is the value of the code at a place; empty where it
-    /// has no such value.
+    /// Returns the text of the real number that is the value of the code at an index; empty where
+    /// it has no such value.
     #[inline]
     pub fn real(&self, code: usize) -> &[u8]
         ensures { IsLaidOut self.now → result.now ≡ real_text (held_at self.now code) }
@@ -227,7 +229,7 @@ impl<'a> Table<'a> {
         }
     }
 
-    /// Returns the three counters of the code at a place.
+    /// Returns the three counters of the code at an index.
     #[inline]
     pub fn tally(&self, code: usize) -> [u64; 3]
         ensures { result ≡ counts_at self.now code }
@@ -239,7 +241,8 @@ impl<'a> Table<'a> {
         }
     }
 
-    /// Adds one to the counter `which`, 0 to 2, of the code at a place. A full one stays.
+    /// Adds one to the counter `which`, 0 to 2, of the code at an index. A full counter stays as it
+    /// is.
     #[inline(always)]
     pub fn bump(&mut self, code: usize, which: usize)
         ensures keeps { KeepsTable self.old self.new }
@@ -253,7 +256,7 @@ impl<'a> Table<'a> {
         }
     }
 
-    /// Counts a step of the value of the code at a place: adds one to the first counter, to the
+    /// Counts a step of the value of the code at an index: adds one to the first counter, to the
     /// second where it rises, and to the third where it falls. A full one stays. Most steps touch
     /// the slot alone.
     #[inline(always)]
@@ -261,7 +264,7 @@ impl<'a> Table<'a> {
         ensures keeps { KeepsTable self.old self.new }
         ensures changes { ChangesCode code (with_step rises falls) self.old self.new }
     {
-        // No step does both, and a slot has no place for it.
+        // No step does both, and a slot has no counter for it.
         if rises & falls {
             self.add(code, 1, rises, falls);
             return;
@@ -271,7 +274,7 @@ impl<'a> Table<'a> {
         }
     }
 
-    /// Chooses the code at a place.
+    /// Chooses the code at an index.
     #[inline]
     pub fn choose(&mut self, code: usize)
         ensures keeps { KeepsTable self.old self.new }
@@ -282,7 +285,7 @@ impl<'a> Table<'a> {
         }
     }
 
-    /// Returns whether the code at a place is chosen. It takes the same time for every table.
+    /// Returns whether the code at an index is chosen. It takes the same time for every table.
     #[inline]
     pub fn chosen(&self, code: usize) -> bool
         ensures { result ≡ is_chosen self.now code }

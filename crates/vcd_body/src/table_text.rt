@@ -7,7 +7,7 @@ use crate::table::Table;
 use vcd_text::{Sink, WriteFailed, put};
 use vcd_view::HeadView;
 
-/// Writes the line of a change that gives the code at a place its value, with the shortest digits;
+/// Writes the line of a change that gives the code at an index its value, with the shortest digits;
 /// nothing where it has no value. Where a write fails, a prefix was written.
 pub fn put_short<W: Sink>(
     view: HeadView<'_>,
@@ -30,7 +30,7 @@ pub fn put_short<W: Sink>(
     put_value_line(held, declared.size, id, w)
 }
 
-/// Writes the value of the code at a place in full: all its digits, or `r` and the text of a real
+/// Writes the value of the code at an index in full: all its digits, or `r` and the text of a real
 /// number; `-` where it has no value. Where a write fails, a prefix was written.
 pub fn put_full<W: Sink>(
     view: HeadView<'_>,

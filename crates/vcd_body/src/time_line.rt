@@ -16,7 +16,8 @@ pub fn put_time<W: Sink>(time: u64, out: &mut W) -> Result<(), WriteFailed>
     put(out, b"\n")
 }
 
-/// Writes the line of a time, unless it was written last.
+/// Writes the line of `time`, unless that was written last. Where a write fails, a prefix was
+/// written.
 #[inline(always)]
 pub fn put_time_unless<W: Sink>(
     written: Option<u64>,

@@ -23,6 +23,8 @@ use vcd_text::{Ahead, Sink, WriteFailed};
 use vcd_view::HeadView;
 
 /// What the view of a header is made from, where it is used.
+// A view made once a walk: `merge` of 27,505 codes takes 220 an item, with one made for each item
+// 308. Handed to `take_lines` as a view, scalars take 121.1, as it is 116.8.
 pub trait Viewed: Copy {
     // Whether this is such a view.
     ghost shows: { Self → HeadView → Type 0 };
@@ -65,7 +67,7 @@ pub trait Visit<C>: Drop {
     fn is_over(&self) -> bool
         ensures { result ≡ over self.now };
 
-    /// Takes a time mark, from one place ahead to another. The registers are those before it.
+    /// Takes a time mark, from one position ahead to another. The registers are those before it.
     fn take_mark(
         &mut self,
         command: &mut C,
@@ -86,8 +88,8 @@ pub trait Visit<C>: Drop {
         ensures stands { stands self.new command.new (bytes_of next.entry)
             (regs_after regs mark.entry.item) };
 
-    /// Takes a change, from one place ahead to another, and puts what is due with it. The registers
-    /// are those after it, as before it.
+    /// Takes a change, from one position ahead to another, and puts what is due with it. The
+    /// registers are those after it, as before it.
     fn take_change<W: Sink>(
         &mut self,
         command: &mut C,
@@ -125,6 +127,7 @@ pub struct Walked<'a, V> {
 }
 
 impl<'a, V> Walked<'a, V> {
+    /// Returns that a walk has ended here.
     #[inline(always)]
     fn until(
         ahead: Ahead<'a>,
@@ -173,8 +176,8 @@ fn take_change<C, V: Visit<C>, W: Sink>(
     Ok(false)
 }
 
-/// Takes the time mark that a token is, from one place up to another. None where it takes none, and
-/// then nothing has changed.
+/// Takes the time mark that a token is, from one position up to another. None where it takes none,
+/// and then nothing has changed.
 #[inline(always)]
 fn take_mark<'a, C, V: Visit<C>>(
     command: &mut C,
@@ -206,7 +209,10 @@ fn take_mark<'a, C, V: Visit<C>>(
 /// Takes the next item that lies ahead, and returns whether it was a mark. None where it takes
 /// none, and then nothing has changed.
 // What begins the item is asked once, and whether digits have a number: what is done with it
-// follows in each arm.
+// follows in each arm. All arms are in one function that is inlined. With arms for changes in one
+// of their own `pick` of all takes 188 and 253 an item of 27,505 codes and Verilator's, as it is
+// 160 and 227; not inlined, `check` takes nearly three times as many. The arm for digits of a known
+// number takes 5 % off `merge` of these, and adds 6 % to `check`.
 #[inline(always)]
 fn take_next<C, V: Visit<C>, W: Sink>(
     command: &mut C,
@@ -336,7 +342,11 @@ fn take_near<C, V: Visit<C>>(
 /// Takes the items that come next, as long as each is a short change or a time mark on a line of
 /// its own.
 // It is not inlined, so that it has all registers, and the other loop has none less for it. The
-// loop of changes in it is one of its own, so that no change pays for what a mark needs.
+// loop of changes in it is one of its own, so that no change pays for what a mark needs. Without
+// this loop `check` of scalars takes 48.9 an item, with it 31.6; `pick` of all 92.9, 60.5; `edges`
+// 88.7, 72.0 (other dumps 1 to 2 % more). One loop over changes and marks, with a call for each
+// mark, takes 44.0 in `check`; a loop of changes inside and no call, but nothing asked before,
+// 40.9.
 #[inline(never)]
 fn take_lines<'a, C, V: Visit<C>, H: Viewed, W: Sink>(
     command: &mut C,
@@ -406,7 +416,8 @@ fn begin_lines<'a, C, V: Visit<C>, H: Viewed, W: Sink>(
 /// one in any case. A mark that it leaves ends the walk, and so does a failed write.
 // Registers, offset and visit come and go by value, so that the loop keeps them out of memory. The
 // view is made here and in `take_lines`: its words would be copied for each call. In each arm of an
-// item the compiler knows whether it was a mark.
+// item the compiler knows whether it was a mark. In a struct that stays in memory they cost `check`
+// of scalars 11 %, `pick` 9 % and `edges` 14 %.
 #[inline(always)]
 pub fn walk_ahead<'a, C, V: Visit<C>, H: Viewed, W: Sink>(
     command: &mut C,

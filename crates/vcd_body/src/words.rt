@@ -12,9 +12,9 @@ use vcd_view::{Keyword, keyword_of};
 pub enum First {
     /// `#`: a time mark.
     Mark,
-    /// The digit `0` or `1` of a value, with its code at once.
+    /// The digit `0` or `1` of a value, with its code right after it.
     Bit,
-    /// Another digit of a value, with its code at once.
+    /// Another digit of a value, with its code right after it.
     Scalar,
     /// `b` or `B`: the digits of a value.
     Vector,
@@ -46,7 +46,9 @@ pub(crate) fn first_of(token: &[u8]) -> First
 }
 
 /// Returns what a token with this first byte begins.
-// The most frequent first bytes of dumps are asked for first.
+// The most frequent first bytes of dumps are asked for first. `check` of 27,505 codes and of
+// Verilator takes 100 and 134 an item; with x and z asked before `b`, and each token whether it is
+// empty, 106 and 144.
 #[inline(always)]
 pub(crate) fn first_by(byte: u8) -> First
     ensures { (rest : List ℕ) → Begins (byte ∷ rest) result }
@@ -129,6 +131,7 @@ fn command_for(keyword: Keyword) -> Command
 }
 
 /// Returns what the keyword is that the token is.
+// Inlined: its answer would come through memory.
 #[inline(always)]
 pub(crate) fn command_of(token: &[u8]) -> Option<Command>
     ensures { StandsFor token.now result }
@@ -156,8 +159,7 @@ fn other_32(bytes: &[u8], at: usize) -> u64
     v.simd_ne(u8x32::splat(b'0')).to_bitmask()
 }
 
-/// Returns whether so many bytes from a place on are `0` and `1` alone. Those after them are looked
-/// at too.
+/// Returns whether n bytes from an offset on are `0` and `1` alone. The 32 bytes there are read.
 #[inline(always)]
 fn are_binary_at(bytes: &[u8], at: usize, n: usize) -> bool
     requires room { at + 32 ≤ length bytes.now }
@@ -181,7 +183,7 @@ fn are_few_binary(digits: &[u8]) -> bool
 }
 
 /// Returns true only where the digits are `0` and `1` alone. It looks at 32 at a time where there
-/// are so many, and at some of the last 32 twice.
+/// are at least 32, and at some of the last 32 twice.
 fn are_binary(digits: &[u8]) -> bool
     ensures { result ≡ true → list_all is_digit digits.now ≡ true }
 {
@@ -232,7 +234,7 @@ fn ones_32(bytes: &[u8], at: usize) -> u64
     v.simd_eq(u8x32::splat(b'1')).to_bitmask()
 }
 
-/// Returns the number of so many binary digits from a place on. Those after them are looked at too.
+/// Returns the number of n binary digits from an offset on. The 32 bytes there are read.
 #[inline(always)]
 fn number_at(bytes: &[u8], at: usize, n: usize) -> usize
     requires room { at + 32 ≤ length bytes.now }
@@ -243,8 +245,10 @@ fn number_at(bytes: &[u8], at: usize, n: usize) -> usize
     (ones_32(bytes, at) >> (32 - n)) as usize
 }
 
-/// Returns digits that begin at a place of these bytes as a number, where they are few, and `0` and
-/// `1` alone.
+/// Returns digits that begin at an offset of these bytes as a number. None where they are more than
+/// 32, not `0` and `1` alone, or near the end of the bytes.
+// By one look at 32 bytes: how many digits there are cannot be predicted, so a branch or loop on it
+// costs more.
 #[inline(always)]
 pub(crate) fn bits_at(bytes: &[u8], at: usize, digits: &[u8]) -> Option<Bits>
     requires { StandsAt bytes.now at digits.now }

@@ -213,7 +213,7 @@ fn source_that_fails(rt: HostRuntime) -> Result<(), Fail> {
     Ok(())
 }
 
-// What is taken ahead: the items, which of them have their lines as bytes (`=`), which but for so
+// What is taken ahead: the items, which of them have their lines as bytes (`=`), which but for this
 // many digits, and which do not (`.`), and the number that is given for the digits of the last.
 #[derive(Drop)]
 struct Noted {

@@ -68,7 +68,7 @@ fn follow(table: &mut Table<'_>, code: usize, size: usize, form: Form, text: &[u
     ]
 }
 
-// So many of a digit, and then these.
+// This many of a digit, and then these.
 fn padded(alloc: Global, digit: u8, count: usize, rest: &[u8]) -> Result<Vec<u8>, AllocError> {
     let mut text = Vec::new(alloc);
     for _ in 0..count {
@@ -137,7 +137,7 @@ fn are_shown(
     is_shown(alloc, size, Form::Vector, text, &line, full)
 }
 
-// Digits of a code of some size: these alone, one for each place, `1` at the last place and `0`
+// Digits of a code of some size: these alone, one for each index, `1` at the last index and `0`
 // before it, and `z x 0 1` over and over.
 #[derive(Clone, Copy)]
 enum Digits {
@@ -241,7 +241,7 @@ fn real_number_at_each_size(rt: HostRuntime) -> Result<(), Fail> {
     Ok(())
 }
 
-// A share of 75 bytes: of so many digits it holds a byte each, and of 76 a byte for four.
+// A share of 75 bytes: of up to 75 digits it holds a byte each, and of 76 a byte for four.
 #[test]
 fn digits_that_have_a_byte_each_and_more(rt: HostRuntime) -> Result<(), Fail> {
     let alloc = rt.alloc();
@@ -316,7 +316,7 @@ fn unset_codes_and_places_of_none(rt: HostRuntime) -> Result<(), Fail> {
     Ok(())
 }
 
-// The first code is unset, and the second place has no value, counter or choice.
+// The first code is unset, and the second index has no value, counter or choice.
 fn is_nothing(table: &Table<'_>, view: HeadView<'_>) -> bool {
     table.get(0) == Shown::Unset
         && table.get(1) == Shown::Unset
@@ -326,7 +326,7 @@ fn is_nothing(table: &Table<'_>, view: HeadView<'_>) -> bool {
         && !table.chosen(1)
 }
 
-// A text that sets a code of 6 bits, what is shown then, the digits by their places, and the text
+// A text that sets a code of 6 bits, what is shown then, the digits by their indexes, and the text
 // of a real number.
 const PLACES: [(Form, &[u8], Shown, [Option<u8>; 7], &[u8]); 3] = [
     (

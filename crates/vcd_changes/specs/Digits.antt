@@ -17,7 +17,7 @@ is_known d = d == byte "0" || d == byte "1"
 abbrev pub number_where : (ℕ → Bool) → List ℕ → ℕ
 number_where test digits = number_from_digits 2 (map (λ d. cond (test d) 1 0) digits)
 
--- the last digits of these, so many at most
+-- the last digits of these, this many at most
 abbrev pub last_of : ℕ → List ℕ → List ℕ
 last_of most digits = drop (length digits - most) digits
 

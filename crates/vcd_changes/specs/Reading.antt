@@ -87,22 +87,22 @@ abbrev pub status_of : Filled → ℕ
 status_of filled.All = 0
 status_of filled.Full = 4
 
--- how a call ends whose reading has come behind these items: the body has no others and no fault;
--- or it has this fault; or the rows are full, and the next call goes on
+-- how a call ends whose reading has come after these items: the body has no others and no fault; or
+-- it has this fault; or the rows are full, and the next call goes on
 abbrev pub EndsAt : List IdCode → Input → List Token → List BodyItem → Reading → List ChangeRow → ℕ → Type 0
 EndsAt codes i front items r rows status =
     ((status ≡ 0) × BodyHas codes i front 65536 items None × IsAfter codes i front items r.place)
     ⊎ ((status ≡ 1) × BodyHas codes i front 65536 items (Some (record { number = r.fault; line = r.line })))
     ⊎ ((status ≡ 4) × (r.count ≡ length rows) × IsAfter codes i front items r.place)
 
--- What a call finds behind these items of the body: others, whose changes of this code are in the
+-- What a call finds after these items of the body: others, whose changes of this code are in the
 -- rows.
 pub record Finds (codes : List IdCode) (i : Input) (front : List Token) (items : List BodyItem) (code : List ℕ) (r : Reading) (rows : List ChangeRow) (status : ℕ) : Type 0 where
   pub more : List BodyItem
   pub rows_are : rows_of code (items ++ more) ≡ rows_of code items ++ take r.count rows
   pub ends : EndsAt codes i front (items ++ more) r rows status
 
--- what a call finds in a dump behind these items of its body
+-- what a call finds in a dump after these items of its body
 pub data FindsIn (dump : List ℕ) (items : List BodyItem) (code : List ℕ) (r : Reading) (rows : List ChangeRow) (status : ℕ) : Type 0 where
   Found : (front : List Token) (codes : List IdCode) (has : HasCodes dump front codes) (finds : Finds codes (whole dump) front items code r rows status) → FindsIn dump items code r rows status
   NoCode : (front : List Token) (codes : List IdCode) (has : HasCodes dump front codes) (none : find (has_text code) codes ≡ None) (count_is : r.count ≡ 0) (status_is : status ≡ 2) → FindsIn dump items code r rows status

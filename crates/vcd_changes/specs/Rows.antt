@@ -42,13 +42,13 @@ row_in code entry = elim entry.item [
 abbrev pub rows_of : List ℕ → List BodyItem → List ChangeRow
 rows_of code items = filter_map (row_in code) (entries items)
 
--- the row that an item adds, where it is a change of the code at this place
+-- the row that an item adds, where it is a change of the code at this index
 abbrev pub row_added : (place time : ℕ) → List ℕ → Item → List ChangeRow
 row_added place time text (item.Change code form) = cond (code == place) (row_of time (model_form form) text ∷ []) []
 row_added place time text other = []
 
 module _ {X : Type 0} {g : Ghosts X} (codes : List IdCode) (i : Input) (front : List Token) where
-  -- behind these items others were given, whose changes of this code have the rows that were added
+  -- after these items others were given, whose changes of this code have the rows that were added
   pub record GaveRows (items : List BodyItem) (code : List ℕ) (f : Feed X g) (r : Regs) (old new : List ChangeRow) : Type 0 where
     pub more : List BodyItem
     pub added : List ChangeRow
@@ -63,7 +63,7 @@ module _ {X : Type 0} {g : Ghosts X} (codes : List IdCode) (i : Input) (front : 
   EndsSo items f r count rows (Ok Full) = GaveItems codes i front items f r × (count ≡ length rows)
   EndsSo items f r count rows (Err fault) = Fails codes i front items fault f
 
-  -- behind these items others were read, whose changes of this code are in the first rows
+  -- after these items others were read, whose changes of this code are in the first rows
   pub record Collects (items : List BodyItem) (code : List ℕ) (f : Feed X g) (r : Regs) (count : ℕ) (rows : List ChangeRow) (result : Result Filled BodyFault) : Type 0 where
     pub more : List BodyItem
     pub rows_are : rows_of code (items ++ more) ≡ rows_of code items ++ take count rows

@@ -34,7 +34,7 @@ pub record HasRoom (c : Collecting) (rows : Rows) : Type 0 where
 abbrev pub passed_with : Ahead → Collecting → ℕ
 passed_with a c = cond (is_full c) c.end (passed_of a)
 
--- where such a walk stands, and the rows so far
+-- where such a walk is, and the rows so far
 abbrev pub RowStage : Type 0
 RowStage = Stage Collecting Rows
 
@@ -59,14 +59,14 @@ pub record TakesRow (v : HeadView) (s t : RowStage) (result : Result (Unit {0}) 
   pub added : is_full s.visit ≡ false → filled t ≡ filled s ++ row_added s.visit.place t.regs.time plain.text.now plain.item
   pub end : is_full s.visit ≡ false → passed_with t.ahead t.visit ≡ passed_of t.ahead
 
--- where it stands, whatever the output is, to which nothing is written
+-- where it is, whatever the output is, to which nothing is written
 abbrev pub rows_at : Ahead → Regs → Collecting → Rows → RowStage
 rows_at a r c rows = stage_at a r c rows (record { held = None; failures = 0 })
 
 abbrev pub passed_at : RowStage → ℕ
 passed_at s = passed_with s.ahead s.visit
 
--- others were taken behind these items, and their rows were added
+-- others were taken after these items, and their rows were added
 pub record Added (s : RowStage) (h : Header) (lines : ℕ) (items : List BodyItem) (code : IdCode) (z : RowStage) : Type 0 where
   pub more : List BodyItem
   pub added : List ChangeRow

@@ -20,7 +20,7 @@ use vcd_head::{HeadFault, HeadView, read_head_with_hasher};
 use vcd_text::{Bytes, Feed};
 use vcd_view::find;
 
-/// The most bytes that a token may have, and how many are read at once.
+/// The most bytes that a token may have, and how many are read in one call.
 const LIMIT: usize = 65_536;
 
 /// The most scopes, variables and `$upscope` that a header may have.
@@ -54,7 +54,7 @@ fn status_of(filled: Filled) -> u8
     }
 }
 
-/// Reads on, fills the rows with the changes of the code at this place among the header's, and
+/// Reads on, fills the rows with the changes of the code at this index among the header's, and
 /// returns the status.
 fn read_on(
     feed: &mut Feed<'_, '_, '_, '_, Bytes<'_>>,
@@ -179,10 +179,10 @@ fn read_changes<B: BuildHasher>(
 
 /// Fills the rows with the changes of the variables with this identifier code, from the place of
 /// the reading on, and returns the status: `DONE`, `FAULT`, `NO_CODE`, `NO_MEMORY`, `FULL` or
-/// `BAD_PLACE`. Each call reads the header anew, and then goes on in the body at once. Identifier
-/// codes are hashed by numbers that the hasher gives; what is found is the same by each. No more
-/// rows are counted than there are, whatever the place is; none with `NO_CODE` and `NO_MEMORY`, and
-/// where the header has a fault.
+/// `BAD_PLACE`. Each call reads the header anew, and then goes on in the body. Identifier codes are
+/// hashed by numbers that the hasher gives; what is found is the same by each. No more rows are
+/// counted than there are, whatever the place is; none with `NO_CODE` and `NO_MEMORY`, and where
+/// the header has a fault.
 pub fn changes<B: BuildHasher>(
     alloc: Global,
     dump: &[u8],

@@ -29,7 +29,7 @@ pub(crate) enum Filled {
 }
 
 /// Puts the row of the item that was read last after the first `count` rows, where it is a change
-/// of the code at this place, and returns how many rows there are then.
+/// of the code at this index, and returns how many rows there are then.
 fn put_row<S: Source>(
     feed: &Feed<'_, '_, '_, '_, S>,
     item: Item,
@@ -52,7 +52,7 @@ fn put_row<S: Source>(
     }
 }
 
-/// Reads on, fills the rows with the changes of the code at this place, until they are full or the
+/// Reads on, fills the rows with the changes of the code at this index, until they are full or the
 /// body ends, and counts them; or returns the body's fault, after the rows before it.
 pub(crate) fn collect<S: Source>(
     feed: &mut Feed<'_, '_, '_, '_, S>,

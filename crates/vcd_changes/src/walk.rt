@@ -156,7 +156,7 @@ fn walk_rows<'a>(
 }
 
 /// Takes the items that lie whole ahead in the feed's chunk, until the rows are full, fills those
-/// after the first `count` with the changes of the code at this place, and returns how many there
+/// after the first `count` with the changes of the code at this index, and returns how many there
 /// are then. Where a keyword comes, none is taken.
 pub(crate) fn take_ahead<S: Source>(
     feed: &mut Feed<'_, '_, '_, '_, S>,

@@ -23,8 +23,8 @@ use Rattle.vcd_engine.specs.declared.machine.Machine.{Machine}
 use Rattle.vcd_engine.specs.declared.machine.walk.Taken.{Taken}
 
 module _ (task : Request) (h : Header) (limit lines : ℕ) (bytes : List ℕ) (before : List BodyItem) where
-  -- behind the items before, these lie in the first n bytes ahead; none of them ends the run, and
-  -- the machine and the registers stand after them
+  -- after the items before, these lie in the first n bytes ahead; none of them ends the run, and
+  -- machine and registers are those after them
   pub record StandsAhead (n : ℕ) (items : List BodyItem) (m : Machine) (r : Regs) : Type 0 where
     pub gave : GaveAhead h.codes limit lines bytes n before items
     pub known : AreRegsAfter (before ++ items) r
@@ -37,7 +37,7 @@ module _ (task : Request) (h : Header) (limit lines : ℕ) (bytes : List ℕ) (b
     pub gave : GaveAhead h.codes limit lines bytes n before (items ++ x ∷ [])
     pub known : AreRegsAfter (before ++ (items ++ x ∷ [])) r
 
-  -- how that ends behind these items: no other was taken; or a write of what is due with these or
+  -- how that ends after these items: no other was taken; or a write of what is due with these or
   -- with one more failed
   abbrev pub EndsAhead : {A E : Type 0} → ℕ → Machine → Regs → Device → Device → Result A E → List BodyItem → Type 0
   EndsAhead n m r out out' (Ok v) items = StandsAhead n items m r × Grows out out' (open_text task h before) (open_text task h (before ++ items))
@@ -48,7 +48,7 @@ module _ (task : Request) (h : Header) (limit lines : ℕ) (bytes : List ℕ) (b
   abbrev pub RunsAhead : {A E : Type 0} → ℕ → Machine → Regs → Device → Device → Result A E → Type 0
   RunsAhead n m r out out' result = TakesSeveral task before (EndsAhead n m r out out' result)
 
--- what a machine leaves that takes the items which lie ahead from a place on
+-- what a machine leaves that takes the items which lie ahead from a position on
 pub record RunsOver (v : HeadView) (a : Ahead) (r : Regs) (m m' : Machine) (out out' : Device) (t : Taken) : Type 0 where
   pub gives : (h : Header) (lines : ℕ) (before : List BodyItem) → IsViewOf v h → length before + length (bytes_of a) < 2 ^ 63 → StandsAhead (request_in m) h (longest_of a) lines (bytes_of a) before (passed_of a) [] m r
       → RunsAhead (request_in m) h (longest_of a) lines (bytes_of a) before t.passed m' t.regs out out' t.written

@@ -79,8 +79,8 @@ SameSpan m m' = (span_in m' ≡ span_in m) × (lent_to m' ≡ lent_to m)
 abbrev pub kept_from : ℕ → List BodyItem → List Entry
 kept_from from items = kept_by (λ e. nat_le from e.time) (entries items)
 
--- over this header and after these items, none of which ends it: until the start section stands the
--- table holds the values, and then the text is that of the kept items
+-- over this header and after these items, none of which ends it: until the start section is written
+-- the table holds the values, and then the text is that of the kept items
 pub record AreCut (m : Cut) (h : Header) (items : List BodyItem) : Type 0 where
   pub ordered : m.from ≤ m.to
   pub on : ends_cut m.to items ≡ false

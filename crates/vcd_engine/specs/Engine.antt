@@ -107,7 +107,7 @@ StopsAtStart task h out out' stop = ⊥
 abbrev pub CountsStop : {A : Type 0} → Device → Device → Result A Stop → Type 0
 CountsStop out out' result = out'.failures ≡ out.failures + writes_failed result
 
--- what stands before all items was written, and this holds of what begins; or why it stops
+-- what comes before all items was written, and this holds of what begins; or why it stops
 abbrev pub Starts : {A : Type 0} → (A → Type 0) → Request → Header → Device → Device → Result A Stop → Type 0
 Starts holds task h out out' result = MatchResult result (λ a. CanRun task h × holds a × Writes out out' (open_text task h [])) (StopsAtStart task h out out')
 
@@ -136,12 +136,12 @@ TakesOne holds task h items x out out' result = TakesOneBy (λ due. Takes out ou
 abbrev pub AtItem : HeadView → Regs → Item → List ℕ → (Header → List BodyItem → BodyItem → Type 0) → Type 0
 AtItem v r item text holds = (h : Header) (items : List BodyItem) (before : Regs) (x : BodyItem) → IsViewOf v h → AreRegsAfter items before → r ≡ regs_after before item → IsItem h.codes text item x → length items < 2 ^ 63 → holds h items x
 
--- what is due with an item of any header, behind any items of which the first holds, was written;
+-- what is due with an item of any header, after any items of which the first holds, was written;
 -- the second holds of all of them, where the run goes on
 abbrev pub TakesEach : {E : Type 0} → HeadView → Regs → Item → List ℕ → (holds after : Header → List BodyItem → Type 0) → Request → Device → Device → Result Bool E → Type 0
 TakesEach v r item text holds after task out out' result = AtItem v r item text (λ h items x. holds h items → TakesOne (after h (items ++ x ∷ [])) task h items x out out' result)
 
--- the same of a mark of this time
+-- what is due with a mark of this time was written, in this way
 abbrev pub TakesTime : {E : Type 0} → HeadView → ℕ → (holds after : Header → List BodyItem → Type 0) → Request → Device → Device → Result Bool E → Type 0
 TakesTime v time holds after task out out' result = (h : Header) (items : List BodyItem) → IsViewOf v h → holds h items → TakesOne (after h (items ++ BodyItem.Time time ∷ [])) task h items (BodyItem.Time time) out out' result
 

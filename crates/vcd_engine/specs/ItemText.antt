@@ -15,16 +15,16 @@ use Rattle.vcd_body.specs.Given.{item_text}
 use Rattle.vcd_body.specs.declared.item.Item.{Item}
 use Rattle.vcd_engine.specs.declared.item_text.ItemText.{ItemText}
 
--- the times whose lines stand: these, and then those of kept entries
+-- the times whose lines are written: these, and then those of kept entries
 abbrev pub times_with : List ℕ → List Entry → List ℕ
 times_with before kept = before ++ map (λ e. e.time) kept
 
--- the text of these kept entries, which stands after the lines of these times, was written: the
--- time whose line was written last is known
+-- the text of these kept entries, which comes after the lines of these times, was written: the time
+-- whose line was written last is known
 pub record HasWritten (before : List ℕ) (kept : List Entry) (t : ItemText) : Type 0 where
   pub last : t.written ≡ last_or None (times_with before kept)
 
--- a look at the time that was written last tells whether the line of this time stands
+-- a look at the time that was written last tells whether the line of this time is there
 abbrev pub LastTells : List ℕ → ℕ → Type 0
 LastTells written t = time_unless written t ≡ time_due (last_or None written) t
 

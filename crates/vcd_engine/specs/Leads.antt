@@ -11,12 +11,12 @@ use Rattle.vcd_head.specs.Marks.{is_marked, marks_of}
 use Rattle.vcd_body.specs.declared.table.Table.{Table}
 use Rattle.vcd_engine.specs.Values.{AreHeld}
 
--- so many declarations from a place on have no line, whatever the items and the time
+-- this many declarations from an index on have no line, whatever the items and the time
 abbrev pub HaveNoLine : List (List ℕ) → List Declaration → ℕ → ℕ → Type 0
 HaveNoLine names ds from count =
     (k : ℕ) → k ≤ count → (items : List BodyItem) (time : ℕ) → sample_lines (selected names (take (from + k) ds)) items time ≡ sample_lines (selected names (take from ds)) items time
 
--- a variable that is selected is declared at a place
+-- a variable that is selected is declared at an index
 pub record IsSelectedAt (names : List (List ℕ)) (ds : List Declaration) (i : ℕ) : Type 0 where
   pub variable : Variable
   pub declared : slice_get ds i ≡ Some (Declaration.Var variable)

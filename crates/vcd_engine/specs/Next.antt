@@ -25,8 +25,8 @@ use Rattle.vcd_engine.specs.declared.machine.Machine.{Machine}
 use Rattle.vcd_engine.specs.declared.pieces.InPlace.{InPlace}
 use Rattle.vcd_engine.specs.declared.pieces.Pieces.{Pieces}
 
--- how far the loop has come: the place, the registers after the items so far, and from where up to
--- where the line of the last time stands
+-- how far the loop has come: the position, the registers after the items so far, and from where up
+-- to where the line of the last time is
 pub record Walk : Type 0 where
   pub ahead : Ahead
   pub regs : Regs
@@ -35,7 +35,7 @@ pub record Walk : Type 0 where
 abbrev pub walk_at : Ahead → Regs → ℕ × ℕ → Walk
 walk_at a r line = record { ahead = a; regs = r; line = line }
 
--- the line of the last time stands there, or nothing is said to
+-- the line of the last time is there, or nothing is said to
 abbrev pub HasLine : Walk → Type 0
 HasLine w = IsLine (bytes_of w.ahead) w.line w.regs.time
 
@@ -43,7 +43,7 @@ HasLine w = IsLine (bytes_of w.ahead) w.line w.regs.time
 abbrev pub TakesMark : ℕ → Machine → Machine → Type 0
 TakesMark time m m' = (h : Header) (items : List BodyItem) → length items < 2 ^ 63 → Keeps m h items → TakesQuietly (Keeps m' h (items ++ BodyItem.Time time ∷ [])) (request_in m) h items (BodyItem.Time time)
 
--- a change was taken, and what is due with it put behind the text that is held
+-- a change was taken, and what is due with it put after the text that is held
 abbrev pub TakesChange : {A E : Type 0} → HeadView → Regs → InPlace → Pieces → Pieces → Device → Device → Machine → Machine → Result A E → Type 0
 TakesChange v r c p p' out out' m m' result = (h : Header) (items : List BodyItem) (x : BodyItem) → IsViewOf v h → AreRegsAfter items r → IsItem h.codes c.plain.text.now c.plain.item x → length items < 2 ^ 63 → Keeps m h items
     → DueBy (λ due. PutsOn (held_in c.bytes.now p) (held_in c.bytes.now p') out out' due result) (open_text (request_in m) h items) (open_text (request_in m) h (items ++ x ∷ [])) × IfOk result (λ _. Keeps m' h (items ++ x ∷ []))
@@ -54,7 +54,7 @@ pub record TakesMore {A E : Type 0} (takes : List ℕ → Type 0) (holds : Type 
   pub on : ends_early task x ≡ false
   pub keeps : IfOk result (λ _. holds)
 
--- one item more was taken ahead, and what is due with it was put behind the text that is held
+-- one item more was taken ahead, and what is due with it was put after the text that is held
 pub record TakesNext {A E : Type 0} (v : HeadView) (w w' : Walk) (p p' : Pieces) (out out' : Device) (m m' : Machine) (result : Result A E) : Type 0 where
   pub plain : Plain
   pub item : TakesItem v w.ahead w'.ahead w.regs plain

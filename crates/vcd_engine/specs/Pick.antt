@@ -31,7 +31,7 @@ pub record ArePicked (p : Pick) (h : Header) (items : List BodyItem) : Type 0 wh
   pub chosen : AreChosen (names_in p) h p.flags.now
   pub written : HasWritten [] (pick_kept h (names_in p) items) p.text
 
--- the variables of the code at a place are events
+-- the variables of the code at an index are events
 abbrev pub is_event_at : HeadView → ℕ → Bool
 is_event_at v place = unwrap_or (option_map (λ (c : Code). c.event) (slice_get v.codes.now place)) false
 

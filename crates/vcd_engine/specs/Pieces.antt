@@ -13,7 +13,7 @@ use Rattle.vcd_body.specs.declared.item.Item.TheVariants.{Change}
 use Rattle.vcd_engine.specs.declared.pieces.InPlace.{InPlace}
 use Rattle.vcd_engine.specs.declared.pieces.Pieces.{Pieces}
 
--- a change lies at a place of these bytes
+-- a change lies at an offset of these bytes
 pub record IsInPlace (v : HeadView) (l : InPlace) : Type 0 where
   pub change : (place : ℕ) × (form : Form) × (l.plain.item ≡ Change place form)
   pub within : (l.from ≤ l.to) × (l.to ≤ length l.bytes.now)
@@ -22,13 +22,13 @@ pub record IsInPlace (v : HeadView) (l : InPlace) : Type 0 where
   pub bits : HasBits l.plain.item l.plain.text.now l.plain.bits
   pub spelled : HasSpelled v l.bytes.now l.from l.to l.plain.at l.plain.code_at l.plain.text.now l.plain.item
 
--- a change lies from one place ahead up to another
+-- a change lies from one offset ahead up to another
 pub record LiesBetween (a a' : Ahead) (l : InPlace) : Type 0 where
   pub bytes : l.bytes.now ≡ bytes_of a'
   pub from : l.from ≡ passed_of a
   pub to : l.to ≡ passed_of a'
 
--- from one place of these bytes up to another the line of this time stands, or nothing is said
+-- from one offset of these bytes up to another is the line of this time, or nothing is said
 abbrev pub IsLine : List ℕ → ℕ × ℕ → ℕ → Type 0
 IsLine bytes line time = line.0 < line.1 → (line.1 ≤ length bytes) × (slice_range bytes line.0 line.1 ≡ time_line time)
 
@@ -44,7 +44,7 @@ held_in bytes p = slice_range bytes p.from p.to
 abbrev pub PutsAll : List ℕ → List ℕ → Device → Device → List ℕ → Type 0
 PutsAll held held' out out' due = (written : List ℕ) × (held ++ due ≡ written ++ held') × Writes out out' written
 
--- the same; or a prefix of that text was written, where a write failed
+-- so it is; or, where a write failed, a prefix of that text was written
 abbrev pub PutsOn : {A E : Type 0} → List ℕ → List ℕ → Device → Device → List ℕ → Result A E → Type 0
 PutsOn held held' out out' due (Ok v) = PutsAll held held' out out' due
 PutsOn held held' out out' due (Err e) = WritesSome out out' (held ++ due)
@@ -53,7 +53,7 @@ PutsOn held held' out out' due (Err e) = WritesSome out out' (held ++ due)
 abbrev pub PutsPieces : {A E : Type 0} → List ℕ → Pieces → Pieces → Device → Device → List ℕ → Result A E → Type 0
 PutsPieces bytes p p' out out' due result = PutsOn (held_in bytes p) (held_in bytes p') out out' due result
 
--- this text was put behind what is held
+-- this text was put after what is held
 pub record PutsBehind {A E : Type 0} (bytes : List ℕ) (p p' : Pieces) (out out' : Device) (due : List ℕ) (result : Result A E) : Type 0 where
   pub puts : PutsOn (held_in bytes p) (held_in bytes p') out out' due result
   pub counts : Counts out out' result

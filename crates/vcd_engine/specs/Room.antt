@@ -43,7 +43,7 @@ marks_for (Cut from to) v = length v.rows.now
 marks_for (Sample times names) v = length v.rows.now
 marks_for (Edges names) v = length v.rows.now
 
--- how many places for codes, and how many shares
+-- how many slots for codes, and how many shares
 abbrev pub slots_for : Task → HeadView → ℕ
 slots_for Check v = 0
 slots_for (Pick names) v = 0
@@ -116,7 +116,7 @@ AreWithinBound limit chunk v r = (h : Header) → IsViewOf v h → FitsInput lim
 abbrev pub FitsBound : {X : Type 0} {g : Ghosts X} → Feed X g → HeadView → RoomSize → Type 0
 FitsBound f v r = AreWithinBound (limit_of f) (chunk_len_of f) v r
 
--- the same for every token limit, where no chunk is lent: of what begins, or reads no body
+-- so it is for every token limit, where no chunk is lent: of what begins, or reads no body
 abbrev pub IsWithinEachBound : HeadView → RoomSize → Type 0
 IsWithinEachBound v r = (limit : ℕ) → AreWithinBound limit 0 v r
 

@@ -1,5 +1,5 @@
--- What a run over a body leaves: what is left of the input, how much of it was read, and what
--- stands on the output.
+-- What a run over a body leaves: what is left of the input, how much of it was read, and what is on
+-- the output.
 use Rattle.std.specs.Prelude.{◌≡◌, ℕ, ◌+◌, ◌<◌, ◌-◌, ◌^◌, List, ◌++◌, Result, IfOk, IfErr, ◌==◌, Bool, true, false, Some, Ok, Err, []}
 use Rattle.std.specs.List.{list_any}
 use Rattle.vcd_model.specs.BodyReading.{read_body, body_items}
@@ -63,7 +63,7 @@ pub record Follows (task : Request) (limit chunk : ℕ) (i : Input) (front : Lis
 abbrev pub Does : {X : Type 0} {g : Ghosts X} → Request → HeadView → (old new : Feed X g) → (out out' : Device) → Result Done Stop → Type 0
 Does task v old new out out' result = (h : Header) (i : Input) (front : List Token) (name : List ℕ) → IsViewOf v h → HasGiven i front old → Follows task (limit_of old) (chunk_len_of old) i front h name (supply_of old) (supply_of new) out out' result
 
--- an engine that was begun over an output which has what stands before all items does its task
+-- an engine that was begun over an output which has what comes before all items does its task
 abbrev pub Finishes : {X W : Type 0} {g : Ghosts X} → (W → Device) → Engine → (old new : Feed X g) → (out out' : W) → Result Done Stop → Type 0
 Finishes device e old new out out' result = (h : Header) (i : Input) (front : List Token) (name : List ℕ) (begin : Device) → Holds e h [] → HasGiven i front old → Writes begin (device out) (open_text (request_of_engine e) h [])
     → Follows (request_of_engine e) (limit_of old) (chunk_len_of old) i front h name (supply_of old) (supply_of new) begin (device out') result

@@ -4,7 +4,7 @@ use Rattle.std.specs.List.{list_any}
 use Rattle.vcd_model.specs.Items.{BodyItem}
 use Rattle.vcd_model.specs.Outcome.{Request, ends_early}
 
--- behind these items some more were taken, of which none ends the run; and this is what they leave
+-- after these items some more were taken, of which none ends the run; and this is what they leave
 pub record TakesSeveral (task : Request) (items : List BodyItem) (leaves : List BodyItem → Type 0) : Type 0 where
   pub more : List BodyItem
   pub on : list_any (ends_early task) (items ++ more) ≡ false

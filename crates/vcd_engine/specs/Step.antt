@@ -41,9 +41,9 @@ StepGives task h i front items e f out out' (Err Write) =
     ⊎ (GaveAll h.codes i front items f e.regs × GrowsSome out out' [] (close_text task h items))
 StepGives task h i front items e f out out' (Err (Unmatched name)) = ⊥
 
--- What several steps leave behind these items and some more, by all that they wrote: the last one
--- is a step behind those. Where it takes an item after which the run is over, it is not said on
--- which line that stands; and a write that failed may be of any item that was not there before.
+-- What several steps leave after these items and some more, by all that they wrote: the last one is
+-- a step after those. Where it takes an item after which the run is over, it is not said on which
+-- line that is; and a write that failed may be of any item that was not there before.
 abbrev pub LastGives : {X : Type 0} {g : Ghosts X} → Request → Header → Input → List Token → List BodyItem → Engine → Feed X g → Device → Device → Result More Stop → List BodyItem → Type 0
 LastGives task h i front items e f out out' (Ok (Ended Early)) more =
     (x : BodyItem) × (ends_early task x ≡ true) × GaveLast h.codes i front (items ++ more) x f e.regs × Grows out out' (open_text task h items) (open_text task h ((items ++ more) ++ x ∷ []))
@@ -66,7 +66,7 @@ AheadGives task h i front items e f out out' (Err v) more = (x : BodyItem) × Ga
 abbrev pub TakesAhead : {X A E : Type 0} {g : Ghosts X} → Request → Header → Input → List Token → List BodyItem → Engine → Feed X g → Device → Device → Result A E → Type 0
 TakesAhead task h i front items e f out out' result = TakesSeveral task items (AheadGives task h i front items e f out out' result)
 
--- the same of any input and any items before
+-- so it is after any items of any input
 abbrev pub Steps : {X W : Type 0} {g : Ghosts X} → (W → Device) → Engine → Engine → Feed X g → Feed X g → W → W → Result More Stop → Type 0
 Steps device e e' f f' out out' result = (h : Header) (i : Input) (front : List Token) (items : List BodyItem) → Runs e h i front items f → StepGives (request_of_engine e) h i front items e' f' (device out) (device out') result
 

@@ -22,7 +22,7 @@ use Rattle.vcd_engine.specs.declared.machine.Machine.{Machine}
 use Rattle.vcd_engine.specs.declared.machine.walk.Held.{Held}
 use Rattle.vcd_engine.specs.declared.pieces.Pieces.{Pieces}
 
--- from a place on some of the items that lie ahead were taken, and what is due with them was
+-- from a position on some of the items that lie ahead were taken, and what is due with them was
 -- written, but for what is held
 pub record HasWalked (v : HeadView) (a : Ahead) (r : Regs) (m : Machine) (begin : Device) (w : Walk) (p : Pieces) (out : Device) (m' : Machine) : Type 0 where
   pub over : LooksOver (longest_of a) (bytes_of a) w.ahead
@@ -35,7 +35,7 @@ pub record HasWalked (v : HeadView) (a : Ahead) (r : Regs) (m : Machine) (begin 
       → (items : List BodyItem) × StandsAhead (request_in m) h (longest_of a) lines (bytes_of a) before (passed_of w.ahead) items m' w.regs
       × GrowsBut begin out (held_in (bytes_of a) p) (open_text (request_in m) h before) (open_text (request_in m) h (before ++ items))
 
--- where a walk stands, by what it has at hand
+-- where a walk is, by what it has at hand
 abbrev pub walk_of : {L C : Type 0} → (L → ℕ × ℕ) → Stage (Held L) C → Walk
 walk_of line s = walk_at s.ahead s.regs (line s.visit.line)
 

@@ -10,7 +10,7 @@ pub(crate) fn choose_none(flags: &mut [u8])
     flags.fill(0);
 }
 
-/// Chooses the code at a place.
+/// Chooses the code at an index.
 pub(crate) fn choose(flags: &mut [u8], code: usize)
     requires { code < length flags.old }
     ensures codes { length flags.new ≡ length flags.old }
@@ -20,8 +20,10 @@ pub(crate) fn choose(flags: &mut [u8], code: usize)
     flags[code] = 1;
 }
 
-/// Returns whether the code at a place is chosen; where there is no code, none is. It takes the
+/// Returns whether the code at an index is chosen; where there is no code, none is. It takes the
 /// same time for every choice.
+// A flag in a record of 48 bytes misses the L1 cache: `pick` of 27,505 codes took nearly 50 % more
+// time with it.
 #[inline]
 pub(crate) fn is_chosen(flags: &[u8], code: usize) -> bool
     ensures { result ≡ is_chosen flags.now code }

@@ -142,7 +142,7 @@ impl<'v, 'n, 'r> Engine<'v, 'n, 'r> {
     }
 
     /// Takes the items that lie whole ahead in the feed's chunk, and writes what is due after each:
-    /// nothing else is looked at, and the feed goes on after them at once.
+    /// nothing else is looked at, and the feed moves past them in one call.
     #[inline(never)]
     fn walk_ahead<S: Source, W: Sink>(
         &mut self,
@@ -207,8 +207,8 @@ impl<'v, 'n, 'r> Engine<'v, 'n, 'r> {
         self.walk_ahead(view, feed, out)
     }
 
-    /// Takes the next item, as `step_over` does. A read of it may wait: by then nothing is kept back
-    /// of what is due.
+    /// Takes the next item, as `step_over` does. A read of it may wait: by then nothing is kept
+    /// back of what is due.
     #[inline(always)]
     fn read_on<S: Source, W: Sink>(
         &mut self,

@@ -93,7 +93,7 @@ impl ItemText {
     }
 
     /// Writes an item ahead as an entry at this time, after what is held. If its bytes are its
-    /// line, they are held, and so is the line of the time where it stands.
+    /// line, they are held, and so is the line of the time, if that is in the chunk.
     #[inline(always)]
     pub(crate) fn put_in_place<W: Sink>(
         &mut self,

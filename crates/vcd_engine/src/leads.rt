@@ -20,8 +20,8 @@ fn has_line(view: HeadView<'_>, row: usize, mark: u8) -> bool
     }
 }
 
-/// Returns the mark of the first of so many rows without a line, of which there is one: it passes
-/// more than half of them.
+/// Returns the mark of the first of `count` rows without a line, 1 or more: 2 plus the binary
+/// logarithm of how many rows to pass, which are more than half of them.
 fn mark_over(count: usize) -> u8
     requires { 0 < count }
     ensures other { result ≢ 1 }
@@ -40,6 +40,8 @@ pub(crate) fn rows_on(mark: u8) -> usize
 
 /// Changes the flags of what names select to flags that lead on: 1 where a row has a line in a
 /// sample, elsewhere how many rows without one to pass.
+// A `sample` of one variable of 200,000 at 20,000 times takes 0.12 s; with a look at each row it
+// took 15.7 s.
 pub(crate) fn lead_on(view: HeadView<'_>, marks: &mut [u8])
     requires { length marks.old ≡ length view.rows.now }
     ensures leads { (h : Header) (names : List (List ℕ)) → IsViewOf view.entry h

@@ -15,7 +15,7 @@ pub(crate) struct InPlace<'a> {
 }
 
 impl<'a> InPlace<'a> {
-    /// Returns the change that lies from one place ahead up to another.
+    /// Returns the change that lies from one position ahead up to another.
     #[inline(always)]
     pub(crate) fn of(plain: Plain<'a>, from: Ahead<'a>, to: Ahead<'a>) -> InPlace<'a>
         ensures plain { result.plain ≡ plain.entry }
@@ -126,9 +126,8 @@ impl Pieces {
         self.append(bytes, from + 1 + n, to, out)
     }
 
-    /// Takes the line of a time, which is due next. If it is the part of the bytes from one place
-    /// up to another, it is held; else that part is empty, and the line is written after what is
-    /// held.
+    /// Takes the line of a time, which is due next. If the bytes from `from` up to `to` are that
+    /// line, they are held; else that part is empty, and the line is written after what is held.
     #[inline(always)]
     pub(crate) fn append_time<W: Sink>(
         &mut self,

@@ -30,8 +30,8 @@ fn choose_marked(view: HeadView<'_>, marks: &[u8], flags: &mut [u8])
 }
 
 /// Marks the variables that the names select, all where there are no names, and the scopes around
-/// them, and chooses the codes of these variables and no others. A name that selects nothing is
-/// refused by its place, the first one.
+/// them, and chooses the codes of these variables and no others. The first name that selects
+/// nothing is refused, by its index.
 pub(crate) fn select_codes(
     view: HeadView<'_>,
     names: &[String],

@@ -8,7 +8,7 @@ use vcd_head::put_path;
 use vcd_text::{Sink, WriteFailed, put, put_number};
 use vcd_view::{HeadView, Kind};
 
-/// Sets the value of the code at a place, which has this size and is no event, by the text of a
+/// Sets the value of the code at an index, which has this size and is no event, by the text of a
 /// change, and counts it where it differs from the one before it. The number of the text's digits
 /// may be known.
 #[inline(always)]
@@ -34,7 +34,7 @@ pub(crate) fn take_value(
     }
 }
 
-/// Counts a trigger of the event at a place.
+/// Counts a trigger of the event at an index.
 #[inline(always)]
 pub(crate) fn count_trigger(table: &mut Table<'_>, code: usize, inside: bool)
     ensures takes { (view : HeadView) (h : Header) (items : List BodyItem) (c : IdCode) (d : Change)

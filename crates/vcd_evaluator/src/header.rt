@@ -78,7 +78,7 @@ pub(crate) fn find_code<'t>(codes: &[Code<'t>], text: &[u8]) -> Option<Code<'t>>
     codes.iter().copied().find(|code| code.text == text)
 }
 
-// Whether a scope that was opened at a place is still open at a later one.
+// Whether a scope that was opened at an index is still open at a later one.
 pub(crate) fn is_open(declarations: &[Declaration<'_>], scope: usize, place: usize) -> bool {
     let mut depth: usize = 0;
     for declaration in declarations.iter().take(place).skip(scope) {

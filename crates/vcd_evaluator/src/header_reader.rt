@@ -151,7 +151,7 @@ fn read_command<'t>(
     Ok(())
 }
 
-// Reads a header, which may have so many declarations.
+// Reads a header, which may have this many declarations.
 pub(crate) fn read_header<'t>(
     alloc: Global,
     reader: &mut Reader<'t>,

@@ -54,7 +54,7 @@ fn put_variable(text: &mut Text, variable: &Variable<'_>, naming: Naming) {
     text.put(b" $end\n");
 }
 
-// Whether some variable is in the scope that was opened at this place, or in one inside it.
+// Whether some variable is in the scope that was opened at this index, or in one inside it.
 fn holds_some(header: &Header<'_>, variables: &[Placed<'_>], scope: usize) -> bool {
     let declarations = header.declarations.as_slice();
     variables
@@ -62,7 +62,8 @@ fn holds_some(header: &Header<'_>, variables: &[Placed<'_>], scope: usize) -> bo
         .any(|placed| is_open(declarations, scope, placed.place))
 }
 
-// Of the scopes that hold some variable, whether one is open at a place and no more at a later one.
+// Of the scopes that hold some variable, whether one is open at an index and no more at a later
+// one.
 fn closes_some(
     header: &Header<'_>,
     variables: &[Placed<'_>],
@@ -76,7 +77,7 @@ fn closes_some(
     })
 }
 
-// What is declared at a place, where it is one of these variables, or opens or closes a scope that
+// What is declared at an index, where it is one of these variables, or opens or closes a scope that
 // holds some.
 fn put_declaration(
     text: &mut Text,

@@ -161,7 +161,7 @@ fn put_entries<'t>(
     Ok(None)
 }
 
-// What a merge of inputs leaves. The order of entries is by time, then input, then place in the
+// What a merge of inputs leaves. The order of entries is by time, then input, then index in the
 // input.
 pub(crate) fn merge(alloc: Global, inputs: &[Opened<'_>]) -> Result<Left, AllocError> {
     let least = least_scale(inputs);

@@ -88,7 +88,7 @@ pub(crate) fn moments_of<'a>(
     Ok(moments)
 }
 
-// So many of a unit in ticks of a scale: the first tick that is not earlier, or the last one that
+// This many of a unit in ticks of a scale: the first tick that is not earlier, or the last one that
 // is not later.
 fn ticks_in(number: u64, unit: u8, scale: Scale, up: bool) -> Option<u64> {
     let factor = power_of_ten(unit.saturating_sub(scale.exponent));

@@ -56,7 +56,7 @@ fn open_input<'t>(
     })
 }
 
-// An input, which may have so many declarations.
+// An input, which may have this many declarations.
 fn open<'t>(
     alloc: Global,
     input: &Input<'t>,

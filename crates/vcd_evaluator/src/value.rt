@@ -19,7 +19,7 @@ fn extension(first: u8) -> u8 {
     }
 }
 
-// The digit at a place, from the left, of the value of this size that digits extend to, in lower
+// The digit at an index, from the left, of the value of this size that digits extend to, in lower
 // case.
 fn digit_at(digits: &[u8], size: usize, place: usize) -> u8 {
     let missing = size.saturating_sub(digits.len());
@@ -30,13 +30,13 @@ fn digit_at(digits: &[u8], size: usize, place: usize) -> u8 {
     }
 }
 
-// Whether the digits of a value from a place on extend to all of it.
+// Whether the digits of a value from an index on extend to all of it.
 fn is_extended_from(digits: &[u8], size: usize, place: usize) -> bool {
     let fill = extension(digit_at(digits, size, place));
     (0..place).all(|earlier| digit_at(digits, size, earlier) == fill)
 }
 
-// Where the shortest digits that extend to a value begin: the last such place.
+// Where the shortest digits that extend to a value begin: the last such index.
 fn shortest_from(digits: &[u8], size: usize) -> usize {
     for place in (0..size).rev() {
         if is_extended_from(digits, size, place) {
@@ -46,7 +46,7 @@ fn shortest_from(digits: &[u8], size: usize) -> usize {
     0
 }
 
-// The digits of a value from a place on.
+// The digits of a value from an index on.
 pub(crate) fn put_digits(text: &mut Text, digits: &[u8], size: usize, from: usize) {
     for place in from..size {
         text.put_byte(digit_at(digits, size, place));

@@ -4,7 +4,7 @@ use crate::text::Text;
 use crate::token::split_before;
 use std::alloc::{AllocError, Global};
 
-// A variable, and its place among the declarations.
+// A variable, and its index among the declarations.
 #[derive(Clone, Copy)]
 pub(crate) struct Placed<'t> {
     pub(crate) place: usize,
@@ -12,7 +12,7 @@ pub(crate) struct Placed<'t> {
 }
 
 // The names of the scopes around, outermost first, and the first token of the reference, joined by
-// points.
+// dots.
 pub(crate) fn put_path(text: &mut Text, header: &Header<'_>, placed: &Placed<'_>) {
     let declarations = header.declarations.as_slice();
     for (scope, declaration) in declarations.iter().enumerate() {
@@ -33,7 +33,7 @@ fn path_of(alloc: Global, header: &Header<'_>, placed: &Placed<'_>) -> Result<Ve
     path.finish()
 }
 
-// The path is the name, or begins with it and a point.
+// The path is the name, or begins with it and a dot.
 fn selects(name: &str, path: &[u8]) -> bool {
     let bytes = name.as_bytes();
     path.starts_with(bytes)

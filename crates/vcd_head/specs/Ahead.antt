@@ -16,7 +16,7 @@ use Rattle.vcd_head.specs.Draft.{DraftsOn}
 use Rattle.vcd_view.specs.Keywords.{NoEnds}
 use Rattle.vcd_head.specs.Words.{size_in}
 
--- it looks over these bytes, for tokens of at most so many
+-- it looks over these bytes, for tokens of at most this many
 abbrev pub LooksOver : ℕ → List ℕ → Ahead → Type 0
 LooksOver limit bytes a = (longest_of a ≡ limit) × (bytes_of a ≡ bytes)
 
@@ -85,13 +85,13 @@ pub record IsUpscope (ts : List Token) : Type 0 where
 abbrev pub TakenOn : ℕ → (given more : List Token) → Draft → Bool → Type 0
 TakenOn most given more d taken = MatchBool taken (DraftsOn most (given ++ more) d) (DraftsOn most given d)
 
--- what is given lies behind what was passed before, within the bytes; those and the limit stay
+-- what is given lies after what was passed before, within the bytes; those and the limit stay
 pub record MovesAhead {A : Type 0} (old new : Ahead) (o : Option A) : Type 0 where
   pub further : IfSome o (λ _. passed_of old < passed_of new)
   pub within : IfSome o (λ _. passed_of new ≤ length (bytes_of old))
   pub same : LooksOn old new
 
--- the token ends one byte before the place that was reached
+-- the token ends one byte before the position that was reached
 abbrev pub EndsBefore : List ℕ → ℕ → List ℕ → Type 0
 EndsBefore bytes behind token = token ≡ slice_range bytes (behind - length token - 1) (behind - 1)
 
@@ -109,16 +109,16 @@ DraftsNext most old new before after r = (limit lines : ℕ) (bytes : List ℕ) 
 abbrev pub PassesOn : (old new : Ahead) → Type 0
 PassesOn old new = (limit lines : ℕ) (bytes : List ℕ) (ts : List Token) → LooksOver limit bytes old → Passed limit lines bytes (passed_of old) ts → (more : List Token) × Passed limit lines bytes (passed_of new) (ts ++ more)
 
--- where a phrase was taken, it lies behind what was passed before, within the bytes
+-- where a phrase was taken, it lies after what was passed before, within the bytes
 abbrev pub GoesOnWithin : (old new : Ahead) → Result Bool HeadFault → Type 0
 GoesOnWithin old new r = IfOk r (λ taken. taken ≡ true → (passed_of old < passed_of new) × (passed_of new ≤ length (bytes_of old)))
 
--- where none was passed before, so many bytes are those of some tokens, whose phrases the draft
+-- where none was passed before, this many bytes are those of some tokens, whose phrases the draft
 -- holds
 abbrev pub DraftsAhead : ℕ → Ahead → (before after : Draft) → Result ℕ HeadFault → Type 0
 DraftsAhead most a before after r = (limit lines : ℕ) (bytes : List ℕ) (given : List Token) → LooksOver limit bytes a → Passed limit lines bytes (passed_of a) [] → DraftsOn most given before
     → IfOk r (λ n. (ts : List Token) × Passed limit lines bytes n ts × DraftsOn most (given ++ ts) after)
 
--- so many bytes are those of some tokens
+-- this many bytes are those of some tokens
 abbrev pub PassesTokens : Ahead → Result ℕ HeadFault → Type 0
 PassesTokens a r = (limit lines : ℕ) (bytes : List ℕ) → LooksOver limit bytes a → Passed limit lines bytes (passed_of a) [] → IfOk r (λ n. (ts : List Token) × Passed limit lines bytes n ts)

@@ -32,7 +32,7 @@ MovesFurther failures old new r = GoesFurther failures old new (call_end r) r
 abbrev pub OrFails : {X A : Type 0} {g : Ghosts X} → ℕ → Input → Feed X g → (A → Type 0) → Result A HeadFault → Type 0
 OrFails most i f Q r = MatchResult r Q (λ fault. Fails most i fault f)
 
--- behind this keyword the rest of its phrase was read, which the draft now holds
+-- after this keyword the rest of its phrase was read, which the draft now holds
 abbrev pub ReadsPhrase : {X A : Type 0} {g : Ghosts X} → ℕ → Keyword → (old : Draft) → Feed X g → (new : Draft) → Feed X g → Result A HeadFault → Type 0
 ReadsPhrase most k old before new after r = (i : Input) → AtKeyword most i k old before → OrFails most i after (λ _. DraftsUpTo most i new after) r
 
@@ -44,16 +44,16 @@ ReadsToEnd old new Grows r = (most : ℕ) (i : Input) (placed : List (Placed Hea
 abbrev pub ReadsNext : {X A : Type 0} {g : Ghosts X} → Feed X g → Feed X g → Result A HeadFault → Type 0
 ReadsNext old new r = (most : ℕ) (i : Input) (given : List Token) (placed : List (Placed HeaderPhrase)) (before : List (List ℕ)) → HasGiven i given old → IsSoFar (header_grammar most) given placed before → OrFails most i new (λ _. ReadsToken most i placed before new) r
 
--- behind these first tokens of a phrase one more was read
+-- after these first tokens of a phrase one more was read
 abbrev pub ReadsOne : {X A : Type 0} {g : Ghosts X} → Feed X g → Feed X g → Result A HeadFault → Type 0
 ReadsOne old new r = (most : ℕ) (i : Input) (placed : List (Placed HeaderPhrase)) (before : List (List ℕ)) → Reads most i placed before old → OrFails most i new (λ _. ReadsToken most i placed before new) r
 
--- behind these first tokens, which a word may follow, one was read, or `$end` was looked at
+-- after these first tokens, which a word may follow, one was read, or `$end` was looked at
 abbrev pub ReadsWord : {X : Type 0} {g : Ghosts X} → Feed X g → Feed X g → Result (Option (Vec ℕ)) HeadFault → Type 0
 ReadsWord old new r = (most : ℕ) (i : Input) (placed : List (Placed HeaderPhrase)) (before : List (List ℕ)) → Welcomes most placed before → Reads most i placed before old → OrFails most i new (WordRead most i placed before new) r
 
--- behind these first tokens, which a reference may follow, one was read and put to a text, or
--- `$end` was looked at
+-- after these first tokens, which a reference may follow, one was read and put to a text, or `$end`
+-- was looked at
 abbrev pub ReadsReference : {X : Type 0} {g : Ghosts X} → Feed X g → Feed X g → (text new_text : List ℕ) → Result (Option ℕ) HeadFault → Type 0
 ReadsReference old new text new_text r = (most : ℕ) (i : Input) (placed : List (Placed HeaderPhrase)) (before : List (List ℕ)) → Welcomes most placed before → ((t : List ℕ) → is_end t ≡ false → RunsOn most placed (before ++ t ∷ []))
     → Reads most i placed before old → OrFails most i new (ReferencePut most i placed before new text new_text) r
@@ -62,15 +62,15 @@ ReadsReference old new text new_text r = (most : ℕ) (i : Input) (placed : List
 abbrev pub ReadsText : {X A : Type 0} {g : Ghosts X} → Keyword → (old : Draft) → Feed X g → (new : Draft) → Feed X g → Result A HeadFault → Type 0
 ReadsText k old before new after r = (most : ℕ) → ReadsPhrase most k old before new after r
 
--- behind a token that is no keyword the rest of its phrase was read
+-- after a token that is no keyword the rest of its phrase was read
 abbrev pub ReadsOther : {X A : Type 0} {g : Ghosts X} → (old : Draft) → Feed X g → (new : Draft) → Feed X g → Result A HeadFault → Type 0
 ReadsOther old before new after r = (most : ℕ) (i : Input) → AtOther most i old before → OrFails most i after (λ _. DraftsUpTo most i new after) r
 
--- behind its keyword the end of the header was read
+-- after its keyword the end of the header was read
 abbrev pub ReadsEnd : {X A : Type 0} {g : Ghosts X} → (old : Draft) → Feed X g → (new : Draft) → Feed X g → Result A HeadFault → Type 0
 ReadsEnd old before new after r = (most : ℕ) (i : Input) → AtKeyword most i Keyword.EndDefinitions old before → OrFails most i after (λ _. DraftsAll most i new after) r
 
--- behind its first token, which is this keyword or none, the rest of a phrase was read
+-- after its first token, which is this keyword or none, the rest of a phrase was read
 abbrev pub ReadsRest : {X A : Type 0} {g : Ghosts X} → ℕ → Option WordOf → (old : Draft) → Feed X g → (new : Draft) → Feed X g → Result A HeadFault → Type 0
 ReadsRest most k old before new after r = (i : Input) → AtFirstToken most i k old before → MatchResult r (λ _. MatchBool (goes_on k) (DraftsUpTo most i new after) (DraftsAll most i new after)) (λ fault. Fails most i fault after)
 
@@ -78,7 +78,7 @@ ReadsRest most k old before new after r = (i : Input) → AtFirstToken most i k 
 abbrev pub ReadsAny : {X : Type 0} {g : Ghosts X} → ℕ → (old : Draft) → Feed X g → (new : Draft) → Feed X g → Result Bool HeadFault → Type 0
 ReadsAny most old before new after r = (i : Input) → DraftsBehind most i old before → MatchResult r (λ more. MatchBool more (DraftsUpTo most i new after) (DraftsAll most i new after)) (λ fault. Fails most i fault after)
 
--- behind a phrase, those that lie whole ahead were read
+-- after a phrase, those that lie whole ahead were read
 abbrev pub ReadsAhead : {X A : Type 0} {g : Ghosts X} → ℕ → (old : Draft) → Feed X g → (new : Draft) → Feed X g → Result A HeadFault → Type 0
 ReadsAhead most old before new after r = (i : Input) → DraftsUpTo most i old before → OrFails most i after (λ _. DraftsBehind most i new after) r
 

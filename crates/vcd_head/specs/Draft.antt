@@ -52,7 +52,7 @@ pub record IsDraftOf (most : ℕ) (d : Draft) (ps : List HeaderPhrase) : Type 0 
   pub scale : option_map (λ (x : Scale). x.exponent) d.scale ≡ last_or None (filter_map timescale_of ps)
   pub scaled : IfSome d.scale (λ (x : Scale). IsExponent x.exponent)
 
--- the code of the variable is held, at this place, in a text that has grown by its bytes or not
+-- the code of the variable is held, at this index, in a text that has grown by its bytes or not
 pub record CodeHeld (old new : List ℕ) (codes : Codes) (ds : List Declaration) (v : Variable) (place : ℕ) : Type 0 where
   pub held_codes : HasCodes new codes (ds ++ Declaration.Var v ∷ [])
   pub held_at : slice_get (codes_of (ds ++ Declaration.Var v ∷ [])) place ≡ Some (code_of v)
@@ -60,7 +60,7 @@ pub record CodeHeld (old new : List ℕ) (codes : Codes) (ds : List Declaration)
   pub grown : new ≡ old ++ more
   pub short : length more ≤ length v.code
 
--- the code of a variable is held at the place given; none is given where it does not agree with
+-- the code of a variable is held at the index given; none is given where it does not agree with
 -- those of other variables, and the text is then the same
 abbrev pub IsEntered : (old new : List ℕ) → Codes → List Declaration → Variable → Option ℕ → Type 0
 IsEntered old new codes ds v (Some place) = (agrees ds v ≡ true) × CodeHeld old new codes ds v place
@@ -96,7 +96,7 @@ pub record DraftsBehind {X : Type 0} {g : Ghosts X} (most : ℕ) (i : Input) (d 
   pub stands : HasGiven i given f
   pub drafts : DraftsOn most given d
 
--- the draft holds the phrases that were read, and the feed stands after the keyword that begins the
+-- the draft holds the phrases that were read, and the feed is after the keyword that begins the
 -- next one
 pub record AtKeyword {X : Type 0} {g : Ghosts X} (most : ℕ) (i : Input) (k : Keyword) (d : Draft) (f : Feed X g) : Type 0 where
   pub placed : List (Placed HeaderPhrase)
@@ -104,14 +104,14 @@ pub record AtKeyword {X : Type 0} {g : Ghosts X} (most : ℕ) (i : Input) (k : K
   pub keyword : (token_of f).bytes ≡ keyword_text k
   pub holds : IsDraftOf most d (phrases_of placed)
 
--- the feed stands after a token that is no keyword
+-- the feed is after a token that is no keyword
 pub record AtOther {X : Type 0} {g : Ghosts X} (most : ℕ) (i : Input) (d : Draft) (f : Feed X g) : Type 0 where
   pub placed : List (Placed HeaderPhrase)
   pub token_read : ReadsToken most i placed [] f
   pub other : keyword_of (token_of f).bytes ≡ None
   pub holds : IsDraftOf most d (phrases_of placed)
 
--- the feed stands after the first token of a phrase, which is this keyword or none
+-- the feed is after the first token of a phrase, which is this keyword or none
 abbrev pub AtFirstToken : {X : Type 0} {g : Ghosts X} → ℕ → Input → Option WordOf → Draft → Feed X g → Type 0
 AtFirstToken most i (Some k) d f = AtKeyword most i (model_keyword k) d f
 AtFirstToken most i None d f = AtOther most i d f

@@ -16,7 +16,7 @@ use Rattle.vcd_head.specs.declared.fault.HeadFault.{HeadFault}
 abbrev pub IsCoded : Variable → List ℕ → ℕ → Bool → Type 0
 IsCoded v bytes size event = code_of v ≡ record { text = bytes; size = size; event = event }
 
--- it is told whether such a variable agrees with those before it
+-- whether such a variable agrees with those before it
 abbrev pub Allows : Codes → List ℕ → ℕ → Bool → Bool → Type 0
 Allows known bytes size event result = (text : List ℕ) (ds : List Declaration) (v : Variable) → HasCodes text known ds → IsCoded v bytes size event → result ≡ agrees ds v
 
@@ -24,15 +24,15 @@ Allows known bytes size event result = (text : List ℕ) (ds : List Declaration)
 abbrev pub Enters : (old new : List ℕ) → (known known_after : Codes) → List ℕ → ℕ → Bool → Result (Option ℕ) HeadFault → Type 0
 Enters old new known known_after bytes size event r = (ds : List Declaration) (v : Variable) → HasCodes old known ds → IsCoded v bytes size event → IsSize size → IfOk r (IsEntered old new known_after ds v)
 
--- no code has these bytes, of so many as a number of 64 bits can count
+-- no code has these bytes, of this many as a number of 64 bits can count
 abbrev pub IsNewCode : Codes → List ℕ → Type 0
 IsNewCode known bytes = length (keys_of known) < 2 ^ 64 → list_any (is_key bytes) (keys_of known) ≡ false
 
--- the code with these bytes, which stand there in the text
+-- the code with these bytes, which are there in the text
 abbrev pub code_with : ℕ → List ℕ → ℕ → Bool → Code
 code_with start bytes size event = record { start = start; len = length bytes; size = size; event = event }
 
--- the key of the code with these bytes was not there, and now stands behind the others
+-- the key of the code with these bytes was not there, and is now after the others
 pub record AddsKey (t : List ℕ) (old new : List CodeKey) (place : ℕ) : Type 0 where
   pub absent : list_any (is_key t) old ≡ false
   pub key : CodeKey
@@ -40,13 +40,13 @@ pub record AddsKey (t : List ℕ) (old new : List CodeKey) (place : ℕ) : Type 
   pub behind : new ≡ old ++ key ∷ []
   pub last : place ≡ length old
 
--- it is at this place
+-- it is at this index
 pub record HasKey (t : List ℕ) (old new : List CodeKey) (place : ℕ) : Type 0 where
   pub at : place ≡ position_or_len (is_key t) old
   pub within : place < length old
   pub same : new ≡ old
 
--- the key of the code with these bytes is at this place, and is new or not
+-- the key of the code with these bytes is at this index, and is new or not
 pub record EntersKey (t : List ℕ) (before after : Codes) (place : ℕ) (is_new : Bool) : Type 0 where
   pub rises : Rises after.rising.items
   pub list : after.list.items ≡ before.list.items

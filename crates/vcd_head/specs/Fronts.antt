@@ -8,11 +8,11 @@ use Rattle.vcd_view.specs.declared.view.Code.{Code}
 use Rattle.vcd_head.specs.declared.index.Front.{Front}
 use Rattle.vcd_view.specs.Entries.{text_in}
 
--- the bytes of the code at a place
+-- the bytes of the code at an index
 abbrev pub bytes_at : List ℕ → List Code → ℕ → List ℕ
 bytes_at text codes p = unwrap_or (option_map (λ (c : Code). text_in text c.start c.len) (slice_get codes p)) []
 
--- so many first bytes as the digits of a number, the first one highest, with zeros behind them
+-- this many first bytes as the digits of a number, the first one highest, with zeros after them
 abbrev pub front_in : ℕ → List ℕ → ℕ
 front_in zero bs = 0
 front_in (suc n) bs = front_in n bs * 256 + get_or bs n 0
@@ -30,20 +30,20 @@ pub record AreFronts (text : List ℕ) (codes : List Code) (fronts : List Front)
 abbrev pub AreShort : List ℕ → List Code → Type 0
 AreShort text codes = (p : ℕ) → p < length codes → length (bytes_at text codes p) ≤ 4
 
--- at most four bytes, their number and a place as one number
+-- at most four bytes, their number and an index as one number
 abbrev pub rank_of : List ℕ → ℕ → ℕ
 rank_of bs p = (front_in 4 bs * 8 + length bs) * 16777216 + p
 
--- that of the code at a place
+-- that of the code at an index
 abbrev pub rank_in : List ℕ → List Code → ℕ → ℕ
 rank_in text codes p = rank_of (bytes_at text codes p) p
 
--- a rank for each code, in order, which has all of its bytes and its place
+-- a rank for each code, in order, which has all of its bytes and its index
 pub record AreRanks (text : List ℕ) (codes : List Code) (ranks : List ℕ) : Type 0 where
   pub few : length codes ≤ 16777216
   pub short : AreShort text codes
   pub numbers : ranks ≡ map (rank_in text codes) (range_with_len 0 (length codes))
 
--- the place that a rank ends with
+-- the index that a rank ends with
 abbrev pub place_in_rank : ℕ → ℕ
 place_in_rank r = r % 16777216

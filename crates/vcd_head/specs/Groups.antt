@@ -14,7 +14,7 @@ names_of g = map string_bytes g.names.now
 abbrev pub IsRun : Group → List Bool → (front : List ℕ) → Run → Type 0
 IsRun g flags front r = Follows (names_of g) g.order flags front r
 
--- the run is that of a longer front, and names that select all behind it were flagged
+-- the run is that of a longer front, and names that select all after it were flagged
 abbrev pub IsRunOn : Group → (old new : List Bool) → (front : List ℕ) → Run → Type 0
 IsRunOn g old new front r = GoesOn (names_of g) g.order old new front r
 
@@ -27,10 +27,11 @@ RunsOn g old new run longer r = (front : List ℕ) → IsRun g old front run →
 abbrev pub FlagsSome : Group → (old new : List Bool) → Run → (test : List ℕ → List ℕ → Bool) → Bool → Type 0
 FlagsSome g old new run test some = (front : List ℕ) → IsRun g old front run → Matches (test front) (names_of g) old new some
 
--- between two places of its order the next byte of the names does not fall
+-- between two indexes of its order the next byte of the names does not fall
 abbrev pub AreRising : Group → ℕ → (first end : ℕ) → Type 0
 AreRising g passed first end = Rises (names_of g) g.order passed first end
 
--- behind so many bytes the name at a place of its order goes on with the first of these, so many
+-- after this many bytes the name at an index of its order goes on with the first of these, this
+-- many
 abbrev pub GoesOnWith : Group → ℕ → ℕ → List ℕ → ℕ → Type 0
 GoesOnWith g passed i bytes n = AreShared (next_bytes (names_of g) g.order passed i) bytes n

@@ -37,7 +37,7 @@ IsOpen h g flags o = AreOpen h (names_of g) g.order flags o
 abbrev pub KeepsOpen : HeadView → Group → (old_flags new_flags : List Bool) → (old new : Open) → Type 0
 KeepsOpen view g old_flags new_flags old new = (h : Header) → IsViewOf view h → IsOpen h g old_flags old → IsOpen h g new_flags new
 
--- so, and the flags that were set are of names that select all that goes on behind this front
+-- so, and the flags that were set are of names that select all that goes on after this front
 pub record HasEntered (h : Header) (names : List (List ℕ)) (order : List ℕ) (front : List ℕ) (old_flags new_flags : List Bool) (new : Open) : Type 0 where
   pub open_scopes : AreOpen h names order new_flags new
   pub notes : Notes names front old_flags new_flags

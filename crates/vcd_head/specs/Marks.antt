@@ -9,11 +9,11 @@ use Rattle.vcd_model.specs.Selection.{first_unmatched, marked_places, is_among}
 unfoldable pub marks_of : List (List ℕ) → List Declaration → List ℕ
 marks_of names ds = let places = marked_places names ds in map (λ i. cond (is_among places i) 1 0) (range_with_len 0 (length ds))
 
--- the declaration at a place is marked
+-- the declaration at an index is marked
 abbrev pub is_marked : List ℕ → ℕ → Bool
 is_marked marks place = unwrap_or (slice_get marks place) 0 == 1
 
--- 1 at these places, the other marks as they were
+-- 1 at these indexes, the other marks as they were
 pub record Marked (places old new : List ℕ) : Type 0 where
   pub kept : length new ≡ length old
   pub marks : (i : ℕ) → i < length old → slice_index new i ≡ cond (is_among places i) 1 (slice_index old i)

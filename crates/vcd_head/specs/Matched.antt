@@ -18,6 +18,6 @@ pub record Matches (test : List ℕ → Bool) (names : List (List ℕ)) (old new
 abbrev pub HaveMatched : List (List ℕ) → List Declaration → List Bool → Type 0
 HaveMatched names ds flags = (i : ℕ) (name : List ℕ) → slice_get names i ≡ Some name → get_or flags i false ≡ not (is_empty (selected (name ∷ []) ds))
 
--- the place of the first flag that is not set, of so many
+-- the index of the first flag that is not set, of this many
 abbrev pub IsFirstFalse : List Bool → ℕ → Option ℕ → Type 0
 IsFirstFalse flags count o = MatchOption o ((i : ℕ) → i < count → get_or flags i false ≡ true) (λ p. (p < count) × (get_or flags p false ≡ false) × ((i : ℕ) → i < p → get_or flags i false ≡ true))

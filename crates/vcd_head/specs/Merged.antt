@@ -30,7 +30,7 @@ abbrev pub opening_of : Option Declaration → List ℕ
 opening_of None = []
 opening_of (Some d) = scope_line (type_of d) (reference_of d)
 
--- the line that opens the scope at a place
+-- the line that opens the scope at an index
 abbrev pub opening : List Declaration → ℕ → List ℕ
 opening ds place = opening_of (slice_get ds place)
 
@@ -38,21 +38,21 @@ opening ds place = opening_of (slice_get ds place)
 abbrev pub openings : List Declaration → List ℕ → List ℕ
 openings ds places = flat_map (opening ds) (reverse places)
 
--- the line of an `$upscope` behind scopes of which so many, the innermost, are pending, and so many
--- are written
+-- the line of an `$upscope` after scopes of which this many, the innermost, are pending, and this
+-- many are written
 abbrev pub closing : ℕ → ℕ → List ℕ
 closing zero zero = []
 closing zero (suc written) = up_line
 closing (suc pending) written = []
 
--- what is written at a declaration that has these before it, where so many scopes around it, the
--- innermost, are pending, and so many are written
+-- what is written at a declaration that has these before it, where this many scopes around it, the
+-- innermost, are pending, and this many are written
 abbrev pub due : Header → (first pending written : ℕ) → List Declaration → Declaration → List ℕ
 due h first pending written earlier (Declaration.Scope type name) = []
 due h first pending written earlier Declaration.Up = closing pending written
 due h first pending written earlier (Declaration.Var v) = openings h.declarations (take pending (enclosing earlier)) ++ var_line v (numbered first h v.code)
 
--- how many are pending behind it
+-- how many are pending after it
 abbrev pub pending_behind : Declaration → ℕ → ℕ
 pending_behind (Declaration.Scope type name) pending = suc pending
 pending_behind Declaration.Up pending = pending - 1
@@ -69,7 +69,7 @@ written_behind (Declaration.Var v) pending written = written + pending
 abbrev pub input_rows : ℕ → Header → List ℕ
 input_rows first h = rows_text (numbered first h) (is_among (marked_places [] h.declarations)) h.declarations
 
--- the scopes that are open behind a row of this kind, as far as they are written
+-- the scopes that are open after a row of this kind, as far as they are written
 pub record IsBehind (k : Kind) (pending written pending' written' : ℕ) : Type 0 where
   pub scope : k ≡ kind.Scope → pending + 1 < 2 ^ 64 → (pending' ≡ pending + 1) × (written' ≡ written)
   pub pending_up : k ≡ kind.Up → 0 < pending → (pending' ≡ pending - 1) × (written' ≡ written)

@@ -8,7 +8,7 @@ pub use Rattle.std.specs.List.Sorted.{IsSortedBy}
 pub use Rattle.vcd_model.specs.Selection.{selects_path}
 pub use Rattle.vcd_head.specs.Matched.{Matches}
 
--- the order of the names at two places
+-- the order of the names at two indexes
 abbrev pub order_in : List (List ℕ) → ℕ → ℕ → Ordering
 order_in names a b = slice_cmp nat_cmp (get_or names a []) (get_or names b [])
 
@@ -16,11 +16,11 @@ order_in names a b = slice_cmp nat_cmp (get_or names a []) (get_or names b [])
 abbrev pub comes_before : List (List ℕ) → ℕ → ℕ → Bool
 comes_before names a b = is_lt (order_in names a b)
 
--- the name whose place this is in the order
+-- the name whose index this is in the order
 abbrev pub text_at : List (List ℕ) → List ℕ → ℕ → List ℕ
 text_at names order i = get_or names (get_or order i 0) []
 
--- the order has the place of each name, and no name stands behind one that it comes before
+-- the order has the index of each name, and no name comes after one that it comes before
 pub record IsOrder (names : List (List ℕ)) (order : List ℕ) : Type 0 where
   pub each : (p : ℕ) → p < length names → (i : ℕ) × (i < length names) × (get_or order i 0 ≡ p)
   pub places : (i : ℕ) → i < length names → get_or order i 0 < length names
@@ -32,7 +32,7 @@ abbrev pub first_of : List ℕ → ℕ
 first_of [] = 0
 first_of (byte ∷ bytes) = suc byte
 
--- what stands behind so many bytes of the name at a place of the order
+-- what comes after this many bytes of the name at an index of the order
 abbrev pub next_bytes : List (List ℕ) → List ℕ → ℕ → ℕ → List ℕ
 next_bytes names order passed i = drop passed (text_at names order i)
 
@@ -40,20 +40,20 @@ next_bytes names order passed i = drop passed (text_at names order i)
 abbrev pub next_in : List (List ℕ) → List ℕ → ℕ → ℕ → ℕ
 next_in names order passed i = first_of (next_bytes names order passed i)
 
--- both texts begin with the same bytes, so many
+-- both texts begin with the same bytes, this many
 abbrev pub AreShared : List ℕ → List ℕ → ℕ → Type 0
 AreShared a b n = (n ≤ length a) × ((i : ℕ) → i < n → get_or a i 0 ≡ get_or b i 0)
 
--- between two places of the order it does not fall
+-- between two indexes of the order it does not fall
 abbrev pub Rises : List (List ℕ) → List ℕ → ℕ → (first end : ℕ) → Type 0
 Rises names order passed first end = (i j : ℕ) → first ≤ i → i ≤ j → j < end → next_in names order passed i ≤ next_in names order passed j
 
--- between two places of the order, it is less before a third place, and not less from there on
+-- between two indexes of the order, it is less before a third index, and not less from there on
 pub record IsSplit (names : List (List ℕ)) (order : List ℕ) (passed first end least place : ℕ) : Type 0 where
   pub below : (i : ℕ) → first ≤ i → i < place → next_in names order passed i < least
   pub above : (i : ℕ) → place ≤ i → i < end → least ≤ next_in names order passed i
 
--- the name selects all that goes on behind this front of a path
+-- the name selects all that goes on after this front of a path
 abbrev pub SelectsAll : List ℕ → List ℕ → Type 0
 SelectsAll front name = (text : List ℕ) → selects_path (front ++ text) name ≡ true
 
@@ -61,6 +61,6 @@ SelectsAll front name = (text : List ℕ) → selects_path (front ++ text) name 
 abbrev pub AreSame : List (List ℕ) → List Bool → Type 0
 AreSame names flags = (p q : ℕ) (name : List ℕ) → slice_get names p ≡ Some name → slice_get names q ≡ Some name → get_or flags p false ≡ get_or flags q false
 
--- the flags that were set are of names that select all that goes on behind this front
+-- the flags that were set are of names that select all that goes on after this front
 abbrev pub Notes : List (List ℕ) → List ℕ → (old new : List Bool) → Type 0
 Notes names front old new = (p : ℕ) (name : List ℕ) → slice_get names p ≡ Some name → (get_or new p false ≡ get_or old p false) ⊎ ((get_or new p false ≡ true) × SelectsAll front name)

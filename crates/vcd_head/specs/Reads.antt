@@ -21,7 +21,7 @@ use Rattle.vcd_view.specs.Shown.{HeadShown}
 use Rattle.vcd_view.specs.Views.{Views}
 use Rattle.vcd_model.specs.Header.{header_of}
 
--- the tokens given so far have no fault, and the header goes on behind them
+-- the tokens given so far have no fault, and the header goes on after them
 abbrev pub IsGoing : ℕ → List Token → Type 0
 IsGoing most given = (reading_of (header_grammar most) given).ending ≡ AtEnd
 
@@ -107,7 +107,7 @@ pub record GivesHead {X : Type 0} {g : Ghosts X} (most : ℕ) (i : Input) (f : F
   pub going : IsGoing most front
   pub views : Views s (header_of (phrases_of placed))
 
--- What a call that reads a header, of at most so many declarations, leaves of its feed.
+-- What a call that reads a header, of at most this many declarations, leaves of its feed.
 pub record ReadsHead {X : Type 0} {g : Ghosts X} (failures : X → ℕ) (most : ℕ) (old new : Feed X g) (result : Result Head HeadFault) : Type 0 where
   -- A head shows the header of the phrases that were read. A fault is the header's, at the feed's
   -- line and token, the first token given that has one, or empty where none was left; where

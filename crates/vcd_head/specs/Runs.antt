@@ -4,7 +4,7 @@ use Rattle.vcd_model.specs.Selection.{selects_path}
 use Rattle.vcd_head.specs.NameOrder.{AreSame, IsOrder, Notes, SelectsAll, next_in, text_at}
 use Rattle.vcd_head.specs.declared.names.Run.{Run}
 
--- the name at a place of the order is flagged and selects all that goes on behind the front, as is
+-- the name at an index of the order is flagged and selects all that goes on after the front, as is
 -- known, or it selects nothing of that
 abbrev pub IsDecided : List (List ℕ) → (order : List ℕ) → List Bool → (front : List ℕ) → Bool → ℕ → Type 0
 IsDecided names order flags front whole i = ((whole ≡ true) × (get_or flags (get_or order i 0) false ≡ true) × SelectsAll front (text_at names order i)) ⊎ ((text : List ℕ) → selects_path (front ++ text) (text_at names order i) ≡ false)
@@ -29,7 +29,7 @@ pub record Narrows (names : List (List ℕ)) (order : List ℕ) (byte : ℕ) (ol
   pub has : (i : ℕ) → new.first ≤ i → i < new.end → next_in names order old.passed i ≡ byte + 1
   pub others : (i : ℕ) → old.first ≤ i → i < old.end → (i < new.first) ⊎ (new.end ≤ i) → next_in names order old.passed i ≢ byte + 1
 
--- the run is that of a longer front, and names that select all behind it were flagged
+-- the run is that of a longer front, and names that select all after it were flagged
 pub record GoesOn (names : List (List ℕ)) (order : List ℕ) (old new : List Bool) (front : List ℕ) (r : Run) : Type 0 where
   pub follows : Follows names order new front r
   pub notes : Notes names front old new

@@ -24,6 +24,6 @@ pub record ScaleRead {X : Type 0} {g : Ghosts X} (most : ℕ) (i : Input) (place
   pub then_end : (t : List ℕ) → timescale_checks inner t ≡ (is_end t or_fault 5) ∷ []
   pub fits : to_z w8 (of_z w8 exponent) ≡ exponent
 
--- behind the keyword number and unit were read
+-- after the keyword number and unit were read
 abbrev pub ReadsScale : {X : Type 0} {g : Ghosts X} → (old new : Feed X g) → Result ℤ HeadFault → Type 0
 ReadsScale old new r = (most : ℕ) (i : Input) (placed : List (Placed HeaderPhrase)) → Reads most i placed (keyword_text Keyword.Timescale ∷ []) old → OrFails most i new (ScaleRead most i placed new) r

@@ -4,13 +4,13 @@ use Rattle.vcd_model.specs.Declarations.{enclosing}
 use Rattle.vcd_model.specs.Header.{Header}
 use Rattle.vcd_head.specs.declared.enclosing.Enclosing.{Enclosing}
 
--- the last of these places, so many, are held, each at its number modulo 128
+-- the last of these indexes, this many, are held, each at its number modulo 128
 pub record IsHeld (places rows : List ℕ) (held : ℕ) : Type 0 where
   pub room : length rows ≡ 128
   pub at : (k : ℕ) → k < length places → length places ≤ k + held → slice_get places k ≡ Some (slice_index rows (k % 128))
 
--- so many of the innermost scopes around the declaration of a row, or all of them, were passed, and
--- the last ones are held
+-- this many of the innermost scopes around the declaration of a row, or all of them, were passed,
+-- and the last ones are held
 pub record Walks (h : Header) (row most : ℕ) (rows : List ℕ) (passed : ℕ) : Type 0 where
   pub count : passed ≡ min most (length (enclosing (take row h.declarations)))
   pub holds : IsHeld (take passed (enclosing (take row h.declarations))) rows 128

@@ -4,13 +4,13 @@ use Rattle.vcd_model.specs.Selection.{selects_path}
 use Rattle.vcd_head.specs.declared.selection.Match.{Match}
 use Rattle.vcd_head.specs.declared.selection.Match.TheVariants.{Rest, Selected, Differs}
 
--- the name selects the path, of which this text stands after the known prefix
+-- the name selects the path, of which this text comes after the known prefix
 abbrev pub selects_after : Match → List ℕ → Bool
 selects_after (Rest name) text = selects_path text name.now
 selects_after Selected text = true
 selects_after Differs text = false
 
--- what is left of the name is what stands behind so many bytes
+-- what is left of the name is what comes after this many bytes
 abbrev pub IsBehind : Match → List ℕ → ℕ → Type 0
 IsBehind (Rest rest) name n = rest.now ≡ drop n name
 IsBehind m name n = ⊤

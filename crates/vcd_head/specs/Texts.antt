@@ -12,7 +12,7 @@ use Rattle.vcd_text.specs.declared.feed.Feed.{Feed}
 use Rattle.vcd_head.specs.Reads.{Reads, ReadsToken}
 use Rattle.vcd_view.specs.Keywords.{NoEnds}
 
--- after these tokens any others may stand, up to the first `$end`
+-- after these tokens any others may come, up to the first `$end`
 abbrev pub RunsOn : ℕ → List (Placed HeaderPhrase) → List (List ℕ) → Type 0
 RunsOn most placed before = (inner : List (List ℕ)) (t : List ℕ) → NoEnds inner
     → (header_fault most (phrases_of placed) (before ++ inner) t ≡ None) × (is_end t ≡ false → header_phrase (before ++ inner ++ t ∷ []) ≡ None)
@@ -36,7 +36,7 @@ pub record EndsThere {X : Type 0} {g : Ghosts X} (most : ℕ) (i : Input) (place
   pub ends : is_end (token_of f).bytes ≡ true
   pub grows : Grows inner
 
--- after these tokens any token but `$end` may stand, and the phrase is not whole with it
+-- after these tokens any token but `$end` may come, and the phrase is not whole with it
 abbrev pub Welcomes : ℕ → List (Placed HeaderPhrase) → List (List ℕ) → Type 0
 Welcomes most placed before = (t : List ℕ) → is_end t ≡ false → (header_fault most (phrases_of placed) before t ≡ None) × (header_phrase (before ++ t ∷ []) ≡ None)
 

@@ -28,11 +28,11 @@ pub record CodeRead {X : Type 0} {g : Ghosts X} (most : ℕ) (i : Input) (placed
   pub reads : Reads most i placed (keyword_text Keyword.Var ∷ type ∷ digits ∷ code.items ∷ []) f
   pub allowed : agrees (declarations_of (phrases_of placed)) (record { type = type; size = decimal_value digits; code = code.items; reference = [] }) ≡ true
 
--- behind keyword and type the size was read
+-- after keyword and type the size was read
 abbrev pub ReadsSize : {X : Type 0} {g : Ghosts X} → (old new : Feed X g) → Result ℕ HeadFault → Type 0
 ReadsSize old new r = (most : ℕ) (i : Input) (placed : List (Placed HeaderPhrase)) (type : List ℕ) → Reads most i placed (keyword_text Keyword.Var ∷ type ∷ []) old → OrFails most i new (SizeRead most i placed type new) r
 
--- behind keyword, type and this size the code was read, beside these codes
+-- after keyword, type and this size the code was read, beside these codes
 abbrev pub ReadsCode : {X : Type 0} {g : Ghosts X} → Codes → ℕ → Bool → (old new : Feed X g) → Result (Vec ℕ) HeadFault → Type 0
 ReadsCode known size event old new r = (most : ℕ) (i : Input) (placed : List (Placed HeaderPhrase)) (type digits text : List ℕ) → HasCodes text known (declarations_of (phrases_of placed)) → decimal_value digits ≡ size → bytes_eq (codes "event") type ≡ event
     → Reads most i placed (keyword_text Keyword.Var ∷ type ∷ digits ∷ []) old → OrFails most i new (CodeRead most i placed type digits new) r
@@ -45,6 +45,6 @@ pub record FrontRead {X : Type 0} {g : Ghosts X} (most : ℕ) (i : Input) (place
   pub reads : Reads most i placed (keyword_text Keyword.Var ∷ front.word.items ∷ digits ∷ front.code.items ∷ []) f
   pub allowed : agrees (declarations_of (phrases_of placed)) (record { type = front.word.items; size = decimal_value digits; code = front.code.items; reference = [] }) ≡ true
 
--- behind the keyword, type, size and code were read, beside these codes
+-- after the keyword, type, size and code were read, beside these codes
 abbrev pub ReadsFront : {X : Type 0} {g : Ghosts X} → Codes → (old new : Feed X g) → Result VariableFront HeadFault → Type 0
 ReadsFront known old new r = (most : ℕ) (i : Input) (placed : List (Placed HeaderPhrase)) (text : List ℕ) → HasCodes text known (declarations_of (phrases_of placed)) → Reads most i placed (keyword_text Keyword.Var ∷ []) old → OrFails most i new (FrontRead most i placed new) r

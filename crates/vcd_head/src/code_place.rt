@@ -1,4 +1,4 @@
-// The place of a variable's code among the distinct codes.
+// The index of a variable's code among the distinct codes.
 ghost use Rattle.std.specs.Prelude.{◌≡◌, nat_eq, false, [], ◌∷◌, ◌++◌, length, IfOk, IfErr};
 ghost use Rattle.vcd_head.specs.Names.{Enters, EntersKey, IsNewCode, Rises, code_with, key_in, list_any};
 
@@ -10,7 +10,7 @@ use crate::rows::token_len;
 use std::alloc::Global;
 use vcd_view::{Code, code_in, key_of};
 
-/// Returns the place of the code of a variable, which is added where it is new, at the end of the
+/// Returns the index of the code of a variable, which is added where it is new, at the end of the
 /// text; none where it was declared with another size or kind.
 #[inline(always)]
 pub(crate) fn enter_code(
@@ -41,7 +41,7 @@ pub(crate) fn enter_code(
     Ok(Some(place))
 }
 
-/// Enters the key of the code with these bytes, if it is new. Returns the place of the code, and
+/// Enters the key of the code with these bytes, if it is new. Returns the index of the code, and
 /// whether it is new.
 #[inline(always)]
 fn enter_key(alloc: Global, known: &mut Codes, bytes: &[u8]) -> Result<(usize, bool), HeadFault>
@@ -63,7 +63,7 @@ fn enter_key(alloc: Global, known: &mut Codes, bytes: &[u8]) -> Result<(usize, b
     enter_in_set(alloc, known, bytes)
 }
 
-/// Enters the key of the code with these bytes in the set, if it is new. Returns the place of the
+/// Enters the key of the code with these bytes in the set, if it is new. Returns the index of the
 /// code, and whether it is new. A code that is there is found even where memory is refused.
 fn enter_in_set(alloc: Global, known: &mut Codes, bytes: &[u8]) -> Result<(usize, bool), HeadFault>
     ensures enters { Rises known.old.rising.items

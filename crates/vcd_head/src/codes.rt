@@ -8,18 +8,21 @@ use indexmap::IndexSet;
 use std::alloc::Global;
 use vcd_view::{Code, CodeSeed, code_in, key_of};
 
-// The codes in order of first declaration, found by their bytes.
+// The codes in order of first declaration, found by their bytes. The set of the kit, in place of a
+// table and tree of 800 lines, costs `check` of 184,002 codes some 12 % more, and codes crafted for
+// it 1.0 to 1.4 times as much as others, before 3 to 5 times.
 #[derive(Drop)]
 pub(crate) struct Codes {
     pub(crate) list: Vec<Code>,
     // The numbers of the first codes in the list, each above the one before it. Simulators number
     // codes in the order of declaration, so most headers have no others.
     pub(crate) rising: Vec<u64>,
-    // The key of each code behind those.
+    // The key of each code after those.
     pub(crate) keys: IndexSet<CodeKey, CodeSeed>,
 }
 
 impl Codes {
+    /// Returns no codes, neither in the list nor by their numbers nor in the set.
     pub(crate) fn new(alloc: Global, seed: CodeSeed) -> Self
         ensures { HasNone result }
     {
@@ -44,7 +47,7 @@ impl Codes {
         }
     }
 
-    /// Returns the place of the code with these bytes.
+    /// Returns the index of the code with these bytes.
     fn find(&self, alloc: Global, bytes: &[u8]) -> Option<usize>
         ensures { (text : List ℕ) (cs : List IdCode) → AreHeld text self.now.list.items cs
             → AreKeysOf (keys_of self.now) cs → Rises self.now.rising.items
@@ -57,7 +60,7 @@ impl Codes {
         self.rising.len().checked_add(place)
     }
 
-    /// Returns the place in the set of the key of the code with these bytes. It takes memory for
+    /// Returns the index in the set of the key of the code with these bytes. It takes memory for
     /// the key of a long one; where that is refused, all keys are looked through.
     fn find_key(&self, alloc: Global, bytes: &[u8]) -> Option<usize>
         ensures { result ≡ position (is_key bytes.now) self.now.keys.keys }
@@ -77,7 +80,7 @@ pub(crate) fn is_of_kind(code: Code, size: usize, event: bool) -> bool
     code.size == size && code.event == event
 }
 
-/// Returns the place of the key of the code with these bytes among keys, by a look at each.
+/// Returns the index of the key of the code with these bytes among keys, by a look at each.
 pub(crate) fn place_among(keys: &[CodeKey], bytes: &[u8]) -> Option<usize>
     ensures { result ≡ position (is_key bytes.now) keys.now }
 {

@@ -20,6 +20,7 @@ pub(crate) struct Draft {
 }
 
 impl Draft {
+    /// Returns a draft of which nothing was read.
     pub(crate) fn new(alloc: Global, seed: CodeSeed) -> Self
         ensures { IsNew result }
     {

@@ -26,6 +26,7 @@ pub(crate) struct Enclosing {
 }
 
 impl Enclosing {
+    /// Returns all scopes around the declaration of a row.
     #[inline(always)]
     pub(crate) fn new(row: usize) -> Self
         ensures { (h : Header) → row < length h.declarations
@@ -34,7 +35,7 @@ impl Enclosing {
         Self::innermost(row, row)
     }
 
-    /// Returns so many of the innermost ones, or all where there are fewer.
+    /// Returns the innermost `most` scopes around a row, or all where there are fewer.
     #[inline(always)]
     pub(crate) fn innermost(row: usize, most: usize) -> Self
         ensures { (h : Header) → row < length h.declarations
@@ -65,7 +66,7 @@ impl Enclosing {
     }
 }
 
-// Walks outwards from a row by at most so many scopes, and holds the last ones. Returns how many it
+// Walks outwards from a row by at most `most` scopes, and holds the last ones. Returns how many it
 // passed.
 fn walk(view: HeadView<'_>, row: usize, most: usize, rows: &mut [usize; HELD]) -> usize
     ensures walks { AnyRow view.entry row (λ h. Walks h row most rows.new result) }

@@ -1,5 +1,5 @@
-// The entries by which codes are looked up: how they are filled. Any code may have any place among
-// them, or none: where an entry is decides only how fast a look-up is.
+// The entries by which codes are looked up: how they are filled. Any code may have any entry, or
+// none: where an entry is decides only how fast a look-up is.
 ghost use Rattle.std.specs.Prelude.{◌≡◌, ◌-◌, ◌*◌, ◌^◌, ◌≤◌, ◌<◌, ℕ, List, true, false, length, set, slice_get, Some, IfOk, IfSome};
 ghost use Rattle.vcd_head.specs.Names.{Code, KeepsRight, are_right, is_right, key_in, text_in};
 
@@ -48,9 +48,11 @@ fn greatest_of(text: &[u8], codes: &[Code], in_order: bool) -> usize
     }
 }
 
-/// Returns how many entries so many codes have, of which this is the greatest number: the least
+/// Returns how many entries this many codes get, whose greatest number is `greatest`: the least
 /// power of two that has one for each code, and twice as many if three for each code allow that.
 /// Where each number is that of an entry, no two codes have the same one, so no more are needed.
+// The header of 184,002 codes in order takes 178.7 million instructions and 6,416 page faults, with
+// 1.5 to 3 entries for each code 182.7 and 7,440.
 fn count_for(codes: usize, greatest: usize) -> usize
     requires { (0 < codes) × (codes < 2 ^ 60) }
     ensures { result ≤ 3 * codes }
@@ -74,8 +76,9 @@ fn fill(entries: &mut [Entry], text: &[u8], codes: &[Code], seed: CodeSeed)
     }
 }
 
-/// Writes the entry of a code with these bytes, which is at this place: to its own or one beside
-/// it, if one of them is free, else where its hash leads.
+/// Writes the entry of the code at index `place`, which has these bytes: over its own entry or one
+/// beside it, if one of them is free, else where its hash leads. Where all of these are taken, the
+/// code gets no entry, and only a binary search finds it.
 #[inline(always)]
 fn enter(entries: &mut [Entry], place: usize, code: Code, bytes: &[u8], seed: CodeSeed)
     ensures right { (text : List ℕ) (codes : List Code) → slice_get codes place ≡ Some code
@@ -124,7 +127,7 @@ fn put_hashed(entries: &mut [Entry], hash: u64, entry: Entry)
     }
 }
 
-/// Returns whether there is such an entry, and it is that of no code.
+/// Returns whether `at` is in range and the entry there is that of no code.
 #[inline(always)]
 fn is_free(entries: &[Entry], at: usize) -> bool
     ensures { result ≡ true → at < length entries.now }
@@ -135,8 +138,8 @@ fn is_free(entries: &[Entry], at: usize) -> bool
     }
 }
 
-/// Returns the entry of a code with this key, which is at this place; an empty one where 32 bits
-/// do not hold the place.
+/// Returns the entry of the code at index `place`, which has this key; an empty one where 32 bits
+/// do not hold the index.
 #[inline(always)]
 fn entry_with(place: usize, code: Code, key: u64) -> Entry
     ensures short { (text : List ℕ) (codes : List Code) → slice_get codes place ≡ Some code
@@ -154,7 +157,7 @@ fn entry_with(place: usize, code: Code, key: u64) -> Entry
     }
 }
 
-/// Writes one entry, if there are so many.
+/// Writes the entry at `at`; nothing where that is out of range.
 #[inline(always)]
 fn put(entries: &mut [Entry], at: usize, entry: Entry)
     ensures { entries.new ≡ set entries.old at entry }

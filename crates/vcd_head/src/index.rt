@@ -12,18 +12,18 @@ const FRONT_BYTES: usize = 8;
 // The most bytes of a code that a rank has.
 const RANK_BYTES: usize = 4;
 
-// How many places a rank can distinguish.
+// How many indexes a rank can distinguish.
 const PLACES: usize = 16_777_216;
 
 // The first bytes of a code as a number, which is less where they come before others, and its
-// place.
+// index.
 #[derive(Clone, Copy)]
 pub(crate) struct Front {
     pub(crate) number: u64,
     pub(crate) place: usize,
 }
 
-/// Returns the places of the codes in the order of their bytes, which lie in the text.
+/// Returns the indexes of the codes in the order of their bytes, which lie in the text.
 pub(crate) fn index_of(alloc: Global, text: &[u8], codes: &[Code]) -> Result<Vec<usize>, AllocError>
     ensures { AnyHeld text.now codes.now (λ cs. IfOk result (λ index. IsIndex cs index.items)) }
 {
@@ -33,8 +33,8 @@ pub(crate) fn index_of(alloc: Global, text: &[u8], codes: &[Code]) -> Result<Vec
     }
 }
 
-/// Returns the places of short codes in the order of their bytes; none where some are long. Ranks
-/// are sorted, and the places left in their stead, so nothing is held beside the index.
+/// Returns the indexes of short codes in the order of their bytes; none where some are long. Ranks
+/// are sorted, and then reduced to the indexes in the same memory.
 fn index_by_ranks(
     alloc: Global,
     text: &[u8],
@@ -53,7 +53,7 @@ fn index_by_ranks(
 }
 
 /// Returns the ranks of the codes, in their order of declaration, if a rank has all of the bytes
-/// and the place of each.
+/// and the index of each.
 fn ranks_of(alloc: Global, text: &[u8], codes: &[Code]) -> Result<Option<Vec<usize>>, AllocError>
     ensures { IfOk result (λ some. IfSome some (λ ranks. AreRanks text.now codes.now ranks.items)) }
 {
@@ -71,8 +71,9 @@ fn ranks_of(alloc: Global, text: &[u8], codes: &[Code]) -> Result<Option<Vec<usi
     Ok(Some(ranks))
 }
 
-/// Returns the bytes of a code, their number and its place as one number, which is less where the
+/// Returns the bytes of a code, their number and its index as one number, which is less where the
 /// bytes come before others.
+// Two ranks are compared as numbers, and the codes themselves are not read.
 #[inline(always)]
 fn rank_of(bytes: &[u8], place: usize) -> usize
     requires short { length bytes.now ≤ 4 }
@@ -83,7 +84,7 @@ fn rank_of(bytes: &[u8], place: usize) -> usize
     (front as usize * 8 + bytes.len()) * PLACES + place
 }
 
-/// Reduces each rank to its place.
+/// Reduces each rank to its index.
 fn leave_places(ranks: &mut [usize])
     ensures { ranks.new ≡ map place_in_rank ranks.old }
 {
@@ -92,7 +93,7 @@ fn leave_places(ranks: &mut [usize])
     }
 }
 
-/// Returns the places of codes of any length in the order of their bytes.
+/// Returns the indexes of codes of any length in the order of their bytes.
 fn index_by_fronts(alloc: Global, text: &[u8], codes: &[Code]) -> Result<Vec<usize>, AllocError>
     ensures { AnyHeld text.now codes.now (λ cs. IfOk result (λ index. IsIndex cs index.items)) }
 {
@@ -113,7 +114,7 @@ fn fronts_of(alloc: Global, text: &[u8], codes: &[Code]) -> Result<Vec<Front>, A
     Ok(fronts)
 }
 
-/// Returns the places of the fronts.
+/// Returns the indexes of the fronts.
 fn places_of(alloc: Global, fronts: &[Front]) -> Result<Vec<usize>, AllocError>
     ensures { IfOk result (λ places. places.items ≡ map (λ f. f.place) fronts.now) }
 {
@@ -137,7 +138,7 @@ fn order_of(text: &[u8], codes: &[Code], a: Front, b: Front) -> Ordering
     }
 }
 
-/// Returns the bytes of the code at a place.
+/// Returns the bytes of the code at an index.
 fn bytes_at<'a>(text: &'a [u8], codes: &[Code], place: usize) -> &'a [u8]
     ensures { result.now ≡ bytes_at text.now codes.now place }
 {
@@ -147,7 +148,7 @@ fn bytes_at<'a>(text: &'a [u8], codes: &[Code], place: usize) -> &'a [u8]
     }
 }
 
-/// Returns so many first bytes as the digits of a number, the first one highest, followed by zeros.
+/// Returns the first `count` bytes as a number, the first one highest, padded with zeros.
 #[inline(always)]
 fn front_of(bytes: &[u8], count: usize) -> u64
     requires { count ≤ 8 }
@@ -161,7 +162,7 @@ fn front_of(bytes: &[u8], count: usize) -> u64
     number
 }
 
-/// Returns the byte at a place, zero where there is none.
+/// Returns the byte at an index, zero where there is none.
 #[inline(always)]
 fn byte_at(bytes: &[u8], place: usize) -> u64
     ensures byte { result ≡ get_or bytes.now place 0 }

@@ -28,7 +28,7 @@
 //! - `scopes`, `variable`, `scale`: what a phrase says
 //! - `ahead`, `ahead_scopes`: variables and scopes whose phrases are whole in the chunk
 //! - `declarations`, `rows`, `code_place`: what these are checked for, however they are read; what
-//!   becomes of the head: rows, and the place of a code
+//!   becomes of the head: rows, and the index of a code
 //! - `draft`, `codes`, `rising`, `code_key`, `finish`: a header while it is read, its codes, the
 //!   numbers and the keys by which they are found; the head that it becomes
 //! - `head`, `fault`: `Head`; `HeadFault`

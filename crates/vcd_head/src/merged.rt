@@ -51,7 +51,7 @@ impl OpenScopes {
     }
 }
 
-/// Writes the lines that open so many of the innermost scopes around a row, outermost first.
+/// Writes the lines that open this many of the innermost scopes around a row, outermost first.
 fn put_openings<W: Sink>(
     view: HeadView<'_>,
     row: usize,
@@ -81,7 +81,7 @@ fn put_closing<W: Sink>(scopes: OpenScopes, w: &mut W) -> Result<(), WriteFailed
     put(w, b"$upscope $end\n")
 }
 
-/// Writes the lines that close so many scopes.
+/// Writes the lines that close this many scopes.
 fn put_closings<W: Sink>(count: usize, w: &mut W) -> Result<(), WriteFailed>
     requires failures { (W.device w.old).failures < 2 ^ 64 - 1 }
     ensures { PutsWhere W.device w.old w.new result (λ takes. (scopes : List ℕ)

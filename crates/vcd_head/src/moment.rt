@@ -15,8 +15,8 @@ pub struct Moment {
 }
 
 impl Moment {
-    /// Returns so many units of this name, or so many ticks where the name is empty; none where it
-    /// is no unit: `s`, `ms`, `us`, `ns`, `ps` or `fs`.
+    /// Returns the moment `number` units after the time 0, or ticks where `unit` is empty. None
+    /// where `unit` is neither empty nor `s`, `ms`, `us`, `ns`, `ps` or `fs`.
     pub fn from_parts(number: u64, unit: &[u8]) -> Option<Moment>
         ensures { option_map asked result ≡ with_unit number unit.now }
     {
@@ -72,7 +72,7 @@ pub fn ticks(view: HeadView<'_>, moment: Moment, up: bool) -> Result<u64, TickFa
     unit_ticks(moment.number, unit, scale.exponent, up).ok_or(TickFault::OutOfRange)
 }
 
-/// Returns so many units in ticks, if they are fewer than 2^64. Unit and tick are powers of ten in
+/// Returns `number` units in ticks, if they are fewer than 2^64. Unit and tick are powers of ten in
 /// seconds.
 fn unit_ticks(number: u64, unit: i8, tick: i8, up: bool) -> Option<u64>
     ensures { SomeIff result (ticks number unit tick up < 2 ^ 64) (ticks number unit tick up) }

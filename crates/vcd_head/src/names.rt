@@ -1,14 +1,16 @@
 // Names in the order of their bytes. Those that begin with the front of a path are neighbours, so
-// two places of the order follow them, one byte of the path after the other.
+// two indexes of the order follow them, one byte of the path after the other.
 ghost use Rattle.std.specs.Prelude.{◌≡◌, ◌==◌, ◌&&◌, ◌+◌, ◌-◌, ◌<◌, ◌≤◌, [], ◌∷◌, ◌++◌, ◌^◌, ℕ, List, Bool, length, take, drop, map, get_or, bytes_eq, string_bytes, IsPermutation};
 ghost use Rattle.vcd_head.specs.NameOrder.{All, AreSame, AreShared, Contains, IsOrder, IsSortedBy, IsSplit, Matches, Rises, comes_before, next_bytes, next_in, order_in, selects_path};
 
 use std::cmp::Ordering;
 
-// So many names are followed together.
+// How many names are followed together.
 pub(crate) const TOGETHER: usize = 16_384;
 
-// Names, and their places in the order of their bytes.
+// Names, and their indexes in the order of their bytes. Sorted, so the time grows with names and
+// rows and not with their product: `pick` of 200,000 variables in one scope by 1,000 names takes
+// 0.11 s; with 64 names at a time it took 0.20 s.
 #[derive(Drop)]
 pub(crate) struct Group<'n> {
     pub(crate) names: &'n [String],
@@ -20,7 +22,7 @@ pub(crate) struct Group<'n> {
 // The names that begin with the front of a path.
 #[derive(Clone, Copy)]
 pub(crate) struct Run {
-    // The place of the first of them in the order, and the one after that of the last.
+    // The index of the first of them in the order, and the one after that of the last.
     first: usize,
     end: usize,
     // The bytes of the front, where there is such a name.
@@ -32,6 +34,7 @@ pub(crate) struct Run {
 impl<'n> Group<'n> {
     ghost use Rattle.vcd_head.specs.Names.{AreRising, FlagsSome, GoesOnWith, IsRun, IsRunOn, Narrows, RunsOn, names_of};
 
+    /// Returns the group of these names, at most 16,384, sorted by their bytes.
     pub(crate) fn new(names: &'n [String]) -> Self
         requires { length names.now ≤ 16384 }
         ensures names { result.names.now ≡ names.now }
@@ -56,7 +59,7 @@ impl<'n> Group<'n> {
         }
     }
 
-    /// Returns the place of the name that is at this place of the order.
+    /// Returns the index of the name that is at this index of the order.
     #[inline(always)]
     fn place_at(&self, at: usize) -> usize
         ensures place { result ≡ get_or self.now.order at 0 }
@@ -68,8 +71,8 @@ impl<'n> Group<'n> {
         }
     }
 
-    /// Returns 1 plus the byte after so many of the name at a place of the order, 0 where the name
-    /// ends before.
+    /// Returns 1 plus the byte after the first `passed` of the name at an index of the order, 0
+    /// where the name ends before.
     #[inline(always)]
     fn next_at(&self, at: usize, passed: usize) -> usize
         ensures next { result ≡ next_in (names_of self.now) self.now.order passed at }
@@ -82,7 +85,7 @@ impl<'n> Group<'n> {
         }
     }
 
-    /// Returns the first place of the order between two whose next byte, plus 1, is not less than
+    /// Returns the first index of the order between two whose next byte, plus 1, is not less than
     /// this; the last one where all are less.
     #[inline(always)]
     fn first_from(&self, first: usize, end: usize, passed: usize, least: usize) -> usize
@@ -124,8 +127,8 @@ impl<'n> Group<'n> {
         true
     }
 
-    /// Flags the names that are the front, if the byte after it is a point, and returns whether
-    /// there are some.
+    /// Flags the names that are the front, if the byte after it is a dot, and returns whether there
+    /// are some.
     #[inline(always)]
     fn note_at(&self, run: Run, byte: u8, matched: &mut [bool; TOGETHER]) -> bool
         ensures { FlagsSome self.now matched.old matched.new run
@@ -164,8 +167,7 @@ impl<'n> Group<'n> {
         }
     }
 
-    /// Returns the run after one more byte, and flags the names that end before it, if it is a
-    /// point.
+    /// Returns the run after one more byte, and flags the names that end before it, if it is a dot.
     #[inline(always)]
     fn step(&self, run: Run, byte: u8, matched: &mut [bool; TOGETHER]) -> Run
         ensures { RunsOn self.now matched.old matched.new run (λ front. front ++ byte ∷ []) result }
@@ -189,6 +191,7 @@ impl<'n> Group<'n> {
 
     /// Returns the run after some of these bytes, one at least, and how many they are: as many as
     /// all names of the run go on with, and the next one.
+    // 30,000 names with a dot each over 30,000 variables take 0.10 s, before 0.79 s.
     #[inline(always)]
     fn hop(&self, run: Run, bytes: &[u8], matched: &mut [bool; TOGETHER]) -> (Run, usize)
         ensures some { 0 < length bytes.now → 0 < result.1 }
@@ -207,7 +210,7 @@ impl<'n> Group<'n> {
         }
     }
 
-    /// Returns the run after some bytes, and flags the names that end before a point in them.
+    /// Returns the run after some bytes, and flags the names that end before a dot in them.
     pub(crate) fn follow(&self, run: Run, bytes: &[u8], matched: &mut [bool; TOGETHER]) -> Run
         ensures { RunsOn self.now matched.old matched.new run (λ front. front ++ bytes.now) result }
     {
@@ -246,7 +249,7 @@ impl<'n> Group<'n> {
     }
 }
 
-/// Returns the places of the names in the order of their bytes.
+/// Returns the indexes of the names in the order of their bytes.
 fn order_of(names: &[String]) -> [u16; TOGETHER]
     requires { length names.now ≤ 16384 }
     ensures { IsOrder (map string_bytes names.now) result }
@@ -256,7 +259,7 @@ fn order_of(names: &[String]) -> [u16; TOGETHER]
     order
 }
 
-/// Puts the places of names in the order of their bytes.
+/// Puts the indexes of names in the order of their bytes.
 fn put_order(places: &mut [u16], names: &[String])
     requires count { length places.old ≡ length names.now }
     requires few { length names.now ≤ 16384 }
@@ -269,7 +272,7 @@ fn put_order(places: &mut [u16], names: &[String])
     sort(places, names);
 }
 
-/// Numbers places from 0 on.
+/// Numbers indexes from 0 on.
 fn number(places: &mut [u16])
     requires { length places.old ≤ 16384 }
     ensures len { length places.new ≡ length places.old }
@@ -280,7 +283,7 @@ fn number(places: &mut [u16])
     }
 }
 
-/// Sorts places of names by their bytes.
+/// Sorts indexes of names by their bytes.
 fn sort(places: &mut [u16], names: &[String])
     ensures permutation { IsPermutation places.old places.new }
     ensures sorted { IsSortedBy (comes_before (map string_bytes names.now)) places.new }
@@ -296,7 +299,7 @@ fn order_by(names: &[String], a: u16, b: u16) -> Ordering
     name_at(names, usize::from(a)).cmp(name_at(names, usize::from(b)))
 }
 
-/// Returns the bytes of the name at a place, none where there is no such place.
+/// Returns the bytes of the name at an index, none where there is no such index.
 #[inline(always)]
 fn name_at(names: &[String], place: usize) -> &[u8]
     ensures { result.now ≡ get_or (map string_bytes names.now) place [] }
@@ -307,7 +310,7 @@ fn name_at(names: &[String], place: usize) -> &[u8]
     }
 }
 
-/// Returns the bytes after so many.
+/// Returns the bytes after the first `passed`.
 #[inline(always)]
 fn behind(bytes: &[u8], passed: usize) -> &[u8]
     ensures { result.now ≡ drop passed bytes.now }

@@ -37,6 +37,7 @@ fn in_32_bits(number: usize) -> u32
 }
 
 /// Puts a row after the others.
+// The header of 184,002 codes takes 170.8 million instructions, with `Vec::push` 178.7.
 #[inline(always)]
 pub(crate) fn push(rows: &mut Vec<Row>, row: WideRow) -> Result<(), HeadFault>
     ensures items { IsNarrow row

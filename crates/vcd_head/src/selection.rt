@@ -11,13 +11,13 @@ use vcd_view::{HeadView, Kind};
 pub(crate) enum Match<'n> {
     // This much of the name is left.
     Rest(&'n [u8]),
-    // The name ended at a point.
+    // The name ended at a dot.
     Selected,
     // The name differs.
     Differs,
 }
 
-/// Returns whether the text is the name, or begins with it and a point.
+/// Returns whether the text is the name, or begins with it and a dot.
 pub(crate) fn is_or_goes_on(text: &[u8], name: &[u8]) -> bool
     ensures { result ≡ selects_path text.now name.now }
 {
@@ -27,7 +27,7 @@ pub(crate) fn is_or_goes_on(text: &[u8], name: &[u8]) -> bool
     }
 }
 
-/// Returns what a name says of a path that begins with this component and a point.
+/// Returns what a name says of a path that begins with this component and a dot.
 pub(crate) fn after_component<'n>(name: &'n [u8], component: &[u8]) -> Match<'n>
     ensures rest { GoesOnAfter result name.now (length component.now + 1) }
     ensures selects { (text : List ℕ)
@@ -46,7 +46,7 @@ pub(crate) fn after_component<'n>(name: &'n [u8], component: &[u8]) -> Match<'n>
 }
 
 /// Returns whether a name selects the variable of a row: the variable's path is the name, or begins
-/// with it and a point.
+/// with it and a dot.
 pub fn selects(view: HeadView<'_>, row: usize, name: &str) -> bool
     ensures { AnyVariable view.entry row (λ h v. result ≡ selects_path (row_path h row v) name.now) }
 {
@@ -105,6 +105,8 @@ fn parent_of(view: HeadView<'_>, row: usize) -> usize
 }
 
 /// Sets the marks of all variables and of the scopes around them.
+// No names are sorted or followed: their 88 KB of stack would be cleared. `cut` of a dump of 1 KB
+// takes 602 page faults, without this 656.
 fn mark_all(view: HeadView<'_>, marks: &mut [u8])
     requires { length marks.old ≡ length view.rows.now }
     ensures marks { (h : Header) → IsViewOf view.entry h
@@ -135,7 +137,7 @@ fn is_variable(view: HeadView<'_>, row: usize) -> bool
 }
 
 /// Sets the marks of the variables that some name selects and of the scopes around them; returns
-/// the place of the first name that selects nothing.
+/// the index of the first name that selects nothing.
 fn mark_selected(view: HeadView<'_>, names: &[String], marks: &mut [u8]) -> Option<usize>
     requires len { length marks.old ≡ length view.rows.now }
     requires few { length names.now ≤ 16384 }
@@ -159,7 +161,7 @@ fn mark_selected(view: HeadView<'_>, names: &[String], marks: &mut [u8]) -> Opti
     first_false(&matched, names.len())
 }
 
-/// Returns the place of the first flag that is not set, of so many.
+/// Returns the index of the first of `count` flags that is not set.
 fn first_false(flags: &[bool], count: usize) -> Option<usize>
     requires { count ≤ length flags.now }
     ensures { IsFirstFalse flags.now count result }
@@ -173,8 +175,8 @@ fn first_false(flags: &[bool], count: usize) -> Option<usize>
 }
 
 /// Marks the variables that the names select, all where there are no names, and the scopes around
-/// them: a mark is 1 there and 0 elsewhere. A name that selects nothing is refused by its place,
-/// the first one; the marks then hold anything.
+/// them: a mark is 1 there and 0 elsewhere. Fails with the index of the first name that selects
+/// nothing; what the marks are then is not said.
 pub fn select(view: HeadView<'_>, names: &[String], marks: &mut [u8]) -> Result<(), usize>
     requires marks { length marks.old ≡ length view.rows.now }
     ensures marks { (h : Header) → IsViewOf view.entry h

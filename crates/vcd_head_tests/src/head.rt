@@ -36,7 +36,7 @@ fn read(alloc: Global, text: &[u8], most: u64) -> Result<Head, (HeadFault, u64)>
     }
 }
 
-// The head of a text that is a header with so many declarations at most.
+// The head of a text that is a header with this many declarations at most.
 fn read_under(alloc: Global, text: &[u8], most: u64) -> Result<Head, HeadFault>
     requires { most ≤ 16777216 }
 {
@@ -52,7 +52,7 @@ fn read_good(alloc: Global, text: &[u8]) -> Result<Head, HeadFault> {
     read_under(alloc, text, 16_777_216)
 }
 
-// Rows of the header with nested scopes, by their places. The bytes of a new code lie before the
+// Rows of the header with nested scopes, by their indexes. The bytes of a new code lie before the
 // type of its first variable.
 const NESTED_ROWS: [(usize, Row); 5] = [
     (
@@ -309,7 +309,7 @@ fn needed(head: &Head) -> Need {
     need(head.view())
 }
 
-// Codes, and the places at which both look-ups find them.
+// Codes, and the indexes at which both look-ups find them.
 const FOUND: [(&[u8], Option<usize>); 8] = [
     (b"~", Some(0)),
     (b"!", Some(1)),
@@ -339,7 +339,7 @@ const CROWDED: &[u8] =
         $var wire 1 register1 h $end $var wire 1 register2 i $end \
         $var wire 1 0123456789abcdef j $end $enddefinitions $end\n";
 
-// Codes, and the places at which both look-ups find them among these.
+// Codes, and the indexes at which both look-ups find them among these.
 const FOUND_CROWDED: [(&[u8], Option<usize>); 14] = [
     (b"!", Some(0)),
     (b"1", Some(1)),
@@ -491,7 +491,7 @@ fn names(alloc: Global, texts: &[&str]) -> Result<Vec<String>, AllocError> {
     Ok(names)
 }
 
-// The marks of the seven rows, or the place of the refused name.
+// The marks of the seven rows, or the index of the refused name.
 fn marked(
     alloc: Global,
     head: &Head,
@@ -506,7 +506,7 @@ fn marked(
     Ok(select(view, &names, &mut marks).map(|_| marks))
 }
 
-// Names, and the marks of the seven rows, or the place of the name that is refused.
+// Names, and the marks of the seven rows, or the index of the name that is refused.
 const MARKED: [(&[&str], Result<[u8; 7], usize>); 6] = [
     (&[], Ok([1, 1, 1, 1, 1, 0, 0])),
     (&["tb.a"], Ok([1, 1, 0, 1, 1, 0, 0])),
@@ -532,7 +532,7 @@ const POINTS: &[u8] =
         $scope module a.b $end $var wire 1 ! c $end $var wire 1 ! d.e $end $upscope $end \
         $scope module f $end $upscope $end $enddefinitions $end\n";
 
-// The marks of its eleven rows, or the place of the refused name.
+// The marks of its eleven rows, or the index of the refused name.
 fn marked_points(
     alloc: Global,
     head: &Head,
@@ -547,7 +547,7 @@ fn marked_points(
     Ok(select(view, &names, &mut marks).map(|_| marks))
 }
 
-// Names in any order and repeated, and the marks of the eleven rows, or the place of the name that
+// Names in any order and repeated, and the marks of the eleven rows, or the index of the name that
 // is refused.
 const MARKED_POINTS: [(&[&str], Result<[u8; 11], usize>); 7] = [
     (&["a"], Ok([1, 1, 1, 0, 0, 1, 1, 1, 0, 0, 0])),

@@ -41,7 +41,7 @@ tally_outcome n =
     ++ count_line (codes "changes") (decimal n.changes)
     ++ count_line (codes "last") (number_or_dash n.last))
 
--- how many scopes stand around selected variables
+-- how many scopes are around selected variables
 abbrev pub scopes_around : List (List ℕ) → List Declaration → ℕ
 scopes_around names ds =
     let places = marked_places names ds in

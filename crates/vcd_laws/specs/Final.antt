@@ -68,7 +68,7 @@ abbrev pub is_settled_alone : ℕ → Seen → Bool
 is_settled_alone most (Seen.First ts) = is_settled Want.Merge most ts
 is_settled_alone most (Seen.All stream) = true
 
--- the same of each of these inputs, in order
+-- so it is of each of these inputs, in order
 abbrev pub AreSettledAlone : List Header → List Seen → Type 0
 AreSettledAlone hs [] = Unit {0}
 AreSettledAlone hs (s ∷ ss) = IsTrue (is_settled_alone (allowed_after hs) s)

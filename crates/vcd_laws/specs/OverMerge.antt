@@ -19,7 +19,7 @@ use Rattle.vcd_model.specs.Job.{Want, IsJob, request_of}
 use Rattle.vcd_laws.specs.Heads.{input_scope, under_input}
 use Rattle.vcd_laws.specs.Dumps.{AreReadable, over_merged}
 
--- the rows of an input's variables as they stand in the list of a merge: the path under the input's
+-- the rows of an input's variables as they are in the list of a merge: the path under the input's
 -- scope, type and size as they are, and the new code
 abbrev pub merged_listing : List Header → Header → List ℕ
 merged_listing earlier h =
@@ -35,8 +35,8 @@ ListOfMerge = (limit : ℕ) (name : List ℕ) (names : List (List ℕ)) (inputs 
     → over_merged Want.Listing limit name names inputs
     ≡ clean_outcome (flat_map (λ l. l) (each merged_listing (headers_of (dumps_of os))))
 
--- what `sample` writes for a time of input number n, as it stands in a sample of the merge: the
--- time scaled, the paths under the input's scope
+-- what `sample` writes for a time of input number n, as it is in a sample of the merge: the time
+-- scaled, the paths under the input's scope
 abbrev pub merged_lines : ℕ → ℕ → List Selected → List BodyItem → ℕ → List ℕ
 merged_lines n scale vs items t =
     flat_map (λ s. cond (code_of s.variable).event []
@@ -66,8 +66,8 @@ SampleOfMerge = (limit : ℕ) (name : List ℕ) (names : List (List ℕ)) (input
     (factor (headers_of (dumps_of os)) o.header) (selected wanted o.header.declarations)
     (items_in o)) ts)
 
--- the row that `edges` writes for a variable of input number n, as it stands in the edges of the
--- merge: the path under the input's scope
+-- the row that `edges` writes for a variable of input number n, as it is in the edges of the merge:
+-- the path under the input's scope
 abbrev pub merged_row : ℕ → List BodyItem → Selected → List ℕ
 merged_row n items s =
     let counts = counts_for items (code_of s.variable) in

@@ -31,7 +31,7 @@ abbrev pub PutsDue : {A E : Type 0} → List Code → List ℕ → Item → Regs
 PutsDue codes text item r time number written written' out out' result = (v : HeadView) (scale first : ℕ) (h : Header) (items : List BodyItem) (x : BodyItem) → v.codes.now ≡ codes → IsViewOf v h → AreRegsAfter items r → time ≡ scale * time_after items → number ≡ first → first + length h.codes < 2 ^ 64 → IsItem h.codes text item x
     → Takes out out' (due_with written (entry_for scale first h items x)) result × IfOk result (λ _. written' ≡ written_with written (entry_for scale first h items x))
 
--- where a walk over the items of an input stands
+-- where a walk over the items of an input is
 abbrev pub MergeStage : Type 0
 MergeStage = Stage Merging (Unit {0})
 
@@ -51,8 +51,8 @@ pub record TakesNext (v : HeadView) (s t : MergeStage) (result : Result (Unit {0
   pub small : (codes : List IdCode) (text : List ℕ) (x : BodyItem) → IsItem codes text plain.item x → is_too_large s.visit.factor x ≡ false
   pub puts : PutsDue v.codes.now plain.text.now plain.item s.regs s.visit.time s.visit.first s.visit.written t.visit.written s.out t.out result
 
--- behind some of the items ahead: the bytes in which they lie, what is known after them, the time
--- of the input, and the output
+-- after some of the items ahead: the bytes in which they lie, what is known after them, the time of
+-- the input, and the output
 pub record StageAhead : Type 0 where
   pub at : ℕ
   pub items : List BodyItem
@@ -61,7 +61,7 @@ pub record StageAhead : Type 0 where
   pub written : Option ℕ
   pub out : Device
 
--- behind the items before, these lie in the first n bytes ahead; this is known after them, and no
+-- after the items before, these lie in the first n bytes ahead; this is known after them, and no
 -- time is too large
 pub record IsAhead (scale : ℕ) (h : Header) (limit lines : ℕ) (bytes : List ℕ) (behind : List BodyItem) (n : ℕ) (items : List BodyItem) (r : Regs) (time : ℕ) : Type 0 where
   pub gave : GaveAhead h.codes limit lines bytes n behind items

@@ -8,7 +8,7 @@ use Rattle.vcd_merge.specs.Seat.{IsSeated, Spot}
 abbrev pub part_len : ℕ → List ℕ → ℕ
 part_len n xs = length xs / n
 
--- the part of the input at a place, where each has `len`
+-- the part of the input at an index, where each has `len`
 abbrev pub part : ℕ → ℕ → List ℕ → List ℕ
 part len place xs = take len (drop (place * len) xs)
 
@@ -34,7 +34,7 @@ spot_of (Some s) (Some rest) chunk token = Some (record { seat = s; rest = rest;
 spot_of (Some s) None chunk token = None
 spot_of None rest chunk token = None
 
--- what belongs to the input at a place, if there is one
+-- what belongs to the input at an index, if there is one
 abbrev pub spot_at : {X : Type 0} → (X → Option (List ℕ)) → List Seat → List X → List ℕ → List ℕ → ℕ → Option Spot
 spot_at rest seats sources chunks tokens place =
     spot_of (slice_get seats place) (option_map rest (slice_get sources place))

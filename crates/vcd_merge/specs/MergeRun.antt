@@ -1,5 +1,5 @@
--- What a whole merge leaves: what is left of its inputs, how much of each was read, and what stands
--- on the output.
+-- What a whole merge leaves: what is left of its inputs, how much of each was read, and what is on
+-- the output.
 use Rattle.std.specs.Prelude.{◌≡◌, ◌==◌, Bool, false, ℕ, List, [], ◌∷◌, ◌++◌, map, slice_get, slice_set, Some, None, Result, Ok, Err}
 use Rattle.vcd_model.specs.Header.{Header}
 use Rattle.vcd_model.specs.Input.{Input}
@@ -39,7 +39,7 @@ known_whole o = record { header = o.header; rest = o.rest; whole = Some o.stream
 abbrev pub known_first : Header → List Token → SeenBody
 known_first h ts = record { header = h; rest = ts; whole = None }
 
--- these first tokens of the input at a place settle the merge, were all of the others known
+-- these first tokens of the input at an index settle the merge, were all of the others known
 abbrev pub settles_among : List Opened → ℕ → Header → List Token → Bool
 settles_among os k h ts = bodies_settle (slice_set (map known_whole os) k (known_first h ts))
 

@@ -9,8 +9,7 @@ use Rattle.vcd_merge.specs.Seat.{GaveParked, Lane, Spot}
 use Rattle.vcd_merge.specs.declared.merge_state.Merge.{Merge}
 use Rattle.vcd_merge.specs.declared.seat.Seat.{Seat}
 
--- a seat where the merge begins: where its feed stands, and what is known of its items, is left
--- alone
+-- a seat where the merge begins: where its feed is, and what is known of its items, is left alone
 abbrev pub begun : ℕ → ℕ → Seat → Seat
 begun scale first s = record { parked = s.parked; regs = s.regs; factor = scale; time = 0; first = first; finished = false }
 

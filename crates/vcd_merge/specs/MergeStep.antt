@@ -37,7 +37,7 @@ is_going m = m.going
 abbrev pub left_of : List Seat → ℕ
 left_of seats = sum_by (λ (s : Seat). cond s.finished 0 (2 ^ 63 - parked_seen s.parked)) seats
 
--- the failures of the sources after a step of the input at a place
+-- the failures of the sources after a step of the input at an index
 abbrev pub failures_with : {A : Type 0} → List ℕ → ℕ → Result A Stop → List ℕ
 failures_with ns k result = slice_set ns k (get_or ns k 0 + reads_failed result)
 
@@ -75,7 +75,7 @@ abbrev pub cut_at : Option ℕ → Input → Input
 cut_at None i = i
 cut_at (Some n) i = failed_after n i
 
--- What a step from s to s' has read after these items. It is the turn of the input at this place:
+-- What a step from s to s' has read after these items. It is the turn of the input at this index:
 -- of it alone was read, and no more than a chunk past a token that comes after its items. Where a
 -- read failed after n bytes, its source has the others still. The other sources and seats stay.
 pub record ReadsOne {X : Type 0} (rest : X → Option (List ℕ)) (lanes : List Lane) (ds : List Dump) (s s' : Standing X) (k : ℕ) (cut : Option ℕ) : Type 0 where
@@ -100,7 +100,7 @@ pub record Finishes (old new : List Seat) (k : ℕ) : Type 0 where
   pub unfinished : before.finished ≡ false
   pub finished : after.finished ≡ true
 
--- an item may come after these: those of the merged list go before the place after the items of
+-- an item may come after these: those of the merged list go before the index after the items of
 -- each input that has not finished
 abbrev pub GoBefore : List Header → List Dump → List Seat → Type 0
 GoBefore hs ds seats = (k : ℕ) (d : Dump) (s : Seat) → slice_get ds k ≡ Some d → slice_get seats k ≡ Some s → s.finished ≡ false
@@ -114,8 +114,7 @@ pub record AreMarked (hs : List Header) (ds : List Dump) (seats : List Seat) : T
   pub marked : (k : ℕ) (d : Dump) (s : Seat) → slice_get ds k ≡ Some d → slice_get seats k ≡ Some s → s.regs.marked ≡ not (is_empty (marks d.items))
 
 module _ {X : Type 0} (rest : X → Option (List ℕ)) (hs : List Header) (lanes : List Lane) where
-  -- each input, with its header, has given the items of its dump, and its seat tells where it
-  -- stands
+  -- each input, with its header, has given the items of its dump, and its seat tells where it is
   pub record AreGiven (ds : List Dump) (s : Standing X) : Type 0 where
     pub lanes_are : map (λ l. l.header) lanes ≡ hs
     pub dumps_are : headers_of ds ≡ hs
@@ -131,11 +130,11 @@ module _ {X : Type 0} (rest : X → Option (List ℕ)) (hs : List Header) (lanes
     pub given : AreGiven ds s
     pub written : s.written ≡ last_written (merged_items ds)
 
-  -- the item that comes next, of the input at a place
+  -- the item that comes next, of the input at an index
   abbrev pub next_item : ℕ → Dump → BodyItem → Keyed
   next_item k d x = keyed_after (factor hs d.header) k (renamed (take k hs) d.header) d.items x
 
-  -- it is the turn of the input at this place, and after its items it has this fault; where a read
+  -- it is the turn of the input at this index, and after its items it has this fault; where a read
   -- failed, what is left of it is cut
   pub record HasFault (ds : List Dump) (s : Standing X) (input line fault : ℕ) (cut : Option ℕ) : Type 0 where
     pub next : IsNext s.seats input

@@ -21,7 +21,7 @@ use Rattle.vcd_body.specs.declared.answer.Stop.{Stop}
 use Rattle.vcd_body.specs.declared.answer.Stop.TheVariants.{Write}
 use Rattle.vcd_merge.specs.declared.seat.Seat.{Seat}
 
--- where an input stands after some of its items, and the output with it
+-- where an input is after some of its items, and the output with it
 pub record Stage (X : Type 0) : Type 0 where
   pub items : List BodyItem
   pub written : Option ℕ
@@ -58,7 +58,7 @@ pub data Trail {X : Type 0} (rest : X → Option (List ℕ)) (failures : X → �
   Stands : Trail rest failures scale first l before a a
   Further : (b c : Stage X) (so_far : Trail rest failures scale first l before a b) (on : TakesOn rest failures scale first l before b c) → Trail rest failures scale first l before a c
 
--- such items lead to a stage like this one: behind the same items, with the same output, the same
+-- such items lead to a stage like this one: after the same items, with the same output, the same
 -- rest of the source and windows
 pub record Reaches {X : Type 0} (rest : X → Option (List ℕ)) (failures : X → ℕ) (scale first : ℕ) (l : Lane) (before : ℕ) (a b : Stage X) : Type 0 where
   pub mid : Stage X
@@ -89,7 +89,7 @@ AheadTurns rest failures k scale first l before a written s f out (Ok false) = (
 AheadTurns rest failures k scale first l before a written s f out (Ok true) = RunTurns {A = Bool} rest failures k scale first l before a written (spot_with s f) out (Ok true)
 AheadTurns rest failures k scale first l before a written s f out (Err e) = RunTurns {A = Bool} rest failures k scale first l before a written (spot_with s f) out (Err Write)
 
--- the same from what the input has in a merge
+-- how a turn ends, from what the input has in a merge
 pub record TurnsAt {X A : Type 0} (rest : X → Option (List ℕ)) (failures : X → ℕ) (sources : List X) (k scale first : ℕ) (l : Lane) (before : ℕ) (items : List BodyItem) (written written' : Option ℕ) (s s' : Spot) (out out' : Device) (result : Result A Stop) : Type 0 where
   pub seat : Seat
   pub source : X
@@ -115,7 +115,7 @@ pub record GoesOn (ds : List Dump) (seats : List Seat) (k : ℕ) (d' : Dump) : T
 abbrev pub GoOn : (ds : List Dump) (seats : List Seat) → (ds' : List Dump) (seats' : List Seat) → Type 0
 GoOn ds seats ds' seats' = (k : ℕ) (d' : Dump) (s' : Seat) → slice_get ds' k ≡ Some d' → slice_get seats' k ≡ Some s' → s'.finished ≡ false → GoesOn ds seats k d'
 
--- no other input that has not finished stands before this place of the input number k
+-- no other input that has not finished comes before this index of the input number k
 abbrev pub IsReached : List Header → List Dump → List Seat → ℕ → Key → Type 0
 IsReached hs ds seats k place = (j : ℕ) (d : Dump) (s : Seat) → j ≢ k → slice_get ds j ≡ Some d → slice_get seats j ≡ Some s → s.finished ≡ false → key_lt place (key_after (factor hs d.header) j d.items) ≡ true
 

@@ -1,4 +1,4 @@
--- Where an input of a merge stands, and what a step of it gives.
+-- Where an input of a merge is, and what a step of it gives.
 use Rattle.std.specs.Prelude.{◌≡◌, ◌≢◌, ℕ, ◌+◌, ◌*◌, ◌^◌, ◌<◌, ◌==◌, ◌⊎◌, Bool, true, false, List, [], ◌∷◌, ◌++◌, length, Option, Some, None, Result, Ok, Err}
 use Rattle.std.specs.List.{AllByRecursion}
 use Rattle.vcd_model.specs.Input.{Clean, Input}
@@ -66,8 +66,8 @@ pub record HasDump (scale limit : ℕ) (h : Header) (front : List Token) (i : In
   pub tokens : (stream_of limit i).tokens ≡ front ++ rest
   pub is : dump_of scale h (body_fault_of (stream_of limit i) (read_body h.codes rest)) (read_body h.codes rest) ≡ record { header = h; items = items; fault = fault }
 
--- after these items the input stands so: `scale` is the factor of its times, `first` the number of
--- its first code
+-- what holds of an input after these items: `scale` is the factor of its times, `first` the number
+-- of its first code
 pub record AtSeat (scale first : ℕ) (l : Lane) (items : List BodyItem) (s : Spot) : Type 0 where
   pub gave : GaveParked l.header.codes l.input l.front items s.rest s.chunk s.token s.seat.parked s.seat.regs
   pub small : AllByRecursion (λ x. is_too_large scale x ≡ false) items
@@ -99,7 +99,7 @@ abbrev pub ReadsNoMore : (limit chunk : ℕ) → Lane → List BodyItem → Inpu
 ReadsNoMore limit chunk l items left rest = (old : Supply) (failures : ℕ) (settled : List Token → Bool) → ((ts : List Token) → HaveJust l.header.codes items ts → settled ts ≡ false)
     → ReadsAsNeeded limit chunk old (record { rest = rest; failures = failures }) left l.front settled
 
--- the same of an input that stands so
+-- no more of an input was read, by where it is
 abbrev pub HasReadNoMore : Lane → List BodyItem → Input → Spot → Type 0
 HasReadNoMore l items left s = ReadsNoMore (length s.token) (length s.chunk) l items left s.rest
 

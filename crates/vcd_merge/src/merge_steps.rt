@@ -269,7 +269,7 @@ pub fn merge_step<S: Source, W: Sink>(
 }
 
 impl<'h, 's> Merge<'h, 's> {
-    /// Takes all steps that are left, to the end of the merge.
+    /// Takes all steps that are left, to the end of the merge. Fails where a step does.
     pub fn finish<S: Source, W: Sink>(
         &mut self,
         sources: &mut [S],

@@ -46,7 +46,9 @@ fn put_due_time<W: Sink>(
 /// Writes what is due with a change, by the row of its code: an event inside a section is left out;
 /// any other is written under its new code after the line of its time.
 // Cold, and not inlined, for the walk over the items ahead: the look-up there gives the size of
-// most codes. It takes no struct: one would be cleared for each item.
+// most codes. It takes no struct: one would be cleared for each item. With one here and in
+// `put_renamed_text`, and each bit put in lower case, `merge` of scalars took 156.0 an item, as it
+// is 143.4.
 #[cold]
 #[inline(never)]
 fn put_unsized<W: Sink>(
@@ -175,7 +177,7 @@ impl Visit<()> for Merging {
 }
 
 /// Takes the items of an input that lie whole ahead in its feed's chunk, as long as its time is
-/// before this one: the feed goes on after them at once. Returns whether the time is no longer
+/// before this one: the feed moves past them in one call. Returns whether the time is no longer
 /// early. Where a keyword comes none is taken.
 #[inline(never)]
 fn take_ahead<S: Source, W: Sink>(
@@ -237,8 +239,8 @@ fn too_large(input: usize, line: u64) -> Stop
 }
 
 /// Takes the next item of an input over its feed, and writes what is due with it. A read of it may
-/// wait: by then nothing is kept back of what is due. The seat's registers are those after it; the
-/// place of the feed is left to the caller.
+/// wait: by then nothing is kept back of what is due. The seat's registers are those after it;
+/// where the feed is parked is left to the caller.
 #[inline(always)]
 fn take_item<S: Source, W: Sink>(
     head: &Head,
@@ -288,8 +290,9 @@ fn take_item<S: Source, W: Sink>(
 }
 
 /// Takes items of an input over its feed as long as its time is before the run's end: one item, and
-/// those that follow while it is. Those that lie ahead are taken first, and what is due is passed on
-/// before more is read.
+/// those that follow while it is. Those that lie ahead are taken first, and what is due is passed
+/// on before more is read.
+// Most items so cost no look at the seats and no new feed.
 #[inline(always)]
 fn take_run<S: Source, W: Sink>(
     head: &Head,

@@ -45,6 +45,7 @@ fn end_before(seats: &[Seat], input: usize, other: usize) -> u64
 }
 
 /// Inputs that have not finished, in the order of their turns, the next one last.
+// Sorted, since a pass over all seats for each run grows with their number.
 #[derive(Clone, Copy)]
 pub(crate) struct Order {
     inputs: [u8; 64],
@@ -57,8 +58,8 @@ pub(crate) struct Order {
 impl Order {
     ghost use Rattle.std.specs.Prelude.{◌≤◌};
 
-    /// Returns where an input that is not in it goes: from this place on all come before it, and
-    /// below it none.
+    /// Returns the index at which an input that is not in the order goes: from there on all come
+    /// before it, and below it none.
     #[inline(always)]
     fn place_for(&self, input: usize, seats: &[Seat]) -> usize
         requires input { input < length seats.now }
@@ -151,7 +152,7 @@ impl Order {
         self.len == 0
     }
 
-    /// Returns the time before which an input goes before those in so many places.
+    /// Returns the time before which an input comes before the first `places` that wait.
     #[inline(always)]
     fn end_of(&self, input: usize, places: usize, seats: &[Seat]) -> u64
         requires places { places ≤ self.now.len }

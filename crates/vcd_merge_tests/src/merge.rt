@@ -1,4 +1,4 @@
-// Merges of one input and of several, so many bytes at a time.
+// Merges of one input and of several, this many bytes at a time.
 ghost use Rattle.std.specs.Prelude.{◌≡◌, ◌-◌, ◌^◌, ◌<◌, ◌≤◌, ℕ, All, IfOk, length};
 ghost use Rattle.vcd_text.specs.Watch.{failed_calls};
 ghost use Rattle.vcd_tools.specs.MergeParts.{AreParts, SameLengths, part_len};
@@ -127,8 +127,8 @@ fn begin_all<'t>(
     Ok(inputs)
 }
 
-// How a merge of these texts ends, so many bytes of each at a time, at once or item by item, and
-// what it writes.
+// How a merge of these texts ends, this many bytes of each at a time, in one call or item by item,
+// and what it writes.
 fn merge_of(
     alloc: Global,
     texts: &[&[u8]],
@@ -163,8 +163,8 @@ fn merge_of(
     Ok((answer, out.device))
 }
 
-// A merge of these texts writes this and has this answer, however many bytes are read at a time, at
-// once and item by item.
+// A merge of these texts writes this and has this answer, however many bytes are read at a time, in
+// one call and item by item.
 fn gives<R: Abort + AllocGlobal>(
     rt: &R,
     texts: &[&[u8]],

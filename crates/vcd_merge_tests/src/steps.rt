@@ -56,7 +56,7 @@ fn merge_by_steps<S: Source, W: Sink>(
     take_steps(&mut merge, sources, windows, out)
 }
 
-// Merges these inputs at once, or item by item.
+// Merges these inputs in one call, or item by item.
 pub(crate) fn merge_as<S: Source, W: Sink>(
     by_steps: bool,
     heads: &[Head],

@@ -28,11 +28,11 @@ abbrev pub header_settles : Request → Header → Bool
 header_settles Request.Listing h = true
 header_settles task h = is_some (first_unmatched (names_of task) h.declarations)
 
--- these first tokens behind the header settle it
+-- these first tokens after the header settle it
 abbrev pub is_settled_behind : Request → Header → List Token → Bool
 is_settled_behind task h ts = header_settles task h || body_settles task h ts
 
--- the same, where times that cannot be told in ticks are refused
+-- whether they settle it, where times that ticks cannot express are refused
 abbrev pub is_settled_by : Result Request Refusal → Header → List Token → Bool
 is_settled_by (Ok task) h ts = is_settled_behind task h ts
 is_settled_by (Err refusal) h ts = true
@@ -52,6 +52,6 @@ is_over AtLast = true
 unfoldable pub is_header_over : ℕ → List Token → Bool
 is_header_over most ts = is_over (reading_of (header_grammar most) ts).ending
 
--- these first tokens of an input with so many declarations allowed settle it
+-- these first tokens of an input with this many declarations allowed settle it
 unfoldable pub is_settled : Want → ℕ → List Token → Bool
 is_settled want most ts = let r = reading_of (header_grammar most) ts in is_settled_at want r r.ending

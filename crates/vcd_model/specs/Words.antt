@@ -8,7 +8,7 @@ use Rattle.vcd_model.specs.Ticks.{Moment}
 use Rattle.vcd_model.specs.Outcome.{Outcome, program_line}
 use Rattle.vcd_model.specs.Job.{Want, is_number, moment_of, has_unit, do_rise, outcome}
 
--- a command with its words: names, the times behind `--from`, `--to` and `--at`, files
+-- a command with its words: names, the times after `--from`, `--to` and `--at`, files
 pub data Command : Type 0 where
   Check : Command
   Listing : Command
@@ -18,7 +18,7 @@ pub data Command : Type 0 where
   Edges : (names : List (List ℕ)) → Command
   Merge : (files : List (List ℕ)) → Command
 
--- a command, and the word behind `--token-limit` where there is one
+-- a command, and the word after `--token-limit` where there is one
 pub record Words : Type 0 where
   pub command : Command
   pub limit : Option (List ℕ)
@@ -100,8 +100,8 @@ abbrev pub sample_of : List (List ℕ) → Result (List Moment) UseFault → Res
 sample_of names (Ok times) = cond (not (has_unit times) && not (do_rise (map (λ m. m.number) times))) (Err NotRising) (Ok (Want.Sample times names))
 sample_of names (Err f) = Err f
 
--- what a command asks for; the times of a sample stand between commas, and a merge has at most 64
--- files
+-- what a command asks for; the times of a sample have commas between them, and a merge has at most
+-- 64 files
 abbrev pub want_of : Command → Result Want UseFault
 want_of Check = Ok Want.Check
 want_of Listing = Ok Want.Listing

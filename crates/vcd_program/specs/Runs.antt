@@ -88,7 +88,7 @@ pub data RunsOn {H I : Type 0} (words : List Text) (opens : H → Option Text �
   NoMatches : (why : ErrorKind) (is : (why ≡ kind.OutOfMemory) ⊎ IsAmong why (fault_of program_app words)) (only : takes program_app words ≡ true → why ≡ kind.OutOfMemory) (same : host' ≡ host)
       (answers : Answers why out out' err err' status) → RunsOn words opens rest failures host host' out out' err err' status
 
--- ---- the same, by what inputs, the output and the error stream tell of themselves
+-- ---- runs, by what inputs, the output and the error stream say of themselves
 
 abbrev pub RunsMatches : {H I W E : Type 0} → (H → Option Text → Result I OpenFault → H → Type 0) → Ghosts I → Sinks W → Sinks E → ArgMatches → (host host' : H) → (out out' : W) → (err err' : E) → ℕ → Type 0
 RunsMatches opens g w e matches host host' out out' err err' status = Runs opens g.rest g.failures (words_used matches) (inputs_asked matches) host host' (w.device out) (w.device out') (e.device err) (e.device err') status

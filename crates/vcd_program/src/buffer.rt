@@ -5,6 +5,7 @@ use std::alloc::{AllocError, Global};
 use std::simd::prelude::*;
 
 /// The most bytes that wait.
+// 65,536 are no faster, and a reader of a live pipe would wait longer.
 pub(crate) const ROOM: usize = 8_192;
 
 /// The most bytes that are copied by one copy of this many, whatever their number.
@@ -16,7 +17,7 @@ pub(crate) const FEW: usize = 8;
 /// The most bytes that `push_parts` copies.
 const PARTS: usize = 1 + SHORT + FEW;
 
-/// Bytes that wait, one after the other.
+/// The bytes that a sink has taken and its device has not, one after the other.
 #[derive(Drop)]
 pub(crate) struct Buffer {
     bytes: Vec<u8>,
@@ -27,7 +28,7 @@ pub(crate) struct Buffer {
 
 /// Copies bytes over as many others.
 // As many as `merge` writes most often are read before one is written: else the compiler asks
-// whether the two overlap.
+// whether the two overlap. `merge` of scalars takes 135.6 an item, without these arms 142.4.
 #[inline(always)]
 fn copy(from: &[u8], to: &mut [u8])
     requires { length to.old ≡ length from.now }
@@ -57,7 +58,7 @@ fn copy(from: &[u8], to: &mut [u8])
     }
 }
 
-/// Copies the first 64 bytes to a place.
+/// Copies the first 64 bytes to an offset.
 #[inline(always)]
 fn copy_short(to: &mut [u8], place: usize, from: &[u8])
     requires room { place + 64 ≤ length to.old }
@@ -76,7 +77,7 @@ fn together(bytes: [u8; 8]) -> [u8; 8]
     u64::from_le_bytes(bytes).to_le_bytes()
 }
 
-/// Copies these bytes to a place.
+/// Copies these bytes to an offset.
 #[inline(always)]
 fn copy_few(to: &mut [u8], place: usize, from: [u8; 8])
     requires room { place + 8 ≤ length to.old }
@@ -86,7 +87,9 @@ fn copy_few(to: &mut [u8], place: usize, from: [u8; 8])
     to[place..place + 8].copy_from_slice(&together(from));
 }
 
-/// Copies a byte, the first n of `from` and the eight of `end` to a place.
+/// Copies a byte, the first n of `from` and the eight of `end` to an offset.
+// The front is always one copy of 64: a copy of a length that is not known is a call, 12.2 more an
+// item of Verilator's.
 #[inline(always)]
 fn copy_parts(to: &mut [u8], place: usize, first: u8, from: &[u8], n: usize, end: [u8; 8])
     requires few { n ≤ 64 }
@@ -166,7 +169,7 @@ impl Buffer {
         self.len = place + 1 + n + m;
     }
 
-    /// Removes so many bytes from the front.
+    /// Removes the first n bytes.
     pub(crate) fn remove_front(&mut self, n: usize)
         requires { n ≤ self.old.len }
         ensures kept { kept self.new ≡ drop n (kept self.old) }

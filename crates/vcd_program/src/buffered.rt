@@ -14,6 +14,8 @@ use vcd_text::{Sink, WriteFailed};
 ///
 /// A write of the device fails where it returns any error, also that it was interrupted, and where
 /// it takes nothing. What such a write leaves stays in the buffer.
+// A write that fits is a copy in place. A `BufWriter` sets pointer, length and room of its vector
+// anew: `merge` of scalars takes 135.6 an item, with it 152.6; of 27,505 codes 226.3, 264.3.
 pub struct Buffered<D: Write + Drop> {
     device: D,
     buffer: Buffer,
@@ -83,7 +85,7 @@ impl<D: Write + Drop> Buffered<D> {
         Ok(())
     }
 
-    /// Makes room for so many bytes: writes what is in the buffer, where it has no room for them.
+    /// Makes room for n bytes: writes what is in the buffer, where it has no room for them.
     fn make_room(&mut self, n: usize) -> Result<(), WriteFailed>
         requires { n ≤ 8192 }
         ensures room { OnOk result (self.new.buffer.len + n ≤ 8192) }

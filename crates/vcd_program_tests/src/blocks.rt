@@ -62,8 +62,8 @@ fn are(alloc: Global, lens: &[usize], blocks: &[usize]) -> Result<bool, AllocErr
     Ok(blocks_of(alloc, lens)?.as_slice() == blocks)
 }
 
-// The blocks of three texts where the buffer has room for the second one at once, but not for the
-// parts of the third one.
+// The blocks of three texts where the buffer has room for the second one as a whole, but not for
+// the parts of the third one.
 fn blocks_of_parts(alloc: Global) -> Result<Vec<usize>, AllocError> {
     let bytes = [b'x'; 9_000];
     let mut device = Noted::new(alloc, false, usize::MAX);

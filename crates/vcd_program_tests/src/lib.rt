@@ -1,5 +1,5 @@
-//! The tests of `vcd_program`: command lines over a host in memory, files of the machine that cannot
-//! be read, and the buffer of an output.
+//! The tests of `vcd_program`: command lines over a host in memory, files of the machine that
+//! cannot be read, and the buffer of an output.
 #![tactic(auto)]
 
 #[cfg(test)]

@@ -15,8 +15,8 @@ pub data CallEnd : Type 0 where
 abbrev pub HasNotFailed : {X : Type 0} {g : Ghosts X} → Feed X g → Type 0
 HasNotFailed f = answer_of f ≢ Some (Err halt.ReadFailed)
 
--- The loans and lengths stay, and what was looked at grows. A failure of the source is told where
--- the source failed, and nothing else where it did.
+-- The loans and lengths stay, and what was looked at grows. The end is a failure of the source just
+-- where the source failed.
 pub record Advances {X : Type 0} {g : Ghosts X} (failures : X → ℕ) (old new : Feed X g) (end : CallEnd) : Type 0 where
   pub loans : SameLoans old new
   pub limit : limit_of new ≡ limit_of old

@@ -1,4 +1,4 @@
--- What stands ahead in a feed's chunk, and how far it was looked over.
+-- What is ahead in a feed's chunk, and how far it was looked over.
 use Rattle.std.specs.Prelude.{◌≡◌, ℕ, ◌+◌, ◌-◌, ◌<◌, ◌≤◌, List, [], ◌∷◌, ◌++◌, length, slice_range}
 use Rattle.vcd_model.specs.Tokens.{Token}
 use Rattle.vcd_text.specs.Passed.{AreWhite, IsRun, Passed, line_ahead}
@@ -35,8 +35,8 @@ longest_of a = a.limit
 abbrev pub start_of : Ahead → List ℕ → ℕ
 start_of a token = passed_of a - length token - 1
 
--- The next token was taken, from one place ahead to another. It is a whole run of other bytes; only
--- white bytes stand before it, or none, and one white byte was passed after it.
+-- The next token was taken, from one offset ahead to another. It is a whole run of other bytes;
+-- only white bytes come before it, or none, and one white byte was passed after it.
 pub record TakesToken (a a' : Ahead) (token : List ℕ) : Type 0 where
   -- whatever tokens were passed before, it was passed after them
   pub gives : (lines : ℕ) (ts : List Token) → Passed (longest_of a) lines (bytes_of a) (passed_of a) ts → Passed (longest_of a) lines (bytes_of a) (passed_of a') (ts ++ record { bytes = token; line = line_ahead lines (bytes_of a) (start_of a' token) } ∷ [])

@@ -61,7 +61,7 @@ answer_end (Ok next) = GoesOn
 answer_end (Err ReadFailed) = Fails
 answer_end (Err halt) = Ends
 
--- the answer is right for each input of which tokens have been given, and the feed stands behind it
+-- the answer is right for each input of which tokens have been given, and the feed is after it
 abbrev pub GivesNext : {X : Type 0} {g : Ghosts X} → (old new : Feed X g) → Result Next Halt → Type 0
 GivesNext old new result = (i : Input) (given : List Token) → HasGiven i given old
     → NextGives (λ j ts. HasGiven j ts new) (limit_of old) i given result (token_of new) (seen new)
@@ -70,7 +70,7 @@ GivesNext old new result = (i : Input) (given : List Token) → HasGiven i given
 abbrev pub LeavesUnseen : {X : Type 0} {g : Ghosts X} → (old new : Feed X g) → Result Next Halt → Type 0
 LeavesUnseen old new result = result ≡ Err ReadFailed → (i : Input) (given : List Token) → HasGiven i given old → GaveOnlySeen i new
 
--- what is shown behind an answer, and which answer comes again
+-- what is shown after an answer, and which answer comes again
 pub record Answers {X : Type 0} {g : Ghosts X} (old new : Feed X g) (result : Result Next Halt) : Type 0 where
   -- the end and a halt are returned again, and nothing is read
   pub settles : result ≢ Ok token → answer_of new ≡ Some result

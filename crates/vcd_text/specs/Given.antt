@@ -1,4 +1,4 @@
--- Where a feed stands in its input, by its registers. No caller needs it.
+-- Where a feed is in its input, by its registers. No caller needs it.
 use Rattle.std.specs.Prelude.{◌≡◌, ℕ, ◌+◌, ◌-◌, ◌≤◌, List, ◌++◌, length, take, drop, slice_range, Option, Some, None, IfSome}
 use Rattle.vcd_model.specs.Input.{Input, Mark, Clean, Failed}
 use Rattle.vcd_model.specs.Tokens.{Token, halt_place}
@@ -14,7 +14,7 @@ use Rattle.vcd_text.specs.declared.registers.Phase.{Phase}
 use Rattle.vcd_text.specs.declared.registers.Phase.TheVariants.{Going, Ended, Halted}
 
 -- the first p bytes of the text were looked at, and the chunk and the source have the others; a
--- token has begun at place r
+-- token has begun at offset r
 pub record AtPlace (limit : ℕ) (rest : Option (List ℕ)) (chunk text : List ℕ) (given : List Token) (at end p r line_feeds : ℕ) : Type 0 where
   pub more : List ℕ
   pub known : rest ≡ Some more
@@ -23,12 +23,12 @@ pub record AtPlace (limit : ℕ) (rest : Option (List ℕ)) (chunk text : List �
   pub live : HasLookedAt limit text p r given
   pub line_feeds_are : line_feeds ≡ line_feeds_in (take p text)
 
--- n bytes of a token have begun where the registers stand in the text, and these tokens have ended
+-- n bytes of a token have begun where the registers are in the text, and these tokens have ended
 pub record At (limit : ℕ) (rest : Option (List ℕ)) (chunk : List ℕ) (p : Parked) (text : List ℕ) (given : List Token) (n : ℕ) : Type 0 where
   pub place : AtPlace limit rest chunk text given p.at p.end (looked p) (looked p - n) p.line_feeds
   pub begun : n ≤ looked p
 
--- no halt of the input stands before place p
+-- no halt of the input comes before offset p
 abbrev pub NoHaltBefore : ℕ → Input → ℕ → Type 0
 NoHaltBefore limit i p = IfSome (halt_place limit i) (λ place. p ≤ place)
 

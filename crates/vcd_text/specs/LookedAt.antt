@@ -4,16 +4,16 @@ use Rattle.std.specs.List.{range_with_len}
 use Rattle.vcd_model.specs.Bytes.{is_white_space}
 use Rattle.vcd_model.specs.Tokens.{Token, begins_token, run_at, end_at, token_at}
 
--- no token goes on at the place: it is the first one, or stands after white space
+-- no token goes on at the offset: it is the first one, or comes after white space
 abbrev pub is_apart : List ℕ → ℕ → Bool
 is_apart text zero = true
 is_apart text (suc i) = is_white_space (slice_index text i)
 
--- the next n places from a on at which tokens begin
+-- the next n offsets from a on at which tokens begin
 abbrev pub places_from : List ℕ → ℕ → ℕ → List ℕ
 places_from text a n = filter (begins_token text) (range_with_len a n)
 
--- the bytes before place p were looked at, and no halt stands at one of them. Since place r a token
+-- the bytes before offset p were looked at, and no halt is at one of them. Since offset r a token
 -- goes on (none where r is p), and these tokens have ended before it
 pub record HasLookedAt (limit : ℕ) (text : List ℕ) (p r : ℕ) (given : List Token) : Type 0 where
   pub order : r ≤ p

@@ -5,17 +5,17 @@ use Rattle.vcd_model.specs.Tokens.{Token, end_of_tokens, halt_place, stream_of}
 use Rattle.vcd_model.specs.Laws.{IsPrefixOf}
 use Rattle.vcd_text.specs.Device.{Supply}
 
--- at most a chunk was read past this place: what the source has still, this rest, is all of the
--- input behind that
+-- at most a chunk was read past this offset: what the source has still, this rest, is all of the
+-- input after that
 abbrev pub Near : ℕ → Option (List ℕ) → ℕ → Input → Type 0
 Near chunk rest place i = IfSome rest (λ more. length i.bytes ≤ place + chunk + length more)
 
--- what the source has still is all of the input behind the first n bytes
+-- what the source has still is all of the input after the first n bytes
 abbrev pub HasRest : Option (List ℕ) → ℕ → Input → Type 0
 HasRest rest n i = rest ≡ Some (drop n i.bytes)
 
--- What was read of an input behind these first tokens, for work that is settled by the tokens
--- behind them: no more than it needs, and a chunk. The source was `old` before, and is `new` now.
+-- What was read of an input after these first tokens, for work that is settled by the tokens after
+-- them: no more than it needs, and a chunk. The source was `old` before, and is `new` now.
 pub data ReadsAsNeeded (limit chunk : ℕ) (old new : Supply) (i : Input) (front : List Token) (settled : List Token → Bool) : Type 0 where
   -- nothing
   Nothing : (same : new ≡ old) → ReadsAsNeeded limit chunk old new i front settled

@@ -17,7 +17,7 @@ use Rattle.vcd_text.specs.declared.answer.Next.TheVariants.{Token, Finish}
 abbrev pub line_feeds_in : List ℕ → ℕ
 line_feeds_in bytes = count_by (λ b. b == 10) bytes
 
--- whether the byte at this place is white
+-- whether the byte at this offset is white
 abbrev pub is_white_at : List ℕ → ℕ → Bool
 is_white_at bytes at = is_white_space (slice_index bytes at)
 
@@ -33,7 +33,7 @@ gathered p d = record p { at = p.at + d; size = p.size + d }
 abbrev pub ended : List ℕ → Parked → ℕ → Parked
 ended chunk p d = record p { at = p.at + d + 1; size = p.size + d; line_feeds = p.line_feeds + (if slice_index chunk (p.at + d) == 10 then 1 else 0) }
 
--- the registers after the byte of white space at this place
+-- the registers after the byte of white space at this offset
 abbrev pub stepped_past : List ℕ → ℕ → Parked → Parked
 stepped_past chunk at p = record p { at = at + 1; line_feeds = p.line_feeds + (if slice_index chunk at == 10 then 1 else 0) }
 

@@ -58,7 +58,7 @@ impl White {
         }
     }
 
-    /// Returns that the byte before this place is white.
+    /// Returns white space of which only the byte before this offset is known.
     #[inline(always)]
     fn before(next: usize) -> Self
         ensures next { result.next ≡ next }
@@ -72,8 +72,10 @@ impl White {
     }
 }
 
-/// The tokens ahead in a feed's chunk, up to a place that needs the feed itself. A copy of it is a
-/// place to go back to.
+/// The tokens ahead in a feed's chunk, up to one for which the feed itself is needed. A copy of it
+/// is a position to go back to.
+// Offset, lines and token of a feed are memory that each token changes. Here they are registers,
+// and line feeds are counted once for all items (`count_line_feeds`).
 #[derive(Clone, Copy)]
 pub struct Ahead<'a> {
     bytes: &'a [u8],
@@ -112,8 +114,8 @@ impl<'a> Ahead<'a> {
         self.at
     }
 
-    /// Returns the bytes that it looks over, so that more of them than a token's can be looked at
-    /// at once.
+    /// Returns the bytes that it looks over, so that a caller can look at more of them than a
+    /// token's in one load.
     #[inline(always)]
     pub fn bytes(&self) -> &'a [u8]
         ensures { result.now ≡ bytes_of self.now }
@@ -121,8 +123,8 @@ impl<'a> Ahead<'a> {
         self.bytes
     }
 
-    /// Returns the next token, if it is whole. White bytes before it are passed with it. Where it
-    /// is not whole, `Feed::next` goes on. Near the end of the bytes none is given either.
+    /// Returns the next token, if it is whole ahead. White bytes before it are passed with it. None
+    /// where it is not whole, too long, or near the end of the bytes: that is left to `Feed::next`.
     // With a loop over the white bytes here, `check` of vectors takes 5 % more instructions.
     #[inline(always)]
     pub fn next(&mut self) -> Option<&'a [u8]>
@@ -141,9 +143,9 @@ impl<'a> Ahead<'a> {
         self.take(start, white)
     }
 
-    /// Returns the next token, if it begins at once, has two bytes and a line feed after them. Else
-    /// `next` may give one. It looks at these three bytes alone, and forgets what white space it
-    /// has seen: it is for a run of such tokens.
+    /// Returns the next token, if it begins right here, has two bytes and a line feed after them.
+    /// None else; then `next` may give one. It looks at these three bytes alone, and forgets what
+    /// white space it has seen: it is for a run of such tokens.
     #[inline(always)]
     pub fn next_short(&mut self) -> Option<&'a [u8]>
         ensures takes { IfSome result (λ token. TakesToken self.old self.new token.now) }
@@ -157,9 +159,9 @@ impl<'a> Ahead<'a> {
         self.take(at, White::before(at + 3))
     }
 
-    /// Returns the next token, if it begins at once, has at most 15 bytes and a line feed after
-    /// them. Else `next` may give one. It looks at 16 bytes at once, and forgets what white space
-    /// it has seen: it is for a run of lines.
+    /// Returns the next token, if it begins right here, has at most 15 bytes and a line feed after
+    /// them. None else; then `next` may give one. It looks at 16 bytes in one load, and forgets
+    /// what white space it has seen: it is for a run of lines.
     #[inline(always)]
     pub fn next_near(&mut self) -> Option<&'a [u8]>
         ensures takes { IfSome result (λ token. TakesToken self.old self.new token.now) }
@@ -197,7 +199,7 @@ impl<'a> Ahead<'a> {
         self.take(start, White::before(end + 1))
     }
 
-    /// Returns whether the next token begins at once, has two bytes and a line feed after them.
+    /// Returns whether the next token begins right here, has two bytes and a line feed after them.
     #[inline(always)]
     pub fn has_short(&self) -> bool
         ensures { result ≡ true
@@ -206,7 +208,7 @@ impl<'a> Ahead<'a> {
         self.limit >= 2 && has_short(self.bytes, self.at)
     }
 
-    /// Returns the first byte of the next token, if one begins ahead.
+    /// Returns the first byte of the next token; none where only white bytes are ahead.
     #[inline(always)]
     pub fn first_byte(&self) -> Option<u8>
         ensures some { IfSome result (λ byte. (start : ℕ)
@@ -221,7 +223,7 @@ impl<'a> Ahead<'a> {
     }
 
     /// Forgets what white space it has seen, before a loop over `next_short` and `next_near`: so
-    /// the loop need not keep it at hand.
+    /// the loop need not keep it.
     #[inline(always)]
     pub fn forget(&mut self)
         ensures { (passed_of self.new ≡ passed_of self.old) × (bytes_of self.new ≡ bytes_of self.old)
@@ -238,7 +240,8 @@ impl<'a> Ahead<'a> {
         };
     }
 
-    /// Takes the token at a place, before which all bytes are white.
+    /// Takes the token at an offset, before which all bytes are white. None where it is longer than
+    /// the limit.
     #[inline(always)]
     fn take(&mut self, start: usize, white: White) -> Option<&'a [u8]>
         requires order { start ≤ white.next }
@@ -270,7 +273,7 @@ impl<'a> Ahead<'a> {
     }
 }
 
-/// Returns whether at this place two bytes stand that are not white, and then a line feed.
+/// Returns whether at this offset come two bytes that are not white, and then a line feed.
 #[inline(always)]
 fn has_short(bytes: &[u8], at: usize) -> bool
     requires { at ≤ length bytes.now }
@@ -282,7 +285,7 @@ fn has_short(bytes: &[u8], at: usize) -> bool
     bytes.len() - at >= 3 && bytes[at + 2] == b'\n' && bytes[at] > b' ' && bytes[at + 1] > b' '
 }
 
-/// Returns where the white bytes from a place on end.
+/// Returns the offset at which the white bytes from another one on end.
 // Not inlined, like `look_ahead`. Both return numbers alone: what is returned through memory would
 // be cleared for each token.
 #[inline(never)]

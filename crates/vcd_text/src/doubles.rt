@@ -6,9 +6,9 @@ ghost use Rattle.vcd_text.specs.Calls.{Fits, parked_answer, parked_seen};
 use crate::registers::Parked;
 use std::io;
 
-/// Returns a parked feed that counts so many bytes as looked at already. It shows no token of them,
-/// and they have no line feed. A feed that goes on from it comes to the last byte that an input may
-/// have without a reader of so many bytes.
+/// Returns a parked feed that counts this many bytes as looked at already. It shows no token of
+/// them, and they have no line feed. A feed that goes on from it comes to the last byte that an
+/// input may have, without a reader of that many bytes.
 pub fn parked_after(bytes: u64) -> Parked
     requires { bytes < 2 ^ 63 }
     ensures seen { parked_seen result ≡ bytes }
@@ -21,7 +21,7 @@ pub fn parked_after(bytes: u64) -> Parked
     }
 }
 
-/// Gives its bytes, so many a call at most, and then is at its end; or fails at one call, or from
+/// Gives its bytes, this many a call at most, and then is at its end; or fails at one call, or from
 /// its end on.
 #[derive(Drop)]
 pub struct Pieces<'a> {
@@ -83,7 +83,7 @@ pub struct Narrow {
 impl Narrow {
     ghost use Rattle.vcd_text.specs.Doubles.{held_by};
 
-    /// Holds so many bytes, and none yet.
+    /// Returns a sink with room for this many bytes, which holds none yet.
     pub fn new(room: usize) -> Self
         requires { room ≤ 1024 }
         ensures { held_by result ≡ [] }

@@ -29,7 +29,7 @@ fn few_digits(bytes: &[u8], to: usize, n: usize) -> Option<u64>
     Some(u64::from(worth.strict_reduce_sum()))
 }
 
-/// Returns the number that the bytes from one place up to another spell, as `decimal_of` does.
+/// Returns the number that the bytes from one offset up to another spell, as `decimal_of` does.
 // At most 16 are read by one look at the bytes before the last of them: FIGURE.
 #[inline(always)]
 pub fn decimal_at(bytes: &[u8], from: usize, to: usize) -> Option<u64>

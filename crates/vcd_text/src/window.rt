@@ -7,6 +7,7 @@ use crate::device::Source;
 use crate::registers::{Parked, Phase};
 use crate::scan::{is_white_space, low_16, lowest, run_len, white_len};
 
+/// How far the chunk has the token that is gathered.
 #[derive(Clone, Copy)]
 pub(crate) enum Collected {
     // The token has ended.
@@ -16,6 +17,7 @@ pub(crate) enum Collected {
     TooLong,
 }
 
+/// What a read of the source gave.
 #[derive(Clone, Copy)]
 pub(crate) enum Filled {
     More,
@@ -88,6 +90,7 @@ fn step_past(chunk: &[u8], end: usize, parked: &mut Parked)
 }
 
 /// Returns how many bytes come before the first white byte: of a short token by one look at 16.
+// A look at 64 bytes by the table of `white_64` takes more for a short token.
 #[inline(always)]
 fn token_len(bytes: &[u8]) -> usize
     ensures within { result ≤ length bytes.now }
@@ -107,7 +110,8 @@ fn token_len(bytes: &[u8]) -> usize
 }
 
 /// Gathers n bytes of the chunk after the first `size` of the token's window: a short token by one
-/// copy of 16, where so many are there and have room.
+/// copy of 16, where 16 are there and have room.
+// A copy of a length that is not known is a call.
 #[inline(always)]
 fn append(token: &mut [u8], size: usize, chunk: &[u8], at: usize, n: usize)
     requires room { size + n ≤ length token.old }
@@ -121,7 +125,7 @@ fn append(token: &mut [u8], size: usize, chunk: &[u8], at: usize, n: usize)
     }
 }
 
-/// Reads on.
+/// Reads the next bytes of the source into the chunk.
 pub(crate) fn fill<S: Source>(source: &mut S, chunk: &mut [u8], parked: &mut Parked) -> Filled
     requires failures { S.failures source.old < 2 ^ 64 - 1 }
     requires some { 0 < length chunk.old }
@@ -150,6 +154,7 @@ pub(crate) fn fill<S: Source>(source: &mut S, chunk: &mut [u8], parked: &mut Par
     Filled::More
 }
 
+/// Halts the feed, and returns the halt.
 pub(crate) fn halted(parked: &mut Parked, halt: Halt) -> Halt
     requires line_feeds { parked.old.line_feeds < 2 ^ 63 }
     ensures result { result ≡ halt }
@@ -165,6 +170,8 @@ pub(crate) fn halted(parked: &mut Parked, halt: Halt) -> Halt
     halt
 }
 
+/// Ends the feed where its source has ended, and returns the token that the end closes, or that
+/// there is none.
 pub(crate) fn finish(parked: &mut Parked) -> Next
     requires { parked.old.line_feeds < 2 ^ 63 }
     ensures kept { parked.new.kept ≡ parked.old.kept }

@@ -186,7 +186,7 @@ fn is_told_ahead(bytes: &[u8], most: usize, chunk_len: usize, want: &[u8]) -> bo
     told.text() == want
 }
 
-// Reads of any length, and chunks that end at any place of a token.
+// Reads of any length, and chunks that end at any offset of a token.
 #[test]
 fn tokens_are_whole_over_any_reads(rt: HostRuntime) {
     for (bytes, want) in [
@@ -206,8 +206,8 @@ fn tokens_are_whole_over_any_reads(rt: HostRuntime) {
     }
 }
 
-// Tokens and white space over the places 0, 63, 64 and 65 of the blocks of 64 bytes that are looked
-// over at once.
+// Tokens and white space over the offsets 0, 63, 64 and 65 of the blocks of 64 bytes that are
+// looked over in one look.
 #[test]
 fn tokens_end_at_any_place_of_a_block(rt: HostRuntime) {
     for end in 60..140 {
@@ -235,7 +235,7 @@ fn a_long_token_halts_on_its_line(rt: HostRuntime) {
     }
 }
 
-// Whether three answers over a text, where so many bytes count as looked at before it, give this
+// Whether three answers over a text, where this many bytes count as looked at before it, give this
 // record.
 fn is_told_after(counted: u64, bytes: &[u8], limit: usize, want: &[u8]) -> bool
     requires counted { counted < 2 ^ 63 }
@@ -377,7 +377,7 @@ fn tokens_ahead_are_those_of_the_feed(rt: HostRuntime) {
     }
 }
 
-// White space of any length between them, over the 64 bytes that are looked over at once too.
+// White space of any length between them, over the 64 bytes that are looked over in one look too.
 #[test]
 fn white_space_ahead_is_passed(rt: HostRuntime) {
     for gap in 1..140 {

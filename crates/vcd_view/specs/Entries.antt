@@ -6,11 +6,11 @@ use Rattle.vcd_view.specs.declared.view.Code.{Code}
 use Rattle.vcd_view.specs.declared.view.Entry.{Entry}
 use Rattle.vcd_view.specs.Keys.{key_in}
 
--- so many bytes of a text from a place on, none where it has fewer
+-- this many bytes of a text from an index on, none where it has fewer
 abbrev pub text_in : List ℕ → ℕ → ℕ → List ℕ
 text_in text start len = cond (nat_le (start + len) (length text)) (slice_range text start (start + len)) []
 
--- the size of a code, 0 for an event and where 32 bits do not hold it: so many digits a change of
+-- the size of a code, 0 for an event and where 32 bits do not hold it: this many digits a change of
 -- the code may have in any case
 abbrev pub most_of : Code → ℕ
 most_of c = cond (c.event || nat_le (2 ^ 32) c.size) 0 c.size
@@ -19,8 +19,8 @@ most_of c = cond (c.event || nat_le (2 ^ 32) c.size) 0 c.size
 abbrev pub is_entry_of : List ℕ → Entry → Code → Bool
 is_entry_of text e c = (e.key == key_in (text_in text c.start c.len)) && (e.most == most_of c)
 
--- the entry is empty, or one that says nothing of the code at its place, as those of long codes do,
--- or that of the code at its place
+-- the entry is empty, or one that says nothing of the code at its index, as those of long codes do,
+-- or that of the code at its index
 abbrev pub is_right : List ℕ → List Code → Entry → Bool
 is_right text codes e = (e.key == 0) || (nat_le (2 ^ 63) e.key || unwrap_or (option_map (is_entry_of text e) (slice_get codes e.place)) false)
 
@@ -41,21 +41,21 @@ abbrev pub number_in : List ℕ → ℕ
 number_in [] = 0
 number_in (b ∷ bs) = above (number_in bs) b
 
--- which of so many entries is that of the code
+-- which of this many entries is that of the code
 abbrev pub entry_in : List ℕ → ℕ → ℕ
 entry_in code entries = bit_and (number_in code) ((entries + (2 ^ 64 - 1)) % 2 ^ 64)
 
--- the entry to which a hash leads after so many looks: the lower half says where the first is, the
--- upper half how far one is from the next
+-- the entry to which a hash leads after this many looks: the lower half says where the first is,
+-- the upper half how far one is from the next
 abbrev pub entry_after : ℕ → ℕ → ℕ → ℕ
 entry_after hash looks entries = bit_and ((hash + looks * bit_or (hash / 2 ^ 32) 1 % 2 ^ 64) % 2 ^ 64) ((entries + (2 ^ 64 - 1)) % 2 ^ 64)
 
--- the place that an entry gives for these bytes: its own, if its key is theirs
+-- the index that an entry gives for these bytes: its own, if its key is theirs
 abbrev pub place_told : List ℕ → Option Entry → Option ℕ
 place_told t None = None
 place_told t (Some e) = cond (not (key_in t == 0) && (e.key == key_in t)) (Some e.place) None
 
--- the place that the first of these entries gives which is that of these bytes
+-- the index that the first of these entries gives which is that of these bytes
 abbrev pub told_by : List Entry → List ℕ → List ℕ → Option ℕ
 told_by es t [] = None
 told_by es t (i ∷ is) = option_or (place_told t (slice_get es i)) (told_by es t is)
@@ -64,10 +64,10 @@ told_by es t (i ∷ is) = option_or (place_told t (slice_get es i)) (told_by es 
 abbrev pub beside : ℕ → List ℕ
 beside at = bit_xor at 1 ∷ bit_xor at 2 ∷ bit_xor at 3 ∷ []
 
--- one of the entries has this key and this place
+-- one of the entries has this key and this index
 abbrev pub HasEntry : List Entry → ℕ → ℕ → Type 0
 HasEntry es key place = (i : ℕ) × (e : Entry) × (slice_get es i ≡ Some e) × (e.key ≡ key) × (e.place ≡ place)
 
--- the bytes of the code at a place are these
+-- the bytes of the code at an index are these
 abbrev pub IsAt : List ℕ → List Code → List ℕ → ℕ → Type 0
 IsAt text codes bytes place = (c : Code) × (slice_get codes place ≡ Some c) × (text_in text c.start c.len ≡ bytes)

@@ -6,12 +6,12 @@ use Rattle.vcd_view.specs.declared.view.Code.{Code}
 use Rattle.vcd_view.specs.declared.look_up.Found.{Found}
 use Rattle.vcd_view.specs.Entries.{most_of}
 
--- the place of the code with this text among these; there is none where none has it
+-- the index of the code with this text among these; there is none where none has it
 abbrev pub Finds : List IdCode → List ℕ → Option ℕ → Type 0
 Finds codes text (Some place) = (c : IdCode) × (slice_get codes place ≡ Some c) × (find (has_text text) codes ≡ Some c)
 Finds codes text None = find (has_text text) codes ≡ None
 
--- the code that was found is one of these, and its size is told
+-- the code that was found is one of these, and its size is given
 abbrev pub IsSized : List Code → Found → Type 0
 IsSized codes f = (c : Code) × (slice_get codes f.place ≡ Some c) × (f.most ≡ most_of c)
 

@@ -15,12 +15,12 @@ use Rattle.vcd_view.specs.Keys.{AreBytes}
 use Rattle.vcd_view.specs.Shown.{HeadShown, parts}
 use Rattle.vcd_view.specs.declared.view.HeadView.{HeadView}
 
--- 1 plus the place, 0 where there is none
+-- 1 plus the index, 0 where there is none
 abbrev pub counted_from_one : Option ℕ → ℕ
 counted_from_one None = 0
 counted_from_one (Some p) = suc p
 
--- the row's type and reference stand in the text where it says: the reference's tokens, of which
+-- the row's type and reference are in the text where it says: the reference's tokens, of which
 -- there is one at least, with a space between
 pub record HasTexts (text : List ℕ) (r : Row) (type : List ℕ) (reference : List (List ℕ)) : Type 0 where
   pub within : r.start + r.word + r.all ≤ length text
@@ -32,7 +32,7 @@ pub record HasTexts (text : List ℕ) (r : Row) (type : List ℕ) (reference : L
   pub name_within : r.name ≤ r.all
   pub name_is : slice_range text (r.start + r.word) (r.start + r.word + r.name) ≡ first_token reference
 
--- the row is the declaration's, by its kind; a variable's code has this place among the codes
+-- the row is the declaration's, by its kind; a variable's code has this index among the codes
 abbrev pub IsRowOf : List ℕ → List IdCode → Row → Declaration → Type 0
 IsRowOf text codes r (Declaration.Scope type name) = (r.kind ≡ kind.Scope) × HasTexts text r type (name ∷ []) × (r.code ≡ 0)
 IsRowOf text codes r Declaration.Up = (r.kind ≡ kind.Up) × (r.start ≡ 0) × (r.word ≡ 0) × (r.name ≡ 0) × (r.all ≡ 0) × (r.code ≡ 0)
@@ -43,31 +43,31 @@ pub record IsRow (text : List ℕ) (codes : List IdCode) (earlier : List Declara
   pub parent_is : r.parent ≡ counted_from_one (parent earlier)
   pub own : IsRowOf text codes r d
 
--- a row for each declaration, in order; `earlier` stand before the first
+-- a row for each declaration, in order; `earlier` come before the first
 abbrev pub AreRows : List ℕ → List IdCode → List Declaration → List Row → List Declaration → Type 0
 AreRows text codes earlier [] [] = Unit {0}
 AreRows text codes earlier [] (d ∷ ds) = ⊥
 AreRows text codes earlier (r ∷ rs) [] = ⊥
 AreRows text codes earlier (r ∷ rs) (d ∷ ds) = IsRow text codes earlier r d × AreRows text codes (earlier ++ d ∷ []) rs ds
 
--- the code's bytes stand in the text where it says
+-- the code's bytes are in the text where it says
 pub record IsCode (text : List ℕ) (c : Code) (k : IdCode) : Type 0 where
   pub within : c.start + c.len ≤ length text
   pub text_is : slice_range text c.start (c.start + c.len) ≡ k.text
   pub size_is : c.size ≡ k.size
   pub event_is : c.event ≡ k.event
 
--- the codes stand in the text, and no two have the same bytes
+-- the codes are in the text, and no two have the same bytes
 pub record AreHeld (text : List ℕ) (list : List Code) (cs : List IdCode) : Type 0 where
   pub stand : AllZip (IsCode text) list cs
   pub distinct : IsDistinct bytes_eq (map (λ (c : IdCode). c.text) cs)
   pub texts : AllByRecursion (λ (c : IdCode). AreBytes c.text) cs
 
--- the bytes of the code at a place
+-- the bytes of the code at an index
 abbrev pub code_text : List IdCode → ℕ → List ℕ
 code_text codes p = unwrap_or (option_map (λ c. c.text) (slice_get codes p)) []
 
--- the place of each code once, in rising order of their bytes: the first bytes that differ decide,
+-- the index of each code once, in rising order of their bytes: the first bytes that differ decide,
 -- and a code comes before those that it begins
 pub record IsIndex (codes : List IdCode) (index : List ℕ) : Type 0 where
   pub places : IsPermutation (range_with_len 0 (length codes)) index

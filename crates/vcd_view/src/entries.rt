@@ -1,6 +1,6 @@
 // The entries by which codes are looked up: where a code's entry is, and what it holds. Any code
-// may have any place among them, and two codes the same one: the place of an entry decides only how
-// fast a look-up is.
+// may have any entry, and two codes may share one: where an entry is decides only how fast a
+// look-up is.
 ghost use Rattle.std.specs.Prelude.{◌≡◌, ◌+◌, ◌-◌, ◌%◌, ◌^◌, ◌<◌, ◌≤◌, ℕ, List, true, bit_and, length, slice_get, Some, IfSome};
 ghost use Rattle.vcd_view.specs.Names.{AnyHeld, Finds, HasEntry, IsAt, above, are_right, beside, entry_after, entry_in, key_in, most_of, number_in, place_told, told_by};
 
@@ -10,11 +10,13 @@ use crate::probes::Probes;
 use crate::view::{Code, Entry, code_in, text_in};
 use std::cmp::Ordering;
 
-/// Returns where the entry of a code is among so many, a power of two.
+/// Returns the index of a code's own entry in a table of `entries`, a power of two.
 ///
 /// Simulators number codes from `!` on in base 94, the lowest digit first, in the order of
 /// declaration. Read as a number in base 99, nearly all of these have entries of their own, side by
 /// side. As 99 is odd, each byte of any other code decides on the lowest bits too.
+// One entry of 16 bytes in place of a binary search, which takes some 340 ns a change of 27,505
+// codes. `check` of 300 codes `aaaaa`.. takes 135 an item, in base 94 274.
 #[inline(always)]
 pub fn entry_of(code: &[u8], entries: usize) -> usize
     ensures { result ≡ entry_in code.now entries }
@@ -22,7 +24,8 @@ pub fn entry_of(code: &[u8], entries: usize) -> usize
     entry_for(code_number(code), entries)
 }
 
-/// Returns where the entry of a code with this number is among so many, a power of two.
+/// Returns the index of the own entry of a code with this number in a table of `entries`, a power
+/// of two.
 #[inline(always)]
 pub fn entry_for(number: usize, entries: usize) -> usize
     ensures { result ≡ bit_and number ((entries + (2 ^ 64 - 1)) % 2 ^ 64) }
@@ -70,7 +73,7 @@ fn number_of(code: &[u8]) -> usize
     number
 }
 
-/// Returns the place that an entry gives for the code with this key, if it is that of the code.
+/// Returns the index of the code with this key, if the entry at `at` is that of the code.
 #[inline(always)]
 pub fn place_told(entries: &[Entry], at: usize, key: u64) -> Option<usize>
     ensures { (code : List ℕ) → key ≡ key_in code → result ≡ place_told code (slice_get entries.now at) }
@@ -83,8 +86,9 @@ pub fn place_told(entries: &[Entry], at: usize, key: u64) -> Option<usize>
     }
 }
 
-/// Returns the place that one of the three entries beside the code's own gives. They are in the 64
-/// bytes around that, so a look at them reads at most one cache line more.
+/// Returns the index of the code with this key, if one of the three entries beside its own is that
+/// of the code. They are in the 64 bytes around that, so a look at them reads at most one cache
+/// line more.
 #[inline(always)]
 pub fn place_beside(entries: &[Entry], own: usize, key: u64) -> Option<usize>
     ensures { (code : List ℕ) → key ≡ key_in code → result ≡ told_by entries.now code (beside own) }
@@ -104,10 +108,11 @@ const LONG: u64 = 1 << 63;
 /// How many entries are looked at, at most, to which the hash of a code leads.
 pub const MOST_LOOKS: usize = 64;
 
-/// Returns the entry to which a hash leads after so many looks, among so many, a power of two.
+/// Returns the index of the entry to which a hash leads after this many looks, in a table of
+/// `entries`, a power of two.
 ///
 /// The lower half of the hash says where the first of them is, and the upper half how far one is
-/// from the next, so that they leave a crowded part of the entries at once.
+/// from the next, so that the second look already leaves a crowded part of the entries.
 #[inline(always)]
 pub fn entry_after(hash: u64, looks: usize, entries: usize) -> usize
     ensures { result ≡ entry_after hash looks entries }
@@ -129,8 +134,10 @@ pub fn long_key(hash: u64) -> u64
     hash % LONG + LONG
 }
 
-/// Returns the place of a code that an entry gives which is beside its own, or to which its hash
-/// leads. Where none does, there may be the code all the same.
+/// Returns the index of a code, if one of the entries beside its own or one to which its hash leads
+/// is that of the code. Where none is, the code may be there all the same.
+// For codes of 8 bytes or more, and codes crafted to share entries: `check` of 100,000 takes 1.5 to
+// 2.6 times as long as of ordinary codes, by the binary search alone 8 to 13 times.
 pub(crate) fn place_hashed(
     text: &[u8],
     codes: &[Code],
@@ -159,7 +166,7 @@ pub(crate) fn place_hashed(
     }
 }
 
-// Returns the place that an entry with this key gives, if the hash leads to that.
+// Returns the index that an entry with this key gives, if the hash leads to that.
 fn place_of_key(entries: &[Entry], hash: u64, key: u64) -> Option<usize>
     ensures { IfSome result (λ place. HasEntry entries.now key place) }
 {
@@ -175,7 +182,7 @@ fn place_of_key(entries: &[Entry], hash: u64, key: u64) -> Option<usize>
     None
 }
 
-// Returns the place that an entry gives for this code of 8 bytes or more, if its hash leads to
+// Returns the index that an entry gives for this code of 8 bytes or more, if its hash leads to
 // that. Another code may have the same key, so one comparison is made.
 fn place_of_long(
     text: &[u8],

@@ -11,7 +11,7 @@
 //! takes any view, and its result is that of the definitions where this holds. What the entries of
 //! a view say of its codes is so in any view (`right`).
 //!
-//! `Finds codes text place` says of a look-up that the code with this text is at this place, or
+//! `Finds codes text place` says of a look-up that the code with this text is at this index, or
 //! that there is none; `IsSized codes found` that the size of what was found is given too.
 //!
 //! # The modules

@@ -12,14 +12,14 @@ use std::cmp::Ordering;
 /// A code that was looked up.
 #[derive(Clone, Copy, PartialEq, Eq, Debug)]
 pub struct Found {
-    /// The place of the code among the distinct codes.
+    /// The index of the code among the distinct codes.
     pub place: usize,
     /// The size of the code: the most digits that a change of it may have. It is 0 where its
     /// variables are events, and where 32 bits do not hold the size; then the view's code has it.
     pub most: usize,
 }
 
-/// Returns the place of a code among the distinct codes.
+/// Returns the index of a code among the distinct codes; none where it is not among them.
 ///
 /// A look at one entry finds nearly all codes that simulators give. The others are looked for by
 /// their hash, and those that are not found so by a binary search.
@@ -31,7 +31,8 @@ pub fn find(view: HeadView<'_>, code: &[u8]) -> Option<usize>
     find_counted(view, code, &mut Probes::new())
 }
 
-/// Returns the place of a code among the distinct codes, with its size.
+/// Returns the index of a code among the distinct codes, with its size; none where it is not among
+/// them.
 #[inline(always)]
 pub fn find_sized(view: HeadView<'_>, code: &[u8]) -> Option<Found>
     ensures found { (h : Header) → IsViewOf view.entry h
@@ -41,7 +42,7 @@ pub fn find_sized(view: HeadView<'_>, code: &[u8]) -> Option<Found>
     find_sized_counted(view, code, &mut Probes::new())
 }
 
-/// Returns the place of a code among the distinct codes, and counts the comparisons of codes.
+/// Returns the index of a code among the distinct codes, and counts the comparisons of codes.
 ///
 /// A code of at most 7 bytes has a number, and entries hold those: only where none that is looked
 /// at has it, the code is compared with others. The count grows by at most one more than the binary
@@ -61,7 +62,7 @@ pub fn find_counted(view: HeadView<'_>, code: &[u8], probes: &mut Probes) -> Opt
     Some(found.place)
 }
 
-// Returns the place of a code among the distinct codes, with its size, and counts the comparisons
+// Returns the index of a code among the distinct codes, with its size, and counts the comparisons
 // of codes.
 #[inline(always)]
 fn find_sized_counted(view: HeadView<'_>, code: &[u8], probes: &mut Probes) -> Option<Found>
@@ -96,7 +97,7 @@ fn find_sized_counted(view: HeadView<'_>, code: &[u8], probes: &mut Probes) -> O
     }
 }
 
-/// Returns the place and size of a code by a look at one entry. None if the entry is of another
+/// Returns the index and size of a code by a look at one entry. None if the entry is of another
 /// code; then `find_sized` may find the code.
 #[inline(always)]
 pub fn find_at_once(view: HeadView<'_>, code: &[u8]) -> Option<Found>
@@ -120,9 +121,9 @@ pub fn find_at_once(view: HeadView<'_>, code: &[u8]) -> Option<Found>
     }
 }
 
-// Returns the place of a code that is not that of its own entry: by its hash, or else by a binary
-// search. It takes no view, so that a look-up that is done at once need not make one ready, and
-// returns a number alone, which needs no memory.
+// Returns the index of a code of which its own entry is not: by its hash, or else by a binary
+// search. It takes no view, so that a look-up by one entry need not make one ready, and returns a
+// number alone, which needs no memory.
 #[inline(never)]
 fn find_slowly(
     text: &[u8],
@@ -149,7 +150,7 @@ fn find_slowly(
     }
 }
 
-// Returns the place of a code by a binary search in the order of the codes. It takes no view, so
+// Returns the index of a code by a binary search in the order of the codes. It takes no view, so
 // that a look-up that was guessed need not make one ready.
 #[inline(never)]
 fn search(
@@ -180,7 +181,7 @@ fn search(
     None
 }
 
-// Returns the bytes of the code at a place.
+// Returns the bytes of the code at an index.
 fn text_of<'a>(text: &'a [u8], codes: &[Code], place: usize) -> &'a [u8]
     ensures { AnyCodes text.now codes.now (λ ks. place < length ks → result.now ≡ code_text ks place) }
 {

@@ -15,7 +15,8 @@ pub enum Kind {
     Var,
 }
 
-/// A declaration: places count from 0, lengths are in bytes. What a kind does not have is 0.
+/// A declaration: indexes and offsets count from 0, lengths are in bytes. What a kind does not have
+/// is 0.
 #[derive(Clone, Copy, PartialEq, Eq, Debug)]
 pub struct Row {
     pub kind: Kind,
@@ -26,7 +27,7 @@ pub struct Row {
     pub word: u32,
     /// The length of the reference's first token: a scope's name, or that of a variable.
     pub name: u32,
-    /// The place of a variable's code in `codes`.
+    /// The index of a variable's code in `codes`.
     pub code: u32,
     /// Where in the text the type begins; the reference comes right after it.
     pub start: usize,
@@ -48,11 +49,12 @@ pub struct Code {
 }
 
 /// A code as a look-up finds it; with key 0 it is of no code.
+// The size is here since a change would else read 32 bytes of `codes`, far from all others.
 #[derive(Clone, Copy, PartialEq, Eq, Debug)]
 pub struct Entry {
     /// The code as a number; of a code that has none, its hash with the highest bit set.
     pub key: u64,
-    /// The place of the code in `codes`.
+    /// The index of the code in `codes`.
     pub place: u32,
     /// The size of the code; 0 where its variables are events, or where 32 bits do not hold it.
     pub most: u32,
@@ -74,7 +76,7 @@ pub struct HeadView<'a> {
     pub rows: &'a [Row],
     /// The distinct codes, in order of first declaration.
     pub codes: &'a [Code],
-    /// The places of the codes, in rising order of their bytes.
+    /// The indexes of the codes, in rising order of their bytes.
     pub index: &'a [usize],
     /// Codes by their numbers and hashes, which only serve look-ups: a power of two of entries, up
     /// to three for each code.
@@ -93,7 +95,7 @@ pub struct HeadView<'a> {
 impl<'a> HeadView<'a> {
     ghost use Rattle.vcd_view.specs.Names.{AnyDeclared, AnyRow, Header, IsViewOf, code_text, exponent, name_of, parent, reference_of, type_of};
 
-    /// Returns a row, by its number from 0.
+    /// Returns a row by its number, from 0; none after the last.
     #[inline(always)]
     pub fn row_at(self, row: usize) -> Option<Row>
         ensures { result ≡ slice_get self.entry.rows.now row }
@@ -101,7 +103,7 @@ impl<'a> HeadView<'a> {
         self.rows.get(row).copied()
     }
 
-    /// Returns the code at a place.
+    /// Returns the code at an index; none after the last.
     #[inline(always)]
     pub fn code_at(self, place: usize) -> Option<Code>
         ensures { result ≡ slice_get self.entry.codes.now place }
@@ -109,7 +111,7 @@ impl<'a> HeadView<'a> {
         code_in(self.codes, place)
     }
 
-    /// Returns so many bytes of the text from a place on; none where it has fewer.
+    /// Returns `len` bytes of the text from an offset on; none where it has fewer.
     #[inline(always)]
     pub fn text_at(self, start: usize, len: usize) -> &'a [u8]
         ensures { result.now ≡ text_in self.entry.text.now start len }
@@ -118,7 +120,7 @@ impl<'a> HeadView<'a> {
     }
 
     /// Returns the row of the scope that encloses the declaration of a row; for an `$upscope` the
-    /// one that it closes.
+    /// one that it closes. None where no scope does.
     #[inline(always)]
     pub fn scope_of(self, row: usize) -> Option<usize>
         ensures earlier { IfSome result (λ scope. scope < row) }
@@ -165,7 +167,7 @@ impl<'a> HeadView<'a> {
         }
     }
 
-    /// Returns the bytes of the code at a place.
+    /// Returns the bytes of the code at an index.
     #[inline(always)]
     pub fn code_text(self, code: usize) -> &'a [u8]
         ensures { (h : Header) → IsViewOf self.entry h → result.now ≡ code_text h.codes code }
@@ -186,7 +188,7 @@ impl<'a> HeadView<'a> {
         }
     }
 
-    /// Returns whether the variables of the code at a place are events.
+    /// Returns whether the variables of the code at an index are events.
     #[inline(always)]
     pub fn is_event(self, code: usize) -> bool
         ensures event { (h : Header) → IsViewOf self.entry h
@@ -201,7 +203,7 @@ impl<'a> HeadView<'a> {
     }
 }
 
-/// Returns the code at a place among these.
+/// Returns the code at an index among these; none after the last.
 #[inline(always)]
 pub fn code_in(codes: &[Code], place: usize) -> Option<Code>
     ensures { result ≡ slice_get codes.now place }
@@ -209,7 +211,7 @@ pub fn code_in(codes: &[Code], place: usize) -> Option<Code>
     codes.get(place).copied()
 }
 
-/// Returns so many bytes of a text from a place on; none where it has fewer.
+/// Returns `len` bytes of a text from an offset on; none where it has fewer.
 #[inline(always)]
 pub fn text_in(text: &[u8], start: usize, len: usize) -> &[u8]
     ensures { result.now ≡ text_in text.now start len }

@@ -61,7 +61,7 @@ alone_app name = with_rule (one_input_app name) file_rule
 abbrev pub named_app : Text → Bool → App
 named_app name required = with_rule (one_input_app name) (names_rule required)
 
--- the same, with this word where there is none
+-- a time, and this word where there is none
 abbrev pub time_or_rule : (name word : Text) → Rule
 time_or_rule name word = record (time_rule name) { defaults = word ∷ [] }
 
@@ -195,7 +195,7 @@ IsFaultIn {X} NotRising asked = asked ≡ Err model.UseFault.NotRising
 IsFaultIn {X} TooManyFiles asked = asked ≡ Err model.UseFault.TooManyFiles
 IsFaultIn {X} OutOfMemory asked = ⊥
 
--- the same, or memory ran out, which it does only where the words have no fault
+-- that is the fault, or memory ran out, which it does only where the words have no fault
 abbrev pub IsFaultOf : {X : Type 0} → UseFault → Result X model.UseFault → Type 0
 IsFaultOf {X} OutOfMemory asked = (x : X) × (asked ≡ Ok x)
 IsFaultOf {X} fault asked = IsFaultIn fault asked

@@ -40,7 +40,7 @@ fn one_input<'a>(alloc: Global, name: &'a str, help: Help<'a>) -> Result<Command
         .arg(token_limit(alloc))
 }
 
-/// Returns a command over one input that takes no names: its file may stand without `-i`.
+/// Returns a command over one input that takes no names: its file may come without `-i`.
 // Both forms have one id, so they are one argument, which may be given once. `conflicts_with` would
 // refuse both forms together too, but over arguments with such rules `clap` does not say which
 // words it takes.
@@ -54,7 +54,7 @@ fn alone<'a>(alloc: Global, name: &'a str, help: Help<'a>) -> Result<Command<'a>
 }
 
 /// Returns a command over one input, with its options and names of variables, without which the
-/// parse fails where they are required. A word without an option is a name here, so the file stands
+/// parse fails where they are required. A word without an option is a name here, so the file comes
 /// after `-i`.
 fn named<'a>(
     alloc: Global,
@@ -134,7 +134,7 @@ fn merge<'a>(alloc: Global) -> Result<Command<'a>, AllocError>
         .arg(files)
 }
 
-/// Returns the command `vcdkit` with its commands.
+/// Returns the command `vcdkit` with its commands; fails where memory runs out.
 pub fn command_of<'a>(alloc: Global) -> Result<Command<'a>, AllocError>
     ensures { IfOk result (λ command. IsWhole command program_app) }
 {

@@ -34,9 +34,8 @@ pub enum Want {
 }
 
 impl Want {
-    /// Writes the times of a sample in ticks of the header that is shown over their numbers: it is
-    /// the same that is wanted. Where they are refused it says why, and what they are then is not
-    /// said.
+    /// Converts the times of a sample to ticks of the header that is shown, in place. Fails where
+    /// they are refused, with the reason; what the times are then is not said.
     pub fn write_ticks(&mut self, view: HeadView<'_>) -> Result<(), Refusal>
         requires { is_asked self.old ≡ true }
         ensures same { KeepsRequest view.entry (model_want self.old) (model_want self.new) result }
@@ -81,7 +80,7 @@ pub struct Job {
     pub task: Want,
     /// How long a token may be, in bytes.
     pub limit: usize,
-    /// How much is read at once, in bytes.
+    /// How much is read in one call, in bytes.
     pub chunk: usize,
     pub ghost asked: { is_asked task ≡ true },
     pub ghost limit_in_range: { (64 ≤ limit) × (limit ≤ 16777216) },
@@ -123,7 +122,7 @@ const LEAST_LIMIT: u64 = 64;
 
 const MOST_LIMIT: u64 = 16_777_216;
 
-/// How much is read at once.
+/// How much is read in one call, in bytes.
 const CHUNK: usize = 65_536;
 
 /// Returns the token limit that a word is, if it is one.
@@ -150,7 +149,8 @@ fn limit_of<'a>(word: Option<&'a str>) -> Result<usize, UseFault<'a>>
 }
 
 /// Returns the job that the matches of the command ask for. Memory is taken for its names, once
-/// they are known to ask for a job.
+/// they are known to ask for a job. Fails with the first fault of the words, or where memory runs
+/// out.
 pub fn job_of<'a>(alloc: Global, matches: &ArgMatches<'a>) -> Result<Job, UseFault<'a>>
     ensures job { IfOk result (λ job. AsksFor matches.now job.task job.limit) }
     ensures chunk { IfOk result (λ job. job.chunk ≡ 65536) }

@@ -30,7 +30,7 @@ fn word_of<'a>(matches: &ArgMatches<'a>, id: &str) -> Option<&'a str>
     options.get_str(id)
 }
 
-/// Returns the file that the matches of the command name; without one standard input is read.
+/// Returns the input file that the matches of the command name; none where standard input is read.
 pub fn input_of<'a>(matches: &ArgMatches<'a>) -> Option<&'a str>
     ensures { option_map (λ name. name.now) result ≡ input_asked matches.now }
 {
@@ -60,7 +60,7 @@ fn names_of<'m, 'a>(matches: &'m ArgMatches<'a>) -> Option<&'m [&'a str]>
     words_of(matches, "names")
 }
 
-/// Returns the files that the matches of a merge name, where there are some.
+/// Returns the files that the matches of a merge name; none where they name no file.
 pub fn files_of<'m, 'a>(matches: &'m ArgMatches<'a>) -> Option<&'m [&'a str]>
     ensures { texts_of result ≡ some_of (files_asked matches.now) }
 {

@@ -10,19 +10,19 @@ use Rattle.vcd_body.specs.declared.answer.Stop.TheVariants.{Dump, Read, Write}
 use Rattle.vcdkit.specs.declared.failure.Failure.{Failure}
 use Rattle.vcdkit.specs.declared.failure.Failure.TheVariants.{Stopped, OutOfMemory}
 
--- the fault of the header of the input at this place, at this line
+-- the fault of the header of the input at this index, at this line
 abbrev pub head_failure : HeadFault → ℕ → ℕ → Failure
 head_failure head_fault.ReadFailed input line = Stopped (Read input)
 head_failure head_fault.OutOfMemory input line = OutOfMemory
 head_failure fault input line = Stopped (Dump input line (fault_number fault))
 
--- the stop of a task whose only input has this place
+-- the stop of a task whose only input has this index
 abbrev pub stop_failure : Stop → ℕ → Failure
 stop_failure (Dump only line fault) input = Stopped (Dump input line fault)
 stop_failure (Read only) input = Stopped (Read input)
 stop_failure stop input = Stopped stop
 
--- the end of a run whose task returned this of the input at this place
+-- the end of a run whose task returned this of the input at this index
 abbrev pub end_of : Result Done Stop → ℕ → Result Done Failure
 end_of (Ok done) input = Ok done
 end_of (Err stop) input = Err (stop_failure stop input)
@@ -39,13 +39,13 @@ failure_of (Err failure) = Some failure
 
 -- ---- the devices
 
--- of the reader at this place a read failed where the failure says so, and it is this place that it
+-- of the reader at this index a read failed where the failure says so, and it is this index that it
 -- names
 abbrev pub CountsRead : (place before after : ℕ) → Option Failure → Type 0
 CountsRead place before after (Some (Stopped (Read input))) = (input ≡ place) × (after ≡ before + 1)
 CountsRead place before after why = after ≡ before
 
--- of all readers, the one at the place that the failure names, if it is a failed read
+-- of all readers, the one at the index that the failure names, if it is a failed read
 abbrev pub CountsReads : (before after : List ℕ) → Option Failure → Type 0
 CountsReads before after (Some (Stopped (Read input))) = (input < length before) × (after ≡ slice_set before input (slice_index before input + 1))
 CountsReads before after why = after ≡ before
@@ -58,7 +58,7 @@ writes_failed why = 0
 -- ---- the devices themselves
 
 -- a call failed with a failed read of this reader where its failure says so, as the reader at this
--- place
+-- index
 abbrev pub CountsAt : {X A : Type 0} → (X → ℕ) → ℕ → X → X → Result A Failure → Type 0
 CountsAt failures place old new result = CountsRead place (failures old) (failures new) (failure_of result)
 
@@ -66,6 +66,6 @@ CountsAt failures place old new result = CountsRead place (failures old) (failur
 abbrev pub CountsReadsOf : {X : Type 0} → (X → ℕ) → (old new : List X) → Option Failure → Type 0
 CountsReadsOf failures old new why = CountsReads (map failures old) (map failures new) why
 
--- so many writes of this sink failed
+-- this many writes of this sink failed
 abbrev pub CountsWrites : {W : Type 0} → (W → Device) → W → W → ℕ → Type 0
 CountsWrites device old new count = (device new).failures ≡ (device old).failures + count

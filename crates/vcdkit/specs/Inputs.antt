@@ -37,7 +37,7 @@ use Rattle.vcdkit.specs.declared.failure.Failure.TheVariants.{Stopped, Refused, 
 
 -- ---- one input
 
--- the header of this input was read, with so many declarations allowed: these are its tokens, and
+-- the header of this input was read, with this many declarations allowed: these are its tokens, and
 -- at most a chunk was read past the last of them, without which it is not whole
 pub record IsBegun (most limit chunk : ℕ) (i : Input) (l : Lane) (old new : Supply) : Type 0 where
   pub input_is : l.input ≡ i
@@ -67,15 +67,15 @@ pub record HasFailed (most limit chunk place : ℕ) (i : Input) (old new : Suppl
   pub read : ReadsAsNeeded limit chunk old new left [] (is_header_over most)
   pub is_why : IsWhy most limit place left why
 
--- the header of this input was read: a head shows it, and a seat has its feed, which stands after
--- it over these windows
+-- the header of this input was read: a head shows it, and a seat has its feed, which is after it
+-- over these windows
 pub record Begins (most limit chunk : ℕ) (i : Input) (head : Head) (seat : Seat) (read gathered : List ℕ) (old new : Supply) : Type 0 where
   pub lane : Lane
   pub begun : IsBegun most limit chunk i lane old new
   pub views : Views (shown head) lane.header
   pub gave : GaveParked lane.header.codes lane.input lane.front [] new.rest read gathered seat.parked seat.regs
 
--- the header of the input at this place was read by its feed, of which nothing was given, or has a
+-- the header of the input at this index was read by its feed, of which nothing was given, or has a
 -- fault
 abbrev pub OpensInput : {X : Type 0} {g : Ghosts X} → (most place : ℕ) → (old new : Feed X g) → Result Head Failure → Type 0
 OpensInput most place old new result = (i : Input) → HasGiven i [] old → MatchResult result (λ head. GivesHead most i new (shown head))
@@ -93,7 +93,7 @@ BeginsBy g most place limit chunk old new read gathered result = (text : List �
 abbrev pub headers_in : List Lane → List Header
 headers_in lanes = map (λ l. l.header) lanes
 
--- the headers of readers with these texts were read, behind inputs with these headers
+-- the headers of readers with these texts were read, after inputs with these headers
 abbrev pub AreBegun : (limit chunk : ℕ) → List Header → List (List ℕ) → (old new : List Supply) → List Lane → Type 0
 AreBegun limit chunk earlier [] [] [] [] = Unit {0}
 AreBegun limit chunk earlier (text ∷ texts) (s ∷ old) (t ∷ new) (l ∷ lanes) =
@@ -101,7 +101,7 @@ AreBegun limit chunk earlier (text ∷ texts) (s ∷ old) (t ∷ new) (l ∷ lan
 AreBegun limit chunk earlier texts old new lanes = ⊥
 
 -- the headers of readers with these texts were read in order until one of them ended the run; those
--- behind it were not read
+-- after it were not read
 abbrev pub Stops : (limit chunk place : ℕ) → List Header → List (List ℕ) → (old new : List Supply) → Failure → Type 0
 Stops limit chunk place earlier (text ∷ texts) (s ∷ old) (t ∷ new) why =
     (HasFailed (allowed_after earlier) limit chunk place (whole text) s t why × (new ≡ old) × (length old ≡ length texts))
@@ -122,7 +122,7 @@ IsNewOver chunk limit seat = IsSeated chunk limit seat × IsNew seat
 abbrev pub IsNewIn : ℕ → Windows → Seat → Type 0
 IsNewIn n windows seat = IsNewOver (part_len n windows.chunks.now) (part_len n windows.tokens.now) seat
 
--- what belongs to the input at a place among n, if it was begun
+-- what belongs to the input at an index among n, if it was begun
 abbrev pub place_of : {X : Type 0} → ℕ → (X → Option (List ℕ)) → List Seat → List X → List ℕ → List ℕ → ℕ → Option Spot
 place_of n rest seats sources chunks tokens place =
     spot_of (slice_get seats place) (option_map rest (slice_get sources place)) (part (part_len n chunks) place chunks) (part (part_len n tokens) place tokens)
@@ -131,7 +131,7 @@ place_of n rest seats sources chunks tokens place =
 abbrev pub AreShown : List Head → List Lane → Type 0
 AreShown heads lanes = AllZip (λ (head : Head) (h : Header). Views (shown head) h) heads (headers_in lanes)
 
--- the feed of each input stands after its header, over its parts of the windows
+-- the feed of each input is after its header, over its parts of the windows
 abbrev pub AreParked : {X : Type 0} → ℕ → (X → Option (List ℕ)) → List Lane → List Seat → List X → List ℕ → List ℕ → Type 0
 AreParked n rest lanes seats sources chunks tokens =
     (k : ℕ) (l : Lane) (s : Spot) → slice_get lanes k ≡ Some l → place_of n rest seats sources chunks tokens k ≡ Some s
@@ -146,12 +146,12 @@ pub record HaveBegun {X : Type 0} (limit chunk n : ℕ) (rest : X → Option (Li
 
 -- ---- one input of several
 
--- the parts of the input at a place among n stay
+-- the parts of the input at an index among n stay
 pub record SameParts (n place : ℕ) (old new : Windows) : Type 0 where
   pub chunks : part (part_len n old.chunks.now) place new.chunks.now ≡ part (part_len n old.chunks.now) place old.chunks.now
   pub tokens : part (part_len n old.tokens.now) place new.tokens.now ≡ part (part_len n old.tokens.now) place old.tokens.now
 
--- The reading of the header of the input at a place among n, over this reader and its parts of the
+-- The reading of the header of the input at an index among n, over this reader and its parts of the
 -- windows: no other reader is touched, and a failed read is one of it.
 pub record BeginsAt {X : Type 0} (n place most : ℕ) (rest : X → Option (List ℕ)) (failures : X → ℕ) (reader : X) (old new : List X) (windows windows' : Windows) (result : Result Begun Failure) : Type 0 where
   pub after : X
@@ -162,7 +162,7 @@ pub record BeginsAt {X : Type 0} (n place most : ℕ) (rest : X → Option (List
       (part (part_len n windows.chunks.now) place windows'.chunks.now) (part (part_len n windows.tokens.now) place windows'.tokens.now) (supply rest failures reader) (supply rest failures after))
       (HasFailed most (part_len n windows.tokens.now) (part_len n windows.chunks.now) place (whole text) (supply rest failures reader) (supply rest failures after))
 
--- so it is of the reader at a place, whichever it is
+-- so it is of the reader at an index, whichever it is
 abbrev pub BeginsAmong : {X : Type 0} → Ghosts X → (most place : ℕ) → (old new : List X) → (windows windows' : Windows) → Result Begun Failure → Type 0
 BeginsAmong {X} g most place old new windows windows' result = (r : X) → slice_get old place ≡ Some r → BeginsAt (length old) place most g.rest g.failures r old new windows windows' result
 

@@ -53,7 +53,7 @@ refusal_status refusal.OutOfRange = 2
 refusal_status refusal.FromAboveTo = 2
 refusal_status refusal.NotRising = 2
 
--- the same of a run that fails
+-- the message of a run that fails
 abbrev pub failure_message : (names asked : List (List ℕ)) → Failure → List ℕ
 failure_message names asked (Stopped stop) = stop_message names asked stop
 failure_message names asked (Refused why) = refusal_message names why

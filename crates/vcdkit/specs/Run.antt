@@ -61,12 +61,12 @@ IsAfter want limit front h name left o =
 
 -- ---- all inputs
 
--- the header of an input behind others with these headers
+-- the header of an input after others with these headers
 abbrev pub header_behind : List Header → ℕ → Input → Header
 header_behind earlier limit i = header_of (phrases_of (read_header (allowed_after earlier) (stream_of limit i)).placed)
 
 -- The inputs of readers with these texts, one by one: all of a text; or, where a read failed, what
--- the reader gave until then. No more was read of each than what settles it, where so many
+-- the reader gave until then. No more was read of each than what settles it, where this many
 -- declarations are allowed.
 abbrev pub AreRead : (ℕ → List Token → Bool) → (limit chunk : ℕ) → List Header → List (List ℕ) → (old new : List Supply) → List Input → Type 0
 AreRead settled limit chunk earlier [] old new inputs = inputs ≡ []
@@ -94,7 +94,7 @@ LeavesAll names asked o out out' (Err OutOfMemory) = Writes out out' []
 abbrev pub known : ℕ → List Input → List Seen
 known limit inputs = map (λ (i : Input). Seen.All (stream_of limit i)) inputs
 
--- these first tokens of the input at a place settle a merge, where all of the others are known
+-- these first tokens of the input at an index settle a merge, where all of the others are known
 abbrev pub settles_among : ℕ → List Input → ℕ → List Token → Bool
 settles_among limit inputs k ts = is_settled_merge (slice_set (known limit inputs) k (Seen.First ts))
 

@@ -7,6 +7,7 @@ use vcd_body::Stop;
 use vcd_head::HeadFault;
 use vcd_words::Refusal;
 
+/// Why a task does not run, or has not run to its end.
 #[derive(Clone, Copy, PartialEq, Eq, Debug)]
 pub(crate) enum Failure {
     /// A fault of an input or of a device, or a name that selects nothing.
@@ -18,7 +19,7 @@ pub(crate) enum Failure {
 }
 
 impl Failure {
-    /// Returns the fault of a header, whose input has this place among all, and whose feed is at
+    /// Returns the fault of a header, whose input has this index among all, and whose feed is at
     /// this line.
     pub(crate) fn of_head(fault: HeadFault, input: usize, line: u64) -> Failure
         ensures { result ≡ head_failure fault input line }
@@ -34,7 +35,7 @@ impl Failure {
         }
     }
 
-    /// Returns the stop of a task, whose only input has this place among all.
+    /// Returns the stop of a task, whose only input has this index among all.
     pub(crate) fn of_stop(stop: Stop, input: usize) -> Failure
         ensures { result ≡ stop_failure stop input }
     {

@@ -16,7 +16,7 @@ pub(crate) const MOST_DECLARATIONS: u64 = 16_777_216;
 /// What the windows of all inputs are made of, each in as many equal parts as there are inputs.
 #[derive(Drop)]
 pub(crate) struct Memory {
-    /// What is read at once.
+    /// How much is read in one call.
     pub chunks: Vec<u8>,
     /// Where a token is gathered.
     pub tokens: Vec<u8>,
@@ -24,7 +24,7 @@ pub(crate) struct Memory {
     pub values: Vec<u8>,
 }
 
-/// Returns the windows of so many inputs under the job's limits.
+/// Returns the windows of this many inputs under the job's limits.
 pub(crate) fn windows_for(alloc: Global, job: &Job, inputs: usize) -> Result<Memory, AllocError>
     requires { inputs ≤ 64 }
     ensures { IfOk result (λ memory. (vec_len memory.chunks ≡ inputs * job.now.chunk)
@@ -50,7 +50,7 @@ pub(crate) struct Reading<'h, B> {
     ghost within: { most ≤ 16777216 },
 }
 
-/// Reads the header of the input at this place among all, of whose feed nothing was given.
+/// Reads the header of the input at this index among all, of whose feed nothing was given.
 pub(crate) fn open_input<S: Source, B: BuildHasher>(
     reading: &Reading<'_, B>,
     input: usize,
@@ -80,7 +80,7 @@ pub(crate) struct Begun {
     pub seat: Seat,
 }
 
-/// Reads the header of the input at this place among all, over its reader and its parts of the
+/// Reads the header of the input at this index among all, over its reader and its parts of the
 /// windows alone, and parks its feed.
 fn begin<S: Source, B: BuildHasher>(
     reading: &Reading<'_, B>,
@@ -104,9 +104,9 @@ fn begin<S: Source, B: BuildHasher>(
     Ok(Begun { head, seat })
 }
 
-/// Reads the header of the input at this place among the readers, and parks its feed.
+/// Reads the header of the input at this index among the readers, and parks its feed.
 ///
-/// It uses the parts of the windows at that place, and touches no other input's.
+/// It uses the parts of the windows at that index, and touches no other input's.
 fn begin_at<S: Source, B: BuildHasher>(
     reading: &Reading<'_, B>,
     input: usize,

@@ -15,7 +15,7 @@ use vcd_text::{Feed, Sink, Source};
 use vcd_view::HeadView;
 use vcd_words::{Job, Want};
 
-/// Returns the answer of a task over the input at this place, as that of its run.
+/// Returns the answer of a task over the input at this index, as that of its run.
 fn ended(answer: Result<Done, Stop>, input: usize) -> Result<Done, Failure>
     ensures { result ≡ end_of answer input }
 {

@@ -25,8 +25,7 @@ abbrev pub HasNoText : (words : List Text) → Refused → Type 0
 HasNoText words BadWords = NoText words
 HasNoText words OutOfMemory = ⊤
 
--- of all these bytes so many as there is room for are at the front, and it is told how many there
--- are
+-- of all these bytes as many as there is room for are at the front, and their number is returned
 pub record Fills (bytes : List ℕ) (used : ℕ) (all : List ℕ) : Type 0 where
   pub front : take used bytes ≡ take (length bytes) all
   pub number : used ≡ length all

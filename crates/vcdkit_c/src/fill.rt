@@ -1,8 +1,8 @@
 //! Bytes that are copied to bytes that were lent.
 ghost use Rattle.vcdkit_c.specs.Calls.{Fills};
 
-/// Copies so many of all these bytes as there is room for to the front, and returns how many there
-/// are.
+/// Copies as many of all these bytes as there is room for to the front, and returns how many bytes
+/// there are in all.
 pub(crate) fn fill(bytes: &mut [u8], all: &[u8]) -> u64
     ensures { Fills bytes.new result all.now }
 {

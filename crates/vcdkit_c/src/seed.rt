@@ -9,7 +9,7 @@ pub(crate) struct Seed {
 }
 
 impl Seed {
-    /// Returns what hashes behind this number.
+    /// Returns what hashes after this number.
     pub(crate) fn new(number: u64) -> Seed {
         let mut initial = DefaultHasher::new();
         initial.write_u64(number);

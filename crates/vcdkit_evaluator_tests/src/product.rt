@@ -37,7 +37,7 @@ fn wanted(alloc: Global, command: Command<'_>) -> Result<Want, AllocError>
     }
 }
 
-// What a command over a text, read by chunks of so many bytes, leaves.
+// What a command over a text, read by chunks of this many bytes, leaves.
 pub(crate) fn run_one(
     alloc: Global,
     command: Command<'_>,
@@ -70,7 +70,7 @@ pub(crate) fn run_one(
     })
 }
 
-// What a merge of two texts, read by chunks of so many bytes, leaves.
+// What a merge of two texts, read by chunks of this many bytes, leaves.
 pub(crate) fn run_two(
     alloc: Global,
     first: &[u8],

@@ -16,8 +16,8 @@ use vcdkit::{Job, Want, run};
 // No device is called more often in a run.
 const MOST_CALLS: u64 = 1000;
 
-// Takes so many bytes a call at most, and fails at one call alone, counted from 1; at none where it
-// is 0.
+// Takes this many bytes a call at most, and fails at one call alone, counted from 1; at none where
+// it is 0.
 #[derive(Drop)]
 struct Sparing {
     taken: Narrow,
@@ -130,7 +130,7 @@ fn plan_of(failing: Failing, most: usize, chunk: usize, call: u64) -> Plan
     }
 }
 
-// A reader that gives so many bytes a call, and fails at one call alone.
+// A reader that gives this many bytes a call, and fails at one call alone.
 fn failing_at(bytes: &[u8], most: usize, call: u64) -> Pieces<'_> {
     Pieces {
         fails_at: call,
@@ -180,7 +180,7 @@ fn run_alone(
 }
 
 // Merges two readers, each of which may fail at a call, and returns what was left, of both the
-// reader at this place.
+// reader at this index.
 fn run_merge(
     alloc: Global,
     first: (&[u8], u64),
@@ -259,7 +259,7 @@ fn whole_of(row: &Row<'_>) -> io::Result<Whole> {
     Ok(Whole { dump, output })
 }
 
-// How many bytes of the output are due once so many bytes of the dump were read.
+// How many bytes of the output are due once this many bytes of the dump were read.
 fn due(parts: &[(&[u8], &[u8])], read: usize) -> usize {
     let mut end = 0usize;
     let mut length = 0usize;

@@ -65,7 +65,7 @@ fn a_fault_of_a_header_has_its_line(rt: HostRuntime) {
     }
 }
 
-// A header that opens so many scopes, and has a variable.
+// A header that opens this many scopes, and has a variable.
 fn open_scopes(alloc: Global, many: usize) -> Result<String, AllocError> {
     let mut text = String::new(alloc);
     for _ in 0..many {

@@ -96,12 +96,12 @@ const MERGES: [(&[&[u8]], &[u8], &[u8], u8); 7] = [
     ),
 ];
 
-// The text of an input, where there are so many.
+// The text of an input, where there are this many.
 fn text_at<'t>(texts: &[&'t [u8]], input: usize) -> &'t [u8] {
     texts.get(input).copied().unwrap_or(b"")
 }
 
-// Merges texts, at most three, reading so many bytes at a time, and returns the status.
+// Merges texts, at most three, reading this many bytes at a time, and returns the status.
 pub(crate) fn merge_into<W: Write>(
     alloc: Global,
     texts: &[&[u8]],
@@ -139,7 +139,7 @@ pub(crate) fn merge_into<W: Write>(
     ))
 }
 
-// What a merge of texts, at most three, so many bytes at a time, leaves.
+// What a merge of texts, at most three, this many bytes at a time, leaves.
 fn merge_on(alloc: Global, texts: &[&[u8]], chunk: usize) -> Result<Left, AllocError>
     requires texts { (0 < length texts.now) × (length texts.now ≤ 3) }
     requires chunk { (1 ≤ chunk) × (chunk ≤ 65536) }
@@ -150,7 +150,7 @@ fn merge_on(alloc: Global, texts: &[&[u8]], chunk: usize) -> Result<Left, AllocE
     Ok(Left { out, err, status })
 }
 
-// A merge of texts, so many bytes at a time, leaves this output, this message and this status.
+// A merge of texts, this many bytes at a time, leaves this output, this message and this status.
 fn give_merge<R: Abort + AllocGlobal>(
     rt: &R,
     texts: &[&[u8]],
@@ -185,7 +185,7 @@ fn inputs_are_merged(rt: HostRuntime) {
 const PRODUCED_COUNTS: &[u8] =
     b"scopes 16\nvariables 55\ncodes 39\ntimes 55\nsections 0\nchanges 358\nlast 122000000\n";
 
-// Whether a merge of the dumps of three simulators, so many bytes at a time, is a dump with the
+// Whether a merge of the dumps of three simulators, this many bytes at a time, is a dump with the
 // counts above.
 fn is_read_again(alloc: Global, chunk: usize) -> Result<bool, AllocError>
     requires chunk { (1 ≤ chunk) × (chunk ≤ 65536) }

@@ -7,7 +7,7 @@ use vcd_text::doubles::Narrow;
 use vcd_text::{Sink, Watch};
 use vcdkit::{Job, UseFault, Want, open_fault, use_fault, write_fault};
 
-// Whether the error stream holds this text, after so many failed writes.
+// Whether the error stream holds this text, after this many failed writes.
 fn is_held(err: &Watch<Narrow>, text: &[u8], failures: u64) -> bool {
     err.device.held() == text && Sink::failures(err) == failures
 }
@@ -21,7 +21,7 @@ fn a_line_is_laid_out(rt: HostRuntime) {
 
 // Whether a check of what a reader with this name gives, a text and a failed read after it where
 // that is said, has this status where there is so much room for a message, leaves this message, and
-// has so many failed writes of it.
+// has this many failed writes of it.
 fn is_told(
     alloc: Global,
     name: &str,
@@ -86,7 +86,7 @@ const USE_FAULTS: [(UseFault<'static>, &[u8], u8); 6] = [
     (UseFault::OutOfMemory, b"vcdkit: out of memory\n", 3),
 ];
 
-// Whether a fault, where there is so much room for its line, leaves this with so many failed
+// Whether a fault, where there is so much room for its line, leaves this with this many failed
 // writes, and has this status.
 fn is_said(fault: UseFault<'_>, room: usize, line: &[u8], failures: u64, status: u8) -> bool
     requires { room ≤ 1024 }
@@ -115,7 +115,7 @@ fn a_use_fault_without_room_has_its_status(rt: HostRuntime) {
 }
 
 // Whether the line of a file that cannot be opened, where there is so much room, leaves this with
-// so many failed writes.
+// this many failed writes.
 fn is_unopened(room: usize, left: &[u8], failures: u64) -> bool
     requires { room ≤ 1024 }
 {

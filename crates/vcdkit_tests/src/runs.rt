@@ -62,7 +62,7 @@ pub const TENS_HEAD: &[u8] = b"$timescale 10ns $end\n$var wire 1 ! a $end\n$endd
 
 pub const READ_FAILED: &[u8] = b"vcdkit: (stdin): read failed\n";
 
-// A reader that gives the text, as much at once as is asked for.
+// A reader that gives the text, as much in one read as is asked for.
 pub(crate) fn whole(bytes: &[u8]) -> Pieces<'_> {
     Pieces::new(bytes, usize::MAX)
 }
@@ -128,7 +128,7 @@ pub(crate) fn run_named(
     Ok(Left { out, err, status })
 }
 
-// What a run over what a reader gives, so many bytes at a time, leaves.
+// What a run over what a reader gives, this many bytes at a time, leaves.
 pub(crate) fn run_on(
     alloc: Global,
     words: Words<'_, '_>,
@@ -148,7 +148,7 @@ pub(crate) fn run_on(
     run_named(alloc, "(stdin)", job, input, 1024, 80)
 }
 
-// A run over what a reader gives, so many bytes at a time, leaves this output, this message and
+// A run over what a reader gives, this many bytes at a time, leaves this output, this message and
 // this status.
 pub(crate) fn leave<R: Abort + AllocGlobal>(
     rt: &R,
@@ -169,8 +169,8 @@ pub(crate) fn leave<R: Abort + AllocGlobal>(
     assert_eq!(rt; (output, message, run.status), left, "of {words:?}");
 }
 
-// A run under this token limit leaves this output, message and status, whatever a read gives at
-// once. Where `fails` is set, each read after the text fails.
+// A run under this token limit leaves this output, message and status, whatever a read gives. Where
+// `fails` is set, each read after the text fails.
 pub(crate) fn leave_under<R: Abort + AllocGlobal>(
     rt: &R,
     words: Words<'_, '_>,

@@ -63,8 +63,10 @@ impl<'n, 'r> Edges<'n, 'r> {
         self.take_at(view.codes, regs.section.is_some(), code, form, text);
     }
 
-    /// Counts a change of the code at a place among these, inside a section or not.
-    // It takes no view, which would be copied for each item, also where this is not called.
+    /// Counts a change of the code at an index among these, inside a section or not.
+    // It takes no view, which would be copied for each item, also where this is not called. With a
+    // view `edges` takes 75.1 and 192.9 an item of scalars and of 27,505 codes, as it is 72.0 and
+    // 179.8.
     #[cold]
     #[inline(never)]
     fn take_at(&mut self, codes: &[Code], inside: bool, code: usize, form: Form, text: &[u8])

@@ -28,6 +28,7 @@ pub(crate) struct Taken {
 }
 
 impl Taken {
+    /// Returns that a walk has ended here, with this result of what was written.
     #[inline(always)]
     fn until(ahead: Ahead<'_>, regs: Regs, written: Result<(), WriteFailed>) -> Taken
         ensures passed { result.passed ≡ passed_of ahead.entry }
@@ -44,15 +45,15 @@ impl Taken {
 
 /// A kind of loop, by what it knows of the line of the last time.
 pub(crate) trait Kind: Copy {
-    // From where up to where that line stands in the chunk. An empty part says nothing.
+    // From which offset up to which the chunk has that line. An empty part says nothing.
     ghost line: { Self → ℕ × ℕ };
 
     /// Returns what is known before all items of a chunk: nothing.
     fn new() -> Self
         ensures { (bytes : List ℕ) (time : ℕ) → IsLine bytes (line result) time };
 
-    /// Returns what is known after a mark that is from one place of the bytes up to another, with
-    /// its digits from a third one on.
+    /// Returns what is known after a mark that has the bytes from `from` up to `to`, and its digits
+    /// from `at` on.
     fn after_mark(bytes: &[u8], from: usize, to: usize, at: usize) -> Self
         requires { (time : ℕ) × HasMark bytes.now from to at time }
         ensures { (time : ℕ) → HasMark bytes.now from to at time
@@ -61,6 +62,7 @@ pub(crate) trait Kind: Copy {
 
 /// A loop in which a command counts changes or keeps their values, and writes nothing. It knows
 /// nothing of that line.
+// Carrying nothing for the line saves `check` of scalars 2.5 an item, `edges` 3.4.
 #[derive(Clone, Copy)]
 pub(crate) struct Keeping;
 
@@ -78,8 +80,11 @@ impl Kind for Keeping {
     }
 }
 
-/// A loop in which a command copies changes from the chunk. The line of the last time stands from
-/// `from` up to `to`; where these are the same, the chunk is not known to have it.
+/// A loop in which a command copies changes from the chunk. The line of the last time has the bytes
+/// from `from` up to `to`; where these are the same, the chunk is not known to have it.
+// The line is one more gathered piece: `pick` of five scalars takes 46.8 an item, with the line
+// known only right before a change 57.9; `pick` of all 56.5, 59.9; `cut` inside its window 56.1,
+// 53.6.
 #[derive(Clone, Copy)]
 pub(crate) struct Copying {
     pub(crate) from: usize,

@@ -3,7 +3,7 @@ use vcd_head::{CodeSeed, HeadView, Moment, Scale, TickFault, ticks};
 
 const TEN_NANOSECONDS: Option<i8> = Some(-8);
 
-// So many of the units with this power of ten, in ticks of a scale with that one.
+// This many of the units with this power of ten, in ticks of a scale with that one.
 fn in_ticks(scale: Option<i8>, number: u64, unit: Option<i8>, up: bool) -> Result<u64, TickFault> {
     let view = HeadView {
         text: &[],
@@ -27,7 +27,7 @@ fn both(scale: i8, number: u64, unit: i8) -> [Result<u64, TickFault>; 2] {
     ]
 }
 
-// The power of ten of a scale, so many of the units with another one, and both roundings, down
+// The power of ten of a scale, this many of the units with another one, and both roundings, down
 // first.
 type Rounded = (i8, u64, i8, [Result<u64, TickFault>; 2]);
 
@@ -136,7 +136,7 @@ fn times_out_of_range(rt: HostRuntime) {
     }
 }
 
-// A scale, so many of a unit, whether they are rounded up, and their ticks.
+// A scale, this many of a unit, whether they are rounded up, and their ticks.
 const WITHOUT: [(Option<i8>, u64, Option<i8>, bool, Result<u64, TickFault>); 4] = [
     (None, 10, Some(-9), true, Err(TickFault::NoTimescale)),
     (None, 10, None, true, Ok(10)),
