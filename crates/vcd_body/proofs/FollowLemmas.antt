@@ -125,9 +125,9 @@ bit_stays w false e f digits size end values =
     ∙ sym (one_text f 48 (kept_with values end w) digits)
     ∙ sym (told w state.Zero 48 (record { differs = false; rises = false; falls = false }) 48 (ap one_digit e) refl refl (rw e refl) (rw e refl) f digits size end values)
 
-pub bit_digit : (one : Bool) (how : ℕ) → how ≡ number_of (cond one state.One state.Zero) → one_digit (state_in how) ≡ Some (cond one 49 48)
-bit_digit true how is = ap (λ n. one_digit (state_in n)) is
-bit_digit false how is = ap (λ n. one_digit (state_in n)) is
+pub bit_digit : (one : Bool) (tag : ℕ) → tag ≡ number_of (cond one state.One state.Zero) → one_digit (state_in tag) ≡ Some (cond one 49 48)
+bit_digit true tag is = ap (λ n. one_digit (state_in n)) is
+bit_digit false tag is = ap (λ n. one_digit (state_in n)) is
 
 -- the way to a digit from the other one tells whether it rises
 pub way_turns : (one : Bool) (way : ℕ) → way ≡ cond one 2 0 → ((way == 2) ≡ one) × ((way == 0) ≡ not one)
@@ -135,13 +135,13 @@ way_turns true way e = rw e (refl, refl)
 way_turns false way e = rw e (refl, refl)
 
 -- a slot that holds the other digit of 0 and 1, or the same
-pub other_bit : (how : ℕ) (one : Bool) → how ≡ number_of (cond one state.Zero state.One) → state_in how ≡ cond one state.Zero state.One
-other_bit how true other = ap state_in other
-other_bit how false other = ap state_in other
+pub other_bit : (tag : ℕ) (one : Bool) → tag ≡ number_of (cond one state.Zero state.One) → state_in tag ≡ cond one state.Zero state.One
+other_bit tag true other = ap state_in other
+other_bit tag false other = ap state_in other
 
-pub same_bit : (how : ℕ) (one : Bool) → how ≡ number_of (cond one state.One state.Zero) → state_in how ≡ cond one state.One state.Zero
-same_bit how true same = ap state_in same
-same_bit how false same = ap state_in same
+pub same_bit : (tag : ℕ) (one : Bool) → tag ≡ number_of (cond one state.One state.Zero) → state_in tag ≡ cond one state.One state.Zero
+same_bit tag true same = ap state_in same
+same_bit tag false same = ap state_in same
 
 -- one of binary digits, and others of as many
 pub number_told : (w : Whole) (l n size : ℕ) (s : Step) → w.state ≡ state.Bits → 1 ≤ l → n < 2 ^ l → max size (count_in w.len) ≡ max size l → is_proper w.len ≡ true
@@ -159,20 +159,20 @@ module _ (values : List ℕ) (slots : List Slot) (shares : List Share) (code : �
       let same : p.0 ≡ slot = cc (sym p.2 ∙ at) in
       subst P (ap (λ (s : Slot). kept_with values (end_at shares (length values) code) (whole s p.1)) (sym same) ∙ p.4) (all p.1 p.3)
 
-  pub kept_turns : (one : Bool) → state_in slot.how ≡ cond one state.Zero state.One → (f : Form) → f ≢ form.RealText → (size : ℕ) → with_step one (not one) (with_held (Held.Digits (cond one 49 48 ∷ [])) k) ≡ with_change size f (cond one 49 48 ∷ []) k
+  pub kept_turns : (one : Bool) → state_in slot.tag ≡ cond one state.Zero state.One → (f : Form) → f ≢ form.RealText → (size : ℕ) → with_step one (not one) (with_held (Held.Digits (cond one 49 48 ∷ [])) k) ≡ with_change size f (cond one 49 48 ∷ []) k
   kept_turns one is f digits size = by_slot (λ x. with_step one (not one) (with_held (Held.Digits (cond one 49 48 ∷ [])) x) ≡ with_change size f (cond one 49 48 ∷ []) x)
       (λ h there. bit_turned (whole slot h) one is f digits size (end_at shares (length values) code) values)
 
-  pub kept_stays : (one : Bool) → state_in slot.how ≡ cond one state.One state.Zero → (f : Form) → f ≢ form.RealText → (size : ℕ) → k ≡ with_change size f (cond one 49 48 ∷ []) k
+  pub kept_stays : (one : Bool) → state_in slot.tag ≡ cond one state.One state.Zero → (f : Form) → f ≢ form.RealText → (size : ℕ) → k ≡ with_change size f (cond one 49 48 ∷ []) k
   kept_stays one is f digits size = by_slot (λ x. x ≡ with_change size f (cond one 49 48 ∷ []) x)
       (λ h there. bit_stays (whole slot h) one is f digits size (end_at shares (length values) code) values)
 
-  pub kept_steps : AreLaidOut slots shares (length values) → (l n size : ℕ) (s : Step) → state_in slot.how ≡ state.Bits → 1 ≤ l → n < 2 ^ l → ((upper : ℕ) → max size (count_in (len_in slot.how slot.number upper)) ≡ max size l)
+  pub kept_steps : AreLaidOut slots shares (length values) → (l n size : ℕ) (s : Step) → state_in slot.tag ≡ state.Bits → 1 ≤ l → n < 2 ^ l → ((upper : ℕ) → max size (count_in (len_in slot.tag slot.number upper)) ≡ max size l)
       → s.differs ≡ not (number_in slot.number == n) → s.rises ≡ goes_from 48 49 (Some (48 + number_in slot.number % 2)) (Some (48 + n % 2)) → s.falls ≡ goes_from 49 48 (Some (48 + number_in slot.number % 2)) (Some (48 + n % 2))
       → with_number_change size l n k ≡ cond s.differs (with_step s.rises s.falls (with_number l n k)) (with_number l n k)
   kept_steps laid l n size s bits some fits long differ rise fall = by_slot (λ x. with_number_change size l n x ≡ cond s.differs (with_step s.rises s.falls (with_number l n x)) (with_number l n x))
       (λ h there.
-      let len = len_in slot.how slot.number h.upper in
+      let len = len_in slot.tag slot.number h.upper in
       let is = proper len (subst (λ (st : State). 1 ≤ some_by st len) bits (some_in shares (length values) code slot h (laid code slot at) there)) in
       let same : number_in slot.number ≡ number_in len = omega arith in
       number_told (whole slot h) l n size s bits some fits (long h.upper) is

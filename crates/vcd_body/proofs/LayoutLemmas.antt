@@ -14,7 +14,7 @@ use Rattle.vcd_body.specs.declared.slot.Slot.{Slot}
 use Rattle.vcd_body.proofs.StoreLemmas.{get_other, get_set, no_slot, same_or_not, some_at, whole_is}
 
 abbrev unset_slot : Slot
-unset_slot = record { number = 0; how = 0; steps = 0 ∷ 0 ∷ 0 ∷ [] }
+unset_slot = record { number = 0; tag = 0; steps = 0 ∷ 0 ∷ 0 ∷ [] }
 
 abbrev share_at : Code → ℕ
 share_at c = share_of c.size
@@ -83,7 +83,7 @@ module _ (codes : List Code) (slots : List Slot) (shares : List Share) (n end : 
       let most = start_most codes n k c.0 c.1 in
       let b = ap (λ (x : Share). x.start) (are k h.0 h.1) in
       let u : used (holding_of s h.0) ≡ 0 = ap (λ (x : Slot). used (holding_of x h.0)) (unset_are k s at) in
-      let o : some_by (state_in s.how) (len_in s.how s.number h.0.upper) ≡ 1 = ap (λ (x : Slot). some_by (state_in x.how) (len_in x.how x.number h.0.upper)) (unset_are k s at) in
+      let o : some_by (state_in s.tag) (len_in s.tag s.number h.0.upper) ≡ 1 = ap (λ (x : Slot). some_by (state_in x.tag) (len_in x.tag x.number h.0.upper)) (unset_are k s at) in
       let m = end_is k h.0 h.1 in
       record { share = h.0; there = h.1; fits = omega (arith, next, b, u, m); within = omega (arith, most, m, ends); some = omega (arith, o) }
 

@@ -262,10 +262,10 @@ fits_in shares n k s h l there =
     subst (λ (x : Share). x.start + used (holding_of s x) ≤ end_at shares n k) same l.fits
 
 -- and several digits are some
-pub some_in : (shares : List Share) (n k : ℕ) (s : Slot) (h : Share) → IsLaid shares n k s → slice_get shares k ≡ Some h → 1 ≤ some_by (state_in s.how) (len_in s.how s.number h.upper)
+pub some_in : (shares : List Share) (n k : ℕ) (s : Slot) (h : Share) → IsLaid shares n k s → slice_get shares k ≡ Some h → 1 ≤ some_by (state_in s.tag) (len_in s.tag s.number h.upper)
 some_in shares n k s h l there =
     let same : l.share ≡ h = cc (sym l.there ∙ there) in
-    subst (λ (x : Share). 1 ≤ some_by (state_in s.how) (len_in s.how s.number x.upper)) same l.some
+    subst (λ (x : Share). 1 ≤ some_by (state_in s.tag) (len_in s.tag s.number x.upper)) same l.some
 
 -- how it is held
 pub holding_is : (slots : List Slot) (shares : List Share) (k : ℕ) (s : Slot) (h : Share) → slice_get slots k ≡ Some s → slice_get shares k ≡ Some h → holding_at slots shares k ≡ Some (holding_of s h)
@@ -301,7 +301,7 @@ module _ (slots : List Slot) (shares : List Share) (n : ℕ) (laid : AreLaidOut 
       omega (arith, s, low, more)
 
   module _ (k : ℕ) (s : Slot) (at : slice_get slots k ≡ Some s) where
-    pub slot_laid : (s' : Slot) → ((h : Share) → slice_get shares k ≡ Some h → (h.start + used (holding_of s' h) ≤ end_at shares n k) × (1 ≤ some_by (state_in s'.how) (len_in s'.how s'.number h.upper))) → AreLaidOut (slice_set slots k s') shares n
+    pub slot_laid : (s' : Slot) → ((h : Share) → slice_get shares k ≡ Some h → (h.start + used (holding_of s' h) ≤ end_at shares n k) × (1 ≤ some_by (state_in s'.tag) (len_in s'.tag s'.number h.upper))) → AreLaidOut (slice_set slots k s') shares n
     slot_laid s' fits = λ j d there. by_place j d there (same_or_not j k)
       where
         by_place : (j : ℕ) (d : Slot) → slice_get (slice_set slots k s') j ≡ Some d → (j ≡ k) ⊎ (j ≢ k) → IsLaid shares n j d
@@ -314,7 +314,7 @@ module _ (slots : List Slot) (shares : List Share) (n : ℕ) (laid : AreLaidOut 
 
   -- a share was written that begins where it began, and its slot has room in it
   pub share_laid : (k : ℕ) (h h' : Share) → slice_get shares k ≡ Some h → h'.start ≡ h.start
-      → ((s : Slot) → slice_get slots k ≡ Some s → (h'.start + used (holding_of s h') ≤ end_at shares n k) × (1 ≤ some_by (state_in s.how) (len_in s.how s.number h'.upper)))
+      → ((s : Slot) → slice_get slots k ≡ Some s → (h'.start + used (holding_of s h') ≤ end_at shares n k) × (1 ≤ some_by (state_in s.tag) (len_in s.tag s.number h'.upper)))
       → AreLaidOut slots (slice_set shares k h') n
   share_laid k h h' at start fits_now = λ j d there. by_place j d there (laid j d there) (same_or_not j k)
     where
@@ -354,7 +354,7 @@ module _ (slots : List Slot) (shares : List Share) (n : ℕ) (laid : AreLaidOut 
 
   module _ (k : ℕ) (s : Slot) (h : Share) (at : slice_get slots k ≡ Some s) (here : slice_get shares k ≡ Some h) where
     -- both were written
-    pub both_laid : (s' : Slot) (h' : Share) → h'.start ≡ h.start → h.start + used (holding_of s' h') ≤ end_at shares n k → 1 ≤ some_by (state_in s'.how) (len_in s'.how s'.number h'.upper) → AreLaidOut (slice_set slots k s') (slice_set shares k h') n
+    pub both_laid : (s' : Slot) (h' : Share) → h'.start ≡ h.start → h.start + used (holding_of s' h') ≤ end_at shares n k → 1 ≤ some_by (state_in s'.tag) (len_in s'.tag s'.number h'.upper) → AreLaidOut (slice_set slots k s') (slice_set shares k h') n
     both_laid s' h' start fits some = λ j d there. by_place j d there (same_or_not j k)
       where
         by_place : (j : ℕ) (d : Slot) → slice_get (slice_set slots k s') j ≡ Some d → (j ≡ k) ⊎ (j ≢ k) → IsLaid (slice_set shares k h') n j d
@@ -412,7 +412,7 @@ module _ (slots : List Slot) (shares : List Share) (n : ℕ) (laid : AreLaidOut 
         let l = laid k s at in
         let high = l.within in
         ap (held_of (put_mid h.start (end_at shares n k - h.start) values ys)) (sym p.4)
-        ∙ ap (held_by (state_in p.0.how) (len_in p.0.how p.0.number p.1.upper)) (reads_same p.1.start (used (holding_of p.0 p.1)) h.start (end_at shares n k - h.start) values ys (omega (arith, fits, high)) same (by_apart (apart j p.0 p.1 other p.2 p.3)))
+        ∙ ap (held_by (state_in p.0.tag) (len_in p.0.tag p.0.number p.1.upper)) (reads_same p.1.start (used (holding_of p.0 p.1)) h.start (end_at shares n k - h.start) values ys (omega (arith, fits, high)) same (by_apart (apart j p.0 p.1 other p.2 p.3)))
         ∙ ap (held_of values) p.4
       where
         by_apart : {a b : ℕ} → (a ≤ h.start) ⊎ (end_at shares n k ≤ b) → (a ≤ h.start) ⊎ (h.start + (end_at shares n k - h.start) ≤ b)
@@ -435,7 +435,7 @@ module _ (slots : List Slot) (shares : List Share) (n : ℕ) (laid : AreLaidOut 
 
 -- what an index outside the slots, or the shares, would give in a proof
 abbrev pub blank : Slot
-blank = record { number = 0; how = 0; steps = [] }
+blank = record { number = 0; tag = 0; steps = [] }
 
 abbrev pub blank_share : Share
 blank_share = record { start = 0; upper = 0; counts = []; chosen = false }
@@ -559,7 +559,7 @@ told_state state.Bits = refl
 told_state state.Real = refl
 
 -- from 8 on a number tells binary digits
-pub many_bits : (how : ℕ) → 8 ≤ how → state_in how ≡ state.Bits
+pub many_bits : (tag : ℕ) → 8 ≤ tag → state_in tag ≡ state.Bits
 many_bits zero h = absurd (omega arith)
 many_bits (suc zero) h = absurd (omega arith)
 many_bits (suc (suc zero)) h = absurd (omega arith)
@@ -571,8 +571,8 @@ many_bits (suc (suc (suc (suc (suc (suc (suc zero))))))) h = absurd (omega arith
 many_bits (suc (suc (suc (suc (suc (suc (suc (suc n)))))))) h = refl
 
 -- a length that a slot and its share hold in two parts
-pub len_told : (st : State) (how len : ℕ) → how ≡ number_of st → st ≢ state.Bits → len_in how (len % 4294967296) (len / 4294967296) ≡ len
-len_told st how len e text = ap (λ n. len_in n (len % 4294967296) (len / 4294967296)) e ∙ by_state st text
+pub len_told : (st : State) (tag len : ℕ) → tag ≡ number_of st → st ≢ state.Bits → len_in tag (len % 4294967296) (len / 4294967296) ≡ len
+len_told st tag len e text = ap (λ n. len_in n (len % 4294967296) (len / 4294967296)) e ∙ by_state st text
   where
     parts : len / 4294967296 * 4294967296 + len % 4294967296 % 4294967296 ≡ len
     parts = omega arith

@@ -108,10 +108,10 @@ state_in (suc (suc (suc (suc (suc (suc (suc (suc n)))))))) = state.Bits
 
 -- a length of these parts: the upper one is the share's, or how many binary digits there are
 abbrev pub len_in : ℕ → ℕ → ℕ → ℕ
-len_in how number upper = cond (nat_le 8 how) (how - 8) upper * 4294967296 + number % 4294967296
+len_in tag number upper = cond (nat_le 8 tag) (tag - 8) upper * 4294967296 + number % 4294967296
 
 abbrev pub holding_of : Slot → Share → Holding
-holding_of s h = record { state = state_in s.how; lower = s.number; upper = cond (nat_le 8 s.how) (s.how - 8) h.upper }
+holding_of s h = record { state = state_in s.tag; lower = s.number; upper = cond (nat_le 8 s.tag) (s.tag - 8) h.upper }
 
 abbrev pub holding_at : List Slot → List Share → ℕ → Option Holding
 holding_at slots shares code = option_and_then (λ (s : Slot). option_map (holding_of s) (slice_get shares code)) (slice_get slots code)
@@ -125,7 +125,7 @@ pub record Whole : Type 0 where
   pub chosen : Bool
 
 abbrev pub whole : Slot → Share → Whole
-whole s h = record { state = state_in s.how; len = len_in s.how s.number h.upper; start = h.start; counts = counts_of s.steps h.counts; chosen = h.chosen }
+whole s h = record { state = state_in s.tag; len = len_in s.tag s.number h.upper; start = h.start; counts = counts_of s.steps h.counts; chosen = h.chosen }
 
 -- with a value that is held so
 abbrev pub set_whole : State → ℕ → Whole → Whole
@@ -205,7 +205,7 @@ pub record IsLaid (shares : List Share) (n k : ℕ) (s : Slot) : Type 0 where
   pub there : slice_get shares k ≡ Some share
   pub fits : share.start + used (holding_of s share) ≤ end_at shares n k
   pub within : end_at shares n k ≤ n
-  pub some : 1 ≤ some_by (state_in s.how) (len_in s.how s.number share.upper)
+  pub some : 1 ≤ some_by (state_in s.tag) (len_in s.tag s.number share.upper)
 
 abbrev pub AreLaidOut : List Slot → List Share → ℕ → Type 0
 AreLaidOut slots shares n = (k : ℕ) (s : Slot) → slice_get slots k ≡ Some s → IsLaid shares n k s
@@ -231,7 +231,7 @@ start_of codes n k = min (room_of (take k codes)) n
 
 -- a code of which nothing is known
 abbrev pub IsUnset : Slot → Type 0
-IsUnset s = s ≡ record { number = 0; how = 0; steps = 0 ∷ 0 ∷ 0 ∷ [] }
+IsUnset s = s ≡ record { number = 0; tag = 0; steps = 0 ∷ 0 ∷ 0 ∷ [] }
 
 -- a share that begins here, of a code of which nothing was counted
 abbrev pub share_from : ℕ → Share

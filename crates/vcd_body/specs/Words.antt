@@ -10,8 +10,8 @@ use Rattle.vcd_view.specs.declared.keyword.Keyword.{Keyword as HeadKeyword}
 use Rattle.vcd_view.specs.declared.keyword.Keyword.TheVariants as head
 use Rattle.vcd_body.specs.declared.item.Section.TheVariants as section
 use Rattle.vcd_body.specs.Items.{model_section}
-use Rattle.vcd_body.specs.declared.words.Command.{Command}
-use Rattle.vcd_body.specs.declared.words.Command.TheVariants.{Comment, Begin, End, OfHeader}
+use Rattle.vcd_body.specs.declared.words.KeywordUse.{KeywordUse}
+use Rattle.vcd_body.specs.declared.words.KeywordUse.TheVariants.{Comment, Begin, End, OfHeader}
 use Rattle.vcd_body.specs.declared.words.First.{First}
 use Rattle.vcd_body.specs.declared.words.First.TheVariants.{Mark, Bit, Scalar, Vector, Real, Other}
 
@@ -30,7 +30,7 @@ is_of_header Keyword.End = false
 is_of_header k = true
 
 -- what a keyword is where a phrase begins
-abbrev pub command_is : HeadKeyword → Command
+abbrev pub command_is : HeadKeyword → KeywordUse
 command_is head.Comment = Comment
 command_is head.Date = OfHeader
 command_is head.EndDefinitions = OfHeader
@@ -46,7 +46,7 @@ command_is head.DumpVars = Begin section.Vars
 command_is head.End = End
 
 -- the token is this command, or no keyword
-abbrev pub StandsFor : List ℕ → Option Command → Type 0
+abbrev pub StandsFor : List ℕ → Option KeywordUse → Type 0
 StandsFor token (Some Comment) = token ≡ keyword_text Keyword.Comment
 StandsFor token (Some (Begin s)) = token ≡ keyword_text (section_keyword (model_section s))
 StandsFor token (Some End) = token ≡ keyword_text Keyword.End

@@ -469,7 +469,7 @@ pub(crate) fn mark_ahead<'a>(
         → (is_some regs.old.section ≡ true) ⊎ (time < regs.old.time) }
     ensures regs { LeavesRegs regs.old regs.new result }
 {
-    match regs.take_mark_by(time, !opening.near) {
+    match regs.accept_mark_by(time, !opening.near) {
         Ok(()) => {
             let at = begin_of(opening.token, ahead);
             Some(mark_of(time, at + 1))

@@ -118,9 +118,9 @@ pub(crate) fn put_digits(bits: Bits, to: &mut [u8])
 #[inline(always)]
 #[tactic(auto, using(crate::proofs::StoreLemmas::many_bits))]
 pub(crate) fn is_number_step(slot: &Slot, size: usize, bits: Bits) -> bool
-    ensures state { result ≡ true → state_in slot.now.how ≡ State.Bits }
+    ensures state { result ≡ true → state_in slot.now.tag ≡ State.Bits }
     ensures long { result ≡ true → (upper : ℕ)
-        → max size (count_in (len_in slot.now.how slot.now.number upper)) ≡ max size bits.len }
+        → max size (count_in (len_in slot.now.tag slot.now.number upper)) ≡ max size bits.len }
 {
-    slot.how >= BITS && usize::from(slot.how - BITS) <= size && bits.len <= size
+    slot.tag >= BITS && usize::from(slot.tag - BITS) <= size && bits.len <= size
 }

@@ -74,29 +74,29 @@ impl Regs {
     // call `cut` of scalars before its window takes 6 % less; in `take_lines` `check` takes 31.6 an
     // item, with the call 33.2.
     #[inline(never)]
-    pub(crate) fn take_mark(&mut self, time: u64) -> Result<(), BodyFault>
+    pub(crate) fn accept_mark(&mut self, time: u64) -> Result<(), BodyFault>
         ensures may { MatchResult result (λ _. MayMark self.old time) (RefusesMark self.old time) }
         ensures regs { AreRegsWith (λ _. Item.Time time) self.old self.new result }
     {
-        self.take_mark_here(time)
+        self.accept_mark_here(time)
     }
 
-    /// Takes a time mark as `take_mark` does, in a call where `call` says so.
+    /// Takes a time mark as `accept_mark` does, in a call where `call` says so.
     #[inline(always)]
-    pub(crate) fn take_mark_by(&mut self, time: u64, call: bool) -> Result<(), BodyFault>
+    pub(crate) fn accept_mark_by(&mut self, time: u64, call: bool) -> Result<(), BodyFault>
         ensures may { MatchResult result (λ _. MayMark self.old time) (RefusesMark self.old time) }
         ensures regs { AreRegsWith (λ _. Item.Time time) self.old self.new result }
     {
         if call {
-            self.take_mark(time)
+            self.accept_mark(time)
         } else {
-            self.take_mark_here(time)
+            self.accept_mark_here(time)
         }
     }
 
-    /// Takes a time mark as `take_mark` does, without a call.
+    /// Takes a time mark as `accept_mark` does, without a call.
     #[inline(always)]
-    fn take_mark_here(&mut self, time: u64) -> Result<(), BodyFault>
+    fn accept_mark_here(&mut self, time: u64) -> Result<(), BodyFault>
         ensures may { MatchResult result (λ _. MayMark self.old time) (RefusesMark self.old time) }
         ensures regs { AreRegsWith (λ _. Item.Time time) self.old self.new result }
     {

@@ -98,13 +98,13 @@ fn has_one_blank(
         → text.now ≡ slice_range bytes.now (from + 1) (from + 1 + length text.now) }
     ensures line { result ≡ true → IsTextLine bytes.now from to first text.now code_at }
 {
-    let behind = from + 1 + text.len();
-    (behind + 1 == code_at) & (bytes[from] == first) & (bytes[behind] == b' ')
+    let text_end = from + 1 + text.len();
+    (text_end + 1 == code_at) & (bytes[from] == first) & (bytes[text_end] == b' ')
 }
 
 /// Returns a mask: bit k is set where byte `at + k` is not `0`.
 #[inline(always)]
-fn others_32(bytes: &[u8], at: usize) -> u64
+fn nonzero_32(bytes: &[u8], at: usize) -> u64
     requires { at + 32 ≤ length bytes.now }
     ensures zero { (k : ℕ) → k < 32 → bit_at result k ≡ 0 → slice_index bytes.now (at + k) ≡ 48 }
     ensures other { (k : ℕ) → k < 32 → bit_at result k ≡ 1 → slice_index bytes.now (at + k) ≢ 48 }
@@ -115,7 +115,7 @@ fn others_32(bytes: &[u8], at: usize) -> u64
 
 /// Returns a mask: bit k is set where byte `at + k` is not `0`.
 #[inline(always)]
-fn others_64(bytes: &[u8], at: usize) -> u64
+fn nonzero_64(bytes: &[u8], at: usize) -> u64
     requires { at + 64 ≤ length bytes.now }
     ensures zero { (k : ℕ) → k < 64 → bit_at result k ≡ 0 → slice_index bytes.now (at + k) ≡ 48 }
     ensures other { (k : ℕ) → k < 64 → bit_at result k ≡ 1 → slice_index bytes.now (at + k) ≢ 48 }
@@ -153,12 +153,12 @@ fn left_out_known(bytes: &[u8], at: usize, digits: &[u8]) -> Option<usize>
     if n == 0 || n > 32 || bytes.len() - at < 32 {
         return None;
     }
-    Some(clear_bits(others_32(bytes, at), n))
+    Some(clear_bits(nonzero_32(bytes, at), n))
 }
 
 /// Returns a mask: bit k is set where byte `at + k` is neither `0` nor `1`.
 #[inline(always)]
-fn others_than_bits_64(bytes: &[u8], at: usize) -> u64
+fn nonbinary_64(bytes: &[u8], at: usize) -> u64
     requires { at + 64 ≤ length bytes.now }
     ensures { (k : ℕ) → k < 64 → bit_at result k ≡ 0 → IsBinaryAt bytes.now (at + k) }
 {
@@ -190,8 +190,8 @@ fn left_out_of_64(bytes: &[u8], at: usize, digits: &[u8]) -> Option<usize>
     requires { StandsAt bytes.now at digits.now }
     ensures { IfSome result (IsNeedless digits.now) }
 {
-    if digits.len() == 64 && others_than_bits_64(bytes, at) == 0 {
-        return Some(clear_bits(others_64(bytes, at), 64));
+    if digits.len() == 64 && nonbinary_64(bytes, at) == 0 {
+        return Some(clear_bits(nonzero_64(bytes, at), 64));
     }
     None
 }

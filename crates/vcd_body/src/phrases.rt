@@ -29,7 +29,7 @@ pub(crate) fn read_mark(token: &[u8], regs: &mut Regs) -> Result<u64, BodyFault>
     let Some(time) = time_in(token) else {
         return Err(BodyFault::BadTime);
     };
-    regs.take_mark(time)?;
+    regs.accept_mark(time)?;
     Ok(time)
 }
 

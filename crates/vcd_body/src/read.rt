@@ -6,7 +6,7 @@ use crate::fault::BodyFault;
 use crate::item::{Form, Item, Regs};
 use crate::phrases::{read_mark, read_real, read_vector, scalar_code, skip_comment};
 use crate::tokens::next_token;
-use crate::words::{Command, First, command_of, first_byte_of, first_of, rest_of};
+use crate::words::{First, KeywordUse, command_of, first_byte_of, first_of, rest_of};
 use vcd_text::{Feed, Source};
 use vcd_view::HeadView;
 
@@ -26,25 +26,25 @@ fn read_command<S: Source>(
     ensures bounded { seen feed.old < 2 ^ 63 → seen feed.new < 2 ^ 63 }
 {
     match command_of(feed.token()) {
-        Some(Command::Comment) => {
+        Some(KeywordUse::Comment) => {
             skip_comment(feed)?;
             Ok(None)
         }
-        Some(Command::Begin(section)) => {
+        Some(KeywordUse::Begin(section)) => {
             if regs.section.is_some() {
                 return Err(BodyFault::OutOfPlace);
             }
             regs.section = Some(section);
             Ok(Some(Item::Begin(section)))
         }
-        Some(Command::End) => {
+        Some(KeywordUse::End) => {
             if regs.section.is_some() {
                 regs.section = None;
                 return Ok(Some(Item::End));
             }
             Err(BodyFault::OutOfPlace)
         }
-        Some(Command::OfHeader) => Err(BodyFault::OutOfPlace),
+        Some(KeywordUse::OfHeader) => Err(BodyFault::OutOfPlace),
         None => Err(BodyFault::UnknownCommand),
     }
 }

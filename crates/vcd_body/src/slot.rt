@@ -42,7 +42,7 @@ pub struct Slot {
     pub(crate) number: u32,
     // The number of the state that holds the value; from `BITS` on it is more by as many as the
     // binary digits are.
-    pub(crate) how: u8,
+    pub(crate) tag: u8,
     // How many steps came since the share had the counters: those that fall, those that do not
     // turn, and those that rise. So most steps are counted here, by one byte.
     pub(crate) steps: [u8; 3],
@@ -112,7 +112,7 @@ impl Slot {
     {
         Slot {
             number: 0,
-            how: number_of(State::Unset),
+            tag: number_of(State::Unset),
             steps: [0; 3],
         }
     }
@@ -186,20 +186,20 @@ pub(crate) fn number_of_turned(digit: u8) -> u8
 
 /// Returns the number that encodes the state of the digit 0 for that of 1, and the other way round.
 #[inline(always)]
-pub(crate) fn turned(how: u8) -> u8
-    ensures { (one : Bool) → how ≡ number_of (cond one State.Zero State.One)
+pub(crate) fn turned(tag: u8) -> u8
+    ensures { (one : Bool) → tag ≡ number_of (cond one State.Zero State.One)
         → result ≡ number_of (cond one State.One State.Zero) }
 {
     // They are 1 and 2, which differ in two bits.
-    how ^ 3
+    tag ^ 3
 }
 
 /// Returns the state that a number encodes.
 #[inline(always)]
-pub(crate) fn state_in(how: u8) -> State
-    ensures { result ≡ state_in how }
+pub(crate) fn state_in(tag: u8) -> State
+    ensures { result ≡ state_in tag }
 {
-    match how {
+    match tag {
         0 => State::Unset,
         1 => State::One,
         2 => State::Zero,
@@ -217,13 +217,13 @@ pub(crate) fn state_in(how: u8) -> State
 pub(crate) fn holding_of(slot: Slot, share: Share) -> Holding
     ensures { result ≡ holding_of slot share }
 {
-    let upper = if slot.how >= BITS {
-        u32::from(slot.how - BITS)
+    let upper = if slot.tag >= BITS {
+        u32::from(slot.tag - BITS)
     } else {
         share.upper
     };
     Holding {
-        state: state_in(slot.how),
+        state: state_in(slot.tag),
         lower: slot.number,
         upper,
     }

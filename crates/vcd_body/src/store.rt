@@ -65,13 +65,13 @@ impl<'a> Table<'a> {
 /// Sets the value of a code to the one digit that a state holds, by its number. Its share is left
 /// alone, and need not be looked at.
 #[inline(always)]
-pub(crate) fn set_how(slots: &mut [Slot], code: usize, how: u8)
-    ensures changes { (d : ℕ) → one_digit (state_in how) ≡ Some d
+pub(crate) fn set_tag(slots: &mut [Slot], code: usize, tag: u8)
+    ensures changes { (d : ℕ) → one_digit (state_in tag) ≡ Some d
         → ChangesSlot code (with_held (Held.Digits (d ∷ []))) slots.old slots.new }
-    ensures laid { (d : ℕ) → one_digit (state_in how) ≡ Some d → SlotsKeepLaid slots.old slots.new }
+    ensures laid { (d : ℕ) → one_digit (state_in tag) ≡ Some d → SlotsKeepLaid slots.old slots.new }
 {
     if code < slots.len() {
-        slots[code].how = how;
+        slots[code].tag = tag;
     }
 }
 
@@ -112,7 +112,7 @@ fn hold_text(slot: &mut Slot, share: &mut Share, state: State, len: usize)
     requires text { state ≢ State.Bits }
     ensures { whole slot.new share.new ≡ set_whole state len (whole slot.old share.old) }
 {
-    slot.how = number_of(state);
+    slot.tag = number_of(state);
     slot.number = (len % UPPER) as u32;
     share.upper = (len / UPPER) as u32;
 }
@@ -200,10 +200,10 @@ pub(crate) fn set_bits(slots: &mut [Slot], code: usize, bits: Bits)
     ensures laid { SlotsKeepLaid slots.old slots.new }
 {
     if code < slots.len() {
-        let (number, how) = held_bits(bits);
+        let (number, tag) = held_bits(bits);
         let slot = &mut slots[code];
         slot.number = number;
-        slot.how = how;
+        slot.tag = tag;
     }
 }
 
@@ -251,7 +251,7 @@ pub(crate) fn turn_at(slots: &mut [Slot], code: usize, digit: u8) -> Stepped
     if code >= slots.len() || !is_bit(digit) {
         return Stepped::Not;
     }
-    let before = slots[code].how;
+    let before = slots[code].tag;
     if before != number_of_turned(digit) {
         return if before == number_of_bit(digit) {
             Stepped::Counted
@@ -259,7 +259,7 @@ pub(crate) fn turn_at(slots: &mut [Slot], code: usize, digit: u8) -> Stepped
             Stepped::Not
         };
     }
-    set_how(slots, code, turned(before));
+    set_tag(slots, code, turned(before));
     if count_in_slot(slots, code, way_to(digit)) {
         return Stepped::Counted;
     }

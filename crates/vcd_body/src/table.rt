@@ -9,7 +9,7 @@ use crate::held::{digit_shown, last_held};
 use crate::item::Form;
 use crate::slot::{Share, Shown, Slot, State, number_of_digit, state_in};
 use crate::step::{Step, step_to_text, way_of};
-use crate::store::{Stepped, count_in_slot, lay_out, set_bits, set_how, step_at, turn_at};
+use crate::store::{Stepped, count_in_slot, lay_out, set_bits, set_tag, step_at, turn_at};
 use crate::value::Value;
 use vcd_view::HeadView;
 
@@ -80,8 +80,8 @@ impl<'a> Table<'a> {
             Value::Digits(text) => match text {
                 // The number comes first: else the slots are kept over the call for a rare digit.
                 [digit] => {
-                    let how = number_of_digit(*digit);
-                    set_how(self.slots, code, how);
+                    let tag = number_of_digit(*digit);
+                    set_tag(self.slots, code, tag);
                 }
                 _ => self.set_text(code, Form::Vector, text),
             },
@@ -199,7 +199,7 @@ impl<'a> Table<'a> {
         if code >= self.slots.len() || code >= self.shares.len() {
             return Shown::Unset;
         }
-        match state_in(self.slots[code].how) {
+        match state_in(self.slots[code].tag) {
             State::Unset => Shown::Unset,
             State::Real => Shown::Real,
             _ => Shown::Bits,

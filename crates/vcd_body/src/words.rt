@@ -26,7 +26,7 @@ pub enum First {
 
 /// A keyword where a phrase begins.
 #[derive(Clone, Copy, PartialEq, Eq, Debug)]
-pub(crate) enum Command {
+pub(crate) enum KeywordUse {
     Comment,
     Begin(Section),
     End,
@@ -110,30 +110,30 @@ pub(crate) fn is_comment(token: &[u8]) -> bool
 }
 
 /// Returns what a keyword is where a phrase begins.
-fn command_for(keyword: Keyword) -> Command
+fn command_for(keyword: Keyword) -> KeywordUse
     ensures { result ≡ command_is keyword }
 {
     match keyword {
-        Keyword::Comment => Command::Comment,
-        Keyword::DumpVars => Command::Begin(Section::Vars),
-        Keyword::DumpOff => Command::Begin(Section::Off),
-        Keyword::DumpOn => Command::Begin(Section::On),
-        Keyword::DumpAll => Command::Begin(Section::All),
-        Keyword::End => Command::End,
+        Keyword::Comment => KeywordUse::Comment,
+        Keyword::DumpVars => KeywordUse::Begin(Section::Vars),
+        Keyword::DumpOff => KeywordUse::Begin(Section::Off),
+        Keyword::DumpOn => KeywordUse::Begin(Section::On),
+        Keyword::DumpAll => KeywordUse::Begin(Section::All),
+        Keyword::End => KeywordUse::End,
         Keyword::Date
         | Keyword::EndDefinitions
         | Keyword::Scope
         | Keyword::Timescale
         | Keyword::Upscope
         | Keyword::Var
-        | Keyword::Version => Command::OfHeader,
+        | Keyword::Version => KeywordUse::OfHeader,
     }
 }
 
 /// Returns what the keyword is that the token is.
 // Inlined: its answer would come through memory.
 #[inline(always)]
-pub(crate) fn command_of(token: &[u8]) -> Option<Command>
+pub(crate) fn command_of(token: &[u8]) -> Option<KeywordUse>
     ensures { StandsFor token.now result }
 {
     Some(command_for(keyword_of(token)?))
@@ -150,7 +150,7 @@ fn is_value_digit(byte: u8) -> bool
 
 /// Returns a mask: bit k is set where byte `at + k` is neither `0` nor `1`.
 #[inline(always)]
-fn other_32(bytes: &[u8], at: usize) -> u64
+fn nonbinary_32(bytes: &[u8], at: usize) -> u64
     requires { at + 32 ≤ length bytes.now }
     ensures digits { (k : ℕ) → k < 32 → bit_at result k ≡ 0 → IsDigitAt bytes.now (at + k) }
     ensures binary { (k : ℕ) → k < 32 → bit_at result k ≡ 0 → IsBinaryAt bytes.now (at + k) }
@@ -167,7 +167,7 @@ fn are_binary_at(bytes: &[u8], at: usize, n: usize) -> bool
     ensures digits { result ≡ true → (k : ℕ) → k < n → IsDigitAt bytes.now (at + k) }
     ensures binary { result ≡ true → AreBitsAt bytes.now at n }
 {
-    other_32(bytes, at) & ((1 << n) - 1) == 0
+    nonbinary_32(bytes, at) & ((1 << n) - 1) == 0
 }
 
 /// Returns whether the digits are `0` and `1` alone, looked at one by one. No byte is branched on.
@@ -193,12 +193,12 @@ fn are_binary(digits: &[u8]) -> bool
     let last = digits.len() - 32;
     let mut at = 0;
     'loads: while at < last {
-        if other_32(digits, at) != 0 {
+        if nonbinary_32(digits, at) != 0 {
             return false;
         }
         at += 32;
     }
-    other_32(digits, last) == 0
+    nonbinary_32(digits, last) == 0
 }
 
 // Not inlined, so that the ways of digits that are known stay small.

@@ -17,8 +17,8 @@ use Rattle.vcd_engine.specs.Next.{TakesNext, Walk, walk_at}
 use Rattle.vcd_engine.specs.Pieces.{IsLine, IsPart, held_in}
 use Rattle.vcd_engine.specs.Walks.{CanTake, HasWalked, TakesHeld, walk_of}
 use Rattle.vcd_engine.specs.declared.machine.Machine.{Machine}
-use Rattle.vcd_engine.specs.declared.machine.walk.Held.{Held}
-use Rattle.vcd_engine.specs.declared.machine.walk.Taken.{Taken}
+use Rattle.vcd_engine.specs.declared.machine.walk.WalkState.{WalkState}
+use Rattle.vcd_engine.specs.declared.machine.walk.WalkEnd.{WalkEnd}
 use Rattle.vcd_engine.specs.declared.pieces.Pieces.{Pieces}
 use Rattle.vcd_engine.proofs.AheadLemmas.{ends_before}
 use Rattle.vcd_engine.proofs.NextLemmas.{next, next_fails, next_given, next_grows, next_stands}
@@ -80,7 +80,7 @@ module _ (v : HeadView) (a : Ahead) (r : Regs) (m : Machine) (begin : Device) (w
         }
 
     -- or a write of what is due with it failed
-    pub walk_fails : (t : Taken) (failed : E) → result ≡ Err failed → t.passed ≡ passed_of w'.ahead → t.regs ≡ w'.regs → (told : _) → t.written ≡ Err told → PassesTo a (passed_of w'.ahead) → RunsOver v a r m m'' begin out' t
+    pub walk_fails : (t : WalkEnd) (failed : E) → result ≡ Err failed → t.passed ≡ passed_of w'.ahead → t.regs ≡ w'.regs → (told : _) → t.written ≡ Err told → PassesTo a (passed_of w'.ahead) → RunsOver v a r m m'' begin out' t
     walk_fails t failed e passed_is regs_is told written_is passes =
         let task = request_in m in
         let limit = longest_of a in
@@ -103,7 +103,7 @@ module _ (v : HeadView) (a : Ahead) (r : Regs) (m : Machine) (begin : Device) (w
         })
 
   -- it ends, and what is held is written
-  pub walk_ends : (out' : Device) (t : Taken) → t.passed ≡ passed_of w.ahead → t.regs ≡ w.regs → PassesTo a (passed_of w.ahead) → Puts out out' (held_in (bytes_of w.ahead) p) t.written → IfErr t.written (λ _. 0 < length (held_in (bytes_of w.ahead) p)) → RunsOver v a r m m' begin out' t
+  pub walk_ends : (out' : Device) (t : WalkEnd) → t.passed ≡ passed_of w.ahead → t.regs ≡ w.regs → PassesTo a (passed_of w.ahead) → Puts out out' (held_in (bytes_of w.ahead) p) t.written → IfErr t.written (λ _. 0 < length (held_in (bytes_of w.ahead) p)) → RunsOver v a r m m' begin out' t
   walk_ends out' t passed_is regs_is passes puts some =
       let here = subst (λ (bs : List ℕ). Puts out out' (held_in bs p) t.written) walked.over.1 puts in
       let more = subst (λ (bs : List ℕ). IfErr t.written (λ _. 0 < length (held_in bs p))) walked.over.1 some in
@@ -116,27 +116,27 @@ module _ (v : HeadView) (a : Ahead) (r : Regs) (m : Machine) (begin : Device) (w
         same = walked.same;
       }
 
-module _ {L C : Type 0} (line : L → ℕ × ℕ) (is_ready : C → Bool) (machine : C → Machine) (v : HeadView) (s : Stage (Held L) C) where
-  abbrev On : Stage (Held L) C → Result Bool WriteFailed → Type 0
+module _ {L C : Type 0} (line : L → ℕ × ℕ) (is_ready : C → Bool) (machine : C → Machine) (v : HeadView) (s : Stage (WalkState L) C) where
+  abbrev On : Stage (WalkState L) C → Result Bool WriteFailed → Type 0
   On z ended = Walks (TakesHeld line machine) (CanTake line is_ready) (λ _. false) (λ w. w ≡ v) s z ended
 
-  one_did : (b c : Stage (Held L) C) (result : Result (Unit {0}) WriteFailed) → TakesShown (TakesHeld line machine) (CanTake line is_ready) (λ w. w ≡ v) b c result → TakesHeld line machine v b c result
+  one_did : (b c : Stage (WalkState L) C) (result : Result (Unit {0}) WriteFailed) → TakesShown (TakesHeld line machine) (CanTake line is_ready) (λ w. w ≡ v) b c result → TakesHeld line machine v b c result
   one_did b c result one = subst (λ (w : HeadView). TakesHeld line machine w b c result) one.1 one.2.did
 
-  pub passed_to : (z : Stage (Held L) C) (ended : Result Bool WriteFailed) → On z ended → PassesTo s.ahead (passed_of z.ahead)
+  pub passed_to : (z : Stage (WalkState L) C) (ended : Result Bool WriteFailed) → On z ended → PassesTo s.ahead (passed_of z.ahead)
   passed_to z ended on lines ts passed = (walk_passes _ _ _ _ s (longest_of s.ahead) lines (bytes_of s.ahead) ts (refl, refl) passed z ended on).1
 
   module _ (r : Regs) (m : Machine) (begin : Device) (walked : HasWalked v s.ahead r m begin (walk_of line s) s.visit.pieces s.out (machine s.command)) where
-    along : (z : Stage (Held L) C) → Trail (TakesHeld line machine) (CanTake line is_ready) (λ _. false) (λ w. w ≡ v) s z → HasWalked v s.ahead r m begin (walk_of line z) z.visit.pieces z.out (machine z.command)
+    along : (z : Stage (WalkState L) C) → Trail (TakesHeld line machine) (CanTake line is_ready) (λ _. false) (λ w. w ≡ v) s z → HasWalked v s.ahead r m begin (walk_of line z) z.visit.pieces z.out (machine z.command)
     along z Begins = walked
     along _ (Further b c so_far one on) = walk_on v s.ahead r m begin _ _ _ _ (along b so_far) _ _ _ _ _ (one_did b c (Ok tt) one) tt refl
     along _ (Again b c so_far there same is) = rw is (walk_same v s.ahead r m begin _ _ _ _ (along b so_far) there same)
 
     -- no other item was taken
-    pub walk_over : (z : Stage (Held L) C) (b : Bool) → On z (Ok b) → HasWalked v s.ahead r m begin (walk_of line z) z.visit.pieces z.out (machine z.command)
+    pub walk_over : (z : Stage (WalkState L) C) (b : Bool) → On z (Ok b) → HasWalked v s.ahead r m begin (walk_of line z) z.visit.pieces z.out (machine z.command)
     walk_over z false on = along z on.trail
     walk_over z true on = let e = on.3 in absurd (cc)
 
     -- or a write of what is due with one more failed
-    pub walk_wrong : (z : Stage (Held L) C) (e : WriteFailed) → On z (Err e) → (t : Taken) → t.passed ≡ passed_of z.ahead → t.regs ≡ z.regs → t.written ≡ Err e → RunsOver v s.ahead r m (machine z.command) begin z.out t
+    pub walk_wrong : (z : Stage (WalkState L) C) (e : WriteFailed) → On z (Err e) → (t : WalkEnd) → t.passed ≡ passed_of z.ahead → t.regs ≡ z.regs → t.written ≡ Err e → RunsOver v s.ahead r m (machine z.command) begin z.out t
     walk_wrong z e on t passed_is regs_is written_is = walk_fails v s.ahead r m begin _ _ _ _ (along on.0 on.1.trail) _ _ _ _ _ (one_did on.0 z (Err e) on.2) t e refl passed_is regs_is e written_is (passed_to z (Err e) on)

@@ -20,7 +20,7 @@ use Rattle.vcd_engine.specs.Engine.{Keeps, last_of, request_in}
 use Rattle.vcd_engine.specs.Room.{SameTask}
 use Rattle.vcd_engine.specs.Several.{TakesSeveral}
 use Rattle.vcd_engine.specs.declared.machine.Machine.{Machine}
-use Rattle.vcd_engine.specs.declared.machine.walk.Taken.{Taken}
+use Rattle.vcd_engine.specs.declared.machine.walk.WalkEnd.{WalkEnd}
 
 module _ (task : Request) (h : Header) (limit lines : ℕ) (bytes : List ℕ) (before : List BodyItem) where
   -- after the items before, these lie in the first n bytes ahead; none of them ends the run, and
@@ -49,7 +49,7 @@ module _ (task : Request) (h : Header) (limit lines : ℕ) (bytes : List ℕ) (b
   RunsAhead n m r out out' result = TakesSeveral task before (EndsAhead n m r out out' result)
 
 -- what a machine leaves that takes the items which lie ahead from a position on
-pub record RunsOver (v : HeadView) (a : Ahead) (r : Regs) (m m' : Machine) (out out' : Device) (t : Taken) : Type 0 where
+pub record RunsOver (v : HeadView) (a : Ahead) (r : Regs) (m m' : Machine) (out out' : Device) (t : WalkEnd) : Type 0 where
   pub gives : (h : Header) (lines : ℕ) (before : List BodyItem) → IsViewOf v h → length before + length (bytes_of a) < 2 ^ 63 → StandsAhead (request_in m) h (longest_of a) lines (bytes_of a) before (passed_of a) [] m r
       → RunsAhead (request_in m) h (longest_of a) lines (bytes_of a) before t.passed m' t.regs out out' t.written
   pub passes : (lines : ℕ) (ts : List Token) → Passed (longest_of a) lines (bytes_of a) (passed_of a) ts → (more : List Token) × Passed (longest_of a) lines (bytes_of a) t.passed (ts ++ more)

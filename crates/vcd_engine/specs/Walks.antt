@@ -19,7 +19,7 @@ use Rattle.vcd_engine.specs.Next.{HasLine, TakesNext, Walk, walk_at}
 use Rattle.vcd_engine.specs.Pieces.{GrowsBut, IsLine, IsPart, held_in}
 use Rattle.vcd_engine.specs.Room.{SameTask}
 use Rattle.vcd_engine.specs.declared.machine.Machine.{Machine}
-use Rattle.vcd_engine.specs.declared.machine.walk.Held.{Held}
+use Rattle.vcd_engine.specs.declared.machine.walk.WalkState.{WalkState}
 use Rattle.vcd_engine.specs.declared.pieces.Pieces.{Pieces}
 
 -- from a position on some of the items that lie ahead were taken, and what is due with them was
@@ -36,15 +36,15 @@ pub record HasWalked (v : HeadView) (a : Ahead) (r : Regs) (m : Machine) (begin 
       × GrowsBut begin out (held_in (bytes_of a) p) (open_text (request_in m) h before) (open_text (request_in m) h (before ++ items))
 
 -- where a walk is, by what it has at hand
-abbrev pub walk_of : {L C : Type 0} → (L → ℕ × ℕ) → Stage (Held L) C → Walk
+abbrev pub walk_of : {L C : Type 0} → (L → ℕ × ℕ) → Stage (WalkState L) C → Walk
 walk_of line s = walk_at s.ahead s.regs (line s.visit.line)
 
 -- the walk of a command can go on in these bytes, with these registers
-pub record CanTake {L C : Type 0} (line_of : L → ℕ × ℕ) (is_ready : C → Bool) (held : Held L) (command : C) (bytes : List ℕ) (r : Regs) : Type 0 where
+pub record CanTake {L C : Type 0} (line_of : L → ℕ × ℕ) (is_ready : C → Bool) (held : WalkState L) (command : C) (bytes : List ℕ) (r : Regs) : Type 0 where
   pub ready : is_ready command ≡ true
   pub part : IsPart bytes held.pieces
   pub line : IsLine bytes (line_of held.line) r.time
 
 -- one item more was taken ahead by a command
-abbrev pub TakesHeld : {L C E : Type 0} → (L → ℕ × ℕ) → (C → Machine) → HeadView → Stage (Held L) C → Stage (Held L) C → Result (Unit {0}) E → Type 0
+abbrev pub TakesHeld : {L C E : Type 0} → (L → ℕ × ℕ) → (C → Machine) → HeadView → Stage (WalkState L) C → Stage (WalkState L) C → Result (Unit {0}) E → Type 0
 TakesHeld line machine v s t result = TakesNext v (walk_of line s) (walk_of line t) s.visit.pieces t.visit.pieces s.out t.out (machine s.command) (machine t.command) result

@@ -118,13 +118,13 @@ impl ItemText {
             pieces.flush(change.bytes, out)?;
             return self.put(view, time, change.plain.item, change.plain.text, out);
         };
-        self.put_time_behind(time, change.bytes, line, pieces, out)?;
+        self.hold_time(time, change.bytes, line, pieces, out)?;
         pieces.append_parts(change.bytes, change.from, change.to, n, out)
     }
 
     /// Writes the line of a time, unless it was written last, after what is held.
     #[inline(always)]
-    fn put_time_behind<W: Sink>(
+    fn hold_time<W: Sink>(
         &mut self,
         time: u64,
         bytes: &[u8],

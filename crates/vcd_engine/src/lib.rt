@@ -22,8 +22,9 @@
 //! - `task`: `Task`, `Room`, `Task::need`
 //! - `engine`: `Begun`, `Engine`, and `run_task`, the one loop over items. It names no command
 //! - `machine`, and under it `check`, `pick`, `cut`, `sample`, `edges`: what each task keeps
-//!   between items, and what it does at the begin, with an item and at the end; `walk`: `Command`,
-//!   what a task does with items that are whole in the chunk, and the one loop over these
+//!   between items, and what it does at the begin, with an item and at the end; `walk`:
+//!   `AheadTask`, what a task does with items that are whole in the chunk, and the one loop over
+//!   these
 //! - `commands`: `check`, `pick`, `cut`, `sample`, `edges`
 //! - `choice`: which codes are chosen, a byte a code
 //! - `item_text`: kept items as lines, each after the line of its time

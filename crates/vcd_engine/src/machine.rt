@@ -9,7 +9,7 @@ pub(crate) mod pick;
 pub(crate) mod sample;
 pub(crate) mod walk;
 
-use crate::machine::walk::{Copying, Keeping, Taken, take_each};
+use crate::machine::walk::{Copying, Keeping, WalkEnd, take_each};
 use crate::task::{Room, Task};
 use vcd_body::{Item, Regs, Stop};
 use vcd_text::{Ahead, Sink, WriteFailed};
@@ -102,7 +102,7 @@ impl<'n, 'r> Machine<'n, 'r> {
         regs: Regs,
         ahead: Ahead<'_>,
         out: &mut W,
-    ) -> Taken
+    ) -> WalkEnd
         requires failures { (W.device out.old).failures < 2 ^ 64 - 1 }
         requires within { passed_of ahead ≤ length (bytes_of ahead) }
         ensures { RunsOver view.entry ahead.entry regs self.old self.new

@@ -14,7 +14,7 @@ use Rattle.vcd_model.specs.Selection.{is_selected, is_variable, selects_path}
 use Rattle.vcd_model.proofs.ScopeLemmas.{enclosing_below, slice_get-take}
 use Rattle.vcd_head.specs.declared.inside.Inside.{Inside}
 use Rattle.vcd_head.specs.declared.inside.Open.{Open}
-use Rattle.vcd_head.specs.declared.names.Run.{Run}
+use Rattle.vcd_head.specs.declared.names.NameRun.{NameRun}
 use Rattle.vcd_head.specs.Inside.{AreOpen, HasEntered, front}
 use Rattle.vcd_head.specs.ScopesLeft.{GivesNext, LeavesScopes}
 use Rattle.vcd_head.specs.declared.enclosing.Enclosing.{Enclosing}
@@ -138,7 +138,7 @@ is_empty-map f (x ∷ xs) = sym (ne_eqb (length (x ∷ xs)) 0 (λ e. omega (arit
 -- ---- flags that were set
 
 -- what is held stays right where flags are set and none is cleared
-pub follows_kept : (names : List (List ℕ)) (order : List ℕ) (old new : List Bool) (front : List ℕ) (r : Run) → ((p : ℕ) (name : List ℕ) → slice_get names p ≡ Some name → get_or old p false ≡ true → get_or new p false ≡ true) → AreSame names new
+pub follows_kept : (names : List (List ℕ)) (order : List ℕ) (old new : List Bool) (front : List ℕ) (r : NameRun) → ((p : ℕ) (name : List ℕ) → slice_get names p ≡ Some name → get_or old p false ≡ true → get_or new p false ≡ true) → AreSame names new
     → Follows names order old front r → Follows names order new front r
 follows_kept names order old new front r grows same f = record {
   up = f.up;

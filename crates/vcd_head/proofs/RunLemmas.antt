@@ -15,7 +15,7 @@ use Rattle.vcd_view.proofs.ListLemmas.{same_bytes}
 use Rattle.vcd_head.specs.Matched.{Matches}
 use Rattle.vcd_head.specs.NameOrder.{IsOrder, Rises, SelectsAll, first_of, next_in, text_at}
 use Rattle.vcd_head.specs.Runs.{Follows, IsDecided}
-use Rattle.vcd_head.specs.declared.names.Run.{Run}
+use Rattle.vcd_head.specs.declared.names.NameRun.{NameRun}
 use Rattle.vcd_head.proofs.MatchLemmas.{match_none, or_false, or_true}
 use Rattle.vcd_head.proofs.NamePaths.{selects-byte, selects-front}
 
@@ -120,7 +120,7 @@ who_passes test (x ∷ names) e = by_test (test x) refl (who_passes test names) 
 
 -- ---- a run
 
-module _ (names : List (List ℕ)) (order : List ℕ) (flags : List Bool) (front : List ℕ) (r : Run) (f : Follows names order flags front r) where
+module _ (names : List (List ℕ)) (order : List ℕ) (flags : List Bool) (front : List ℕ) (r : NameRun) (f : Follows names order flags front r) where
   pub next_is : (i : ℕ) (l : r.first ≤ i) (m : i < r.end) → next_in names order r.passed i ≡ first_of (f.inside i l m).0
   next_is i l m =
       let e = f.inside i l m in
@@ -169,7 +169,7 @@ pub record Noting (names : List (List ℕ)) (order : List ℕ) (front : List ℕ
   pub set_before : (i : ℕ) → first ≤ i → i < at → get_or new (get_or order i 0) false ≡ true
   pub others : (p : ℕ) (name : List ℕ) → slice_get names p ≡ Some name → bytes_eq name front ≡ false → get_or new p false ≡ get_or old p false
 
-module _ (names : List (List ℕ)) (order : List ℕ) (old : List Bool) (front : List ℕ) (r : Run) (f : Follows names order old front r) where
+module _ (names : List (List ℕ)) (order : List ℕ) (old : List Bool) (front : List ℕ) (r : NameRun) (f : Follows names order old front r) where
   pub noting_next : (new : List Bool) (at : ℕ) → r.first ≤ at → at < r.end → next_in names order r.passed at ≡ 0 → get_or order at 0 < length new → Noting names order front old new r.first at → Noting names order front old (set new (get_or order at 0) true) r.first (at + 1)
   noting_next new at l m ends room n = record {
     set_before = λ i a b. elim (cases_eq (get_or order i 0) (get_or order at 0)) [

@@ -12,7 +12,7 @@ use Rattle.vcd_view.proofs.ParentLemmas.{take-take}
 use Rattle.vcd_head.specs.Matched.{Matches}
 use Rattle.vcd_head.specs.NameOrder.{AreShared, Notes, SelectsAll, first_of, next_bytes, next_in, text_at}
 use Rattle.vcd_head.specs.Runs.{Follows, GoesOn, IsDecided, Narrows}
-use Rattle.vcd_head.specs.declared.names.Run.{Run}
+use Rattle.vcd_head.specs.declared.names.NameRun.{NameRun}
 use Rattle.vcd_head.proofs.MatchLemmas.{any_none, or_false, or_true}
 use Rattle.vcd_head.proofs.RunLemmas.{all_behind, between, byte_first, cancel, ends_at_point, ends_elsewhere, equal_bytes, found_at, is_itself, next_is, none_behind, not_shorter, other_byte, some_passes, text_is, who_passes}
 
@@ -26,7 +26,7 @@ selects_behind : (byte : ℕ) (name front : List ℕ) → (byte ≡ 46) × (name
 selects_behind byte name front e = λ t.
     ap (λ l. selects_path l name) (append_assoc front (byte ∷ []) t ∙ ap (λ b. front ++ b ∷ t) e.0) ∙ ap (selects_path (front ++ 46 ∷ t)) e.1 ∙ ends_at_point front t
 
-module _ (names : List (List ℕ)) (order : List ℕ) (old new : List Bool) (front : List ℕ) (byte : ℕ) (r s : Run) (ends : Bool) (f : Follows names order old front r)
+module _ (names : List (List ℕ)) (order : List ℕ) (old new : List Bool) (front : List ℕ) (byte : ℕ) (r s : NameRun) (ends : Bool) (f : Follows names order old front r)
     (m : Matches (λ name. (byte == 46) && bytes_eq name front) names old new ends) (n : Narrows names order byte r s) (whole : s.whole ≡ (r.whole || ends)) where
   kept : (i : ℕ) → i < length names → get_or old (get_or order i 0) false ≡ true → get_or new (get_or order i 0) false ≡ true
   kept i l e = m.flags (get_or order i 0) (text_at names order i) (text_is names order f.order_is i l) ∙ ap (λ b. b || ((byte == 46) && bytes_eq (text_at names order i) front)) e
@@ -112,7 +112,7 @@ same_taken (suc n) [] b l s = absurd (omega (arith, s.0))
 same_taken (suc n) (x ∷ a) [] l s = absurd (omega (arith, l))
 same_taken (suc n) (x ∷ a) (y ∷ b) l s = λ j. s.1 0 (omega arith) j ∷ same_taken n a b (omega (arith, l)) (omega (arith, s.0), λ i h. s.1 (suc i) (omega (arith, h))) j
 
-module _ (names : List (List ℕ)) (order : List ℕ) (flags : List Bool) (front bytes : List ℕ) (n : ℕ) (r s : Run) (f : Follows names order flags front r) (some : r.first < r.end) (within : n ≤ length bytes)
+module _ (names : List (List ℕ)) (order : List ℕ) (flags : List Bool) (front bytes : List ℕ) (n : ℕ) (r s : NameRun) (f : Follows names order flags front r) (some : r.first < r.end) (within : n ≤ length bytes)
     (low : AreShared (next_bytes names order r.passed r.first) bytes n) (high : AreShared (next_bytes names order r.passed (r.end - 1)) bytes n)
     (first : s.first ≡ r.first) (end : s.end ≡ r.end) (passed : s.passed ≡ r.passed + n) (whole : s.whole ≡ r.whole) where
   begins : (i : ℕ) (l : r.first ≤ i) (m : i < r.end) → AreShared (next_bytes names order r.passed i) bytes n → (f.inside i l m).0 ≡ take n bytes ++ drop n (f.inside i l m).0
@@ -172,17 +172,17 @@ notes_both names p old mid new a b i name at = elim (b i name at) [
   | inr x ↦ inr x
 ]
 
-pub goes_nowhere : (names : List (List ℕ)) (order : List ℕ) (flags : List Bool) (front : List ℕ) (r : Run) → Follows names order flags front r → GoesOn names order flags flags front r
+pub goes_nowhere : (names : List (List ℕ)) (order : List ℕ) (flags : List Bool) (front : List ℕ) (r : NameRun) → Follows names order flags front r → GoesOn names order flags flags front r
 goes_nowhere names order flags front r f = record { follows = f; notes = λ p name at. inl refl }
 
-pub goes_both : (names : List (List ℕ)) (order : List ℕ) (old mid new : List Bool) (front more : List ℕ) (r s : Run) → GoesOn names order old mid front r → GoesOn names order mid new (front ++ more) s → GoesOn names order old new (front ++ more) s
+pub goes_both : (names : List (List ℕ)) (order : List ℕ) (old mid new : List Bool) (front more : List ℕ) (r s : NameRun) → GoesOn names order old mid front r → GoesOn names order mid new (front ++ more) s → GoesOn names order old new (front ++ more) s
 goes_both names order old mid new front more r s a b = record {
   follows = b.follows;
   notes = notes_both names (front ++ more) old mid new (notes_behind names front more old mid a.notes) b.notes;
 }
 
 -- where no name is in the run, none is in it behind any bytes
-pub goes_empty : (names : List (List ℕ)) (order : List ℕ) (old new : List Bool) (front more : List ℕ) (r : Run) → r.end ≤ r.first → GoesOn names order old new front r → GoesOn names order old new (front ++ more) r
+pub goes_empty : (names : List (List ℕ)) (order : List ℕ) (old new : List Bool) (front more : List ℕ) (r : NameRun) → r.end ≤ r.first → GoesOn names order old new front r → GoesOn names order old new (front ++ more) r
 goes_empty names order old new front more r none g =
     let f = g.follows in
     record {
@@ -205,7 +205,7 @@ goes_empty names order old new front more r none g =
 
 -- ---- a whole path
 
-module _ (names : List (List ℕ)) (order : List ℕ) (old mid new : List Bool) (path : List ℕ) (r : Run) (ends : Bool) (g : GoesOn names order old mid path r) (m : Matches (λ name. bytes_eq name path) names mid new ends) where
+module _ (names : List (List ℕ)) (order : List ℕ) (old mid new : List Bool) (path : List ℕ) (r : NameRun) (ends : Bool) (g : GoesOn names order old mid path r) (m : Matches (λ name. bytes_eq name path) names mid new ends) where
   f : Follows names order mid path r
   f = g.follows
 

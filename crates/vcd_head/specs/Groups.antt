@@ -4,27 +4,27 @@ use Rattle.vcd_head.specs.Matched.{Matches}
 use Rattle.vcd_head.specs.NameOrder.{AreShared, Rises, next_bytes}
 use Rattle.vcd_head.specs.Runs.{Follows, GoesOn}
 use Rattle.vcd_head.specs.declared.names.Group.{Group}
-use Rattle.vcd_head.specs.declared.names.Run.{Run}
+use Rattle.vcd_head.specs.declared.names.NameRun.{NameRun}
 
 -- the bytes of its names
 abbrev pub names_of : Group → List (List ℕ)
 names_of g = map string_bytes g.names.now
 
 -- the run is that of this front of a path
-abbrev pub IsRun : Group → List Bool → (front : List ℕ) → Run → Type 0
+abbrev pub IsRun : Group → List Bool → (front : List ℕ) → NameRun → Type 0
 IsRun g flags front r = Follows (names_of g) g.order flags front r
 
 -- the run is that of a longer front, and names that select all after it were flagged
-abbrev pub IsRunOn : Group → (old new : List Bool) → (front : List ℕ) → Run → Type 0
+abbrev pub IsRunOn : Group → (old new : List Bool) → (front : List ℕ) → NameRun → Type 0
 IsRunOn g old new front r = GoesOn (names_of g) g.order old new front r
 
 -- whatever front of a path the first run is of, the second is of this longer one
-abbrev pub RunsOn : Group → (old new : List Bool) → Run → (longer : List ℕ → List ℕ) → Run → Type 0
+abbrev pub RunsOn : Group → (old new : List Bool) → NameRun → (longer : List ℕ → List ℕ) → NameRun → Type 0
 RunsOn g old new run longer r = (front : List ℕ) → IsRun g old front run → IsRunOn g old new (longer front) r
 
 -- whatever front the run is of, the names that pass the test were flagged, and this is whether
 -- there are some
-abbrev pub FlagsSome : Group → (old new : List Bool) → Run → (test : List ℕ → List ℕ → Bool) → Bool → Type 0
+abbrev pub FlagsSome : Group → (old new : List Bool) → NameRun → (test : List ℕ → List ℕ → Bool) → Bool → Type 0
 FlagsSome g old new run test some = (front : List ℕ) → IsRun g old front run → Matches (test front) (names_of g) old new some
 
 -- between two indexes of its order the next byte of the names does not fall

@@ -2,7 +2,7 @@
 use Rattle.std.specs.Prelude.{◌≡◌, ◌≢◌, ℕ, ◌+◌, ◌<◌, ◌≤◌, ◌⊎◌, Bool, true, false, get_or, List, ◌++◌, length}
 use Rattle.vcd_model.specs.Selection.{selects_path}
 use Rattle.vcd_head.specs.NameOrder.{AreSame, IsOrder, Notes, SelectsAll, next_in, text_at}
-use Rattle.vcd_head.specs.declared.names.Run.{Run}
+use Rattle.vcd_head.specs.declared.names.NameRun.{NameRun}
 
 -- the name at an index of the order is flagged and selects all that goes on after the front, as is
 -- known, or it selects nothing of that
@@ -10,7 +10,7 @@ abbrev pub IsDecided : List (List ℕ) → (order : List ℕ) → List Bool → 
 IsDecided names order flags front whole i = ((whole ≡ true) × (get_or flags (get_or order i 0) false ≡ true) × SelectsAll front (text_at names order i)) ⊎ ((text : List ℕ) → selects_path (front ++ text) (text_at names order i) ≡ false)
 
 -- the names of the run begin with the front, and the others are decided
-pub record Follows (names : List (List ℕ)) (order : List ℕ) (flags : List Bool) (front : List ℕ) (r : Run) : Type 0 where
+pub record Follows (names : List (List ℕ)) (order : List ℕ) (flags : List Bool) (front : List ℕ) (r : NameRun) : Type 0 where
   pub up : r.first ≤ r.end
   pub within : r.end ≤ length names
   pub passed : r.first < r.end → r.passed ≡ length front
@@ -21,7 +21,7 @@ pub record Follows (names : List (List ℕ)) (order : List ℕ) (flags : List Bo
   pub order_is : IsOrder names order
 
 -- the names of a run that go on with this byte
-pub record Narrows (names : List (List ℕ)) (order : List ℕ) (byte : ℕ) (old new : Run) : Type 0 where
+pub record Narrows (names : List (List ℕ)) (order : List ℕ) (byte : ℕ) (old new : NameRun) : Type 0 where
   pub up : new.first ≤ new.end
   pub low : old.first ≤ new.first
   pub high : new.end ≤ old.end
@@ -30,6 +30,6 @@ pub record Narrows (names : List (List ℕ)) (order : List ℕ) (byte : ℕ) (ol
   pub others : (i : ℕ) → old.first ≤ i → i < old.end → (i < new.first) ⊎ (new.end ≤ i) → next_in names order old.passed i ≢ byte + 1
 
 -- the run is that of a longer front, and names that select all after it were flagged
-pub record GoesOn (names : List (List ℕ)) (order : List ℕ) (old new : List Bool) (front : List ℕ) (r : Run) : Type 0 where
+pub record GoesOn (names : List (List ℕ)) (order : List ℕ) (old new : List Bool) (front : List ℕ) (r : NameRun) : Type 0 where
   pub follows : Follows names order new front r
   pub notes : Notes names front old new

@@ -30,25 +30,25 @@ pub(crate) fn token_ahead<'a>(ahead: &mut Ahead<'a>) -> Option<&'a [u8]>
 fn joined<'a>(
     bytes: &'a [u8],
     first: &[u8],
-    behind_first: usize,
+    first_end: usize,
     second: &[u8],
-    behind: usize,
+    second_end: usize,
 ) -> Option<&'a [u8]>
-    requires first { (length first.now + 1 ≤ behind_first)
-        × EndsBefore bytes.now behind_first first.now }
-    requires second { (behind_first + length second.now + 1 ≤ behind)
-        × EndsBefore bytes.now behind second.now }
-    requires within { behind ≤ length bytes.now }
+    requires first { (length first.now + 1 ≤ first_end)
+        × EndsBefore bytes.now first_end first.now }
+    requires second { (first_end + length second.now + 1 ≤ second_end)
+        × EndsBefore bytes.now second_end second.now }
+    requires within { second_end ≤ length bytes.now }
     ensures { IfSome result (λ text. text.now ≡ first.now ++ 32 ∷ second.now) }
 {
-    if behind - second.len() - 1 != behind_first {
+    if second_end - second.len() - 1 != first_end {
         return None;
     }
-    if bytes[behind_first - 1] != b' ' {
+    if bytes[first_end - 1] != b' ' {
         return None;
     }
-    let start = behind_first - first.len() - 1;
-    Some(&bytes[start..behind - 1])
+    let start = first_end - first.len() - 1;
+    Some(&bytes[start..second_end - 1])
 }
 
 /// Passes the reference that comes next and the `$end` after it, and returns the reference, if it

@@ -5,7 +5,7 @@ ghost use Rattle.vcd_head.specs.Names.{AnyRow, GivesNext, Header, IsViewOf, Leav
 use vcd_view::HeadView;
 
 // How many rows are held at a time.
-const HELD: usize = 128;
+const SCOPES_HELD: usize = 128;
 
 /// The scopes around the declaration of a row, given outermost first.
 ///
@@ -18,7 +18,7 @@ pub(crate) struct Enclosing {
     row: usize,
     // The rows that were passed last, each at its number, counted outwards from 0, modulo their
     // number.
-    rows: [usize; HELD],
+    rows: [usize; SCOPES_HELD],
     // The most scopes that are left to give.
     left: usize,
     // How many of the scopes left, the outermost, are held.
@@ -43,7 +43,7 @@ impl Enclosing {
     {
         Enclosing {
             row,
-            rows: [0; HELD],
+            rows: [0; SCOPES_HELD],
             left: most,
             held: 0,
         }
@@ -58,17 +58,17 @@ impl Enclosing {
     {
         if self.held == 0 {
             self.left = walk(view, self.row, self.left, &mut self.rows);
-            self.held = self.left.min(HELD);
+            self.held = self.left.min(SCOPES_HELD);
         }
         self.left = self.left.checked_sub(1)?;
         self.held = self.held.saturating_sub(1);
-        Some(self.rows[self.left % HELD])
+        Some(self.rows[self.left % SCOPES_HELD])
     }
 }
 
 // Walks outwards from a row by at most `most` scopes, and holds the last ones. Returns how many it
 // passed.
-fn walk(view: HeadView<'_>, row: usize, most: usize, rows: &mut [usize; HELD]) -> usize
+fn walk(view: HeadView<'_>, row: usize, most: usize, rows: &mut [usize; SCOPES_HELD]) -> usize
     ensures walks { AnyRow view.entry row (λ h. Walks h row most rows.new result) }
     ensures within { result ≤ most }
 {
@@ -77,7 +77,7 @@ fn walk(view: HeadView<'_>, row: usize, most: usize, rows: &mut [usize; HELD]) -
         let Some(outer) = view.scope_of(scope) else {
             return passed;
         };
-        rows[passed % HELD] = outer;
+        rows[passed % SCOPES_HELD] = outer;
         scope = outer;
     }
     most

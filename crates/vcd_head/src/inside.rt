@@ -4,19 +4,19 @@ ghost use Rattle.std.specs.Prelude.{◌≡◌, ◌<◌, ◌≤◌, suc, Bool, Li
 ghost use Rattle.vcd_head.specs.Names.{AnyOpen, AnyRow, AnyVariable, AreSame, ComparesAt, EntersScope, FlagsSelected, GivesAround, Header, IsOpen, IsOrder, KeepsOpen, Matches, SelectsAt, StaysOpen, front, is_selected, names_of, row_path, scopes_text, selects_path};
 
 use crate::enclosing::Enclosing;
-use crate::names::{Group, Run, TOGETHER};
+use crate::names::{GROUP_NAMES, Group, NameRun};
 use crate::selection::selects;
 use vcd_view::{HeadView, Kind};
 
 // How many scopes may be open, and one for what is outside of all.
-const MOST_HELD: usize = 1001;
+const MAX_OPEN: usize = 1001;
 
 // The names that go on inside a scope.
 #[derive(Clone, Copy)]
 pub(crate) struct Inside {
     // 1 plus the row of the scope, 0 outside of all.
     pub(crate) scope: usize,
-    pub(crate) run: Run,
+    pub(crate) run: NameRun,
 }
 
 // The scopes that are open, the innermost last. A scope is entered at the first variable in it, so
@@ -26,7 +26,7 @@ pub(crate) struct Inside {
 // variables takes 0.15 s.
 #[derive(Drop)]
 pub(crate) struct Open {
-    inside: [Inside; MOST_HELD],
+    inside: [Inside; MAX_OPEN],
     // How many are open.
     depth: usize,
     // How many of them, the outermost, were entered.
@@ -44,7 +44,7 @@ impl Open {
             run: group.all(),
         };
         Open {
-            inside: [outermost; MOST_HELD],
+            inside: [outermost; MAX_OPEN],
             depth: 0,
             entered: 0,
         }
@@ -59,7 +59,7 @@ impl Open {
         view: HeadView<'_>,
         row: usize,
         group: &Group<'_>,
-        matched: &mut [bool; TOGETHER],
+        matched: &mut [bool; GROUP_NAMES],
     ) -> bool
         ensures open { KeepsOpen view.entry group.now matched.old matched.new self.old self.new }
         ensures selected { AnyOpen view.entry row group.now matched.old self.old
@@ -91,7 +91,7 @@ impl Open {
         view: HeadView<'_>,
         row: usize,
         group: &Group<'_>,
-        matched: &mut [bool; TOGETHER],
+        matched: &mut [bool; GROUP_NAMES],
     ) -> bool
         ensures { SelectsAt view.entry row group.now matched.old matched.new
             self.old self.new result }
@@ -108,7 +108,7 @@ impl Open {
         view: HeadView<'_>,
         row: usize,
         group: &Group<'_>,
-        matched: &mut [bool; TOGETHER],
+        matched: &mut [bool; GROUP_NAMES],
     )
         ensures { AnyRow view.entry row (λ h. EntersScope h group.now
             (scopes_text (take row h.declarations)) matched.old matched.new self.old self.new) }
@@ -125,7 +125,7 @@ impl Open {
         view: HeadView<'_>,
         row: usize,
         group: &Group<'_>,
-        matched: &mut [bool; TOGETHER],
+        matched: &mut [bool; GROUP_NAMES],
     )
         ensures { AnyRow view.entry row (λ h. EntersScope h group.now
             (front h.declarations (suc row)) matched.old matched.new self.old self.new) }
@@ -145,7 +145,7 @@ impl Open {
         ensures { StaysOpen inner self.old self.new }
     {
         let next = self.entered.saturating_add(1);
-        if next < MOST_HELD {
+        if next < MAX_OPEN {
             self.inside[next] = inner;
             self.entered = next;
         }
@@ -158,7 +158,7 @@ impl Open {
         view: HeadView<'_>,
         row: usize,
         group: &Group<'_>,
-        matched: &mut [bool; TOGETHER],
+        matched: &mut [bool; GROUP_NAMES],
     ) -> bool
         ensures { ComparesAt view.entry row group.now matched.old matched.new self.now result }
     {
@@ -189,7 +189,7 @@ fn compare_each(
     view: HeadView<'_>,
     row: usize,
     names: &[String],
-    matched: &mut [bool; TOGETHER],
+    matched: &mut [bool; GROUP_NAMES],
 ) -> bool
     requires { length names.now ≤ 16384 }
     ensures { AnyVariable view.entry row (λ h v. Matches (selects_path (row_path h row v))

@@ -6,7 +6,7 @@ ghost use Rattle.vcd_head.specs.NameOrder.{All, AreSame, AreShared, Contains, Is
 use std::cmp::Ordering;
 
 // How many names are followed together.
-pub(crate) const TOGETHER: usize = 16_384;
+pub(crate) const GROUP_NAMES: usize = 16_384;
 
 // Names, and their indexes in the order of their bytes. Sorted, so the time grows with names and
 // rows and not with their product: `pick` of 200,000 variables in one scope by 1,000 names takes
@@ -14,14 +14,14 @@ pub(crate) const TOGETHER: usize = 16_384;
 #[derive(Drop)]
 pub(crate) struct Group<'n> {
     pub(crate) names: &'n [String],
-    order: [u16; TOGETHER],
+    order: [u16; GROUP_NAMES],
     pub(crate) ghost within: { (i : ℕ) → get_or order i 0 < 16384 },
     pub(crate) ghost few: { length names.now ≤ 16384 },
 }
 
 // The names that begin with the front of a path.
 #[derive(Clone, Copy)]
-pub(crate) struct Run {
+pub(crate) struct NameRun {
     // The index of the first of them in the order, and the one after that of the last.
     first: usize,
     end: usize,
@@ -47,11 +47,11 @@ impl<'n> Group<'n> {
     }
 
     /// Returns the run of all names, which begin with an empty front.
-    pub(crate) fn all(&self) -> Run
+    pub(crate) fn all(&self) -> NameRun
         ensures { (flags : List Bool) → IsOrder (names_of self.now) self.now.order
             → AreSame (names_of self.now) flags → IsRun self.now flags [] result }
     {
-        Run {
+        NameRun {
             first: 0,
             end: self.names.len(),
             passed: 0,
@@ -108,7 +108,7 @@ impl<'n> Group<'n> {
 
     /// Flags the names that are the front, and returns whether there are some.
     #[inline(always)]
-    fn note(&self, run: Run, matched: &mut [bool; TOGETHER]) -> bool
+    fn note(&self, run: NameRun, matched: &mut [bool; GROUP_NAMES]) -> bool
         ensures { FlagsSome self.now matched.old matched.new run
             (λ front name. bytes_eq name front) result }
     {
@@ -130,7 +130,7 @@ impl<'n> Group<'n> {
     /// Flags the names that are the front, if the byte after it is a dot, and returns whether there
     /// are some.
     #[inline(always)]
-    fn note_at(&self, run: Run, byte: u8, matched: &mut [bool; TOGETHER]) -> bool
+    fn note_at(&self, run: NameRun, byte: u8, matched: &mut [bool; GROUP_NAMES]) -> bool
         ensures { FlagsSome self.now matched.old matched.new run
             (λ front name. (byte == 46) && bytes_eq name front) result }
     {
@@ -143,7 +143,7 @@ impl<'n> Group<'n> {
 
     /// Returns the names of a run that go on with this byte.
     #[inline(always)]
-    fn with_byte(&self, run: Run, byte: u8, whole: bool) -> Run
+    fn with_byte(&self, run: NameRun, byte: u8, whole: bool) -> NameRun
         ensures narrows { run.first ≤ run.end → AreRising self.now run.passed run.first run.end
             → Narrows (names_of self.now) self.now.order byte run result }
         ensures whole { result.whole ≡ whole }
@@ -151,7 +151,7 @@ impl<'n> Group<'n> {
         let next = usize::from(byte) + 1;
         let first = self.first_from(run.first, run.end, run.passed, next);
         if first >= run.end || self.next_at(first, run.passed) != next {
-            return Run {
+            return NameRun {
                 first,
                 end: first,
                 whole,
@@ -159,7 +159,7 @@ impl<'n> Group<'n> {
             };
         }
         let end = self.first_from(first, run.end, run.passed, next + 1);
-        Run {
+        NameRun {
             first,
             end,
             passed: run.passed + 1,
@@ -169,7 +169,7 @@ impl<'n> Group<'n> {
 
     /// Returns the run after one more byte, and flags the names that end before it, if it is a dot.
     #[inline(always)]
-    fn step(&self, run: Run, byte: u8, matched: &mut [bool; TOGETHER]) -> Run
+    fn step(&self, run: NameRun, byte: u8, matched: &mut [bool; GROUP_NAMES]) -> NameRun
         ensures { RunsOn self.now matched.old matched.new run (λ front. front ++ byte ∷ []) result }
     {
         let ends = self.note_at(run, byte, matched);
@@ -178,7 +178,7 @@ impl<'n> Group<'n> {
 
     /// Returns how many of these bytes all names of a run go on with.
     #[inline(always)]
-    fn shared(&self, run: Run, bytes: &[u8]) -> usize
+    fn shared(&self, run: NameRun, bytes: &[u8]) -> usize
         ensures within { result ≤ length bytes.now }
         ensures fits { run.passed + result < 2 ^ 64 }
         ensures first { GoesOnWith self.now run.passed run.first bytes.now result }
@@ -186,21 +186,25 @@ impl<'n> Group<'n> {
     {
         let first = name_at(self.names, self.place_at(run.first));
         let last = name_at(self.names, self.place_at(run.end.saturating_sub(1)));
-        shared(behind(first, run.passed), behind(last, run.passed), bytes)
+        shared(
+            bytes_after(first, run.passed),
+            bytes_after(last, run.passed),
+            bytes,
+        )
     }
 
     /// Returns the run after some of these bytes, one at least, and how many they are: as many as
     /// all names of the run go on with, and the next one.
     // 30,000 names with a dot each over 30,000 variables take 0.10 s, before 0.79 s.
     #[inline(always)]
-    fn hop(&self, run: Run, bytes: &[u8], matched: &mut [bool; TOGETHER]) -> (Run, usize)
+    fn hop(&self, run: NameRun, bytes: &[u8], matched: &mut [bool; GROUP_NAMES]) -> (NameRun, usize)
         ensures some { 0 < length bytes.now → 0 < result.1 }
         ensures within { result.1 ≤ length bytes.now }
         ensures run { (front : List ℕ) → run.first < run.end → IsRun self.now matched.old front run
             → IsRunOn self.now matched.old matched.new (front ++ take result.1 bytes.now) result.0 }
     {
         let shared = self.shared(run, bytes);
-        let along = Run {
+        let along = NameRun {
             passed: run.passed + shared,
             ..run
         };
@@ -211,7 +215,12 @@ impl<'n> Group<'n> {
     }
 
     /// Returns the run after some bytes, and flags the names that end before a dot in them.
-    pub(crate) fn follow(&self, run: Run, bytes: &[u8], matched: &mut [bool; TOGETHER]) -> Run
+    pub(crate) fn follow(
+        &self,
+        run: NameRun,
+        bytes: &[u8],
+        matched: &mut [bool; GROUP_NAMES],
+    ) -> NameRun
         ensures { RunsOn self.now matched.old matched.new run (λ front. front ++ bytes.now) result }
     {
         let mut run = run;
@@ -229,7 +238,12 @@ impl<'n> Group<'n> {
 
     /// Returns the run inside a scope with this name, and flags the names that select all that is
     /// in it.
-    pub(crate) fn enter(&self, run: Run, component: &[u8], matched: &mut [bool; TOGETHER]) -> Run
+    pub(crate) fn enter(
+        &self,
+        run: NameRun,
+        component: &[u8],
+        matched: &mut [bool; GROUP_NAMES],
+    ) -> NameRun
         ensures { RunsOn self.now matched.old matched.new run
             (λ front. front ++ (component.now ++ 46 ∷ [])) result }
     {
@@ -239,7 +253,12 @@ impl<'n> Group<'n> {
 
     /// Flags the names that select a variable with this name of its own, and returns whether there
     /// are some.
-    pub(crate) fn selects(&self, run: Run, own: &[u8], matched: &mut [bool; TOGETHER]) -> bool
+    pub(crate) fn selects(
+        &self,
+        run: NameRun,
+        own: &[u8],
+        matched: &mut [bool; GROUP_NAMES],
+    ) -> bool
         ensures { FlagsSome self.now matched.old matched.new run
             (λ front. selects_path (front ++ own.now)) result }
     {
@@ -250,11 +269,11 @@ impl<'n> Group<'n> {
 }
 
 /// Returns the indexes of the names in the order of their bytes.
-fn order_of(names: &[String]) -> [u16; TOGETHER]
+fn order_of(names: &[String]) -> [u16; GROUP_NAMES]
     requires { length names.now ≤ 16384 }
     ensures { IsOrder (map string_bytes names.now) result }
 {
-    let mut order = [0; TOGETHER];
+    let mut order = [0; GROUP_NAMES];
     put_order(&mut order[..names.len()], names);
     order
 }
@@ -312,7 +331,7 @@ fn name_at(names: &[String], place: usize) -> &[u8]
 
 /// Returns the bytes after the first `passed`.
 #[inline(always)]
-fn behind(bytes: &[u8], passed: usize) -> &[u8]
+fn bytes_after(bytes: &[u8], passed: usize) -> &[u8]
     ensures { result.now ≡ drop passed bytes.now }
 {
     bytes.get(passed..).unwrap_or(&[])

@@ -4,7 +4,7 @@ ghost use Rattle.vcd_head.specs.Names.{AllMarked, AnyDeclared, AnyHeader, AnyRow
 
 use crate::enclosing::Enclosing;
 use crate::inside::Open;
-use crate::names::{Group, TOGETHER};
+use crate::names::{GROUP_NAMES, Group};
 use vcd_view::{HeadView, Kind};
 
 // What a name says of a path whose prefix it was compared with.
@@ -76,7 +76,7 @@ fn mark(view: HeadView<'_>, row: usize, marks: &mut [u8])
 
 /// Sets the marks of a row and of the scopes around it, and returns the scope around the row,
 /// counted from 1. `marked` is a scope, counted from 1, that is marked with those around it.
-fn mark_behind(view: HeadView<'_>, row: usize, marked: usize, marks: &mut [u8]) -> usize
+fn mark_row(view: HeadView<'_>, row: usize, marked: usize, marks: &mut [u8]) -> usize
     requires { row < length marks.old }
     ensures marks { AnyRow view.entry row (λ h. AllMarked (scopes_at h.declarations marked) marks.old
         → Marked (row_and_scopes h row) marks.old marks.new) }
@@ -117,7 +117,7 @@ fn mark_all(view: HeadView<'_>, marks: &mut [u8])
     let mut marked = 0;
     for row in 0..view.rows.len() {
         if is_variable(view, row) {
-            marked = mark_behind(view, row, marked, marks);
+            marked = mark_row(view, row, marked, marks);
         }
     }
 }
@@ -150,12 +150,12 @@ fn mark_selected(view: HeadView<'_>, names: &[String], marks: &mut [u8]) -> Opti
 {
     let group = Group::new(names);
     let mut open = Open::new(&group);
-    let mut matched = [false; TOGETHER];
+    let mut matched = [false; GROUP_NAMES];
     // 1 plus the row of a scope that is marked, with those around it; 0 before.
     let mut marked = 0;
     for row in 0..view.rows.len() {
         if open.take(view, row, &group, &mut matched) {
-            marked = mark_behind(view, row, marked, marks);
+            marked = mark_row(view, row, marked, marks);
         }
     }
     first_false(&matched, names.len())
@@ -189,13 +189,13 @@ pub fn select(view: HeadView<'_>, names: &[String], marks: &mut [u8]) -> Result<
         mark_all(view, marks);
         return Ok(());
     }
-    let mut done = names.len().min(TOGETHER);
+    let mut done = names.len().min(GROUP_NAMES);
     if let Some(place) = mark_selected(view, &names[..done], marks) {
         return Err(place);
     }
     while done < names.len() {
         let from = done;
-        done = names.len().min(from.saturating_add(TOGETHER));
+        done = names.len().min(from.saturating_add(GROUP_NAMES));
         if let Some(place) = mark_selected(view, &names[from..done], marks) {
             return Err(from + place);
         }

@@ -5,7 +5,7 @@ ghost use Rattle.vcd_merge.specs.Names.{AllWait, AreBegun, AreMarked, AreParts, 
 use crate::beginning::set_seats;
 use crate::merge_state::Merge;
 use crate::merging::run_of;
-use crate::order::{Order, Run};
+use crate::order::{Turn, TurnOrder};
 use crate::seat::Seat;
 use crate::windows::Windows;
 use vcd_body::{Done, More, Stop, put_time_unless};
@@ -32,9 +32,9 @@ fn greatest_time(seats: &[Seat]) -> Option<u64>
 /// item, and those that follow while its time is before the run's end, and is parked again. No
 /// other input's seat, source or part is touched.
 #[inline(always)]
-fn turn<S: Source, W: Sink>(
+fn run_turn<S: Source, W: Sink>(
     heads: &[Head],
-    run: Run,
+    run: Turn,
     seats: &mut [Seat],
     sources: &mut [S],
     windows: &mut Windows<'_>,
@@ -143,7 +143,7 @@ fn close<W: Sink>(seats: &[Seat], written: Option<u64>, out: &mut W) -> Result<(
 #[inline(always)]
 fn run_next<S: Source, W: Sink>(
     heads: &[Head],
-    order: &mut Order,
+    order: &mut TurnOrder,
     seats: &mut [Seat],
     sources: &mut [S],
     windows: &mut Windows<'_>,
@@ -164,7 +164,7 @@ fn run_next<S: Source, W: Sink>(
     let Some(next) = order.take_next(seats) else {
         return Ok(More::Ended(Done::Whole));
     };
-    turn(heads, next, seats, sources, windows, written, out)?;
+    run_turn(heads, next, seats, sources, windows, written, out)?;
     order.put(next.input, seats);
     if !order.is_empty() {
         return Ok(More::Again);
@@ -178,7 +178,7 @@ fn run_next<S: Source, W: Sink>(
 #[inline(always)]
 fn run_step<S: Source, W: Sink>(
     merge: &mut Merge<'_, '_>,
-    order: &mut Order,
+    order: &mut TurnOrder,
     sources: &mut [S],
     windows: &mut Windows<'_>,
     out: &mut W,
@@ -212,13 +212,13 @@ fn run_step<S: Source, W: Sink>(
 /// Returns the order of these inputs, whose seats stay as they are. Their runs end at this time at
 /// the latest.
 // They come as a `&mut`: of what a shared borrow of a field reads a proof learns nothing.
-fn order_of(seats: &mut [Seat], most: u64) -> Order
+fn order_of(seats: &mut [Seat], most: u64) -> TurnOrder
     requires { length seats.old ≤ 64 }
     ensures order { AllWait seats.old result.inputs result.len }
     ensures most { result.most ≡ most }
     ensures stay { seats.new ≡ seats.old }
 {
-    Order::of(seats, most)
+    TurnOrder::of(seats, most)
 }
 
 /// Takes the next item of the input whose turn it is, and writes what is due after it; at the end

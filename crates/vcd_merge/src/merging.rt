@@ -6,7 +6,7 @@ ghost use Rattle.vcd_body.specs.declared.item.Item.TheVariants as item;
 ghost use Rattle.vcd_body.specs.declared.item.Regs.{Regs};
 ghost use Rattle.vcd_body.specs.Whole.{IsPrompt};
 
-use crate::order::Run;
+use crate::order::Turn;
 use crate::seat::Seat;
 use vcd_body::{
     Form, Item, Plain, Regs, Stop, Viewed, Visit, change_text, keyword_comes, next_item,
@@ -296,7 +296,7 @@ fn take_item<S: Source, W: Sink>(
 #[inline(always)]
 fn take_run<S: Source, W: Sink>(
     head: &Head,
-    run: Run,
+    run: Turn,
     feed: &mut Feed<'_, '_, '_, '_, S>,
     seat: &mut Seat,
     written: &mut Option<u64>,
@@ -335,7 +335,7 @@ fn take_run<S: Source, W: Sink>(
 #[inline(always)]
 pub(crate) fn run_of<S: Source, W: Sink>(
     head: &Head,
-    run: Run,
+    run: Turn,
     source: &mut S,
     chunk: &mut [u8],
     token: &mut [u8],

@@ -7,7 +7,7 @@ use crate::seat::Seat;
 
 /// The run of an input whose turn it is.
 #[derive(Clone, Copy)]
-pub(crate) struct Run {
+pub(crate) struct Turn {
     pub(crate) input: usize,
     /// The input goes on while its time is before this one: so long it comes before all others.
     pub(crate) before: u64,
@@ -47,7 +47,7 @@ fn end_before(seats: &[Seat], input: usize, other: usize) -> u64
 /// Inputs that have not finished, in the order of their turns, the next one last.
 // Sorted, since a pass over all seats for each run grows with their number.
 #[derive(Clone, Copy)]
-pub(crate) struct Order {
+pub(crate) struct TurnOrder {
     inputs: [u8; 64],
     len: usize,
     /// No run goes on once the time of its input is this one.
@@ -55,7 +55,7 @@ pub(crate) struct Order {
     ghost within: { len ≤ 64 },
 }
 
-impl Order {
+impl TurnOrder {
     ghost use Rattle.std.specs.Prelude.{◌≤◌};
 
     /// Returns the index at which an input that is not in the order goes: from there on all come
@@ -127,12 +127,12 @@ impl Order {
     }
 
     /// Returns all inputs that have not finished, whose runs end at this time at the latest.
-    pub(crate) fn of(seats: &[Seat], most: u64) -> Order
+    pub(crate) fn of(seats: &[Seat], most: u64) -> TurnOrder
         requires { length seats.now ≤ 64 }
         ensures order { AllWait seats.now result.inputs result.len }
         ensures most { result.most ≡ most }
     {
-        let mut order = Order {
+        let mut order = TurnOrder {
             inputs: [0; 64],
             len: 0,
             most,
@@ -167,7 +167,7 @@ impl Order {
 
     /// Takes out the next input: it is its turn. None where all have finished.
     #[inline(always)]
-    pub(crate) fn take_next(&mut self, seats: &[Seat]) -> Option<Run>
+    pub(crate) fn take_next(&mut self, seats: &[Seat]) -> Option<Turn>
         requires { AllWait seats.now self.old.inputs self.old.len }
         ensures run { MatchOption result (All (λ (s : Seat). s.finished ≡ true) seats.now)
             (λ run. IsNext seats.now run.input × IsFirstBefore seats.now run.input run.before
@@ -181,6 +181,6 @@ impl Order {
         self.len -= 1;
         let input = self.inputs[self.len] as usize;
         let before = self.end_of(input, self.len, seats).min(self.most);
-        Some(Run { input, before })
+        Some(Turn { input, before })
     }
 }

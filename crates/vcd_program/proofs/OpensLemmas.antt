@@ -8,8 +8,8 @@ use Rattle.clap.specs.Words.{Text}
 use Rattle.vcd_program.specs.Opens.{called, text_of, Opens, OpensOne, StopsAmong, StopsAt}
 use Rattle.vcd_program.specs.declared.host.OpenFault.{OpenFault}
 use Rattle.vcd_program.specs.declared.host.OpenFault.TheVariants as fault
-use Rattle.vcd_program.specs.declared.opened.Stop.{Stop}
-use Rattle.vcd_program.specs.declared.opened.Stop.TheVariants as stop
+use Rattle.vcd_program.specs.declared.opened.OpenStop.{OpenStop}
+use Rattle.vcd_program.specs.declared.opened.OpenStop.TheVariants as stop
 
 -- one input more
 pub opens-push : {H I : Type 0} (opens : H → Option Text → Result I OpenFault → H → Type 0) (host : H) (names : List (Option Text)) (inputs : List I) (next : H) (name : Option Text) (input : I) (after : H)
@@ -56,7 +56,7 @@ split-at f xs i d lt =
     ap (map f) (sym (take-append-drop i xs) ∙ ap (λ l. take i xs ++ l) (drop_more xs i d lt)) ∙ map-append f (take i xs) (get_or xs i d ∷ drop (i + 1) xs)
 
 -- why the loop stops
-pub stops-among : {H I : Type 0} (opens : H → Option Text → Result I OpenFault → H → Type 0) (host : H) (asked : List (Option (Bor Text))) (i : ℕ) (d : Option (Bor Text)) (inputs : List I) (next after : H) (why : Stop)
+pub stops-among : {H I : Type 0} (opens : H → Option Text → Result I OpenFault → H → Type 0) (host : H) (asked : List (Option (Bor Text))) (i : ℕ) (d : Option (Bor Text)) (inputs : List I) (next after : H) (why : OpenStop)
     → i < length asked → Opens opens host (map text_of (take i asked)) inputs next → StopsAt opens (text_of (get_or asked i d)) next after why → StopsAmong opens (map text_of asked) host after why
 stops-among opens host asked i d inputs next after (stop.Unopened said) lt o at =
     let names = split-at text_of asked i d lt in

@@ -24,8 +24,8 @@ use Rattle.vcdkit.specs.Run.IsOutcome.{Whole, Part}
 use Rattle.vcd_program.specs.Opens.{Opens, OpensSome, OpensUpTo, StopsAmong, called, text_of}
 use Rattle.vcd_program.specs.Runs.{Answers, EndsSo, Finishes, Leaves, Runs, names_wanted}
 use Rattle.vcd_program.specs.declared.host.OpenFault.{OpenFault}
-use Rattle.vcd_program.specs.declared.opened.Stop.{Stop}
-use Rattle.vcd_program.specs.declared.opened.Stop.TheVariants as stop
+use Rattle.vcd_program.specs.declared.opened.OpenStop.{OpenStop}
+use Rattle.vcd_program.specs.declared.opened.OpenStop.TheVariants as stop
 use Rattle.std.specs.Borrow.{Bor}
 use Rattle.std.proofs.lemmas.List.{length-map}
 use Rattle.vcd_program.proofs.AskedLemmas.{wants_merge}
@@ -125,7 +125,7 @@ refused {H} {I} opens rest failures words names host out err err' status f e sho
 
 -- an input that cannot be opened
 pub stopped : {H I : Type 0} (opens : H → Option Text → Result I OpenFault → H → Type 0) (rest : I → Option (List ℕ)) (failures : I → ℕ) (words : Option Words) (asked names : List (Option Text)) (host host' : H) (out err err' : Device) (status : ℕ)
-    (j : Job) (why : Stop) (said : Option (Bor Text)) → job_of words ≡ Ok j → names ≡ asked → why ≡ stop.Unopened said → StopsAmong opens names host host' why → Shows err err' (unopened_outcome (called (text_of said))).message → status ≡ 3
+    (j : Job) (why : OpenStop) (said : Option (Bor Text)) → job_of words ≡ Ok j → names ≡ asked → why ≡ stop.Unopened said → StopsAmong opens names host host' why → Shows err err' (unopened_outcome (called (text_of said))).message → status ≡ 3
     → Runs opens rest failures words asked host host' out out err err' status
 stopped opens rest failures words asked names host host' out err err' status j why said e named is at shown three =
     Runs.Stopped j e (text_of said) (subst (λ l. OpensUpTo opens l (text_of said) host host') named (subst (λ w. StopsAmong opens names host host' w) is at))
@@ -133,7 +133,7 @@ stopped opens rest failures words asked names host host' out err err' status j w
 
 -- memory ran out while inputs were opened
 pub memory-stopped : {H I : Type 0} (opens : H → Option Text → Result I OpenFault → H → Type 0) (rest : I → Option (List ℕ)) (failures : I → ℕ) (words : Option Words) (asked names : List (Option Text)) (host host' : H) (out err err' : Device) (status : ℕ)
-    (j : Job) (why : Stop) → job_of words ≡ Ok j → names ≡ asked → why ≡ stop.OutOfMemory → StopsAmong opens names host host' why → Shows err err' (program_line (codes "out of memory")) → status ≡ 3
+    (j : Job) (why : OpenStop) → job_of words ≡ Ok j → names ≡ asked → why ≡ stop.OutOfMemory → StopsAmong opens names host host' why → Shows err err' (program_line (codes "out of memory")) → status ≡ 3
     → Runs opens rest failures words asked host host' out out err err' status
 memory-stopped opens rest failures words asked names host host' out err err' status j why e named is at shown three =
     Runs.NoMemory j e (subst (λ l. OpensSome opens l host host') named (subst (λ w. StopsAmong opens names host host' w) is at)) (writes-none out, shown, three)

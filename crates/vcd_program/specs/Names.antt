@@ -8,5 +8,5 @@ pub use Rattle.vcd_program.specs.Memory.{bytes_in, bytes_named, end_of, IsLeftBy
 pub use Rattle.vcd_program.specs.Opens.{AddsOne, called, Opens, OpensOne, StopsAmong, StopsAt, text_of}
 pub use Rattle.vcd_program.specs.Runs.{Answers, Finishes, RunsMatches, RunsOn, RunsWords}
 pub use Rattle.vcd_program.specs.declared.host.OpenFault.{OpenFault}
-pub use Rattle.vcd_program.specs.declared.opened.Stop.{Stop}
+pub use Rattle.vcd_program.specs.declared.opened.OpenStop.{OpenStop}
 pub use Rattle.clap.specs.Words.{kind_of}

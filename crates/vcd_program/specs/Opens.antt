@@ -4,8 +4,8 @@ use Rattle.std.specs.Borrow.{Bor}
 use Rattle.clap.specs.Words.{Text}
 use Rattle.vcd_program.specs.declared.host.OpenFault.{OpenFault}
 use Rattle.vcd_program.specs.declared.host.OpenFault.TheVariants as fault
-use Rattle.vcd_program.specs.declared.opened.Stop.{Stop}
-use Rattle.vcd_program.specs.declared.opened.Stop.TheVariants as stop
+use Rattle.vcd_program.specs.declared.opened.OpenStop.{OpenStop}
+use Rattle.vcd_program.specs.declared.opened.OpenStop.TheVariants as stop
 
 -- what an input is called in a message; standard input has no name
 abbrev pub called : Option Text → Text
@@ -34,7 +34,7 @@ abbrev pub OpensOne : {H I : Type 0} → (H → Option Text → Result I OpenFau
 OpensOne {H} {I} opens failures name host host' inputs inputs' = (input : I) × opens host name (Ok input) host' × (failures input ≡ 0) × (inputs' ≡ inputs ++ input ∷ [])
 
 -- why one more was not: it cannot be opened; or memory ran out, after it was opened or while it was
-abbrev pub StopsAt : {H I : Type 0} → (H → Option Text → Result I OpenFault → H → Type 0) → Option Text → (host host' : H) → Stop → Type 0
+abbrev pub StopsAt : {H I : Type 0} → (H → Option Text → Result I OpenFault → H → Type 0) → Option Text → (host host' : H) → OpenStop → Type 0
 StopsAt {H} {I} opens name host host' (stop.Unopened said) = (text_of said ≡ name) × opens host name (Err fault.Unopened) host'
 StopsAt {H} {I} opens name host host' stop.OutOfMemory = ((input : I) × opens host name (Ok input) host') ⊎ opens host name (Err fault.OutOfMemory) host'
 
@@ -52,6 +52,6 @@ OpensSome {H} {I} opens names host host' =
     × ((host' ≡ next) ⊎ ((name : Option Text) × (rest : List (Option Text)) × (after ≡ name ∷ rest) × opens next name (Err fault.OutOfMemory) host'))
 
 -- why not all of them were
-abbrev pub StopsAmong : {H I : Type 0} → (H → Option Text → Result I OpenFault → H → Type 0) → List (Option Text) → (host host' : H) → Stop → Type 0
+abbrev pub StopsAmong : {H I : Type 0} → (H → Option Text → Result I OpenFault → H → Type 0) → List (Option Text) → (host host' : H) → OpenStop → Type 0
 StopsAmong {H} {I} opens names host host' (stop.Unopened said) = OpensUpTo opens names (text_of said) host host'
 StopsAmong {H} {I} opens names host host' stop.OutOfMemory = OpensSome opens names host host'

@@ -4,7 +4,7 @@ ghost use Rattle.vcd_program.specs.Names.{Answers, AsksFor, Finishes, kind_of, M
 
 use crate::asked::inputs_of;
 use crate::host::{Host, Output};
-use crate::opened::{Stop, called, open_inputs};
+use crate::opened::{OpenStop, called, open_inputs};
 use clap::{ArgMatches, Error};
 use std::alloc::{AllocError, Global};
 use std::hash::BuildHasher;
@@ -43,8 +43,8 @@ fn run_job<H: Host, W: Sink, E: Sink, B: BuildHasher>(
             err,
             hasher,
         ),
-        Err(Stop::Unopened(name)) => open_fault(called(name), err),
-        Err(Stop::OutOfMemory) => use_fault(UseFault::OutOfMemory, err),
+        Err(OpenStop::Unopened(name)) => open_fault(called(name), err),
+        Err(OpenStop::OutOfMemory) => use_fault(UseFault::OutOfMemory, err),
     }
 }
 

@@ -37,13 +37,13 @@ impl Read for Stream {
 
 /// Opens the files of the machine.
 #[derive(Drop)]
-struct Machine<'r> {
+struct MachineHost<'r> {
     rt: &'r HostRuntime,
     /// Whether the machine gave random numbers. Where it gave none, each read of an input fails.
     is_seeded: bool,
 }
 
-impl Machine<'_> {
+impl MachineHost<'_> {
     /// Returns an input that was opened.
     fn input(&self, stream: Stream) -> Watch<Stream>
         ensures { failed_calls result ≡ 0 }
@@ -55,7 +55,7 @@ impl Machine<'_> {
     }
 }
 
-impl Host for Machine<'_> {
+impl Host for MachineHost<'_> {
     type Input = Watch<Stream>;
 
     ghost opens = { λ _ _ _ _. ⊤ };
@@ -98,7 +98,7 @@ fn run_words<E: Sink, B: BuildHasher>(
         Ok(mut out) => run_program(
             rt.alloc(),
             words,
-            &mut Machine { rt, is_seeded },
+            &mut MachineHost { rt, is_seeded },
             &mut out,
             err,
             hasher,

@@ -1,6 +1,6 @@
 //! Inputs that are opened one by one.
 ghost use Rattle.std.specs.Prelude.{◌≡◌, ◌++◌, ◌∷◌, [], All, IfErr, IfOk, OnOk, map, string_bytes};
-ghost use Rattle.vcd_program.specs.Names.{AddsOne, called, Opens, OpensOne, Stop, StopsAmong, StopsAt, text_of};
+ghost use Rattle.vcd_program.specs.Names.{AddsOne, called, Opens, OpensOne, OpenStop, StopsAmong, StopsAt, text_of};
 
 use crate::host::{Host, OpenFault};
 use std::alloc::{AllocError, Global};
@@ -39,18 +39,18 @@ impl<I: Drop> Opened<I> {
 
 /// Why inputs were not opened.
 #[derive(Clone, Copy)]
-pub(crate) enum Stop<'a> {
+pub(crate) enum OpenStop<'a> {
     /// The input of this name cannot be opened.
     Unopened(Option<&'a str>),
     /// Memory ran out.
     OutOfMemory,
 }
 
-impl<'a> From<AllocError> for Stop<'a> {
-    ghost from_gives = { λ _ stop. stop ≡ Stop.OutOfMemory };
+impl<'a> From<AllocError> for OpenStop<'a> {
+    ghost from_gives = { λ _ stop. stop ≡ OpenStop.OutOfMemory };
 
-    fn from(_error: AllocError) -> Stop<'a> {
-        Stop::OutOfMemory
+    fn from(_error: AllocError) -> OpenStop<'a> {
+        OpenStop::OutOfMemory
     }
 }
 
@@ -60,7 +60,7 @@ fn open_next<'a, H: Host>(
     name: Option<&'a str>,
     host: &mut H,
     opened: &mut Opened<H::Input>,
-) -> Result<(), Stop<'a>>
+) -> Result<(), OpenStop<'a>>
     ensures opened { OnOk result (OpensOne H.opens H.Input.failures (text_of name.entry)
         host.old host.new opened.old.readers.items opened.new.readers.items) }
     ensures names { OnOk result (AddsOne name.entry opened.old.names.items opened.new.names.items) }
@@ -68,8 +68,8 @@ fn open_next<'a, H: Host>(
 {
     match host.open(name) {
         Ok(reader) => Ok(opened.push(alloc, name, reader)?),
-        Err(OpenFault::OutOfMemory) => Err(Stop::OutOfMemory),
-        Err(OpenFault::Unopened) => Err(Stop::Unopened(name)),
+        Err(OpenFault::OutOfMemory) => Err(OpenStop::OutOfMemory),
+        Err(OpenFault::Unopened) => Err(OpenStop::Unopened(name)),
     }
 }
 
@@ -78,7 +78,7 @@ pub(crate) fn open_inputs<'a, H: Host>(
     alloc: Global,
     asked: &[Option<&'a str>],
     host: &mut H,
-) -> Result<Opened<H::Input>, Stop<'a>>
+) -> Result<Opened<H::Input>, OpenStop<'a>>
     ensures opened { IfOk result (λ inputs.
         Opens H.opens host.old (map text_of asked.now) inputs.readers.items host.new) }
     ensures names { IfOk result (λ inputs.

@@ -17,11 +17,11 @@ pub fn key_of(code: &[u8]) -> u64
     ensures { result ≡ key_in code.now }
 {
     match code {
-        [first] => behind(BLANK, *first),
-        [first, second] => behind(behind(BLANK, *second), *first),
-        [first, second, third] => behind(behind(behind(BLANK, *third), *second), *first),
-        [first, second, third, fourth] => behind(
-            behind(behind(behind(BLANK, *fourth), *third), *second),
+        [first] => prepended(BLANK, *first),
+        [first, second] => prepended(prepended(BLANK, *second), *first),
+        [first, second, third] => prepended(prepended(prepended(BLANK, *third), *second), *first),
+        [first, second, third, fourth] => prepended(
+            prepended(prepended(prepended(BLANK, *fourth), *third), *second),
             *first,
         ),
         _ if code.len() <= MOST_BYTES => packed_of(code),
@@ -31,7 +31,7 @@ pub fn key_of(code: &[u8]) -> u64
 
 // Returns the key of a byte and the bytes of this key after it.
 #[inline(always)]
-fn behind(key: u64, byte: u8) -> u64
+fn prepended(key: u64, byte: u8) -> u64
     requires { key < 2 ^ 56 }
     ensures { result ≡ key * 256 + byte }
 {

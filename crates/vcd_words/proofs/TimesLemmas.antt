@@ -15,7 +15,7 @@ use Rattle.vcd_head.specs.declared.moment.Moment as head
 use Rattle.vcd_head.specs.Moments.{asked, with_unit}
 use Rattle.vcd_words.specs.declared.job.UseFault.{UseFault}
 use Rattle.vcd_words.specs.declared.job.UseFault.TheVariants.{BadWords, BadLimit, BadTime, FromAboveTo, NotRising, TooManyFiles, OutOfMemory}
-use Rattle.vcd_words.specs.declared.moment_word.Order.{Order}
+use Rattle.vcd_words.specs.declared.moment_word.TimesOrder.{TimesOrder}
 use Rattle.vcd_words.specs.Ticks.{has_units, times_with}
 use Rattle.vcd_words.specs.Times.{last_of, parts, IsOrderOf}
 use Rattle.vcd_words.specs.Words.{IsFaultIn, IsFaultOf}
@@ -87,7 +87,7 @@ numbers-push : (ms : List Moment) (m : Moment) → map (λ (x : Moment). x.numbe
 numbers-push [] m = refl
 numbers-push (x ∷ ms) m = ap (λ l. x.number ∷ l) (numbers-push ms m)
 
-pub order_push : (ms : List Moment) (m : Moment) (o o' : Order) → IsOrderOf ms o → o'.has_unit ≡ (o.has_unit || is_some m.unit) → o'.rises ≡ (o.rises && is_above o.last m.number) → o'.last ≡ Some m.number → IsOrderOf (ms ++ m ∷ []) o'
+pub order_push : (ms : List Moment) (m : Moment) (o o' : TimesOrder) → IsOrderOf ms o → o'.has_unit ≡ (o.has_unit || is_some m.unit) → o'.rises ≡ (o.rises && is_above o.last m.number) → o'.last ≡ Some m.number → IsOrderOf (ms ++ m ∷ []) o'
 order_push ms m o o' is unit rises last = record {
   has_unit_is = unit ∙ ap (λ b. b || is_some m.unit) is.has_unit_is ∙ sym (has_unit-push ms m);
   rises_is = rises ∙ ap (λ b. b && is_above o.last m.number) is.rises_is ∙ ap (λ l. do_rise (map (λ (x : Moment). x.number) ms) && is_above l m.number) is.last_is
@@ -176,12 +176,12 @@ word_fails names all n word ms fault l here before h =
     fault_moves fault (model.time_of word) (model.sample_of names (model.times_of all))
     (λ f e. ap (λ words. model.sample_of names (model.times_of words)) (at_place all n word l here) ∙ ap (model.sample_of names) (times_of-fails (take n all) word (drop (suc n) all) ms f before e)) h
 
-pub sample_good : (names : List (List ℕ)) (ms : List Moment) (o : Order) → IsOrderOf ms o → (not o.has_unit && not o.rises) ≡ false → model.sample_of names (Ok ms) ≡ Ok (Want.Sample ms names)
+pub sample_good : (names : List (List ℕ)) (ms : List Moment) (o : TimesOrder) → IsOrderOf ms o → (not o.has_unit && not o.rises) ≡ false → model.sample_of names (Ok ms) ≡ Ok (Want.Sample ms names)
 sample_good names ms o is e =
     let test : (not (has_unit ms) && not (do_rise (map (λ m. m.number) ms))) ≡ false = rw (← is.has_unit_is, ← is.rises_is) e in
     rw test refl
 
-pub sample_falls : (names : List (List ℕ)) (ms : List Moment) (o : Order) → IsOrderOf ms o → (not o.has_unit && not o.rises) ≡ true → model.sample_of names (Ok ms) ≡ Err model.UseFault.NotRising
+pub sample_falls : (names : List (List ℕ)) (ms : List Moment) (o : TimesOrder) → IsOrderOf ms o → (not o.has_unit && not o.rises) ≡ true → model.sample_of names (Ok ms) ≡ Err model.UseFault.NotRising
 sample_falls names ms o is e =
     let test : (not (has_unit ms) && not (do_rise (map (λ m. m.number) ms))) ≡ true = rw (← is.has_unit_is, ← is.rises_is) e in
     rw test refl

@@ -4,7 +4,7 @@ use Rattle.std.specs.List.{slice_split}
 use Rattle.vcd_model.specs.Job.{has_unit, do_rise, Want}
 use Rattle.vcd_model.specs.Ticks.{Moment}
 use Rattle.vcd_model.specs.Words as model
-use Rattle.vcd_words.specs.declared.moment_word.Order.{Order}
+use Rattle.vcd_words.specs.declared.moment_word.TimesOrder.{TimesOrder}
 
 -- the words between the commas of a word
 abbrev pub parts : List ℕ → List (List ℕ)
@@ -21,7 +21,7 @@ last_of (n ∷ []) = Some n
 last_of (n ∷ m ∷ ms) = last_of (m ∷ ms)
 
 -- the order is that of these times
-pub record IsOrderOf (times : List Moment) (o : Order) : Type 0 where
+pub record IsOrderOf (times : List Moment) (o : TimesOrder) : Type 0 where
   pub has_unit_is : o.has_unit ≡ has_unit times
   pub rises_is : o.rises ≡ do_rise (map (λ m. m.number) times)
   pub last_is : o.last ≡ last_of (map (λ m. m.number) times)

@@ -65,7 +65,7 @@ pub(crate) fn cut_of<'a>(from: &'a str, to: &'a str) -> Result<Want, UseFault<'a
 
 /// What is known of some times.
 #[derive(Clone, Copy)]
-struct Order {
+struct TimesOrder {
     /// Whether one of them has a unit.
     has_unit: bool,
     /// Whether each number is above the one before.
@@ -74,12 +74,12 @@ struct Order {
     last: Option<u64>,
 }
 
-impl Order {
+impl TimesOrder {
     /// Returns the order of no times.
-    fn new() -> Order
+    fn new() -> TimesOrder
         ensures { IsOrderOf [] result }
     {
-        Order {
+        TimesOrder {
             has_unit: false,
             rises: true,
             last: None,
@@ -87,11 +87,11 @@ impl Order {
     }
 
     /// Returns the order with one time more.
-    fn with(self, time: Moment) -> Order
+    fn with(self, time: Moment) -> TimesOrder
         ensures { (times : List ModelMoment) → IsOrderOf times self
             → IsOrderOf (times ++ asked time ∷ []) result }
     {
-        Order {
+        TimesOrder {
             has_unit: self.has_unit || time.unit.is_some(),
             rises: self.rises && self.last.is_none_or(|last| last < time.number),
             last: Some(time.number),
@@ -108,7 +108,7 @@ fn check_times<'a>(at: &'a str) -> Result<(), UseFault<'a>>
     ensures fault { IfErr result (λ fault. (names : List (List ℕ))
         → IsFaultIn fault (sample_of names (times_of (parts at.entry.now)))) }
 {
-    let mut order = Order::new();
+    let mut order = TimesOrder::new();
     for word in at.split(',') {
         order = order.with(time_of(word)?);
     }

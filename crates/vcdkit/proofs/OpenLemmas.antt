@@ -26,7 +26,7 @@ use Rattle.vcd_merge.proofs.PartLemmas.{get_other, get_set}
 use Rattle.vcdkit.specs.declared.failure.Failure.{Failure}
 use Rattle.vcdkit.specs.declared.failure.Failure.TheVariants.{Stopped, Refused, OutOfMemory}
 use Rattle.vcdkit.specs.Failure.{failure_of, CountsRead, CountsReads}
-use Rattle.vcdkit.specs.declared.inputs.Begun.{Begun}
+use Rattle.vcdkit.specs.declared.inputs.BegunInput.{BegunInput}
 use Rattle.vcdkit.specs.Inputs.{AreBegun, AreParked, AreShown, Begins, BeginsAt, HasFailed, HaveBegun, IsBegun, IsNew, SameParts, Stops, headers_in, place_of}
 use Rattle.vcdkit.proofs.HeaderLemmas.{begun_only, none_read}
 use Rattle.vcdkit.proofs.InputsLemmas.{begun_more, stops_at}
@@ -314,7 +314,7 @@ pub record Opening {X : Type 0} (rest : X → Option (List ℕ)) (failures : X �
       → BegunSoFar (part_len (length old) windows.tokens.now) (part_len (length old) windows.chunks.now) (length old) rest failures texts old now k left heads seats windows'.chunks.now windows'.tokens.now
 
 -- one reader more
-module _ {X : Type 0} (rest : X → Option (List ℕ)) (failures : X → ℕ) (old now now' : List X) (w w1 w2 : Windows) (k left : ℕ) (heads : List Head) (seats : List Seat) (result : Result Begun Failure)
+module _ {X : Type 0} (rest : X → Option (List ℕ)) (failures : X → ℕ) (old now now' : List X) (w w1 w2 : Windows) (k left : ℕ) (heads : List Head) (seats : List Seat) (result : Result BegunInput Failure)
     (o : Opening rest failures old now w w1 k left heads seats) (within : k < length now) (begins : (r : X) → slice_get now k ≡ Some r → BeginsAt (length now) k left rest failures r now now' w1 w2 result) where
   limit_is : part_len (length now) w1.tokens.now ≡ part_len (length old) w.tokens.now
   limit_is = ap₂ (λ a b. a / b) o.lengths.tokens o.many
@@ -351,7 +351,7 @@ module _ {X : Type 0} (rest : X → Option (List ℕ)) (failures : X → ℕ) (o
       subst (λ (l : List X). CountsReads (map failures old) (map failures l) (Some why)) (sym one.readers)
       (counts_at failures old now k r one.after (Some why) o.counts at (subst (CountsRead k (failures r) (failures one.after)) e one.counts))
 
-  module _ (begun : Begun) (ok : result ≡ Ok begun) where
+  module _ (begun : BegunInput) (ok : result ≡ Ok begun) where
     pub still : map failures now' ≡ map failures old
     still =
         let (r, at) = there now k within in

@@ -30,7 +30,7 @@ use Rattle.vcd_body.specs.declared.answer.Stop.TheVariants.{Dump, Read}
 use Rattle.vcd_merge.specs.declared.seat.Seat.{Seat}
 use Rattle.vcd_merge.specs.declared.windows.Windows.{Windows}
 use Rattle.vcdkit.specs.Failure.{failure_of, head_failure, CountsRead}
-use Rattle.vcdkit.specs.declared.inputs.Begun.{Begun}
+use Rattle.vcdkit.specs.declared.inputs.BegunInput.{BegunInput}
 use Rattle.vcdkit.specs.declared.inputs.Inputs.{Inputs}
 use Rattle.vcdkit.specs.declared.failure.Failure.{Failure}
 use Rattle.vcdkit.specs.declared.failure.Failure.TheVariants.{Stopped, Refused, OutOfMemory}
@@ -82,7 +82,7 @@ OpensInput most place old new result = (i : Input) → HasGiven i [] old → Mat
     (λ failure. (fault : HeadFault) × (failure ≡ head_failure fault place (token_of new).line) × Fails most i fault new)
 
 -- so it was by its reader, over windows of these lengths, which hold these bytes then
-abbrev pub BeginsBy : {X : Type 0} → Ghosts X → (most place limit chunk : ℕ) → (old new : X) → (read gathered : List ℕ) → Result Begun Failure → Type 0
+abbrev pub BeginsBy : {X : Type 0} → Ghosts X → (most place limit chunk : ℕ) → (old new : X) → (read gathered : List ℕ) → Result BegunInput Failure → Type 0
 BeginsBy g most place limit chunk old new read gathered result = (text : List ℕ) → g.rest old ≡ Some text → MatchResult result
     (λ begun. Begins most limit chunk (whole text) begun.head begun.seat read gathered (supply g.rest g.failures old) (supply g.rest g.failures new))
     (HasFailed most limit chunk place (whole text) (supply g.rest g.failures old) (supply g.rest g.failures new))
@@ -153,7 +153,7 @@ pub record SameParts (n place : ℕ) (old new : Windows) : Type 0 where
 
 -- The reading of the header of the input at an index among n, over this reader and its parts of the
 -- windows: no other reader is touched, and a failed read is one of it.
-pub record BeginsAt {X : Type 0} (n place most : ℕ) (rest : X → Option (List ℕ)) (failures : X → ℕ) (reader : X) (old new : List X) (windows windows' : Windows) (result : Result Begun Failure) : Type 0 where
+pub record BeginsAt {X : Type 0} (n place most : ℕ) (rest : X → Option (List ℕ)) (failures : X → ℕ) (reader : X) (old new : List X) (windows windows' : Windows) (result : Result BegunInput Failure) : Type 0 where
   pub after : X
   pub readers : new ≡ slice_set old place after
   pub counts : CountsRead place (failures reader) (failures after) (failure_of result)
@@ -163,7 +163,7 @@ pub record BeginsAt {X : Type 0} (n place most : ℕ) (rest : X → Option (List
       (HasFailed most (part_len n windows.tokens.now) (part_len n windows.chunks.now) place (whole text) (supply rest failures reader) (supply rest failures after))
 
 -- so it is of the reader at an index, whichever it is
-abbrev pub BeginsAmong : {X : Type 0} → Ghosts X → (most place : ℕ) → (old new : List X) → (windows windows' : Windows) → Result Begun Failure → Type 0
+abbrev pub BeginsAmong : {X : Type 0} → Ghosts X → (most place : ℕ) → (old new : List X) → (windows windows' : Windows) → Result BegunInput Failure → Type 0
 BeginsAmong {X} g most place old new windows windows' result = (r : X) → slice_get old place ≡ Some r → BeginsAt (length old) place most g.rest g.failures r old new windows windows' result
 
 -- ---- all of them
@@ -176,7 +176,7 @@ OpensAll g old new windows windows' result = (texts : List (List ℕ)) → map g
     (Stops (part_len (length old) windows.tokens.now) (part_len (length old) windows.chunks.now) 0 [] texts (map (supply g.rest g.failures) old) (map (supply g.rest g.failures) new))
 
 -- an input that was begun was added to these
-abbrev pub AddsBegun : Begun → (old new : Inputs) → Type 0
+abbrev pub AddsBegun : BegunInput → (old new : Inputs) → Type 0
 AddsBegun begun old new = (new.heads.items ≡ old.heads.items ++ begun.head ∷ []) × (new.seats.items ≡ old.seats.items ++ begun.seat ∷ [])
 
 -- the windows are made of as many parts as there are inputs

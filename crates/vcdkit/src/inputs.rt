@@ -15,7 +15,7 @@ pub(crate) const MOST_DECLARATIONS: u64 = 16_777_216;
 
 /// What the windows of all inputs are made of, each in as many equal parts as there are inputs.
 #[derive(Drop)]
-pub(crate) struct Memory {
+pub(crate) struct WindowMemory {
     /// How much is read in one call.
     pub chunks: Vec<u8>,
     /// Where a token is gathered.
@@ -25,13 +25,17 @@ pub(crate) struct Memory {
 }
 
 /// Returns the windows of this many inputs under the job's limits.
-pub(crate) fn windows_for(alloc: Global, job: &Job, inputs: usize) -> Result<Memory, AllocError>
+pub(crate) fn windows_for(
+    alloc: Global,
+    job: &Job,
+    inputs: usize,
+) -> Result<WindowMemory, AllocError>
     requires { inputs ≤ 64 }
     ensures { IfOk result (λ memory. (vec_len memory.chunks ≡ inputs * job.now.chunk)
         × (vec_len memory.tokens ≡ inputs * job.now.limit)
         × (vec_len memory.values ≡ inputs * job.now.limit)) }
 {
-    Ok(Memory {
+    Ok(WindowMemory {
         chunks: vec![in alloc; 0u8; inputs * job.chunk]?,
         tokens: vec![in alloc; 0u8; inputs * job.limit]?,
         values: vec![in alloc; 0u8; inputs * job.limit]?,
@@ -74,7 +78,7 @@ pub(crate) fn open_input<S: Source, B: BuildHasher>(
 
 /// An input whose header was read.
 #[derive(Drop)]
-pub(crate) struct Begun {
+pub(crate) struct BegunInput {
     pub head: Head,
     /// What is kept of the input between two of its items, its parked feed among it.
     pub seat: Seat,
@@ -89,7 +93,7 @@ fn begin<S: Source, B: BuildHasher>(
     chunk: &mut [u8],
     token: &mut [u8],
     value: &mut [u8],
-) -> Result<Begun, Failure>
+) -> Result<BegunInput, Failure>
     requires failures { S.failures reader.old < 2 ^ 64 - 1 }
     requires lend { MayLend chunk.old token.old value.old }
     ensures begins { BeginsBy S.Source reading.now.most input (length token.old) (length chunk.old)
@@ -101,7 +105,7 @@ fn begin<S: Source, B: BuildHasher>(
     let mut feed = Feed::new(reader, chunk, token, value);
     let head = open_input(reading, input, &mut feed)?;
     let seat = Seat::new(feed.parked());
-    Ok(Begun { head, seat })
+    Ok(BegunInput { head, seat })
 }
 
 /// Reads the header of the input at this index among the readers, and parks its feed.
@@ -112,7 +116,7 @@ fn begin_at<S: Source, B: BuildHasher>(
     input: usize,
     readers: &mut [S],
     windows: &mut Windows<'_>,
-) -> Result<Begun, Failure>
+) -> Result<BegunInput, Failure>
     requires input { input < length readers.old }
     requires parts { HasParts (length readers.old) windows.old }
     requires failures { All (λ r. S.failures r < 2 ^ 64 - 1) readers.old }
@@ -146,7 +150,7 @@ pub(crate) struct Inputs {
 
 impl Inputs {
     /// Adds an input.
-    fn push(&mut self, begun: Begun) -> Result<(), AllocError>
+    fn push(&mut self, begun: BegunInput) -> Result<(), AllocError>
         ensures { IfOk result (λ _. AddsBegun begun self.old self.new) }
     {
         self.heads.push(begun.head)?;

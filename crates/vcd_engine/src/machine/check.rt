@@ -3,7 +3,7 @@ ghost use Rattle.std.specs.Prelude.{◌≡◌, ◌-◌, ◌^◌, ◌<◌, ◌∷
 ghost use Rattle.vcd_engine.specs.Names.{AreCounted, BodyItem, check_close, Counts, Header, IsOfKind, IsViewOf, last_mark, last_of, Takes};
 
 use crate::machine::last_of;
-use crate::machine::walk::{Command, Keeping};
+use crate::machine::walk::{AheadTask, Keeping};
 use crate::pieces::{InPlace, Pieces};
 use crate::report::{declared_in, put_report};
 use vcd_body::{Item, Regs};
@@ -72,7 +72,7 @@ impl Check {
     }
 }
 
-impl Command<Keeping> for Check {
+impl AheadTask<Keeping> for Check {
     ghost use Rattle.vcd_engine.specs.declared.machine.Machine.TheVariants as machine;
 
     ghost machine = { λ command. machine.Check command };

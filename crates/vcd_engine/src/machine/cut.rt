@@ -5,7 +5,7 @@ ghost use Rattle.vcd_engine.specs.declared.task.Task.TheVariants as task;
 
 use crate::item_text::ItemText;
 use crate::machine::last_of;
-use crate::machine::walk::{Command, Copying, Keeping};
+use crate::machine::walk::{AheadTask, Copying, Keeping};
 use crate::pieces::{InPlace, Pieces};
 use crate::task::Room;
 use crate::values::set_item;
@@ -204,7 +204,7 @@ impl<'r> Cut<'r> {
 }
 
 // Before the start section is written.
-impl<'r> Command<Keeping> for Cut<'r> {
+impl<'r> AheadTask<Keeping> for Cut<'r> {
     ghost use Rattle.vcd_engine.specs.declared.machine.Machine.TheVariants as machine;
 
     ghost machine = { λ command. machine.Cut command };
@@ -238,7 +238,7 @@ impl<'r> Command<Keeping> for Cut<'r> {
 }
 
 // Once the start section is written.
-impl<'r> Command<Copying> for Cut<'r> {
+impl<'r> AheadTask<Copying> for Cut<'r> {
     ghost use Rattle.vcd_engine.specs.declared.machine.Machine.TheVariants as machine;
 
     ghost machine = { λ command. machine.Cut command };

@@ -3,7 +3,7 @@ ghost use Rattle.std.specs.Prelude.{◌≡◌, ◌-◌, ◌^◌, ◌<◌, ◌∷
 ghost use Rattle.vcd_engine.specs.Names.{AreEdges, AtItem, BodyItem, change_to, ClosesOver, Counts, Device, edges_close, HasGoodText, HasRoomFor, Header, HeadView, IdCode, IsGoodText, IsUnmatched, IsViewOf, IsWithin, leaves_open, names_counted, Request, room_in_edges, room_size, SameEdges, Starts};
 ghost use Rattle.vcd_engine.specs.declared.task.Task.TheVariants as task;
 
-use crate::machine::walk::{Command, Keeping};
+use crate::machine::walk::{AheadTask, Keeping};
 use crate::pieces::{InPlace, Pieces};
 use crate::tally::{count_trigger, put_rows, take_value};
 use crate::task::Room;
@@ -99,7 +99,7 @@ impl<'n, 'r> Edges<'n, 'r> {
     }
 }
 
-impl<'n, 'r> Command<Keeping> for Edges<'n, 'r> {
+impl<'n, 'r> AheadTask<Keeping> for Edges<'n, 'r> {
     ghost use Rattle.vcd_engine.specs.declared.machine.Machine.TheVariants as machine;
 
     ghost machine = { λ command. machine.Edges command };

@@ -6,7 +6,7 @@ ghost use Rattle.vcd_engine.specs.declared.task.Task.TheVariants as task;
 use crate::choice::is_chosen;
 use crate::item_text::ItemText;
 use crate::machine::last_of;
-use crate::machine::walk::{Command, Copying};
+use crate::machine::walk::{AheadTask, Copying};
 use crate::pieces::{InPlace, Pieces};
 use crate::selection::select_codes;
 use crate::task::Room;
@@ -110,7 +110,7 @@ impl<'n, 'r> Pick<'n, 'r> {
     }
 }
 
-impl<'n, 'r> Command<Copying> for Pick<'n, 'r> {
+impl<'n, 'r> AheadTask<Copying> for Pick<'n, 'r> {
     ghost use Rattle.vcd_engine.specs.declared.machine.Machine.TheVariants as machine;
 
     ghost machine = { λ command. machine.Pick command };

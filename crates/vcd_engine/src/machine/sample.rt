@@ -4,7 +4,7 @@ ghost use Rattle.vcd_engine.specs.Names.{AreSampled, asked_in, BodyItem, close_t
 ghost use Rattle.vcd_engine.specs.declared.task.Task.TheVariants as task;
 
 use crate::leads::lead_on;
-use crate::machine::walk::{Command, Keeping};
+use crate::machine::walk::{AheadTask, Keeping};
 use crate::pieces::{InPlace, Pieces};
 use crate::sample_lines::put_samples;
 use crate::task::Room;
@@ -128,7 +128,7 @@ impl<'n, 'r> Sample<'n, 'r> {
     }
 }
 
-impl<'n, 'r> Command<Keeping> for Sample<'n, 'r> {
+impl<'n, 'r> AheadTask<Keeping> for Sample<'n, 'r> {
     ghost use Rattle.vcd_engine.specs.declared.machine.Machine.TheVariants as machine;
 
     ghost machine = { λ command. machine.Sample command };

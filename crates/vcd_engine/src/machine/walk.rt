@@ -18,7 +18,7 @@ use vcd_view::HeadView;
 
 /// How a walk has ended, with what is due with its items written.
 #[derive(Clone, Copy)]
-pub(crate) struct Taken {
+pub(crate) struct WalkEnd {
     /// How many bytes the items that were taken have.
     pub(crate) passed: usize,
     /// The registers after these items.
@@ -27,15 +27,15 @@ pub(crate) struct Taken {
     pub(crate) written: Result<(), WriteFailed>,
 }
 
-impl Taken {
+impl WalkEnd {
     /// Returns that a walk has ended here, with this result of what was written.
     #[inline(always)]
-    fn until(ahead: Ahead<'_>, regs: Regs, written: Result<(), WriteFailed>) -> Taken
+    fn until(ahead: Ahead<'_>, regs: Regs, written: Result<(), WriteFailed>) -> WalkEnd
         ensures passed { result.passed ≡ passed_of ahead.entry }
         ensures regs { result.regs ≡ regs }
         ensures written { result.written ≡ written }
     {
-        Taken {
+        WalkEnd {
             passed: ahead.passed(),
             regs,
             written,
@@ -44,7 +44,7 @@ impl Taken {
 }
 
 /// A kind of loop, by what it knows of the line of the last time.
-pub(crate) trait Kind: Copy {
+pub(crate) trait LoopKind: Copy {
     // From which offset up to which the chunk has that line. An empty part says nothing.
     ghost line: { Self → ℕ × ℕ };
 
@@ -66,7 +66,7 @@ pub(crate) trait Kind: Copy {
 #[derive(Clone, Copy)]
 pub(crate) struct Keeping;
 
-impl Kind for Keeping {
+impl LoopKind for Keeping {
     ghost line = { λ _. (0, 0) };
 
     #[inline(always)]
@@ -91,7 +91,7 @@ pub(crate) struct Copying {
     pub(crate) to: usize,
 }
 
-impl Kind for Copying {
+impl LoopKind for Copying {
     ghost line = { λ kind. (kind.from, kind.to) };
 
     #[inline(always)]
@@ -109,7 +109,7 @@ impl Kind for Copying {
 }
 
 /// What a command does with the items ahead, in a loop of the kind `L`. None of them ends the run.
-pub(crate) trait Command<L: Kind> {
+pub(crate) trait AheadTask<L: LoopKind> {
     ghost use Rattle.vcd_engine.specs.declared.machine.Machine.{Machine};
 
     // The machine of the command.
@@ -161,12 +161,12 @@ pub(crate) trait Command<L: Kind> {
 /// What a walk has at hand beside a command: the text that is due and not yet written, and what is
 /// known of the line of the last time.
 #[derive(Drop)]
-struct Held<L> {
+struct WalkState<L> {
     pieces: Pieces,
     line: L,
 }
 
-impl<L: Kind, C: Command<L>> Visit<C> for Held<L> {
+impl<L: LoopKind, C: AheadTask<L>> Visit<C> for WalkState<L> {
     ghost use Rattle.std.specs.Prelude.{false};
     ghost use Rattle.vcd_engine.specs.Walks.{CanTake, TakesHeld};
 
@@ -223,13 +223,13 @@ impl<L: Kind, C: Command<L>> Visit<C> for Held<L> {
 // The loop of each command is a function, so that none has less registers for what another one
 // does.
 #[inline(never)]
-pub(crate) fn take_each<L: Kind, C: Command<L>, W: Sink>(
+pub(crate) fn take_each<L: LoopKind, C: AheadTask<L>, W: Sink>(
     command: &mut C,
     view: HeadView<'_>,
     regs: Regs,
     ahead: Ahead<'_>,
     out: &mut W,
-) -> Taken
+) -> WalkEnd
     requires failures { (W.device out.old).failures < 2 ^ 64 - 1 }
     requires ready { C.is_ready command.old ≡ true }
     requires within { passed_of ahead ≤ length (bytes_of ahead) }
@@ -238,12 +238,12 @@ pub(crate) fn take_each<L: Kind, C: Command<L>, W: Sink>(
 {
     let pieces = Pieces::new();
     let line = L::new();
-    let walked = walk_ahead(command, Held { pieces, line }, view, regs, ahead, out);
+    let walked = walk_ahead(command, WalkState { pieces, line }, view, regs, ahead, out);
     let ahead = walked.ahead;
     let regs = walked.regs;
     let mut held = walked.visit;
     match walked.ended {
-        Ok(_) => Taken::until(ahead, regs, held.pieces.flush(ahead.bytes(), out)),
-        Err(failed) => Taken::until(ahead, regs, Err(failed)),
+        Ok(_) => WalkEnd::until(ahead, regs, held.pieces.flush(ahead.bytes(), out)),
+        Err(failed) => WalkEnd::until(ahead, regs, Err(failed)),
     }
 }

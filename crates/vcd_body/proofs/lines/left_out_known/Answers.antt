@@ -13,7 +13,7 @@ returns c = λ b.
     let there : (j : ℕ) → j < length l → slice_index l j ≡ slice_index c.args.bytes.now (c.args.at + j) = λ j few. byte_there l c.args.bytes.now c.args.at (length l) j few c.requires.place in (
       omega (arith, less),
       λ known. short_behind_zeros k l less
-          (λ j few. there j (omega (arith, few, less)) ∙ c.others_32.ensures.zero j (omega (arith, few, less)) (z.clear j few))
-          (λ more e. c.others_32.ensures.other k (omega (arith, less)) (z.set more) (sym (there k less) ∙ e))
+          (λ j few. there j (omega (arith, few, less)) ∙ c.nonzero_32.ensures.zero j (omega (arith, few, less)) (z.clear j few))
+          (λ more e. c.nonzero_32.ensures.other k (omega (arith, less)) (z.set more) (sym (there k less) ∙ e))
           (subst AreTwo (sym known) (number_two b.len b.number)),
     )

@@ -11,23 +11,23 @@ use Rattle.vcd_body.proofs.phrases.read_mark.Goals as goal
 pub returns-in_default-clause-time : goal.returns-in_default-clause-time
 returns-in_default-clause-time c = λ codes earlier k. (λ x. cc, bad_time codes earlier c.args.token.now c.requires (none_spelled (drop 1 c.args.token.now) (sym c.time_in.ensures ∙ c.in_default.is)))
 
-pub returns-in_err-take_mark-clause-time : goal.returns-in_err-take_mark-clause-time
-returns-in_err-take_mark-clause-time c =
+pub returns-in_err-accept_mark-clause-time : goal.returns-in_err-accept_mark-clause-time
+returns-in_err-accept_mark-clause-time c =
     let p = err_from_is_err_and c.from_residual.result c.from_residual.ensures.1 in
     rw (p.1, p.2) (λ codes earlier k.
     let t = time_spelled (drop 1 c.args.token.now) c.in-Some.time (sym c.time_in.ensures ∙ c.in-Some.is) in
-    mark_refused codes earlier c.args.token.now c.requires c.args.regs.now k t.0 c.in_err-take_mark.field-0.0 (subst (λ n. RefusesMark c.args.regs.now n c.in_err-take_mark.field-0.0) (sym t.1) c.in_err-take_mark.ensures.may))
+    mark_refused codes earlier c.args.token.now c.requires c.args.regs.now k t.0 c.in_err-accept_mark.field-0.0 (subst (λ n. RefusesMark c.args.regs.now n c.in_err-accept_mark.field-0.0) (sym t.1) c.in_err-accept_mark.ensures.may))
 
-pub returns-in_err-take_mark-clause-own : goal.returns-in_err-take_mark-clause-own
-returns-in_err-take_mark-clause-own c =
+pub returns-in_err-accept_mark-clause-own : goal.returns-in_err-accept_mark-clause-own
+returns-in_err-accept_mark-clause-own c =
     let p = err_from_is_err_and c.from_residual.result c.from_residual.ensures.1 in
-    rw (p.1, p.2) (mark_own c.args.regs.now c.in-Some.time c.in_err-take_mark.field-0.0 c.in_err-take_mark.ensures.may)
+    rw (p.1, p.2) (mark_own c.args.regs.now c.in-Some.time c.in_err-accept_mark.field-0.0 c.in_err-accept_mark.ensures.may)
 
 pub returns-clause-time : goal.returns-clause-time
 returns-clause-time c = λ codes earlier k.
     let t = time_spelled (drop 1 c.args.token.now) c.in-Some.time (sym c.time_in.ensures ∙ c.in-Some.is) in
     let value = t.1 in
-    let may = c.in_ok-take_mark.ensures.may in
+    let may = c.in_ok-accept_mark.ensures.may in
     let forth = may.forth in
     subst (λ (n : ℕ). Passes codes earlier c.args.token.now (BodyItem.Time n) × (time_after (items_of earlier) ≤ n)) t.1
     (time_passes codes earlier c.args.token.now c.requires c.args.regs.now k t.0 may.outside (omega (arith, forth, value)))

@@ -4,7 +4,7 @@ use Rattle.vcd_body.proofs.WordLemmas.{low_clear}
 use Rattle.vcd_body.proofs.words.are_binary_at.Goals as goal
 
 pub returns-clause-digits : goal.returns-clause-digits
-returns-clause-digits c = λ e k less. c.other_32.ensures.digits k (omega (arith, c.requires.few)) (low_clear c.other_32.result c.args.n k c.requires.few (eqb-true _ _ e) less)
+returns-clause-digits c = λ e k less. c.nonbinary_32.ensures.digits k (omega (arith, c.requires.few)) (low_clear c.nonbinary_32.result c.args.n k c.requires.few (eqb-true _ _ e) less)
 
 pub returns-clause-binary : goal.returns-clause-binary
-returns-clause-binary c = λ e k less. c.other_32.ensures.binary k (omega (arith, c.requires.few)) (low_clear c.other_32.result c.args.n k c.requires.few (eqb-true _ _ e) less)
+returns-clause-binary c = λ e k less. c.nonbinary_32.ensures.binary k (omega (arith, c.requires.few)) (low_clear c.nonbinary_32.result c.args.n k c.requires.few (eqb-true _ _ e) less)

@@ -27,7 +27,7 @@ loop-row-preserved c = record {
       let selected : is_selected [] (take row ds) d.0 ≡ c.is_variable.result = and_true (is_variable d.0) ∙ sym (c.is_variable.ensures h d.0 v d.1) in
       elim c.if-is_variable.branch [
         | then-is_variable w ↦
-            let more = subst (Marked (row ∷ enclosing (take row ds)) c.loop-row.marks) (sym w.marks-is) (w.mark_behind-marked.ensures.marks h v (omega (arith, rows)) (c.loop-row.invariant.around h v)) in
+            let more = subst (Marked (row ∷ enclosing (take row ds)) c.loop-row.marks) (sym w.marks-is) (w.mark_row-marked.ensures.marks h v (omega (arith, rows)) (c.loop-row.invariant.around h v)) in
             subst (λ ps. Marked ps zeros c.if-is_variable.marks) (sym (marks_more [] ds row d.0 d.1 (selected ∙ w.if-is_variable.true)))
             (marked_both (marked_places [] (take row ds)) (row ∷ enclosing (take row ds)) zeros c.loop-row.marks c.if-is_variable.marks (c.loop-row.invariant.marks h v) more)
         | else-is_variable w ↦
@@ -38,7 +38,7 @@ loop-row-preserved c = record {
       let ds = h.declarations in
       let rows = rows_len c.args.view.text.now h.codes [] c.args.view.rows.now h.declarations v.rows in
       elim c.if-is_variable.branch [
-        | then-is_variable w ↦ subst (λ n. AllMarked (scopes_at ds n) c.if-is_variable.marks) (sym w.marked-is) (subst (AllMarked (scopes_at ds w.mark_behind-marked.result)) (sym w.marks-is) (w.mark_behind-marked.ensures.around h v (omega (arith, rows)) (c.loop-row.invariant.around h v)))
+        | then-is_variable w ↦ subst (λ n. AllMarked (scopes_at ds n) c.if-is_variable.marks) (sym w.marked-is) (subst (AllMarked (scopes_at ds w.mark_row-marked.result)) (sym w.marks-is) (w.mark_row-marked.ensures.around h v (omega (arith, rows)) (c.loop-row.invariant.around h v)))
         | else-is_variable w ↦ subst (λ n. AllMarked (scopes_at ds n) c.if-is_variable.marks) (sym w.marked-is) (subst (AllMarked (scopes_at ds c.loop-row.marked)) (sym w.marks-is) (c.loop-row.invariant.around h v))
       ];
 }

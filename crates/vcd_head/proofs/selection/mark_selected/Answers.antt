@@ -28,7 +28,7 @@ loop-row-preserved c = record {
       let selected = c.take.ensures.selected h d.0 v d.1 (c.loop-row.invariant.held h v) ∙ ap (λ ns. is_selected (map string_bytes ns) (take row ds) d.0) c.new-group.ensures.names in
       elim c.if-take.branch [
         | then-take w ↦
-            let more = subst (Marked (row ∷ enclosing (take row ds)) c.loop-row.marks) (sym w.marks-is) (w.mark_behind-marked.ensures.marks h v (omega (arith, rows)) (c.loop-row.invariant.around h v)) in
+            let more = subst (Marked (row ∷ enclosing (take row ds)) c.loop-row.marks) (sym w.marks-is) (w.mark_row-marked.ensures.marks h v (omega (arith, rows)) (c.loop-row.invariant.around h v)) in
             subst (λ ps. Marked ps zeros c.if-take.marks) (sym (marks_more names ds row d.0 d.1 (sym selected ∙ w.if-take.true)))
             (marked_both (marked_places names (take row ds)) (row ∷ enclosing (take row ds)) zeros c.loop-row.marks c.if-take.marks (c.loop-row.invariant.marks h v) more)
         | else-take w ↦
@@ -39,7 +39,7 @@ loop-row-preserved c = record {
       let ds = h.declarations in
       let rows = rows_len c.args.view.text.now h.codes [] c.args.view.rows.now h.declarations v.rows in
       elim c.if-take.branch [
-        | then-take w ↦ subst (λ n. AllMarked (scopes_at ds n) c.if-take.marks) (sym w.marked-is) (subst (AllMarked (scopes_at ds w.mark_behind-marked.result)) (sym w.marks-is) (w.mark_behind-marked.ensures.around h v (omega (arith, rows)) (c.loop-row.invariant.around h v)))
+        | then-take w ↦ subst (λ n. AllMarked (scopes_at ds n) c.if-take.marks) (sym w.marked-is) (subst (AllMarked (scopes_at ds w.mark_row-marked.result)) (sym w.marks-is) (w.mark_row-marked.ensures.around h v (omega (arith, rows)) (c.loop-row.invariant.around h v)))
         | else-take w ↦ subst (λ n. AllMarked (scopes_at ds n) c.if-take.marks) (sym w.marked-is) (subst (AllMarked (scopes_at ds c.loop-row.marked)) (sym w.marks-is) (c.loop-row.invariant.around h v))
       ];
   matched = λ h v.

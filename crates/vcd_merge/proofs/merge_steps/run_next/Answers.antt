@@ -18,17 +18,17 @@ pub put-requires-clause-input : goal.put-requires-clause-input
 put-requires-clause-input g c =
     let next = c.in-Some.ensures.run.0 in
     let w = slice_get_within c.args.seats.now c.in-Some.next.input next.seat next.there in
-    let e = c.in_ok-turn.ensures.touches.seats in
+    let e = c.in_ok-run_turn.ensures.touches.seats in
     omega (arith, w, e)
 
 pub put-requires-clause-order : goal.put-requires-clause-order
-put-requires-clause-order g c = (length c.turn.new.seats, c.in-Some.next.input, omega arith, others_stay c.args.seats.now c.turn.new.seats c.in-Some.next.input c.take_next.new.self.inputs c.take_next.new.self.len c.in_ok-turn.ensures.touches.seats c.in_ok-turn.ensures.kept c.in-Some.ensures.run.2, inr refl)
+put-requires-clause-order g c = (length c.run_turn.new.seats, c.in-Some.next.input, omega arith, others_stay c.args.seats.now c.run_turn.new.seats c.in-Some.next.input c.take_next.new.self.inputs c.take_next.new.self.len c.in_ok-run_turn.ensures.touches.seats c.in_ok-run_turn.ensures.kept c.in-Some.ensures.run.2, inr refl)
 
 pub returns-then-not-is_empty-clause-order : goal.returns-then-not-is_empty-clause-order
 returns-then-not-is_empty-clause-order g c = λ again.
     let within = slice_get_within c.args.seats.now c.in-Some.next.input c.in-Some.ensures.run.0.seat c.in-Some.ensures.run.0.there in
-    let same = c.in_ok-turn.ensures.touches.seats in
-    let order = c.put.ensures.back (length c.turn.new.seats) (others_stay c.args.seats.now c.turn.new.seats c.in-Some.next.input c.take_next.new.self.inputs c.take_next.new.self.len same c.in_ok-turn.ensures.kept c.in-Some.ensures.run.2) (omega (arith, within, same)) in
+    let same = c.in_ok-run_turn.ensures.touches.seats in
+    let order = c.put.ensures.back (length c.run_turn.new.seats) (others_stay c.args.seats.now c.run_turn.new.seats c.in-Some.next.input c.take_next.new.self.inputs c.take_next.new.self.len same c.in_ok-run_turn.ensures.kept c.in-Some.ensures.run.2) (omega (arith, within, same)) in
     order
 
 pub returns-in_default-clause-runs : goal.returns-in_default-clause-runs
@@ -39,26 +39,26 @@ returns-in_default-clause-runs g c =
     let f : true ≡ false = sym e ∙ n.unfinished in
     cc
 
-pub returns-in_err-turn-clause-runs : goal.returns-in_err-turn-clause-runs
-returns-in_err-turn-clause-runs g c =
-    let en = c.in_err-turn.ensures in
-    let stop = c.in_err-turn.field-0.0 in
+pub returns-in_err-run_turn-clause-runs : goal.returns-in_err-run_turn-clause-runs
+returns-in_err-run_turn-clause-runs g c =
+    let en = c.in_err-run_turn.ensures in
+    let stop = c.in_err-run_turn.field-0.0 in
     let e : c.from_residual.result ≡ Err stop = search rules in
     record {
       gives = λ alone hs lanes ds by_one holds.
           let s : Standing g.row.S.Denot = standing c.args.heads.now c.args.seats.now c.args.written.now c.args.sources.now c.args.windows.now in
-          let s' : Standing g.row.S.Denot = standing c.args.heads.now c.turn.new.seats c.turn.new.written c.turn.new.sources c.turn.new.windows in
+          let s' : Standing g.row.S.Denot = standing c.args.heads.now c.run_turn.new.seats c.run_turn.new.written c.run_turn.new.sources c.run_turn.new.windows in
           let k = c.in-Some.next.input in
           let next = c.in-Some.ensures.run.0 in
           let least = c.in-Some.ensures.most in
           let first = c.in-Some.ensures.run.1 in
           let f = found g.S.Source.rest hs lanes ds s k holds.given c.requires.ready next in
-          let en = c.in_err-turn.ensures in
+          let en = c.in_err-run_turn.ensures in
           let t = en.turns (factor hs f.lane.header) (first_number (take k hs)) f.lane f.dump.items f.head f.spot f.head_there f.views f.spot_there f.is in
-          let sources : length c.turn.new.sources ≡ length c.turn.new.seats = en.sources ∙ c.requires.ready.sources ∙ sym en.touches.seats in
+          let sources : length c.run_turn.new.sources ≡ length c.run_turn.new.seats = en.sources ∙ c.requires.ready.sources ∙ sym en.touches.seats in
           let out : Device = g.W.Sink.device c.args.out.now in
-          let mid : Device = g.W.Sink.device c.turn.new.out in
-          let stop = c.in_err-turn.field-0.0 in
+          let mid : Device = g.W.Sink.device c.run_turn.new.out in
+          let stop = c.in_err-run_turn.field-0.0 in
           let e : c.from_residual.result ≡ Err stop = search rules in
           rw e (was_stopped g.S.Source.rest g.S.Source.failures hs lanes ds s holds c.requires.ready k c.in-Some.next.before next first alone (λ e. let z = by_one e in omega (arith, z, least)) s' t.0 refl en.touches.seats sources en.touches.chunks en.touches.tokens t.1 en.touches.others (λ j other. (en.touches.untouched j other).0) f out mid stop t.2);
       input = c.in-Some.next.input;
@@ -82,34 +82,34 @@ returns-in_err-turn-clause-runs g c =
 
 pub returns-then-not-is_empty-clause-runs : goal.returns-then-not-is_empty-clause-runs
 returns-then-not-is_empty-clause-runs g c =
-    let en = c.in_ok-turn.ensures in
+    let en = c.in_ok-run_turn.ensures in
     let within = slice_get_within c.args.seats.now c.in-Some.next.input c.in-Some.ensures.run.0.seat c.in-Some.ensures.run.0.there in
-    let same = c.in_ok-turn.ensures.touches.seats in
-    let order = c.put.ensures.back (length c.turn.new.seats) (others_stay c.args.seats.now c.turn.new.seats c.in-Some.next.input c.take_next.new.self.inputs c.take_next.new.self.len same c.in_ok-turn.ensures.kept c.in-Some.ensures.run.2) (omega (arith, within, same)) in
+    let same = c.in_ok-run_turn.ensures.touches.seats in
+    let order = c.put.ensures.back (length c.run_turn.new.seats) (others_stay c.args.seats.now c.run_turn.new.seats c.in-Some.next.input c.take_next.new.self.inputs c.take_next.new.self.len same c.in_ok-run_turn.ensures.kept c.in-Some.ensures.run.2) (omega (arith, within, same)) in
     record {
       gives = λ alone hs lanes ds by_one holds.
           let s : Standing g.row.S.Denot = standing c.args.heads.now c.args.seats.now c.args.written.now c.args.sources.now c.args.windows.now in
-          let s' : Standing g.row.S.Denot = standing c.args.heads.now c.turn.new.seats c.turn.new.written c.turn.new.sources c.turn.new.windows in
+          let s' : Standing g.row.S.Denot = standing c.args.heads.now c.run_turn.new.seats c.run_turn.new.written c.run_turn.new.sources c.run_turn.new.windows in
           let k = c.in-Some.next.input in
           let next = c.in-Some.ensures.run.0 in
           let least = c.in-Some.ensures.most in
           let first = c.in-Some.ensures.run.1 in
           let f = found g.S.Source.rest hs lanes ds s k holds.given c.requires.ready next in
-          let en = c.in_ok-turn.ensures in
+          let en = c.in_ok-run_turn.ensures in
           let t = en.turns (factor hs f.lane.header) (first_number (take k hs)) f.lane f.dump.items f.head f.spot f.head_there f.views f.spot_there f.is in
-          let sources : length c.turn.new.sources ≡ length c.turn.new.seats = en.sources ∙ c.requires.ready.sources ∙ sym en.touches.seats in
+          let sources : length c.run_turn.new.sources ≡ length c.run_turn.new.seats = en.sources ∙ c.requires.ready.sources ∙ sym en.touches.seats in
           let out : Device = g.W.Sink.device c.args.out.now in
-          let mid : Device = g.W.Sink.device c.turn.new.out in
-          went_on g.S.Source.rest g.S.Source.failures hs lanes ds s holds c.requires.ready k c.in-Some.next.before next first alone (λ e. let z = by_one e in omega (arith, z, least)) s' t.0 refl en.touches.seats sources en.touches.chunks en.touches.tokens t.1 en.touches.others (λ j other. (en.touches.untouched j other).0) f out mid c.in_ok-turn.field-0 t.2;
+          let mid : Device = g.W.Sink.device c.run_turn.new.out in
+          went_on g.S.Source.rest g.S.Source.failures hs lanes ds s holds c.requires.ready k c.in-Some.next.before next first alone (λ e. let z = by_one e in omega (arith, z, least)) s' t.0 refl en.touches.seats sources en.touches.chunks en.touches.tokens t.1 en.touches.others (λ j other. (en.touches.untouched j other).0) f out mid c.in_ok-run_turn.field-0 t.2;
       input = c.in-Some.next.input;
       next = c.in-Some.ensures.run.0;
       leaves = record {
         ready = λ again. record {
           heads = c.requires.ready.heads ∙ sym en.touches.seats;
           sources = en.sources ∙ c.requires.ready.sources ∙ sym en.touches.seats;
-          parts = parts_same (length c.args.seats.now) (length c.turn.new.seats) _ _ _ _ _ _ c.requires.ready.parts en.touches.seats en.touches.chunks en.touches.tokens en.touches.values;
+          parts = parts_same (length c.args.seats.now) (length c.run_turn.new.seats) _ _ _ _ _ _ c.requires.ready.parts en.touches.seats en.touches.chunks en.touches.tokens en.touches.values;
           seated = en.seated;
-          some = some_waits c.turn.new.seats c.put.new.self.inputs c.put.new.self.len order (c.is_empty.ensures.some c.if-not-is_empty.true);
+          some = some_waits c.run_turn.new.seats c.put.new.self.inputs c.put.new.self.len order (c.is_empty.ensures.some c.if-not-is_empty.true);
         };
         touches = record {
           seats = en.touches.seats;
@@ -128,28 +128,28 @@ returns-then-not-is_empty-clause-runs g c =
 
 pub returns-in_err-close-clause-runs : goal.returns-in_err-close-clause-runs
 returns-in_err-close-clause-runs g c =
-    let en = c.in_ok-turn.ensures in
+    let en = c.in_ok-run_turn.ensures in
     let e : c.from_residual-in_err-close.result ≡ Err Write = search rules in
     record {
       gives = λ alone hs lanes ds by_one holds.
           let s : Standing g.row.S.Denot = standing c.args.heads.now c.args.seats.now c.args.written.now c.args.sources.now c.args.windows.now in
-          let s' : Standing g.row.S.Denot = standing c.args.heads.now c.turn.new.seats c.turn.new.written c.turn.new.sources c.turn.new.windows in
+          let s' : Standing g.row.S.Denot = standing c.args.heads.now c.run_turn.new.seats c.run_turn.new.written c.run_turn.new.sources c.run_turn.new.windows in
           let k = c.in-Some.next.input in
           let next = c.in-Some.ensures.run.0 in
           let least = c.in-Some.ensures.most in
           let first = c.in-Some.ensures.run.1 in
           let f = found g.S.Source.rest hs lanes ds s k holds.given c.requires.ready next in
-          let en = c.in_ok-turn.ensures in
+          let en = c.in_ok-run_turn.ensures in
           let t = en.turns (factor hs f.lane.header) (first_number (take k hs)) f.lane f.dump.items f.head f.spot f.head_there f.views f.spot_there f.is in
-          let sources : length c.turn.new.sources ≡ length c.turn.new.seats = en.sources ∙ c.requires.ready.sources ∙ sym en.touches.seats in
+          let sources : length c.run_turn.new.sources ≡ length c.run_turn.new.seats = en.sources ∙ c.requires.ready.sources ∙ sym en.touches.seats in
           let out : Device = g.W.Sink.device c.args.out.now in
-          let mid : Device = g.W.Sink.device c.turn.new.out in
+          let mid : Device = g.W.Sink.device c.run_turn.new.out in
           let within = slice_get_within c.args.seats.now c.in-Some.next.input c.in-Some.ensures.run.0.seat c.in-Some.ensures.run.0.there in
-          let same = c.in_ok-turn.ensures.touches.seats in
-          let order = c.put.ensures.back (length c.turn.new.seats) (others_stay c.args.seats.now c.turn.new.seats c.in-Some.next.input c.take_next.new.self.inputs c.take_next.new.self.len same c.in_ok-turn.ensures.kept c.in-Some.ensures.run.2) (omega (arith, within, same)) in
-          let all = none_waiting c.turn.new.seats c.put.new.self.inputs c.put.new.self.len order (c.is_empty.ensures.none c.if-not-is_empty.false) in
+          let same = c.in_ok-run_turn.ensures.touches.seats in
+          let order = c.put.ensures.back (length c.run_turn.new.seats) (others_stay c.args.seats.now c.run_turn.new.seats c.in-Some.next.input c.take_next.new.self.inputs c.take_next.new.self.len same c.in_ok-run_turn.ensures.kept c.in-Some.ensures.run.2) (omega (arith, within, same)) in
+          let all = none_waiting c.run_turn.new.seats c.put.new.self.inputs c.put.new.self.len order (c.is_empty.ensures.none c.if-not-is_empty.false) in
           let e : c.from_residual-in_err-close.result ≡ Err Write = search rules in
-          rw e (was_cut g.S.Source.rest g.S.Source.failures hs lanes ds s holds c.requires.ready k c.in-Some.next.before next first alone (λ e. let z = by_one e in omega (arith, z, least)) s' t.0 refl en.touches.seats sources en.touches.chunks en.touches.tokens t.1 en.touches.others (λ j other. (en.touches.untouched j other).0) f out mid all c.in_ok-turn.field-0 (g.W.Sink.device c.close.new.out) t.2 (λ es marked w. (c.in_err-close.ensures.takes hs es marked w, c.in_err-close.ensures.counts)));
+          rw e (was_cut g.S.Source.rest g.S.Source.failures hs lanes ds s holds c.requires.ready k c.in-Some.next.before next first alone (λ e. let z = by_one e in omega (arith, z, least)) s' t.0 refl en.touches.seats sources en.touches.chunks en.touches.tokens t.1 en.touches.others (λ j other. (en.touches.untouched j other).0) f out mid all c.in_ok-run_turn.field-0 (g.W.Sink.device c.close.new.out) t.2 (λ es marked w. (c.in_err-close.ensures.takes hs es marked w, c.in_err-close.ensures.counts)));
       input = c.in-Some.next.input;
       next = c.in-Some.ensures.run.0;
       leaves = rw e (record {
@@ -171,26 +171,26 @@ returns-in_err-close-clause-runs g c =
 
 pub returns-clause-runs : goal.returns-clause-runs
 returns-clause-runs g c =
-    let en = c.in_ok-turn.ensures in
+    let en = c.in_ok-run_turn.ensures in
     record {
       gives = λ alone hs lanes ds by_one holds.
           let s : Standing g.row.S.Denot = standing c.args.heads.now c.args.seats.now c.args.written.now c.args.sources.now c.args.windows.now in
-          let s' : Standing g.row.S.Denot = standing c.args.heads.now c.turn.new.seats c.turn.new.written c.turn.new.sources c.turn.new.windows in
+          let s' : Standing g.row.S.Denot = standing c.args.heads.now c.run_turn.new.seats c.run_turn.new.written c.run_turn.new.sources c.run_turn.new.windows in
           let k = c.in-Some.next.input in
           let next = c.in-Some.ensures.run.0 in
           let least = c.in-Some.ensures.most in
           let first = c.in-Some.ensures.run.1 in
           let f = found g.S.Source.rest hs lanes ds s k holds.given c.requires.ready next in
-          let en = c.in_ok-turn.ensures in
+          let en = c.in_ok-run_turn.ensures in
           let t = en.turns (factor hs f.lane.header) (first_number (take k hs)) f.lane f.dump.items f.head f.spot f.head_there f.views f.spot_there f.is in
-          let sources : length c.turn.new.sources ≡ length c.turn.new.seats = en.sources ∙ c.requires.ready.sources ∙ sym en.touches.seats in
+          let sources : length c.run_turn.new.sources ≡ length c.run_turn.new.seats = en.sources ∙ c.requires.ready.sources ∙ sym en.touches.seats in
           let out : Device = g.W.Sink.device c.args.out.now in
-          let mid : Device = g.W.Sink.device c.turn.new.out in
+          let mid : Device = g.W.Sink.device c.run_turn.new.out in
           let within = slice_get_within c.args.seats.now c.in-Some.next.input c.in-Some.ensures.run.0.seat c.in-Some.ensures.run.0.there in
-          let same = c.in_ok-turn.ensures.touches.seats in
-          let order = c.put.ensures.back (length c.turn.new.seats) (others_stay c.args.seats.now c.turn.new.seats c.in-Some.next.input c.take_next.new.self.inputs c.take_next.new.self.len same c.in_ok-turn.ensures.kept c.in-Some.ensures.run.2) (omega (arith, within, same)) in
-          let all = none_waiting c.turn.new.seats c.put.new.self.inputs c.put.new.self.len order (c.is_empty.ensures.none c.if-not-is_empty.false) in
-          has_ended g.S.Source.rest g.S.Source.failures hs lanes ds s holds c.requires.ready k c.in-Some.next.before next first alone (λ e. let z = by_one e in omega (arith, z, least)) s' t.0 refl en.touches.seats sources en.touches.chunks en.touches.tokens t.1 en.touches.others (λ j other. (en.touches.untouched j other).0) f out mid all c.in_ok-turn.field-0 (g.W.Sink.device c.close.new.out) t.2 (λ es marked w. (c.in_ok-close.ensures.takes hs es marked w, c.in_ok-close.ensures.counts));
+          let same = c.in_ok-run_turn.ensures.touches.seats in
+          let order = c.put.ensures.back (length c.run_turn.new.seats) (others_stay c.args.seats.now c.run_turn.new.seats c.in-Some.next.input c.take_next.new.self.inputs c.take_next.new.self.len same c.in_ok-run_turn.ensures.kept c.in-Some.ensures.run.2) (omega (arith, within, same)) in
+          let all = none_waiting c.run_turn.new.seats c.put.new.self.inputs c.put.new.self.len order (c.is_empty.ensures.none c.if-not-is_empty.false) in
+          has_ended g.S.Source.rest g.S.Source.failures hs lanes ds s holds c.requires.ready k c.in-Some.next.before next first alone (λ e. let z = by_one e in omega (arith, z, least)) s' t.0 refl en.touches.seats sources en.touches.chunks en.touches.tokens t.1 en.touches.others (λ j other. (en.touches.untouched j other).0) f out mid all c.in_ok-run_turn.field-0 (g.W.Sink.device c.close.new.out) t.2 (λ es marked w. (c.in_ok-close.ensures.takes hs es marked w, c.in_ok-close.ensures.counts));
       input = c.in-Some.next.input;
       next = c.in-Some.ensures.run.0;
       leaves = record {

@@ -12,10 +12,10 @@ use Rattle.vcd_engine.proofs.item_text.ItemText.put_in_place.Goals as goal
 pub left_out-requires : goal.left_out-requires
 left_out-requires g c = (c.args.view, c.requires.place.spelled)
 
-pub returns-in_err-put_time_behind : goal.returns-in_err-put_time_behind
-returns-in_err-put_time_behind g c =
-    let e : c.from_residual-in_err-put_time_behind.result ≡ Err c.in_err-put_time_behind.field-0.0 = search rules in
-    let time = c.in_err-put_time_behind.ensures.puts in
+pub returns-in_err-hold_time : goal.returns-in_err-hold_time
+returns-in_err-hold_time g c =
+    let e : c.from_residual-in_err-hold_time.result ≡ Err c.in_err-hold_time.field-0.0 = search rules in
+    let time = c.in_err-hold_time.ensures.puts in
     rw e (record {
       text = λ h before kept e views is at has tells.
           let t = c.args.self.now in
@@ -28,14 +28,14 @@ pub returns : goal.returns
 returns g c =
     let l = c.args.change in
     let bytes = l.bytes.now in
-    let both = twice_behind bytes c.args.pieces.now c.put_time_behind.new.pieces c.append_parts.new.self _ (bytes_without bytes l.from l.to c.in-Some.n) _ _ _ _ c.append_parts.result c.in_ok-put_time_behind.ensures.puts c.append_parts.ensures in
+    let both = twice_behind bytes c.args.pieces.now c.hold_time.new.pieces c.append_parts.new.self _ (bytes_without bytes l.from l.to c.in-Some.n) _ _ _ _ c.append_parts.result c.in_ok-hold_time.ensures.puts c.append_parts.ensures in
     record {
       text = λ h before kept e views is at has tells.
           let t = c.args.self.now in
           let line = c.in-Some.ensures.1 c.args.view h e.item c.requires.place.spelled c.requires.place.bits c.requires.place.sized views is in
           let puts = subst (λ k. PutsOn (held_in bytes c.args.pieces.now) (held_in bytes c.append_parts.new.self) (g.W.Sink.device c.args.out.now) (g.W.Sink.device c.append_parts.new.out) (time_due t.written c.args.time ++ k) c.append_parts.result) line both.puts in (
             (time_due t.written c.args.time ++ item_line e.item, text_with before kept e c.args.time t at has tells, puts),
-            if_ok c.append_parts.result _ (subst (λ o. HasWritten before (kept ++ e ∷ []) (record { written = o })) (sym c.in_ok-put_time_behind.ensures.written) (written_with before kept e c.args.time at)),
+            if_ok c.append_parts.result _ (subst (λ o. HasWritten before (kept ++ e ∷ []) (record { written = o })) (sym c.in_ok-hold_time.ensures.written) (written_with before kept e c.args.time at)),
           );
       counts = both.counts;
       part = both.part;

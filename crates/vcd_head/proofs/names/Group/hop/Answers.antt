@@ -1,7 +1,7 @@
 use Rattle.std.proofs.Common.{◌≡◌, ◌<◌, ◌+◌, ◌++◌, ◌∷◌, [], length, take, get_or, refl, sym, ap, subst, ◌∙◌, map, string_bytes, rules}
 use Rattle.std.proofs.lemmas.List.{append_assoc, take_more}
 use Rattle.vcd_head.specs.Runs.{GoesOn}
-use Rattle.vcd_head.specs.declared.names.Run.{Run}
+use Rattle.vcd_head.specs.declared.names.NameRun.{NameRun}
 use Rattle.vcd_head.proofs.RunSteps.{follows_along, goes_both, goes_nowhere}
 use Rattle.vcd_head.proofs.names.Group.hop.Goals as goal
 
@@ -13,7 +13,7 @@ returns-in-Some-clause-run c = λ front some f.
     let bytes = c.args.bytes.now in
     let r = c.args.run in
     let n = c.shared-shared.result in
-    let along : Run = record { first = r.first; end = r.end; passed = r.passed + n; whole = r.whole } in
+    let along : NameRun = record { first = r.first; end = r.end; passed = r.passed + n; whole = r.whole } in
     let follows = follows_along names order old front bytes n r along f some c.shared-shared.ensures.within c.shared-shared.ensures.first c.shared-shared.ensures.last refl refl refl refl in
     let within : n < length bytes = search rules in
     let byte : c.in-Some.byte.now ≡ get_or bytes n 0 = search rules in
@@ -26,6 +26,6 @@ returns-in-None-clause-run c = λ front some f.
     let order = c.args.self.now.order in
     let r = c.args.run in
     let n = c.shared-shared.result in
-    let along : Run = record { first = r.first; end = r.end; passed = r.passed + n; whole = r.whole } in
+    let along : NameRun = record { first = r.first; end = r.end; passed = r.passed + n; whole = r.whole } in
     goes_nowhere names order c.args.matched.now (front ++ take n c.args.bytes.now) along
     (follows_along names order c.args.matched.now front c.args.bytes.now n r along f some c.shared-shared.ensures.within c.shared-shared.ensures.first c.shared-shared.ensures.last refl refl refl refl)

@@ -1,0 +1,10 @@
+use Rattle.std.proofs.Common.{◌≡◌, ◌≤◌}
+use Rattle.vcd_merge.specs.Order.{IsOrder}
+use Rattle.vcd_merge.proofs.order.TurnOrder.of.Given as goal
+
+abbrev pub invariant-loop-input : goal.invariant-loop-input
+invariant-loop-input l = record {
+  order : IsOrder l.seats l.input l.input l.order.inputs l.order.len;
+  few : l.order.len ≤ l.input;
+  most : l.order.most ≡ l.fn.most;
+}
