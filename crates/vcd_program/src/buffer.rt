@@ -144,8 +144,8 @@ impl Buffer {
         self.len += n;
     }
 
-    /// Returns whether n bytes may be pushed as the front of these by `push_parts`: they are few,
-    /// and there is room for as many as it copies.
+    /// Returns whether n bytes may be pushed as the front of these by `push_front` and
+    /// `push_parts`: they are few, and there is room for as many as those copy.
     #[inline(always)]
     pub(crate) fn has_room(&self, from: &[u8], n: usize) -> bool
         ensures few { result ≡ true → n ≤ 64 }
@@ -153,6 +153,18 @@ impl Buffer {
         ensures room { result ≡ true → self.now.len + 73 ≤ 8192 }
     {
         n <= SHORT && from.len() >= SHORT && self.len <= ROOM - PARTS
+    }
+
+    /// Appends the first n of these bytes, by one copy of 64.
+    #[inline(always)]
+    pub(crate) fn push_front(&mut self, from: &[u8], n: usize)
+        requires few { n ≤ 64 }
+        requires there { 64 ≤ length from.now }
+        requires room { self.old.len + 64 ≤ 8192 }
+        ensures { kept self.new ≡ kept self.old ++ take n from.now }
+    {
+        copy_short(&mut self.bytes, self.len, from);
+        self.len += n;
     }
 
     /// Appends a byte, the first n of `from` and the first m of `end`, by copies of known lengths.

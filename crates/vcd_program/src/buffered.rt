@@ -148,6 +148,8 @@ impl<D: Write + Drop> Sink for Buffered<D> {
       failures = sink.failures;
     } };
 
+    ghost kept_back = { λ sink. sink.buffer.len };
+
     #[inline(always)]
     fn write(&mut self, from: &[u8]) -> Result<usize, WriteFailed> {
         if from.is_empty() || from.len() < ROOM - self.buffer.len {
@@ -170,12 +172,31 @@ impl<D: Write + Drop> Sink for Buffered<D> {
     }
 
     #[inline(always)]
+    fn write_front(&mut self, from: &[u8], n: usize) -> bool {
+        if !self.buffer.has_room(from, n) {
+            return false;
+        }
+        self.buffer.push_front(from, n);
+        true
+    }
+
+    #[inline(always)]
     fn write_parts(&mut self, first: u8, from: &[u8], n: usize, end: [u8; 8], m: usize) -> bool {
         if !self.buffer.has_room(from, n) {
             return false;
         }
         self.buffer.push_parts(first, from, n, end, m);
         true
+    }
+
+    fn pass_on(&mut self) -> Result<(), WriteFailed> {
+        match self.write_kept() {
+            Ok(()) => Ok(()),
+            Err(failed) => {
+                self.failures += 1;
+                Err(failed)
+            }
+        }
     }
 
     fn failures(&self) -> u64 {
