@@ -1,5 +1,5 @@
 -- A merge as a loop over steps.
-use Rattle.std.proofs.Common.{◌≡◌, ◌≢◌, ◌∙◌, ℕ, zero, suc, ◌+◌, ◌-◌, ◌^◌, ◌/◌, ◌<◌, ◌++◌, Bool, true, false, List, [], ◌∷◌, length, map, slice_get, slice_set, Some, None, ap, ap₂, sym, subst, refl, Result, Ok, Err, arith, ◌⊎◌, inl, inr, append-nil}
+use Rattle.std.proofs.Common.{◌≡◌, ◌≢◌, ◌∙◌, ℕ, zero, suc, ◌+◌, ◌-◌, ◌^◌, ◌/◌, ◌<◌, ◌++◌, true, false, List, [], ◌∷◌, length, map, slice_get, slice_set, Some, None, ap, ap₂, sym, subst, refl, Result, Ok, Err, arith, ◌⊎◌, inl, inr, append-nil}
 use Rattle.std.specs.Prelude.{All, Option, get_or, option_map}
 use Rattle.std.specs.List.{list_any}
 use Rattle.std.proofs.lemmas.List.{set-get_or}

@@ -13,7 +13,6 @@ use Rattle.vcd_model.specs.Settled.{is_header_over, is_settled}
 use Rattle.vcd_model.specs.Outcome.{Opened, Outcome, dumps_of, fault_outcome, merge_outcome, name_at, open_from}
 use Rattle.vcd_model.specs.Reading.{Fault}
 use Rattle.vcd_model.specs.Tokens.{Token}
-use Rattle.vcd_text.specs.Answer.{whole}
 use Rattle.vcd_text.specs.Device.{Device, Supply, Writes, supply}
 use Rattle.vcd_text.proofs.Writes.{appends-none}
 use Rattle.vcd_body.specs.Answer.{NamesInput}

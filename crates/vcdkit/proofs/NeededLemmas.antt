@@ -1,6 +1,6 @@
 -- How much was read of the inputs of a merge, where all of the others are known: no more than what
 -- settles it.
-use Rattle.std.proofs.Common.{◌≡◌, ℕ, zero, suc, ◌+◌, Bool, true, false, List, [], ◌∷◌, ◌++◌, length, map, slice_get, slice_set, Option, Some, None, refl, sym, ap, subst, ◌∙◌, inl, inr, arith, append_assoc, append-nil}
+use Rattle.std.proofs.Common.{◌≡◌, ℕ, zero, suc, ◌+◌, Bool, false, List, [], ◌∷◌, ◌++◌, length, map, slice_get, slice_set, Some, refl, sym, ap, subst, ◌∙◌, arith, append_assoc}
 use Rattle.std.proofs.lemmas.List.{length_push}
 use Rattle.vcd_model.specs.Input.{Input}
 use Rattle.vcd_model.specs.Header.{Header, header_of}
@@ -12,7 +12,7 @@ use Rattle.vcd_model.specs.Settled.{is_header_over, is_over}
 use Rattle.vcd_model.specs.Outcome.{Opened, allowed_after}
 use Rattle.vcd_model.specs.Tokens.{Token, stream_of}
 use Rattle.vcd_model.proofs.SoFarLemmas.{whole-more}
-use Rattle.vcd_model.specs.SettledMerge.{Seen, SeenBody, SeenHeaders, headers_seen, is_settled_merge, seen_at, seen_before, settles_merge, tokens_seen, whole_of}
+use Rattle.vcd_model.specs.SettledMerge.{Seen, headers_seen, is_settled_merge, seen_at, seen_before, settles_merge, tokens_seen, whole_of}
 use Rattle.vcd_model.specs.SettledMerge.SeenHeaders.{NotWhole, Whole}
 use Rattle.vcd_text.specs.Answer.{whole}
 use Rattle.vcd_text.specs.Device.{Supply}
