@@ -165,9 +165,8 @@ def _data(text: Text) -> Data:
 def _made(text: Made) -> Tuple[bytes, Optional[VcdkitError]]:
     """Returns what a command writes, and its error."""
     inputs = [_data(one) for one in text.of]
-    # A part is mostly no longer than the dump; room that is not written costs nothing.
-    is_part = text.command in ("pick", "cut", "merge")
-    room = (sum(map(len, inputs)) if is_part else 0) + (1 << 16)
+    # Twice the dump is mostly enough; room that is not written costs nothing.
+    room = 2 * sum(map(len, inputs)) + (1 << 16)
     if text.command == "merge":
         files = [(b"%d" % at, data) for at, data in enumerate(inputs)]
         names = {"%d" % at: one.name for at, one in enumerate(text.of)}
