@@ -58,7 +58,8 @@ struct vcdkit_change {
 /* A reading of the changes of a variable. All zeros at the first call. */
 struct vcdkit_reading {
     uint64_t place[8]; /* where the next call goes on: for the library alone */
-    uint64_t count;    /* how many changes the last call found */
+    uint64_t count;    /* how many changes the last call found: never more than the array has
+                        * room for, and 0 with VCDKIT_NO_CODE and VCDKIT_NO_MEMORY */
     uint64_t fault;    /* the fault of the dump, where there is one:
                         *  1 token too long, 2 unexpected end of input, 3 unknown command,
                         *  4 command out of place, 5 bad timescale, 6 bad scope, 7 bad variable,
@@ -82,8 +83,8 @@ enum {
 /* Finds the changes of the variables with this identifier code (`vcdkit list` says it), one for
  * each change that the dump writes, also to the value that was there: as many as the array has room
  * for (at least 1), from where the call before has stopped. Each call reads the header, and then
- * goes on in the body at once. dump and code are those of the first call. seed is as for
- * vcdkit_run, and may be another at each call. */
+ * goes on in the body, so an array of some thousands costs little. dump and code are those of the
+ * first call. seed is as for vcdkit_run, and may be another at each call. */
 uint8_t vcdkit_changes(const uint8_t *dump, size_t dump_length,
                        const uint8_t *code, size_t code_length, uint64_t seed,
                        struct vcdkit_reading *reading,
