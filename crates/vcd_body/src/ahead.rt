@@ -435,7 +435,7 @@ pub(crate) fn real_ahead<'a>(
     Some(change_of(found, Form::RealText, rest_of(token), None, at + 1, code_at))
 }
 
-/// Returns the time of the mark that a token is; none where it spells none. The offset is that
+/// Returns the time of the mark that a token is; none where it spells none. The look-ahead is right
 /// after the token.
 #[inline(always)]
 pub(crate) fn time_ahead<'a>(opening: Opening<'a>, ahead: Ahead<'a>) -> Option<u64>
