@@ -1,5 +1,5 @@
 #!/usr/bin/env python3
-"""hostile.py PROGRAM DEVICES PART..     PART is memory, large, devices or cut_off;
+"""hostile.py PROGRAM DEVICES PART..     PART is memory, large, devices, cut_off or pipes;
 COMMANDS=check,list takes the cases of these alone
 
 Runs the program where memory is refused, where its devices fail or give little, and on dumps that
@@ -18,9 +18,12 @@ devices  Reads and writes give or take 1, 2, 3, 5 or 7 bytes a call: the whole o
          1, 2, 3, .. to standard output fails: a prefix of the output, and the write line; to the
          error stream: a prefix of the message, and the same status. A signal interrupts call number
          1 to 5 of each: the whole outcome, since the call is made again.
-cut_off  reads each dump by whole chunks and byte by byte."""
-import os, subprocess, sys, tempfile
+cut_off  reads each dump by whole chunks and byte by byte.
+pipes    `pick`, `cut`, `sample` and `merge` read pipes that get one line at a time: what is due by
+         the lines so far has come before the next line is given, and no more has."""
+import os, select, subprocess, sys, tempfile, time
 from concurrent.futures import ThreadPoolExecutor
+from itertools import zip_longest
 
 import evaluator
 from cases import CASES, LARGE
@@ -204,7 +207,70 @@ def cut_off(place, case):
     yield runs
 
 
-PARTS = {"memory": memory, "large": large, "devices": devices, "cut_off": cut_off}
+# ---- pipes that get one line at a time
+
+class Live:
+    """A run whose inputs are pipes."""
+
+    def __init__(self, place, case):
+        ends = [os.pipe() for _ in case.inputs]
+        readers, self.writers = zip(*ends)
+        self.files = ["/dev/fd/%d" % reader for reader in readers]
+        self.process = subprocess.Popen([place.program] + case.words(self.files),
+                                        pass_fds=readers, cwd=place.folder,
+                                        stdout=subprocess.PIPE, stderr=subprocess.PIPE)
+        for reader in readers:
+            os.close(reader)
+        self.output = b""
+
+    def give(self, k, line):
+        """Gives a line to an input, whose reader may have ended."""
+        try:
+            os.write(self.writers[k], line)
+        except BrokenPipeError:
+            pass
+
+    def has_written(self, due):
+        """Whether the output is this within ten seconds."""
+        stdout, end = self.process.stdout.fileno(), time.monotonic() + 10
+        while len(self.output) < len(due) and select.select([stdout], [], [],
+                                                            max(0, end - time.monotonic()))[0]:
+            part = os.read(stdout, 65536)
+            if not part:
+                break
+            self.output += part
+        return self.output == due
+
+    def close(self):
+        """Ends the inputs, and returns the outcome."""
+        for writer in self.writers:
+            os.close(writer)
+        rest, message = self.process.communicate(timeout=60)
+        return self.output + rest, message, self.process.returncode
+
+
+def pipes(place, case):
+    if case.command not in ("pick", "cut", "sample", "merge"):
+        yield 0
+        return
+    live, given = Live(place, case), [b""] * len(case.inputs)
+    turns = zip_longest(*(text.splitlines(keepends=True) for text in case.inputs))
+    for k, line in [(k, line) for turn in turns for k, line in enumerate(turn) if line]:
+        live.give(k, line)
+        given[k] += line
+        due = wanted(case, live.files, [evaluator.Failed(text) for text in given])[0]
+        if not live.has_written(due):
+            yield say(case, "through pipes, after %r" % given, due, live.output)
+            live.close()
+            break
+    else:
+        want, got = wanted(case, live.files, case.inputs), live.close()
+        if got != want:
+            yield say(case, "through pipes", want, got)
+    yield 1
+
+
+PARTS = {"memory": memory, "large": large, "devices": devices, "cut_off": cut_off, "pipes": pipes}
 
 
 def results(place, part, case):
