@@ -30,6 +30,8 @@ impl White {
         requires next { self.next + 64 < 2 ^ 64 }
         requires ahead { (k : ℕ) → bit_at self.bits k ≡ 1 → at + 64 ≤ self.next + k }
         ensures near { result ≡ true → self.next ≤ at + 64 }
+        ensures white { result ≡ true → (chunk : List ℕ) (stop : ℕ) → Marks chunk at stop self
+            → (at < stop) × (is_white_space (slice_index chunk at) ≡ true) }
         ensures none { result ≡ false → (k : ℕ) → bit_at self.bits k ≡ 1 → at + 64 < self.next + k }
     {
         self.next + lowest(self.bits) - 64 == at
@@ -138,7 +140,7 @@ impl<'a> Ahead<'a> {
         if !white.begins_at(at) {
             return self.take(at, white);
         }
-        let start = past_white(self.bytes, at);
+        let start = white_end(self.bytes, at);
         let white = white_ahead(self.bytes, white.not_before(start))?;
         self.take(start, white)
     }
@@ -301,6 +303,23 @@ fn past_white(bytes: &[u8], from: usize) -> usize
         at += 1;
     }
     at
+}
+
+/// Returns where the white bytes from this one on end.
+// Mostly the next byte is another one, as after CR LF: then no call is made.
+#[inline(always)]
+fn white_end(bytes: &[u8], at: usize) -> usize
+    requires { (at < length bytes.now) × (is_white_space (slice_index bytes.now at) ≡ true) }
+    ensures within { result ≤ length bytes.now }
+    ensures white { AreWhite bytes.now at result }
+    ensures stops { result < length bytes.now
+        → is_white_space (slice_index bytes.now result) ≡ false }
+{
+    let next = at + 1;
+    if next < bytes.len() && bytes[next] > b' ' {
+        return next;
+    }
+    past_white(bytes, at)
 }
 
 /// Returns the white space that is known ahead, or else comes next. None where there is none, or

@@ -13,9 +13,9 @@ returns-in_err-white-clause-needed c = λ _ start n front r.
 pub returns-in_err-white-2-clause-needed : goal.returns-in_err-white-2-clause-needed
 returns-in_err-white-2-clause-needed c = λ _ start n front r.
     let a = c.args.self.now in
-    let from = c.past_white-start.result in
-    let before = c.past_white-start.ensures.white in
-    let m = c.not_before.ensures.marks a.bytes.now a.at (length a.bytes.now) before.order c.past_white-start.ensures.within (c.in_ok-white.ensures.marks a.at a.order a.marks) in
+    let from = c.white_end-start.result in
+    let before = c.white_end-start.ensures.white in
+    let m = c.not_before.ensures.marks a.bytes.now a.at (length a.bytes.now) before.order c.white_end-start.ensures.within (c.in_ok-white.ensures.marks a.at a.order a.marks) in
     let none = c.in_err-white-2.ensures.none refl in
     let le = run_behind a.limit a.bytes.now a.at from start n before front r in
     let far = run_past a.limit a.bytes.now from none.0 start n le (none.2 from c.not_before.ensures.order m) r in
@@ -33,14 +33,19 @@ take-requires-clause-marks c =
     c.in_ok-white.ensures.marks a.at a.order a.marks
 
 pub white_ahead-requires-2 : goal.white_ahead-requires-2
-white_ahead-requires-2 c = c.not_before.ensures.within (length c.args.self.now.bytes.now) c.in_ok-white.ensures.next.1 c.past_white-start.ensures.within
+white_ahead-requires-2 c = c.not_before.ensures.within (length c.args.self.now.bytes.now) c.in_ok-white.ensures.next.1 c.white_end-start.ensures.within
 
 pub take-requires-2-clause-marks : goal.take-requires-2-clause-marks
 take-requires-2-clause-marks c =
     let a = c.args.self.now in
-    let from = c.past_white-start.result in
-    let before = c.past_white-start.ensures.white in
-    c.in_ok-white-2.ensures.marks from c.not_before.ensures.order (c.not_before.ensures.marks a.bytes.now a.at (length a.bytes.now) before.order c.past_white-start.ensures.within (c.in_ok-white.ensures.marks a.at a.order a.marks))
+    let from = c.white_end-start.result in
+    let before = c.white_end-start.ensures.white in
+    c.in_ok-white-2.ensures.marks from c.not_before.ensures.order (c.not_before.ensures.marks a.bytes.now a.at (length a.bytes.now) before.order c.white_end-start.ensures.within (c.in_ok-white.ensures.marks a.at a.order a.marks))
 
 pub take-requires-2-clause-token : goal.take-requires-2-clause-token
-take-requires-2-clause-token c = before_marks c.args.self.now.bytes.now c.past_white-start.result c.in_ok-white-2.white (take-requires-2-clause-marks c) c.past_white-start.ensures.stops
+take-requires-2-clause-token c = before_marks c.args.self.now.bytes.now c.white_end-start.result c.in_ok-white-2.white (take-requires-2-clause-marks c) c.white_end-start.ensures.stops
+
+pub white_end-start-requires : goal.white_end-start-requires
+white_end-start-requires c =
+    let a = c.args.self.now in
+    c.begins_at.ensures.white c.if-not-begins_at.false a.bytes.now (length a.bytes.now) (c.in_ok-white.ensures.marks a.at a.order a.marks)

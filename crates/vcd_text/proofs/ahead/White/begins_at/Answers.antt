@@ -1,0 +1,12 @@
+use Rattle.std.proofs.Common.{◌≡◌, ◌+◌, ◌-◌, true, subst, arith}
+use Rattle.std.specs.Prelude.{slice_index}
+use Rattle.std.proofs.lemmas.Bool.{eqb-true}
+use Rattle.vcd_model.specs.Bytes.{is_white_space}
+use Rattle.vcd_text.proofs.ahead.White.begins_at.Goals as goal
+
+pub returns-clause-white : goal.returns-clause-white
+returns-clause-white c = λ e chunk stop m.
+    let bit = c.lowest.result in
+    let set = c.lowest.ensures.set in
+    let here : c.args.self.next + bit - 64 ≡ c.args.at = eqb-true _ _ e in
+    (omega (arith, m.inside bit set, m.ahead bit set, m.within), subst (λ i. is_white_space (slice_index chunk i) ≡ true) here (m.white bit set))
