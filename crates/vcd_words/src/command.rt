@@ -1,6 +1,6 @@
 //! The command line: which words it takes, and the exit status where it takes none.
-ghost use Rattle.std.specs.Prelude.{◌≡◌, IfOk};
-ghost use Rattle.vcd_words.specs.Names.{alone_app, cut_app, IsLocal, IsWhole, kind_of, limit_rule, merge_app, named_app, new_app, one_input_app, parse_status_of, program_app, sample_app, time_rule};
+ghost use Rattle.std.specs.Prelude.{◌≡◌, true, IfOk};
+ghost use Rattle.vcd_words.specs.Names.{alone_app, App, cut_app, IsLocal, IsWhole, kind_of, limit_rule, merge_app, named_app, new_app, one_input_app, parse_status_of, program_app, sample_app, time_rule, with_subcommand};
 
 use crate::help;
 use crate::help::Help;
@@ -134,28 +134,33 @@ fn merge<'a>(alloc: Global) -> Result<Command<'a>, AllocError>
         .arg(files)
 }
 
+/// Returns the program with one more command, if that could be made.
+fn add<'a>(
+    program: Command<'a>,
+    command: Result<Command<'a>, AllocError>,
+) -> Result<Command<'a>, AllocError>
+    ensures { (before more : App) → IsWhole program.entry before
+        → IfOk command.entry (λ command. IsWhole command more) → more.top.is_plain ≡ true
+        → IfOk result (λ command. IsWhole command (with_subcommand before more.top)) }
+{
+    program.subcommand(command?)
+}
+
 /// Returns the command `vcdkit` with its commands; fails where memory runs out.
 pub fn command_of<'a>(alloc: Global) -> Result<Command<'a>, AllocError>
     ensures { IfOk result (λ command. IsWhole command program_app) }
 {
-    let check = alone(alloc, "check", help::CHECK)?;
     let program = new_command(alloc, "vcdkit", help::PROGRAM)
         .version("0.1.0")
         .subcommand_required(true)
-        .disable_help_subcommand(true)
-        .subcommand(check)?;
-    let list = alone(alloc, "list", help::LIST)?;
-    let program = program.subcommand(list)?;
-    let pick = named(alloc, "pick", help::PICK, true)?;
-    let program = program.subcommand(pick)?;
-    let cut = cut(alloc)?;
-    let program = program.subcommand(cut)?;
-    let sample = sample(alloc)?;
-    let program = program.subcommand(sample)?;
-    let edges = named(alloc, "edges", help::EDGES, false)?;
-    let program = program.subcommand(edges)?;
-    let merge = merge(alloc)?;
-    program.subcommand(merge)
+        .disable_help_subcommand(true);
+    let program = add(program, alone(alloc, "check", help::CHECK))?;
+    let program = add(program, alone(alloc, "list", help::LIST))?;
+    let program = add(program, named(alloc, "pick", help::PICK, true))?;
+    let program = add(program, cut(alloc))?;
+    let program = add(program, sample(alloc))?;
+    let program = add(program, named(alloc, "edges", help::EDGES, false))?;
+    add(program, merge(alloc))
 }
 
 /// Returns the exit status where a parse gave no matches.
