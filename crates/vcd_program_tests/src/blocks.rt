@@ -148,3 +148,30 @@ fn failed_writes_are_counted_once(rt: HostRuntime) {
     });
     assert_eq!(rt; left, Ok((true, 1)));
 }
+
+// The blocks and the failed writes where the second write fails, each text is passed on, and the
+// last of them twice.
+fn blocks_passed_on(alloc: Global) -> Result<(Vec<usize>, u64), AllocError> {
+    let mut device = Noted::new(alloc, false, 1);
+    let failures = {
+        let mut out = Buffered::new(alloc, &mut device)?;
+        let _ = put(&mut out, &[b'x'; 10]);
+        let _ = out.pass_on();
+        let _ = put(&mut out, &[b'x'; 5]);
+        let _ = out.pass_on();
+        if out.failures() == 1 {
+            let _ = out.pass_on();
+            let _ = out.pass_on();
+        }
+        out.failures()
+    };
+    Ok((device.sizes, failures))
+}
+
+#[test]
+fn what_is_kept_back_is_passed_on(rt: HostRuntime) {
+    let left = blocks_passed_on(rt.alloc()).map(|(sizes, failures)| {
+        (is(&sizes, &[10, 5, 5]), failures)
+    });
+    assert_eq!(rt; left, Ok((true, 1)));
+}

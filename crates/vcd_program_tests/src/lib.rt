@@ -10,3 +10,5 @@ mod command_lines;
 mod flush;
 #[cfg(test)]
 mod machine;
+#[cfg(test)]
+mod prompt;

@@ -457,6 +457,22 @@ fn the_feed_goes_on_after_tokens_ahead(rt: HostRuntime) {
     );
 }
 
+// Near the end of the bytes too. The last one is not whole, since no white byte comes after it.
+#[test]
+fn whole_tokens_are_found_slowly(rt: HostRuntime) {
+    let mut source = Watch::new(Pieces::new(b"a  bc\ndef", 9));
+    let mut chunk = [0; 9];
+    let mut token = [0; 4];
+    let mut value = [0; 4];
+    let mut feed = Feed::new(&mut source, &mut chunk, &mut token, &mut value);
+    let mut told = Told::new();
+    tell_next(&mut feed, &mut told);
+    let mut ahead = feed.ahead();
+    assert_eq!(rt; ahead.next_slowly(), Some(b"bc".as_slice()));
+    assert_eq!(rt; ahead.next_slowly(), None);
+    assert_eq!(rt; ahead.passed(), 4);
+}
+
 #[test]
 fn a_look_ahead_goes_back(rt: HostRuntime) {
     let mut bytes = [b'x'; 80];
