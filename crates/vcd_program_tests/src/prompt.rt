@@ -14,8 +14,8 @@ use vcd_text::Watch;
 // The bytes of a step, and the text that is due with them.
 type Step = (&'static [u8], &'static [u8]);
 
-// What both devices note: how many bytes are due by the steps so far, how many were written, and how
-// many reads there were; and before how many of these the two were not the same.
+// What both devices note: how many bytes are due by the steps so far, how many were written, how
+// many reads there were, and before how many of these the two counts differed.
 #[derive(Drop)]
 struct Log {
     due: Cell<usize>,
@@ -121,8 +121,8 @@ fn run_live(alloc: Global, words: &[&str], steps: &[Step], log: &Log) -> Result<
     ))
 }
 
-// The status, how many reads there were, and before how many of them something else was written than
-// what is due.
+// The status, how many reads there were, and before how many of them something else was written
+// than what is due.
 fn reads_of(
     alloc: Global,
     words: &[&str],
