@@ -15,12 +15,9 @@ use Rattle.vcd_view.specs.Views.{AreRows, IsCode, Views}
 use Rattle.vcd_view.specs.declared.view.HeadView.{HeadView}
 use Rattle.vcd_view.specs.declared.view.Row.{Row}
 use Rattle.vcd_body.specs.Items.{model_section}
-use Rattle.vcd_body.specs.declared.item.Item.{Item}
-use Rattle.vcd_body.specs.declared.item.Item.TheVariants.{Time, Begin, End, Change, Finish}
 use Rattle.vcd_body.specs.declared.item.Regs.{Regs}
-use Rattle.vcd_engine.specs.Check.{AreCounted, IsOfKind}
+use Rattle.vcd_engine.specs.Check.{AreCounted}
 use Rattle.vcd_engine.specs.Engine.{last_of}
-use Rattle.vcd_body.specs.Given.{IsItem}
 use Rattle.vcd_engine.specs.Report.{opens_scope, declares_variable}
 use Rattle.vcd_engine.specs.declared.machine.check.Check.{Check}
 use Rattle.vcd_engine.proofs.EngineLemmas.{marks_push, marks_stay}
@@ -89,14 +86,6 @@ are_few items c a = record {
   sections = rw a.sections (count_by-le-length is_begin items);
   changes = rw a.changes (filter_map_len change_of items);
 }
-
--- an item is of the kind of the definitions' item that it is
-pub kind_of : (codes : List IdCode) (text : List ℕ) (item : Item) (x : BodyItem) → IsItem codes text item x → IsOfKind item x
-kind_of codes text (Time t) x is = is
-kind_of codes text (Begin s) x is = is
-kind_of codes text End x is = is
-kind_of codes text (Change code form) x is = (_, is.2)
-kind_of codes text Finish x is = is
 
 -- ---- the rows of a view
 

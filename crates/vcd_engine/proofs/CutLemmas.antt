@@ -381,10 +381,6 @@ no_mark_is End none = tt
 no_mark_is (Change place form) none = tt
 no_mark_is Finish none = tt
 
--- they end no cut
-pub no_end : (codes : List IdCode) (text : List ℕ) (item : Item) (x : BodyItem) (b : ℕ) → IsItem codes text item x → IsNoMark item → false ≡ is_mark_above b x
-no_end codes text item x b read none = sym (no_mark codes text item x b read none).0
-
 -- ---- the begin of a cut
 
 -- a prefix of the header is one of the text before all items

@@ -3,13 +3,11 @@ use Rattle.std.proofs.Common.{◌≡◌, ℕ, ◌+◌, ◌≤◌, ◌<◌, ◌^�
 use Rattle.std.specs.Prelude.{IfOk}
 use Rattle.vcd_model.specs.Declarations.{IdCode}
 use Rattle.vcd_model.specs.Header.{Header}
-use Rattle.vcd_model.specs.Items.{BodyItem, Change as Changed}
+use Rattle.vcd_model.specs.Items.{BodyItem, marks}
 use Rattle.vcd_model.specs.Outcome.{Request, ends_early, open_text}
-use Rattle.vcd_model.specs.Tokens.{Token}
 use Rattle.vcd_model.proofs.SampleSteps.{goes_on_other}
 use Rattle.vcd_text.specs.Ahead.{bytes_of, passed_of}
 use Rattle.vcd_text.specs.Device.{Device}
-use Rattle.vcd_text.specs.Passed.{Passed}
 use Rattle.vcd_text.specs.declared.ahead.Ahead.{Ahead}
 use Rattle.vcd_view.specs.Views.{IsViewOf}
 use Rattle.vcd_view.specs.declared.view.HeadView.{HeadView}
@@ -17,41 +15,39 @@ use Rattle.vcd_body.specs.Ahead.{GaveAhead, LooksOver}
 use Rattle.vcd_body.specs.Device.{DueBy, GrowsSome}
 use Rattle.vcd_body.specs.Given.{IsItem}
 use Rattle.vcd_body.specs.Items.{AreRegsAfter, regs_after}
-use Rattle.vcd_body.specs.Taken.{TakesItem}
-use Rattle.vcd_body.specs.declared.ahead.Plain.{Plain}
-use Rattle.vcd_body.specs.declared.item.Form.{Form}
 use Rattle.vcd_body.specs.declared.item.Item.{Item}
-use Rattle.vcd_body.specs.declared.item.Item.TheVariants.{Change}
 use Rattle.vcd_body.specs.declared.item.Regs.{Regs}
 use Rattle.vcd_engine.specs.Ahead.{GaveOneAhead, StandsAhead}
+use Rattle.vcd_engine.specs.Cut.{IsNoMark}
 use Rattle.vcd_engine.specs.Engine.{Keeps, request_in}
 use Rattle.vcd_engine.specs.Next.{TakesMore, TakesNext, Walk}
-use Rattle.vcd_engine.specs.Pieces.{GrowsBut, LiesBetween, PutsOn, held_in}
+use Rattle.vcd_engine.specs.Pieces.{GrowsBut, PutsOn, held_in}
 use Rattle.vcd_engine.specs.Quiet.{TakesQuietly}
 use Rattle.vcd_engine.specs.declared.machine.Machine.{Machine}
-use Rattle.vcd_engine.specs.declared.pieces.InPlace.{InPlace}
 use Rattle.vcd_engine.specs.declared.pieces.Pieces.{Pieces}
 use Rattle.vcd_engine.proofs.AheadLemmas.{few_ahead, stands_on}
 use Rattle.vcd_engine.proofs.PieceLemmas.{but_failed, but_on, none_on}
+use Rattle.vcd_engine.proofs.SampleLemmas.{no_marks}
 
 -- an item with which nothing is due
 pub more_quietly : {A E : Type 0} (v : A) (holds : Type 0) (task : Request) (h : Header) (items : List BodyItem) (x : BodyItem) (held : List ℕ) (out : Device) → TakesQuietly holds task h items x → TakesMore {A = A} {E = E} (λ due. PutsOn {A = A} {E = E} held held out out due (Ok v)) holds task h items x (Ok v)
 more_quietly v holds task h items x held out q = record { due = ([], q.due, none_on held out); on = q.on; keeps = q.keeps }
 
--- a change ends no run
-change_goes_on : (t : Request) (y : Changed) → ends_early t (BodyItem.Changes y) ≡ false
-change_goes_on Request.Check y = refl
-change_goes_on Request.Listing y = refl
-change_goes_on (Request.Pick names) y = refl
-change_goes_on (Request.Cut from to) y = refl
-change_goes_on (Request.Sample times names) y = goes_on_other names times (BodyItem.Changes y) refl
-change_goes_on (Request.Edges names) y = refl
-change_goes_on Request.Merge y = refl
+-- an item that is no mark ends no run
+other_goes_on : (t : Request) (x : BodyItem) → marks (x ∷ []) ≡ [] → ends_early t x ≡ false
+other_goes_on Request.Check x none = refl
+other_goes_on Request.Listing x none = refl
+other_goes_on (Request.Pick names) x none = refl
+other_goes_on (Request.Cut from to) (BodyItem.Time time) none = cc
+other_goes_on (Request.Cut from to) (BodyItem.Begin s) none = refl
+other_goes_on (Request.Cut from to) BodyItem.End none = refl
+other_goes_on (Request.Cut from to) (BodyItem.Changes y) none = refl
+other_goes_on (Request.Sample times names) x none = goes_on_other names times x none
+other_goes_on (Request.Edges names) x none = refl
+other_goes_on Request.Merge x none = refl
 
-pub goes_on_change : (t : Request) (codes : List IdCode) (text : List ℕ) (item : Item) (place : ℕ) (form : Form) (x : BodyItem) → item ≡ Change place form → IsItem codes text item x → ends_early t x ≡ false
-goes_on_change t codes text item place form x e is =
-    let read = subst (λ (i : Item). IsItem codes text i x) e is in
-    subst (λ (y : BodyItem). ends_early t y ≡ false) (sym read.2) (change_goes_on t _)
+pub goes_on_item : (t : Request) (codes : List IdCode) (text : List ℕ) (item : Item) (x : BodyItem) → IsNoMark item → IsItem codes text item x → ends_early t x ≡ false
+goes_on_item t codes text item x none is = other_goes_on t x (no_marks codes text item x is none)
 
 module _ {A E : Type 0} (t : Request) (h : Header) (limit lines : ℕ) (bytes : List ℕ) (before : List BodyItem) (v : HeadView) (views : IsViewOf v h) (few : length before + length bytes < 2 ^ 63) (w w' : Walk) (p p' : Pieces) (out out' : Device) (m m' : Machine) (result : Result A E) (n : TakesNext v w w' p p' out out' m m' result)
     (items : List BodyItem) (over : LooksOver limit bytes w.ahead) (same : request_in m ≡ t) (within : passed_of w.ahead ≤ length bytes) (s : StandsAhead t h limit lines bytes before (passed_of w.ahead) items m w.regs) where

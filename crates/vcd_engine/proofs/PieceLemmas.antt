@@ -1,12 +1,12 @@
 -- What is written and what is held, where text is due.
 use Rattle.std.proofs.Common.{◌≡◌, ℕ, ◌+◌, ◌-◌, ◌≤◌, length, refl, List, [], ◌++◌, slice_range, Result, Ok, Err, sym, ap, subst, ◌∙◌, append-nil, append_assoc, arith, take, drop, IfOk}
-use Rattle.std.proofs.lemmas.List.{length-append, length-take-le, take-take}
-use Rattle.std.proofs.Math.Seq.{take-append-add}
+use Rattle.std.proofs.lemmas.List.{take-take}
 use Rattle.vcd_text.specs.Device.{Device, Puts, Writes, WritesSome, failures_after}
 use Rattle.vcd_text.proofs.AheadLemmas.{length-ahead, slice_range-append}
 use Rattle.vcd_text.proofs.Writes.{both-written, some-behind, some-first}
 use Rattle.vcd_body.specs.Device.{Grows, GrowsSome}
 use Rattle.std.specs.Borrow.{Bor}
+use Rattle.std.specs.Io.KnownBytes.{Appends}
 use Rattle.vcd_text.specs.Ahead.{bytes_of, passed_of}
 use Rattle.vcd_text.specs.declared.ahead.Ahead.{Ahead}
 use Rattle.vcd_view.specs.declared.view.HeadView.{HeadView}
@@ -113,6 +113,15 @@ module _ (out mid out' : Device) (held text some : List ℕ) (g : GrowsBut out m
 pub but_none : (out : Device) (held text : List ℕ) → held ≡ [] → GrowsBut out out held text text
 but_none out held text e = ([], sym (ap (λ l. text ++ l) e ∙ append-nil text), writes-none out)
 
+-- of no bytes nothing is held: what is due was written
+pub none_held : (bytes : List ℕ) (p p' : Pieces) (out out' : Device) (due : List ℕ) → bytes ≡ [] → IsPart bytes p → IsPart bytes p' → PutsAll (held_in bytes p) (held_in bytes p') out out' due → Appends out.held out'.held due
+none_held bytes p p' out out' due e part part' puts =
+    let all : due ≡ puts.0 = sym (ap (λ l. l ++ due) (empty p part)) ∙ puts.1 ∙ ap (λ l. puts.0 ++ l) (empty p' part') ∙ append-nil puts.0 in
+    subst (Appends out.held out'.held) (sym all) puts.2.0
+  where
+    empty : (q : Pieces) → IsPart bytes q → held_in bytes q ≡ []
+    empty q here = let le = subst (λ (bs : List ℕ). q.to ≤ length bs) e here.1 in none_between bytes q.from q.to (omega (arith, le))
+
 -- ---- the line of a time
 
 -- that of the next item's time, where the bytes are these
@@ -140,12 +149,12 @@ module _ (v : HeadView) (a a' : Ahead) (r : Regs) (p : Plain) (bytes : Bor (List
       let within = item.within in
       let here : to ≤ length bytes.now = subst (λ (bs : List ℕ). to ≤ length bs) (sym e) (omega (arith, g, within)) in
       record {
-        change = change;
+        none = no_mark_here p.item change.0 change.1 change.2;
         within = (omega (arith, f, g, further), here);
         good = item.sound;
-        sized = item.sized;
+        sized = λ known. item.sized;
         bits = item.bits;
-        spelled = spelled_there;
+        spelled = λ known. spelled_there;
       }
 
   pub mark_there : (time : ℕ) → p.item ≡ Time time → HasMark bytes.now from to p.at time

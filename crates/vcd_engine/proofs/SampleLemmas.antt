@@ -1,5 +1,5 @@
 -- What a sample keeps with one item more.
-use Rattle.std.proofs.Common.{◌≡◌, ◌≢◌, ℕ, suc, ◌+◌, ◌<◌, ◌≤◌, ◌==◌, Bool, true, false, not, cond, nat_le, nat_lt, List, [], ◌∷◌, ◌++◌, length, take, drop, Option, Some, None, Result, Ok, refl, sym, ap, subst, ◌∙◌, arith}
+use Rattle.std.proofs.Common.{◌≡◌, ◌≢◌, ℕ, suc, ◌+◌, ◌<◌, ◌≤◌, ◌==◌, Bool, true, false, not, cond, nat_le, nat_lt, List, [], ◌∷◌, ◌++◌, length, take, drop, Option, Some, None, Result, refl, sym, ap, subst, ◌∙◌, arith}
 use Rattle.std.specs.Prelude.{unwrap_or}
 use Rattle.std.specs.List.{AllByRecursion, position_or_len}
 use Rattle.std.specs.List.Sorted.{IsStrictlyIncreasing}
@@ -15,13 +15,11 @@ use Rattle.vcd_model.specs.Outcome.{Request, close_text, ends_early, open_text}
 use Rattle.vcd_model.specs.Sample.{is_settled, sample_open, sample_close}
 use Rattle.vcd_model.proofs.SampleSteps.{AreSettled, all_settled_same, close_is, due_at_mark, ended, goes_on_other, lines_of, not_ended, open_same, rises_behind, settled_next, unsettled_from}
 use Rattle.vcd_text.specs.Device.{Device, Takes}
-use Rattle.vcd_text.proofs.Writes.{appends-none}
-use Rattle.vcd_body.specs.declared.item.Form.{Form}
 use Rattle.vcd_body.specs.declared.item.Item.{Item}
 use Rattle.vcd_body.specs.declared.item.Item.TheVariants.{Time, Begin, End, Change, Finish}
 use Rattle.vcd_body.specs.declared.table.Table.{Table}
 use Rattle.vcd_body.specs.Device.{TakesDue}
-use Rattle.vcd_engine.specs.Engine.{TakesOne}
+use Rattle.vcd_engine.specs.Cut.{IsNoMark}
 use Rattle.vcd_body.specs.Given.{IsItem}
 use Rattle.vcd_engine.specs.Quiet.{TakesQuietly}
 use Rattle.vcd_engine.specs.Sample.{AreSampled, asked_in, is_due, names_in}
@@ -75,8 +73,8 @@ all_behind P (x ∷ xs) ys all = all_behind P xs ys all.1
 -- ---- an item that is no mark
 
 -- it is no time mark
-pub no_marks : (codes : List IdCode) (text : List ℕ) (item : Item) (x : BodyItem) → IsItem codes text item x → ((time : ℕ) → item ≢ Time time) → marks (x ∷ []) ≡ []
-no_marks codes text (Time t) x is none = absurd (none t refl)
+pub no_marks : (codes : List IdCode) (text : List ℕ) (item : Item) (x : BodyItem) → IsItem codes text item x → IsNoMark item → marks (x ∷ []) ≡ []
+no_marks codes text (Time t) x is none = absurd none
 no_marks codes text (Begin s) x is none = rw is refl
 no_marks codes text End x is none = rw is refl
 no_marks codes text (Change place form) x (c, there, is) none = rw is refl
@@ -84,7 +82,7 @@ no_marks codes text Finish x is none = absurd is
 
 module _ (s : Sample) (h : Header) (items : List BodyItem) (x : BodyItem) (is : AreSampled s h items) (other : marks (x ∷ []) ≡ []) where
   -- what is kept, where the table holds the values after it
-  pub samples_on : (t : Table) → AreHeld t h (items ++ x ∷ []) → AreSampled (record s { table = t }) h (items ++ x ∷ [])
+  samples_on : (t : Table) → AreHeld t h (items ++ x ∷ []) → AreSampled (record s { table = t }) h (items ++ x ∷ [])
   samples_on t held = record {
     held = held;
     marks_lead = is.marks_lead;
@@ -101,14 +99,6 @@ module _ (s : Sample) (h : Header) (items : List BodyItem) (x : BodyItem) (is : 
   none_due =
       subst (λ ts. sample_open h ts (names_in s) (items ++ x ∷ []) ≡ sample_open h ts (names_in s) items) (sym is.times_are) (open_same h (names_in s) items x is.done s.rest.now other is.settled is.others)
       ∙ sym (append-nil (open_text (asked_in s) h items))
-
-  -- and the run goes on
-  pub takes_other : {E : Type 0} (out : Device) (t : Table) → AreHeld t h (items ++ x ∷ []) → TakesOne {E = E} (AreSampled (record s { table = t }) h (items ++ x ∷ [])) (asked_in s) h items x out out (Ok false)
-  takes_other out t held = record {
-    due = ([], none_due, appends-none out.held);
-    ends = sym (goes_on_other (names_in s) s.times.now x other);
-    keeps = λ e. samples_on t held;
-  }
 
 -- ---- a time mark
 
@@ -228,7 +218,7 @@ module _ (s : Sample) (h : Header) (items : List BodyItem) (is : AreSampled s h 
         };
       }
 
-  pub quiet_change : (text : List ℕ) (item : Item) (place : ℕ) (form : Form) (x : BodyItem) → item ≡ Change place form → IsItem h.codes text item x → (t : Table) → AreHeld t h (items ++ x ∷ []) → TakesQuietly (AreSampled (record s { table = t }) h (items ++ x ∷ [])) (asked_in s) h items x
-  quiet_change text item place form x e read t held =
-      let other = no_marks h.codes text item x read (λ time f. cc) in
+  pub quiet_item : (text : List ℕ) (item : Item) (x : BodyItem) → IsNoMark item → IsItem h.codes text item x → (t : Table) → AreHeld t h (items ++ x ∷ []) → TakesQuietly (AreSampled (record s { table = t }) h (items ++ x ∷ [])) (asked_in s) h items x
+  quiet_item text item x none read t held =
+      let other = no_marks h.codes text item x read none in
       record { due = none_due s h items x is other; on = goes_on_other (names_in s) s.times.now x other; keeps = samples_on s h items x is other t held }

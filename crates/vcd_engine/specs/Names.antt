@@ -16,7 +16,7 @@ pub use Rattle.vcd_model.specs.Items.{BodyItem, Change, Entry, leaves_open}
 pub use Rattle.vcd_model.specs.Keywords.{keyword_text}
 pub use Rattle.vcd_model.specs.Laws.{IsValid}
 pub use Rattle.vcd_model.specs.Outcome.{close_text, Request}
-pub use Rattle.vcd_model.specs.Pick.{pick_close, pick_open}
+pub use Rattle.vcd_model.specs.Pick.{pick_close}
 pub use Rattle.vcd_model.specs.Sample.{is_settled, sample_lines}
 pub use Rattle.vcd_model.specs.Selection.{first_unmatched, selected, selects_code}
 pub use Rattle.vcd_text.specs.Advances.{Advances, CallEnd}
@@ -33,7 +33,6 @@ pub use Rattle.vcd_head.specs.Marks.{is_marked, marks_of}
 pub use Rattle.vcd_head.specs.Written.{TakesHeader}
 pub use Rattle.vcd_body.specs.Ahead.{HasBits}
 pub use Rattle.vcd_body.specs.Contents.{KeepsTable}
-pub use Rattle.vcd_body.specs.Device.{TakesDue}
 pub use Rattle.vcd_body.specs.Given.{HasGoodText, IsGoodText, IsItem, IsText, item_text}
 pub use Rattle.vcd_body.specs.Items.{AreRegsAfter, model_section}
 pub use Rattle.vcd_body.specs.Spelled.{bytes_without, HasMark}
@@ -42,14 +41,14 @@ pub use Rattle.vcd_body.specs.declared.answer.More.TheVariants.{Again}
 pub use Rattle.vcd_body.specs.declared.answer.Stop.TheVariants.{Write}
 pub use Rattle.vcd_body.specs.declared.item.Item.TheVariants.{Finish}
 pub use Rattle.vcd_engine.specs.Ahead.{RunsOver}
-pub use Rattle.vcd_engine.specs.Check.{AreCounted, IsOfKind}
+pub use Rattle.vcd_engine.specs.Check.{AreCounted}
 pub use Rattle.vcd_engine.specs.Choice.{is_chosen}
-pub use Rattle.vcd_engine.specs.Cut.{AreCut, BeginsBy, lent_to, may_be_kept, PutsStart, SameSpan, span_in}
+pub use Rattle.vcd_engine.specs.Cut.{AreCut, BeginsBy, IsNoMark, lent_to, may_be_kept, PutsStart, SameSpan, span_in}
 pub use Rattle.vcd_engine.specs.Edges.{AreEdges, AreTallied, change_to, names_counted, room_in_edges, SameEdges}
-pub use Rattle.vcd_engine.specs.Engine.{AtClose, AtItem, CanRun, ClosesOver, CountsStop, HasBegun, Holds, is_going, Keeps, last_of, may_end_early, request_in, request_of, request_of_begun, request_of_engine, Starts, StartsOver, StopsUnread, TakesEach, TakesOne, TakesTime}
+pub use Rattle.vcd_engine.specs.Engine.{AtClose, AtItem, CanRun, ClosesOver, CountsStop, HasBegun, Holds, is_going, Keeps, last_of, may_end_early, request_in, request_of, request_of_begun, request_of_engine, Starts, StartsOver, StopsUnread, TakesEach, TakesTime}
 pub use Rattle.vcd_engine.specs.ItemText.{HasWritten, LastTells, PutsEntry, times_with}
 pub use Rattle.vcd_engine.specs.Leads.{AnySampled, HaveNoLine, IsSelectedAt, LeadOn, rows_on}
-pub use Rattle.vcd_engine.specs.Pick.{ArePicked, flags_in, is_kept, names_in, SamePick}
+pub use Rattle.vcd_engine.specs.Pick.{ArePicked, flags_in, is_kept, names_in}
 pub use Rattle.vcd_engine.specs.Pieces.{held_in, IsInPlace, IsLine, IsPart, LiesBetween, PutsBehind, PutsOn, PutsPieces}
 pub use Rattle.vcd_engine.specs.Report.{declares_variable, named_line, opens_scope}
 pub use Rattle.vcd_engine.specs.Room.{AnyRoom, AreWithinBound, BeginsAs, HasRoomFor, IsWithin, IsWithinEachBound, KeepsBound, marks_for, room_in, room_of, room_of_begun, room_size, SameHold, SameTask, slots_for, values_for, view_in}

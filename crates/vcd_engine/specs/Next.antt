@@ -1,12 +1,11 @@
 -- One item that a command takes ahead.
-use Rattle.std.specs.Prelude.{◌≡◌, ℕ, ◌<◌, ◌^◌, false, List, [], ◌∷◌, ◌++◌, length, Option, MatchOption, Result, Ok, IfOk}
+use Rattle.std.specs.Prelude.{◌≡◌, ℕ, ◌<◌, ◌^◌, false, List, [], ◌∷◌, ◌++◌, length, Result, IfOk}
 use Rattle.vcd_model.specs.Header.{Header}
 use Rattle.vcd_model.specs.Items.{BodyItem}
 use Rattle.vcd_model.specs.Outcome.{Request, ends_early, open_text}
 use Rattle.vcd_text.specs.Ahead.{bytes_of}
 use Rattle.vcd_text.specs.Device.{Counts, Device}
 use Rattle.vcd_text.specs.declared.ahead.Ahead.{Ahead}
-use Rattle.vcd_text.specs.declared.device.WriteFailed.{WriteFailed}
 use Rattle.vcd_view.specs.Views.{IsViewOf}
 use Rattle.vcd_view.specs.declared.view.HeadView.{HeadView}
 use Rattle.vcd_body.specs.Device.{DueBy}
@@ -14,11 +13,9 @@ use Rattle.vcd_body.specs.Given.{IsItem}
 use Rattle.vcd_body.specs.Items.{AreRegsAfter, regs_after}
 use Rattle.vcd_body.specs.Taken.{TakesItem}
 use Rattle.vcd_body.specs.declared.ahead.Plain.{Plain}
-use Rattle.vcd_body.specs.declared.item.Form.{Form}
-use Rattle.vcd_body.specs.declared.item.Item.TheVariants.{Change}
 use Rattle.vcd_body.specs.declared.item.Regs.{Regs}
-use Rattle.vcd_engine.specs.Engine.{Keeps, request_in}
-use Rattle.vcd_engine.specs.Pieces.{IsLine, IsPart, LiesBetween, PutsOn, held_in}
+use Rattle.vcd_engine.specs.Engine.{AtItem, Keeps, request_in}
+use Rattle.vcd_engine.specs.Pieces.{IsLine, IsPart, PutsOn, held_in}
 use Rattle.vcd_engine.specs.Quiet.{TakesQuietly}
 use Rattle.vcd_engine.specs.Room.{SameTask}
 use Rattle.vcd_engine.specs.declared.machine.Machine.{Machine}
@@ -43,10 +40,10 @@ HasLine w = IsLine (bytes_of w.ahead) w.line w.regs.time
 abbrev pub TakesMark : ℕ → Machine → Machine → Type 0
 TakesMark time m m' = (h : Header) (items : List BodyItem) → length items < 2 ^ 63 → Keeps m h items → TakesQuietly (Keeps m' h (items ++ BodyItem.Time time ∷ [])) (request_in m) h items (BodyItem.Time time)
 
--- a change was taken, and what is due with it put after the text that is held
-abbrev pub TakesChange : {A E : Type 0} → HeadView → Regs → InPlace → Pieces → Pieces → Device → Device → Machine → Machine → Result A E → Type 0
-TakesChange v r c p p' out out' m m' result = (h : Header) (items : List BodyItem) (x : BodyItem) → IsViewOf v h → AreRegsAfter items r → IsItem h.codes c.plain.text.now c.plain.item x → length items < 2 ^ 63 → Keeps m h items
-    → DueBy (λ due. PutsOn (held_in c.bytes.now p) (held_in c.bytes.now p') out out' due result) (open_text (request_in m) h items) (open_text (request_in m) h (items ++ x ∷ [])) × IfOk result (λ _. Keeps m' h (items ++ x ∷ []))
+-- an item was taken, and what is due with it put after the text that is held
+abbrev pub PutsItem : {A E : Type 0} → HeadView → Regs → InPlace → Pieces → Pieces → Device → Device → Machine → Machine → Result A E → Type 0
+PutsItem v r c p p' out out' m m' result = AtItem v r c.plain.item c.plain.text.now (λ h items x. Keeps m h items
+    → DueBy (λ due. PutsOn (held_in c.bytes.now p) (held_in c.bytes.now p') out out' due result) (open_text (request_in m) h items) (open_text (request_in m) h (items ++ x ∷ [])) × IfOk result (λ _. Keeps m' h (items ++ x ∷ [])))
 
 -- what is due with one item more was taken so; the item does not end the run, and then this holds
 pub record TakesMore {A E : Type 0} (takes : List ℕ → Type 0) (holds : Type 0) (task : Request) (h : Header) (items : List BodyItem) (x : BodyItem) (result : Result A E) : Type 0 where

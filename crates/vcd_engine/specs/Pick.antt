@@ -21,10 +21,6 @@ names_in p = map string_bytes p.names.now
 abbrev pub flags_in : Pick → ℕ
 flags_in p = length p.flags.now
 
--- it goes on with the same names and flags
-abbrev pub SamePick : Pick → Pick → Type 0
-SamePick p p' = (names_in p' ≡ names_in p) × (flags_in p' ≡ flags_in p)
-
 -- over this header and after these items: the codes of the selected variables are chosen, and the
 -- text is that of the kept items
 pub record ArePicked (p : Pick) (h : Header) (items : List BodyItem) : Type 0 where

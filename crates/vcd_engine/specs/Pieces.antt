@@ -1,5 +1,5 @@
 -- Text that is due, and of which the last piece is not yet written.
-use Rattle.std.specs.Prelude.{◌≡◌, ℕ, ◌<◌, ◌≤◌, List, ◌++◌, length, slice_range, Result, Ok, Err, IfOk}
+use Rattle.std.specs.Prelude.{◌≡◌, ◌≢◌, ℕ, ◌<◌, ◌≤◌, List, ◌++◌, length, slice_range, Result, Ok, Err, IfOk}
 use Rattle.vcd_model.specs.ItemText.{time_line}
 use Rattle.vcd_text.specs.Ahead.{bytes_of, passed_of}
 use Rattle.vcd_text.specs.Device.{Counts, Device, Writes, WritesSome}
@@ -8,19 +8,18 @@ use Rattle.vcd_view.specs.declared.view.HeadView.{HeadView}
 use Rattle.vcd_body.specs.Given.{HasGoodText}
 use Rattle.vcd_body.specs.Ahead.{HasBits, IsSizedItem}
 use Rattle.vcd_body.specs.Spelled.{HasSpelled}
-use Rattle.vcd_body.specs.declared.item.Form.{Form}
-use Rattle.vcd_body.specs.declared.item.Item.TheVariants.{Change}
+use Rattle.vcd_engine.specs.Cut.{IsNoMark}
 use Rattle.vcd_engine.specs.declared.pieces.InPlace.{InPlace}
 use Rattle.vcd_engine.specs.declared.pieces.Pieces.{Pieces}
 
--- a change lies at an offset of these bytes
+-- an item that is no time mark; where its size is known, it lies at an offset of these bytes
 pub record IsInPlace (v : HeadView) (l : InPlace) : Type 0 where
-  pub change : (place : ℕ) × (form : Form) × (l.plain.item ≡ Change place form)
+  pub none : IsNoMark l.plain.item
   pub within : (l.from ≤ l.to) × (l.to ≤ length l.bytes.now)
   pub good : HasGoodText v.codes.now l.plain.text.now l.plain.item
-  pub sized : IsSizedItem v.codes.now l.plain.item l.plain.most
+  pub sized : l.plain.most ≢ 0 → IsSizedItem v.codes.now l.plain.item l.plain.most
   pub bits : HasBits l.plain.item l.plain.text.now l.plain.bits
-  pub spelled : HasSpelled v l.bytes.now l.from l.to l.plain.at l.plain.code_at l.plain.text.now l.plain.item
+  pub spelled : l.plain.most ≢ 0 → HasSpelled v l.bytes.now l.from l.to l.plain.at l.plain.code_at l.plain.text.now l.plain.item
 
 -- a change lies from one offset ahead up to another
 pub record LiesBetween (a a' : Ahead) (l : InPlace) : Type 0 where

@@ -1,11 +1,11 @@
 //! The text of kept items: each as its line, after the line of its time unless that was written
 //! already.
-ghost use Rattle.std.specs.Prelude.{◌≡◌, ℕ, ◌-◌, ◌^◌, ◌<◌, ◌≤◌, ◌∷◌, [], List, length, Some, IfOk};
+ghost use Rattle.std.specs.Prelude.{◌≡◌, ℕ, ◌-◌, ◌^◌, ◌<◌, ◌∷◌, [], List, Some, IfOk};
 ghost use Rattle.vcd_engine.specs.Names.{as_line, BodyItem, closing, Counts, Entry, HasGoodText, HasWritten, Header, IsInPlace, IsItem, IsLine, IsPart, IsViewOf, item_line, keyword_text, LastTells, model_section, PutsBehind, PutsEntry, PutsPieces, PutsWhere, section_keyword, TakenBy, Takes, time_due, times_with};
 
 use crate::machine::walk::Copying;
 use crate::pieces::{InPlace, Pieces};
-use vcd_body::{Id, Item, Section, left_out, put_change, put_time_unless};
+use vcd_body::{Id, Item, Section, put_change, put_time_unless};
 use vcd_text::{Sink, WriteFailed, put};
 use vcd_view::HeadView;
 
@@ -73,7 +73,7 @@ impl ItemText {
 
     /// Writes an item with its text as an entry at this time. A time mark has no line of its own.
     #[inline(always)]
-    pub(crate) fn put<W: Sink>(
+    fn put<W: Sink>(
         &mut self,
         view: HeadView<'_>,
         time: u64,
@@ -92,34 +92,34 @@ impl ItemText {
         put_item(view, item, text, out)
     }
 
-    /// Writes an item ahead as an entry at this time, after what is held. If its bytes are its
-    /// line, they are held, and so is the line of the time, if that is in the chunk.
+    /// Writes an item as an entry at this time, after what is held. If its bytes are its line, they
+    /// are held, and so is the line of the time, if that is in the chunk.
     #[inline(always)]
     pub(crate) fn put_in_place<W: Sink>(
         &mut self,
         view: HeadView<'_>,
         time: u64,
-        change: InPlace<'_>,
+        item: InPlace<'_>,
         line: &Copying,
         pieces: &mut Pieces,
         out: &mut W,
     ) -> Result<(), WriteFailed>
         requires failures { (W.device out.old).failures < 2 ^ 64 - 1 }
-        requires place { IsInPlace view change }
-        requires line { IsLine change.bytes.now (line.now.from, line.now.to) time }
-        requires part { IsPart change.bytes.now pieces.old }
-        ensures text { PutsEntry (λ due. PutsPieces change.entry.bytes.now pieces.old pieces.new
+        requires place { IsInPlace view item }
+        requires line { IsLine item.bytes.now (line.now.from, line.now.to) time }
+        requires part { IsPart item.bytes.now pieces.old }
+        ensures text { PutsEntry (λ due. PutsPieces item.entry.bytes.now pieces.old pieces.new
             (W.device out.old) (W.device out.new) due result) view.entry time
-            change.entry.plain.item change.entry.plain.text.now self.old self.new result }
+            item.entry.plain.item item.entry.plain.text.now self.old self.new result }
         ensures counts { Counts (W.device out.old) (W.device out.new) result }
-        ensures part { IfOk result (λ _. IsPart change.entry.bytes.now pieces.new) }
+        ensures part { IfOk result (λ _. IsPart item.entry.bytes.now pieces.new) }
     {
-        let Some(n) = left_out(change.plain, change.bytes, change.from, change.to) else {
-            pieces.flush(change.bytes, out)?;
-            return self.put(view, time, change.plain.item, change.plain.text, out);
+        let Some(n) = item.left_out() else {
+            pieces.flush(item.bytes, out)?;
+            return self.put(view, time, item.plain.item, item.plain.text, out);
         };
-        self.hold_time(time, change.bytes, line, pieces, out)?;
-        pieces.append_parts(change.bytes, change.from, change.to, n, out)
+        self.hold_time(time, item.bytes, line, pieces, out)?;
+        pieces.append_parts(item.bytes, item.from, item.to, n, out)
     }
 
     /// Writes the line of a time, unless it was written last, after what is held.

@@ -9,7 +9,7 @@ pub(crate) mod pick;
 pub(crate) mod sample;
 pub(crate) mod walk;
 
-use crate::machine::walk::{Copying, Keeping, WalkEnd, take_each};
+use crate::machine::walk::{Copying, Keeping, WalkEnd, take_each, take_given};
 use crate::task::{Room, Task};
 use vcd_body::{Item, Regs, Stop};
 use vcd_text::{Ahead, Sink, WriteFailed};
@@ -85,13 +85,16 @@ impl<'n, 'r> Machine<'n, 'r> {
             (λ ended. ended ≡ true → may_end_early (request_in self.old) ≡ true) }
     {
         match self {
-            Machine::Check(check) => check.take(item),
-            Machine::Pick(pick) => pick.take(view, regs, item, text, out)?,
-            Machine::Cut(cut) => return cut.take(view, regs, item, text, out),
-            Machine::Sample(sample) => return sample.take(view, item, text, out),
-            Machine::Edges(edges) => edges.take(view, regs, item, text),
+            Machine::Check(check) => {
+                take_given::<Keeping, _, _>(check, view, regs, item, text, out)
+            }
+            Machine::Pick(pick) => take_given::<Copying, _, _>(pick, view, regs, item, text, out),
+            Machine::Cut(cut) => cut.take(view, regs, item, text, out),
+            Machine::Sample(sample) => sample.take(view, regs, item, text, out),
+            Machine::Edges(edges) => {
+                take_given::<Keeping, _, _>(edges, view, regs, item, text, out)
+            }
         }
-        Ok(false)
     }
 
     /// Takes the items that lie ahead, one after the other, and writes what is due after each.

@@ -1,11 +1,12 @@
 //! Text that is due and is in the chunk already: pieces of it that follow each other are one.
-ghost use Rattle.std.specs.Prelude.{◌≡◌, ℕ, ◌+◌, ◌-◌, ◌^◌, ◌<◌, ◌≤◌, List, [], length, slice_range, IfErr, IfOk};
-ghost use Rattle.vcd_engine.specs.Names.{bytes_without, held_in, IsLine, IsPart, LiesBetween, Puts, PutsBehind, time_line};
+ghost use Rattle.std.specs.Prelude.{◌≡◌, ℕ, ◌+◌, ◌-◌, ◌^◌, ◌<◌, ◌≤◌, List, [], length, slice_range, IfErr, IfOk, IfSome};
+ghost use Rattle.vcd_engine.specs.Names.{BodyItem, bytes_without, HasGoodText, Header, HeadView, held_in, IsInPlace, IsItem, IsLine, IsNoMark, IsPart, IsViewOf, item_line, LiesBetween, Puts, PutsBehind, time_line};
 
-use vcd_body::{Plain, put_time};
+use vcd_body::{Item, Plain, left_out, put_time};
 use vcd_text::{Ahead, Sink, WriteFailed, put_front};
 
-/// A change ahead: it has the bytes from `from` up to `to`.
+/// An item that is no time mark, as a command takes it. A change ahead has the bytes from `from` up
+/// to `to`; an item that the feed gave has none, and no size.
 #[derive(Clone, Copy)]
 pub(crate) struct InPlace<'a> {
     pub(crate) plain: Plain<'a>,
@@ -27,6 +28,47 @@ impl<'a> InPlace<'a> {
             from: from.passed(),
             to: to.passed(),
         }
+    }
+
+    /// Returns an item that the feed gave with this text.
+    #[inline(always)]
+    pub(crate) fn given(item: Item, text: &'a [u8]) -> InPlace<'a>
+        ensures item { result.plain.item ≡ item }
+        ensures text { result.plain.text ≡ text.entry }
+        ensures bytes { result.bytes.now ≡ [] }
+        ensures place { (view : HeadView) → HasGoodText view.codes.now text.now item
+            → IsNoMark item → IsInPlace view result }
+    {
+        let plain = Plain {
+            item,
+            text,
+            most: 0,
+            at: 0,
+            code_at: 0,
+            bits: None,
+        };
+        InPlace {
+            plain,
+            bytes: &[],
+            from: 0,
+            to: 0,
+        }
+    }
+
+    /// Returns how many bytes after the first one to leave out, so that the others are the item's
+    /// line. With none its bytes may be the line all the same, or the feed gave it.
+    #[inline(always)]
+    pub(crate) fn left_out(self) -> Option<usize>
+        requires { (view : HeadView) × IsInPlace view self }
+        ensures { IfSome result (λ k. (self.entry.from + 1 + k ≤ self.entry.to)
+            × ((view : HeadView) (h : Header) (x : BodyItem) → IsInPlace view self.entry
+            → IsViewOf view h → IsItem h.codes self.entry.plain.text.now self.entry.plain.item x
+            → bytes_without self.entry.bytes.now self.entry.from self.entry.to k ≡ item_line x)) }
+    {
+        if self.plain.most == 0 {
+            return None;
+        }
+        left_out(self.plain, self.bytes, self.from, self.to)
     }
 }
 

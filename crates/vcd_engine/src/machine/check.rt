@@ -1,6 +1,6 @@
 //! `check`: counts what a dump has.
-ghost use Rattle.std.specs.Prelude.{◌≡◌, ◌-◌, ◌^◌, ◌<◌, ◌∷◌, ◌++◌, [], List, length, true, false};
-ghost use Rattle.vcd_engine.specs.Names.{AreCounted, BodyItem, check_close, Counts, Header, IsOfKind, IsViewOf, last_mark, last_of, Takes};
+ghost use Rattle.std.specs.Prelude.{◌≡◌, ◌-◌, ◌^◌, ◌<◌, [], List, true, false};
+ghost use Rattle.vcd_engine.specs.Names.{AreCounted, BodyItem, check_close, Counts, Header, IsViewOf, last_mark, last_of, Takes};
 
 use crate::machine::last_of;
 use crate::machine::walk::{AheadTask, Keeping};
@@ -30,22 +30,6 @@ impl Check {
         }
     }
 
-    /// Counts one item more.
-    // An input is shorter than 2^63 bytes, so no count wraps.
-    #[inline(always)]
-    pub(crate) fn take(&mut self, item: Item)
-        ensures { (items : List BodyItem) (x : BodyItem) → IsOfKind item x → length items < 2 ^ 63
-            → AreCounted items self.old → AreCounted (items ++ x ∷ []) self.new }
-    {
-        match item {
-            Item::Time(_) => self.times = self.times.wrapping_add(1),
-            Item::Begin(_) => self.sections = self.sections.wrapping_add(1),
-            Item::Change { .. } => self.changes = self.changes.wrapping_add(1),
-            Item::End => {}
-            Item::Finish => {}
-        }
-    }
-
     /// Writes the report.
     pub(crate) fn close<W: Sink>(
         &self,
@@ -72,6 +56,7 @@ impl Check {
     }
 }
 
+// An input is shorter than 2^63 bytes, so no count wraps.
 impl AheadTask<Keeping> for Check {
     ghost use Rattle.vcd_engine.specs.declared.machine.Machine.TheVariants as machine;
 
@@ -87,21 +72,27 @@ impl AheadTask<Keeping> for Check {
     }
 
     #[inline(always)]
-    fn take_mark(&mut self, time: u64) {
-        self.take(Item::Time(time));
+    fn take_mark(&mut self, _time: u64) {
+        self.times = self.times.wrapping_add(1);
     }
 
     #[inline(always)]
-    fn take_change<W: Sink>(
+    fn take_item<W: Sink>(
         &mut self,
         _view: HeadView<'_>,
         _regs: Regs,
-        change: InPlace<'_>,
+        item: InPlace<'_>,
         _line: &Keeping,
         _pieces: &mut Pieces,
         _out: &mut W,
     ) -> Result<(), WriteFailed> {
-        self.take(change.plain.item);
+        match item.plain.item {
+            Item::Begin(_) => self.sections = self.sections.wrapping_add(1),
+            Item::Change { .. } => self.changes = self.changes.wrapping_add(1),
+            Item::Time(_) => {}
+            Item::End => {}
+            Item::Finish => {}
+        }
         Ok(())
     }
 }

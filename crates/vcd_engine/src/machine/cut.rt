@@ -5,7 +5,7 @@ ghost use Rattle.vcd_engine.specs.declared.task.Task.TheVariants as task;
 
 use crate::item_text::ItemText;
 use crate::machine::last_of;
-use crate::machine::walk::{AheadTask, Copying, Keeping};
+use crate::machine::walk::{AheadTask, Copying, Keeping, take_given};
 use crate::pieces::{InPlace, Pieces};
 use crate::task::Room;
 use crate::values::set_item;
@@ -173,14 +173,9 @@ impl<'r> Cut<'r> {
             return self.take_time(view, time, out);
         }
         if self.started {
-            if !may_keep(view, regs, item) {
-                return Ok(false);
-            }
-            self.text.put(view, regs.time, item, text, out)?;
-            return Ok(false);
+            return take_given::<Copying, _, _>(self, view, regs, item, text, out);
         }
-        set_item(&mut self.table, item, text, None);
-        Ok(false)
+        take_given::<Keeping, _, _>(self, view, regs, item, text, out)
     }
 
     /// Writes the start section if it is not written yet, and the line of the last time mark.
@@ -222,16 +217,16 @@ impl<'r> AheadTask<Keeping> for Cut<'r> {
     fn take_mark(&mut self, _time: u64) {}
 
     #[inline(always)]
-    fn take_change<W: Sink>(
+    fn take_item<W: Sink>(
         &mut self,
         _view: HeadView<'_>,
         _regs: Regs,
-        change: InPlace<'_>,
+        item: InPlace<'_>,
         _line: &Keeping,
         _pieces: &mut Pieces,
         _out: &mut W,
     ) -> Result<(), WriteFailed> {
-        let plain = change.plain;
+        let plain = item.plain;
         set_item(&mut self.table, plain.item, plain.text, plain.bits);
         Ok(())
     }
@@ -256,19 +251,19 @@ impl<'r> AheadTask<Copying> for Cut<'r> {
     fn take_mark(&mut self, _time: u64) {}
 
     #[inline(always)]
-    fn take_change<W: Sink>(
+    fn take_item<W: Sink>(
         &mut self,
         view: HeadView<'_>,
         regs: Regs,
-        change: InPlace<'_>,
+        item: InPlace<'_>,
         line: &Copying,
         pieces: &mut Pieces,
         out: &mut W,
     ) -> Result<(), WriteFailed> {
-        if !may_keep(view, regs, change.plain.item) {
+        if !may_keep(view, regs, item.plain.item) {
             return Ok(());
         }
         self.text
-            .put_in_place(view, regs.time, change, line, pieces, out)
+            .put_in_place(view, regs.time, item, line, pieces, out)
     }
 }

@@ -1,6 +1,6 @@
 //! `edges`: how often the values of the selected variables change, rise and fall.
 ghost use Rattle.std.specs.Prelude.{◌≡◌, ◌-◌, ◌^◌, ◌<◌, ◌∷◌, ◌++◌, [], List, Some, length, map, slice_get, string_bytes, true, false, IfOk, MatchResult};
-ghost use Rattle.vcd_engine.specs.Names.{AreEdges, AtItem, BodyItem, change_to, ClosesOver, Counts, Device, edges_close, HasGoodText, HasRoomFor, Header, HeadView, IdCode, IsGoodText, IsUnmatched, IsViewOf, IsWithin, leaves_open, names_counted, Request, room_in_edges, room_size, SameEdges, Starts};
+ghost use Rattle.vcd_engine.specs.Names.{AreEdges, BodyItem, change_to, ClosesOver, Counts, Device, edges_close, HasRoomFor, Header, HeadView, IdCode, IsGoodText, IsUnmatched, IsViewOf, IsWithin, leaves_open, names_counted, Request, room_in_edges, room_size, SameEdges, Starts};
 ghost use Rattle.vcd_engine.specs.declared.task.Task.TheVariants as task;
 
 use crate::machine::walk::{AheadTask, Keeping};
@@ -47,20 +47,6 @@ impl<'n, 'r> Edges<'n, 'r> {
             marks,
             table,
         })
-    }
-
-    /// Counts an item with its text. The registers are those after it.
-    #[inline(always)]
-    pub(crate) fn take(&mut self, view: HeadView<'_>, regs: Regs, item: Item, text: &[u8])
-        requires sound { HasGoodText view.codes.now text.now item }
-        ensures takes { AtItem view.entry regs item text.now (λ h items x. AreEdges self.old h items
-            → AreEdges self.new h (items ++ x ∷ [])) }
-        ensures same { SameEdges self.old self.new }
-    {
-        let Item::Change { code, form } = item else {
-            return;
-        };
-        self.take_at(view.codes, regs.section.is_some(), code, form, text);
     }
 
     /// Counts a change of the code at an index among these, inside a section or not.
@@ -117,16 +103,16 @@ impl<'n, 'r> AheadTask<Keeping> for Edges<'n, 'r> {
     fn take_mark(&mut self, _time: u64) {}
 
     #[inline(always)]
-    fn take_change<W: Sink>(
+    fn take_item<W: Sink>(
         &mut self,
         view: HeadView<'_>,
         regs: Regs,
-        change: InPlace<'_>,
+        item: InPlace<'_>,
         _line: &Keeping,
         _pieces: &mut Pieces,
         _out: &mut W,
     ) -> Result<(), WriteFailed> {
-        let plain = change.plain;
+        let plain = item.plain;
         let Item::Change { code, form } = plain.item else {
             return Ok(());
         };

@@ -1,6 +1,6 @@
 //! `pick`: the dump of the selected variables.
-ghost use Rattle.std.specs.Prelude.{◌≡◌, ◌-◌, ◌^◌, ◌<◌, map, string_bytes, IfOk, MatchResult, ◌∷◌, ◌++◌, [], List, length, true, false};
-ghost use Rattle.vcd_engine.specs.Names.{ArePicked, AreRegsAfter, AtItem, BodyItem, Counts, CountsStop, flags_in, HasGoodText, HasRoomFor, Header, is_kept, last_mark, last_of, names_in, pick_close, pick_open, Request, SamePick, StartsOver, StopsUnread, Takes, TakesDue};
+ghost use Rattle.std.specs.Prelude.{◌≡◌, ◌-◌, ◌^◌, ◌<◌, map, string_bytes, IfOk, MatchResult, [], List, length, true, false};
+ghost use Rattle.vcd_engine.specs.Names.{ArePicked, AreRegsAfter, BodyItem, Counts, CountsStop, flags_in, HasRoomFor, Header, is_kept, last_mark, last_of, names_in, pick_close, Request, StartsOver, StopsUnread, Takes};
 ghost use Rattle.vcd_engine.specs.declared.task.Task.TheVariants as task;
 
 use crate::choice::is_chosen;
@@ -70,33 +70,6 @@ impl<'n, 'r> Pick<'n, 'r> {
         }
     }
 
-    /// Writes an item with its text, where it is kept, after the line of its time. The registers
-    /// are those after it.
-    #[inline(always)]
-    pub(crate) fn take<W: Sink>(
-        &mut self,
-        view: HeadView<'_>,
-        regs: Regs,
-        item: Item,
-        text: &[u8],
-        out: &mut W,
-    ) -> Result<(), WriteFailed>
-        requires failures { (W.device out.old).failures < 2 ^ 64 - 1 }
-        requires sound { HasGoodText view.codes.now text.now item }
-        ensures takes { AtItem view.entry regs item text.now (λ h items x.
-            ArePicked self.old h items → TakesDue (W.device out.old) (W.device out.new)
-            (pick_open h (names_in self.old) items)
-            (pick_open h (names_in self.old) (items ++ x ∷ [])) result
-            × IfOk result (λ _. ArePicked self.new h (items ++ x ∷ []))) }
-        ensures counts { Counts (W.device out.old) (W.device out.new) result }
-        ensures same { SamePick self.old self.new }
-    {
-        if !self.keeps(view, regs, item) {
-            return Ok(());
-        }
-        self.text.put(view, regs.time, item, text, out)
-    }
-
     /// Writes the line of the last time mark, unless that was written already.
     pub(crate) fn close<W: Sink>(&self, regs: Regs, out: &mut W) -> Result<(), WriteFailed>
         requires { (W.device out.old).failures < 2 ^ 64 - 1 }
@@ -128,19 +101,19 @@ impl<'n, 'r> AheadTask<Copying> for Pick<'n, 'r> {
     fn take_mark(&mut self, _time: u64) {}
 
     #[inline(always)]
-    fn take_change<W: Sink>(
+    fn take_item<W: Sink>(
         &mut self,
         view: HeadView<'_>,
         regs: Regs,
-        change: InPlace<'_>,
+        item: InPlace<'_>,
         line: &Copying,
         pieces: &mut Pieces,
         out: &mut W,
     ) -> Result<(), WriteFailed> {
-        if !self.keeps(view, regs, change.plain.item) {
+        if !self.keeps(view, regs, item.plain.item) {
             return Ok(());
         }
         self.text
-            .put_in_place(view, regs.time, change, line, pieces, out)
+            .put_in_place(view, regs.time, item, line, pieces, out)
     }
 }

@@ -1,10 +1,10 @@
 //! `sample`: the values of selected variables at some times.
-ghost use Rattle.std.specs.Prelude.{◌≡◌, ◌≢◌, ◌-◌, ◌^◌, ◌<◌, ◌+◌, ◌∷◌, ◌++◌, [], List, nat_le, None, true, IfOk, MatchResult, map, string_bytes};
-ghost use Rattle.vcd_engine.specs.Names.{AreSampled, asked_in, BodyItem, close_text, ClosesOver, Counts, first_unmatched, HasGoodText, HasRoomFor, Header, is_due, IsFirstUnmatched, IsItem, IsStrictlyIncreasing, IsUnmatched, IsViewOf, IsWithin, lent_to_sample, position_or_len, Request, room_size, SameSample, TakesOne, TakesTime};
+ghost use Rattle.std.specs.Prelude.{◌≡◌, ◌≢◌, ◌-◌, ◌^◌, ◌<◌, [], nat_le, None, true, IfOk, MatchResult, map, string_bytes};
+ghost use Rattle.vcd_engine.specs.Names.{AreSampled, asked_in, close_text, ClosesOver, Counts, first_unmatched, HasGoodText, HasRoomFor, Header, is_due, IsFirstUnmatched, IsStrictlyIncreasing, IsUnmatched, IsViewOf, IsWithin, lent_to_sample, position_or_len, Request, room_size, SameSample, TakesEach, TakesTime};
 ghost use Rattle.vcd_engine.specs.declared.task.Task.TheVariants as task;
 
 use crate::leads::lead_on;
-use crate::machine::walk::{AheadTask, Keeping};
+use crate::machine::walk::{AheadTask, Keeping, take_given};
 use crate::pieces::{InPlace, Pieces};
 use crate::sample_lines::put_samples;
 use crate::task::Room;
@@ -92,29 +92,28 @@ impl<'n, 'r> Sample<'n, 'r> {
     }
 
     /// Takes an item with its text: keeps the value of a change, and at a time mark writes the
-    /// lines of the times below it. Returns whether it ended the run.
+    /// lines of the times below it. Returns whether it ended the run. The registers are those after
+    /// it.
     #[inline(always)]
     pub(crate) fn take<W: Sink>(
         &mut self,
         view: HeadView<'_>,
+        regs: Regs,
         item: Item,
         text: &[u8],
         out: &mut W,
     ) -> Result<bool, WriteFailed>
         requires failures { (W.device out.old).failures < 2 ^ 64 - 1 }
         requires sound { HasGoodText view.codes.now text.now item }
-        ensures takes { (h : Header) (items : List BodyItem) (x : BodyItem) → IsViewOf view.entry h
-            → IsItem h.codes text.now item x → AreSampled self.old h items
-            → TakesOne (AreSampled self.new h (items ++ x ∷ []))
-            (asked_in self.old) h items x (W.device out.old) (W.device out.new) result }
+        ensures takes { TakesEach view.entry regs item text.now (AreSampled self.old)
+            (AreSampled self.new) (asked_in self.old) (W.device out.old) (W.device out.new) result }
         ensures counts { Counts (W.device out.old) (W.device out.new) result }
         ensures same { SameSample self.old self.new }
     {
         if let Item::Time(time) = item {
             return self.take_time(view, time, out);
         }
-        set_item(&mut self.table, item, text, None);
-        Ok(false)
+        take_given::<Keeping, _, _>(self, view, regs, item, text, out)
     }
 
     /// Writes the lines of the times that are left.
@@ -149,16 +148,16 @@ impl<'n, 'r> AheadTask<Keeping> for Sample<'n, 'r> {
     fn take_mark(&mut self, _time: u64) {}
 
     #[inline(always)]
-    fn take_change<W: Sink>(
+    fn take_item<W: Sink>(
         &mut self,
         _view: HeadView<'_>,
         _regs: Regs,
-        change: InPlace<'_>,
+        item: InPlace<'_>,
         _line: &Keeping,
         _pieces: &mut Pieces,
         _out: &mut W,
     ) -> Result<(), WriteFailed> {
-        let plain = change.plain;
+        let plain = item.plain;
         set_item(&mut self.table, plain.item, plain.text, plain.bits);
         Ok(())
     }

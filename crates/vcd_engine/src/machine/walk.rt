@@ -1,18 +1,20 @@
-//! The items ahead in a feed's chunk, as a command takes them in a walk.
+//! The items ahead in a feed's chunk, as a command takes them, and those that the feed gave.
 ghost use Rattle.std.specs.Prelude.{◌≡◌, ℕ, ◌-◌, ◌^◌, ◌<◌, ◌≤◌, Bool, List, length, false, true, IfOk};
 ghost use Rattle.vcd_text.specs.Ahead.{bytes_of, passed_of};
 ghost use Rattle.vcd_text.specs.Device.{Counts};
 ghost use Rattle.vcd_body.specs.Spelled.{HasMark};
+ghost use Rattle.vcd_body.specs.Given.{HasGoodText};
 ghost use Rattle.vcd_body.specs.declared.item.Regs.{Regs};
 ghost use Rattle.vcd_engine.specs.Ahead.{RunsOver};
-ghost use Rattle.vcd_engine.specs.Next.{TakesChange, TakesMark};
+ghost use Rattle.vcd_engine.specs.Engine.{Keeps, TakesEach, request_in};
+ghost use Rattle.vcd_engine.specs.Next.{PutsItem, TakesMark};
 ghost use Rattle.vcd_engine.specs.Pieces.{IsInPlace, IsLine, IsPart};
 ghost use Rattle.vcd_engine.specs.Room.{SameTask};
 ghost use Rattle.vcd_engine.specs.declared.machine.Machine.{Machine};
 ghost use Rattle.vcd_engine.specs.declared.pieces.Pieces.{Pieces};
 
 use crate::pieces::{InPlace, Pieces};
-use vcd_body::{Plain, Regs, Visit, is_mark_line, walk_ahead};
+use vcd_body::{Item, Plain, Regs, Visit, is_mark_line, walk_ahead};
 use vcd_text::{Ahead, Sink, WriteFailed};
 use vcd_view::HeadView;
 
@@ -108,7 +110,8 @@ impl LoopKind for Copying {
     }
 }
 
-/// What a command does with the items ahead, in a loop of the kind `L`. None of them ends the run.
+/// What a command does with items, in a loop of the kind `L` or where the feed gave them. None of
+/// them ends the run.
 pub(crate) trait AheadTask<L: LoopKind> {
     ghost use Rattle.vcd_engine.specs.declared.machine.Machine.{Machine};
 
@@ -134,26 +137,26 @@ pub(crate) trait AheadTask<L: LoopKind> {
         ensures ready { is_ready self.new ≡ true }
         ensures same { SameTask (machine self.old) (machine self.new) };
 
-    /// Takes a change, and puts what is due with it after the text that is held. The registers are
-    /// those after the change.
-    fn take_change<W: Sink>(
+    /// Takes an item that is no time mark, and puts what is due with it after the text that is
+    /// held. The registers are those after the item.
+    fn take_item<W: Sink>(
         &mut self,
         view: HeadView<'_>,
         regs: Regs,
-        change: InPlace<'_>,
+        item: InPlace<'_>,
         line: &L,
         pieces: &mut Pieces,
         out: &mut W,
     ) -> Result<(), WriteFailed>
         requires failures { (W.device out.old).failures < 2 ^ 64 - 1 }
         requires ready { is_ready self.old ≡ true }
-        requires place { IsInPlace view change }
-        requires line { IsLine change.bytes.now (L.line line.now) regs.time }
-        requires part { IsPart change.bytes.now pieces.old }
-        ensures takes { TakesChange view.entry regs change.entry pieces.old pieces.new
+        requires place { IsInPlace view item }
+        requires line { IsLine item.bytes.now (L.line line.now) regs.time }
+        requires part { IsPart item.bytes.now pieces.old }
+        ensures takes { PutsItem view.entry regs item.entry pieces.old pieces.new
             (W.device out.old) (W.device out.new) (machine self.old) (machine self.new) result }
         ensures counts { Counts (W.device out.old) (W.device out.new) result }
-        ensures part { IfOk result (λ _. IsPart change.entry.bytes.now pieces.new) }
+        ensures part { IfOk result (λ _. IsPart item.entry.bytes.now pieces.new) }
         ensures ready { is_ready self.new ≡ true }
         ensures same { SameTask (machine self.old) (machine self.new) };
 }
@@ -215,7 +218,7 @@ impl<L: LoopKind, C: AheadTask<L>> Visit<C> for WalkState<L> {
         out: &mut W,
     ) -> Result<(), WriteFailed> {
         let change = InPlace::of(change, ahead, next);
-        command.take_change(view, regs, change, &self.line, &mut self.pieces, out)
+        command.take_item(view, regs, change, &self.line, &mut self.pieces, out)
     }
 }
 
@@ -246,4 +249,37 @@ pub(crate) fn take_each<L: LoopKind, C: AheadTask<L>, W: Sink>(
         Ok(_) => WalkEnd::until(ahead, regs, held.pieces.flush(ahead.bytes(), out)),
         Err(failed) => WalkEnd::until(ahead, regs, Err(failed)),
     }
+}
+
+/// Takes an item that the feed gave with its text, and writes what is due with it. Returns false,
+/// since it does not end the run. The registers are those after it.
+#[inline(always)]
+pub(crate) fn take_given<L: LoopKind, C: AheadTask<L>, W: Sink>(
+    command: &mut C,
+    view: HeadView<'_>,
+    regs: Regs,
+    item: Item,
+    text: &[u8],
+    out: &mut W,
+) -> Result<bool, WriteFailed>
+    requires failures { (W.device out.old).failures < 2 ^ 64 - 1 }
+    requires ready { C.is_ready command.old ≡ true }
+    requires left { (time : ℕ) → item ≡ Item.Time time → C.is_left command.old time ≡ false }
+    requires sound { HasGoodText view.codes.now text.now item }
+    ensures takes { TakesEach view.entry regs item text.now (Keeps (C.machine command.old))
+        (Keeps (C.machine command.new)) (request_in (C.machine command.old))
+        (W.device out.old) (W.device out.new) result }
+    ensures counts { Counts (W.device out.old) (W.device out.new) result }
+    ensures same { SameTask (C.machine command.old) (C.machine command.new) }
+    ensures on { IfOk result (λ ended. ended ≡ false) }
+{
+    if let Item::Time(time) = item {
+        command.take_mark(time);
+        return Ok(false);
+    }
+    let line = L::new();
+    let mut pieces = Pieces::new();
+    let item = InPlace::given(item, text);
+    command.take_item(view, regs, item, &line, &mut pieces, out)?;
+    Ok(false)
 }

@@ -10,7 +10,7 @@ use Rattle.vcd_body.proofs.Results.{if_ok}
 use Rattle.vcd_engine.proofs.item_text.ItemText.put_in_place.Goals as goal
 
 pub left_out-requires : goal.left_out-requires
-left_out-requires g c = (c.args.view, c.requires.place.spelled)
+left_out-requires g c = (c.args.view, c.requires.place)
 
 pub returns-in_err-hold_time : goal.returns-in_err-hold_time
 returns-in_err-hold_time g c =
@@ -19,20 +19,20 @@ returns-in_err-hold_time g c =
     rw e (record {
       text = λ h before kept e views is at has tells.
           let t = c.args.self.now in
-          ((time_due t.written c.args.time ++ item_line e.item, text_with before kept e c.args.time t at has tells, first_on (held_in c.args.change.bytes.now c.args.pieces.now) (time_due t.written c.args.time) (item_line e.item) _ _ time.puts), tt);
+          ((time_due t.written c.args.time ++ item_line e.item, text_with before kept e c.args.time t at has tells, first_on (held_in c.args.item.bytes.now c.args.pieces.now) (time_due t.written c.args.time) (item_line e.item) _ _ time.puts), tt);
       counts = time.counts;
       part = tt;
     })
 
 pub returns : goal.returns
 returns g c =
-    let l = c.args.change in
+    let l = c.args.item in
     let bytes = l.bytes.now in
     let both = twice_behind bytes c.args.pieces.now c.hold_time.new.pieces c.append_parts.new.self _ (bytes_without bytes l.from l.to c.in-Some.n) _ _ _ _ c.append_parts.result c.in_ok-hold_time.ensures.puts c.append_parts.ensures in
     record {
       text = λ h before kept e views is at has tells.
           let t = c.args.self.now in
-          let line = c.in-Some.ensures.1 c.args.view h e.item c.requires.place.spelled c.requires.place.bits c.requires.place.sized views is in
+          let line = c.in-Some.ensures.1 c.args.view h e.item c.requires.place views is in
           let puts = subst (λ k. PutsOn (held_in bytes c.args.pieces.now) (held_in bytes c.append_parts.new.self) (g.W.Sink.device c.args.out.now) (g.W.Sink.device c.append_parts.new.out) (time_due t.written c.args.time ++ k) c.append_parts.result) line both.puts in (
             (time_due t.written c.args.time ++ item_line e.item, text_with before kept e c.args.time t at has tells, puts),
             if_ok c.append_parts.result _ (subst (λ o. HasWritten before (kept ++ e ∷ []) (record { written = o })) (sym c.in_ok-hold_time.ensures.written) (written_with before kept e c.args.time at)),

@@ -1,17 +1,16 @@
-use Rattle.std.proofs.Common.{refl, subst}
-use Rattle.vcd_engine.specs.Engine.{Keeps}
-use Rattle.vcd_engine.specs.declared.machine.Machine.{Machine}
 use Rattle.vcd_engine.proofs.machine.Machine.take.Goals as goal
 
-pub returns-in_ok-take-in-Pick-clause-takes : goal.returns-in_ok-take-in-Pick-clause-takes
-returns-in_ok-take-in-Pick-clause-takes g c = λ h items before x views known re is few keeps.
-    let t = c.in_ok-take-in-Pick.ensures.takes h items before x views known re is few (subst (λ (m : Machine). Keeps m h items) c.in-Pick.is keeps) in
-    rw c.in-Pick.is (record { due = t.0; ends = refl; keeps = λ e. t.1 })
+pub returns-in-Check-clause-takes : goal.returns-in-Check-clause-takes
+returns-in-Check-clause-takes g c = rw c.in-Check.is c.take_given.ensures.takes
+
+pub returns-in-Pick-clause-takes : goal.returns-in-Pick-clause-takes
+returns-in-Pick-clause-takes g c = rw c.in-Pick.is c.take_given-in-Pick.ensures.takes
 
 pub returns-in-Cut-clause-takes : goal.returns-in-Cut-clause-takes
-returns-in-Cut-clause-takes g c = λ h items before x views known re read few keeps.
-    rw c.in-Cut.is (c.take-in-Cut.ensures.takes h items before x views known re read few (subst (λ (m : Machine). Keeps m h items) c.in-Cut.is keeps))
+returns-in-Cut-clause-takes g c = rw c.in-Cut.is c.take.ensures.takes
 
 pub returns-in-Sample-clause-takes : goal.returns-in-Sample-clause-takes
-returns-in-Sample-clause-takes g c = λ h items before x views known re read few keeps.
-    rw c.in-Sample.is (c.take-in-Sample.ensures.takes h items x views read (subst (λ (m : Machine). Keeps m h items) c.in-Sample.is keeps))
+returns-in-Sample-clause-takes g c = rw c.in-Sample.is c.take-in-Sample.ensures.takes
+
+pub returns-in-Edges-clause-takes : goal.returns-in-Edges-clause-takes
+returns-in-Edges-clause-takes g c = rw c.in-Edges.is c.take_given-in-Edges.ensures.takes
