@@ -172,6 +172,14 @@ same 'vcdkit-diff: a body on the line of the header' 'differs 5ns q 101010 10101
 status 1' "$(status vcdkit-diff "$folder/small.vcd" "$folder/again.vcd")"
 sed '2s/.*/another date/' $dump > "$folder/again.vcd"
 same 'vcdkit-diff: another date' 'status 0' "$(status vcdkit-diff $dump "$folder/again.vcd")"
+sed 's/^rNaN/rnan/' $dump > "$folder/again.vcd"
+same 'vcdkit-diff: NaN is NaN' 'status 0' "$(status vcdkit-diff $dump "$folder/again.vcd")"
+sed 's/^rNaN/rnan/; s/100ps/10ps/; s/^#[1-9].*/&0/' $dump > "$folder/again.vcd"
+same 'vcdkit-diff: NaN is NaN, in other ticks' 'timescale 100ps 10ps
+status 1' "$(status vcdkit-diff $dump "$folder/again.vcd")"
+sed 's/^rNaN/r2.25/' $dump > "$folder/again.vcd"
+same 'vcdkit-diff: NaN and a number' 'differs 72ns bench.level nan 2.25
+status 1' "$(status vcdkit-diff $dump "$folder/again.vcd")"
 same 'vcdkit-diff: no such file' 'vcdkit-diff: samples/none.vcd: No such file or directory
 status 3' "$(status vcdkit-diff $dump samples/none.vcd)"
 
@@ -244,6 +252,10 @@ b000000000 -' "$(vcdkit-four-state < "$folder/nine.vcd")"
 same 'vcdkit-four-state: read by the program' '6 clk x
 6 bus[8:0] 000000000
 6 level r-1.5e3' "$(vcdkit-four-state < "$folder/nine.vcd" | "$VCDKIT" sample --at 6)"
+sed 's/$/\r/' "$folder/nine.vcd" > "$folder/returns.vcd"
+same 'vcdkit-four-state: carriage returns stay' \
+    "$(vcdkit-four-state < "$folder/nine.vcd" | sed 's/$/\r/' | cksum)" \
+    "$(vcdkit-four-state < "$folder/returns.vcd" | cksum)"
 
 # A dump as ModelSim writes it, bit by bit.
 cat > "$folder/bits.vcd" <<'END'
@@ -414,6 +426,17 @@ same 'vcdkit-explain: two dumps' 'a header in the midst: two dumps in one file
 head -n 60 samples/nested.vcd > "$folder/off.vcd"
 same 'vcdkit-explain: cut off' 'the dump is cut off
 1' "$(explained "$folder/off.vcd" able)"
+# helped FILE: what vcdkit-explain advises
+helped() { vcdkit-explain "$1" 2> /dev/null | sed -n 's/^help:  //p'; }
+anew='run again, or mend the header by hand: without a whole header no value can be read'
+head -n 20 samples/nested.vcd > "$folder/front.vcd"
+same 'vcdkit-explain: cut off in the header' "$anew" "$(helped "$folder/front.vcd")"
+printf '$var wire 1 \xff q $end\n$enddefinitions $end\n' > "$folder/front.vcd"
+same 'vcdkit-explain: damaged in the header' "$anew" "$(helped "$folder/front.vcd")"
+printf "${body}#0\nb\xff- !\n" > "$folder/body.vcd"
+same 'vcdkit-explain: damaged in the body' \
+    "vcdkit cut < $folder/body.vcd | vcdkit-endmend > LEFT.vcd    (all before the fault)" \
+    "$(helped "$folder/body.vcd")"
 same 'vcdkit-explain: no such file' 3 "$(explained "$folder/none.vcd" able)"
 
 # What each does with no help, with a word too many, and where there is no program, package or

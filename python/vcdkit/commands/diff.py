@@ -9,8 +9,8 @@ A line says what it is of, and then both sides, A first:
   ends 122ns 92ns         the last timestamps
 
 Values are compared at the end of each time, up to the earlier end. Codes, types as reg and wire,
-the order within a time, values that are written again and sections do not matter. Names are looked
-at as they are; with NAMEs, these alone.
+the order within a time, values that are written again and sections do not matter. Real numbers are
+compared as numbers; NaN equals NaN. Names are looked at as they are; with NAMEs, these alone.
 
 examples:
   vcdkit-diff golden.vcd.gz sim.vcd
@@ -18,7 +18,7 @@ examples:
 import os
 import sys
 from concurrent.futures import ThreadPoolExecutor
-from math import gcd, inf
+from math import gcd, inf, isnan
 
 from .. import Dump, RunFailed, _body, merge
 from . import add_names, command, parser
@@ -165,9 +165,11 @@ def values_in(block):
 
 
 def same(one, other):
-    """Whether two values are the same; real numbers are compared as numbers."""
-    return one == other or (one is not None and other is not None and one[:1] == other[:1] == b"r"
-                            and float(one[1:]) == float(other[1:]))
+    """Whether two values are the same; real numbers are compared as numbers, and NaN is NaN."""
+    if one == other or one is None or other is None or not one[:1] == other[:1] == b"r":
+        return one == other
+    mine, its = float(one[1:]), float(other[1:])
+    return mine == its or isnan(mine) and isnan(its)
 
 
 class Alike:

@@ -23,6 +23,7 @@ STRING = ("a string, which four-state VCD does not have",
 PORTS = ("extended VCD, of $dumpports",
          "evcd2vcd FILE | vcdkit check    (of GTKWave; or take $dumpvars in its place)")
 CUT_OFF = "vcdkit cut < FILE | vcdkit-endmend > LEFT.vcd    (all before the fault)"
+NO_HEADER = "run again, or mend the header by hand: without a whole header no value can be read"
 PRODUCER = "let the producer write it anew, or mend the line by hand"
 SECTION = ("a section ($dumpvars, $dumpall, $dumpoff, $dumpon) whose $end is missing",
            "vcdkit-endmend < FILE | vcdkit check")
@@ -119,6 +120,14 @@ def cause_of(fault, front, before, bad):
     return None
 
 
+def has_header(dump):
+    """Whether the header of a dump has no fault, so that values before a fault can be kept."""
+    try:
+        return dump.signals is not None
+    except DumpFault:
+        return False
+
+
 def printable(line):
     """Returns the begin of a line as text."""
     text = line[:WIDTH].rstrip(b"\r\n").decode("ascii", "backslashreplace")
@@ -154,8 +163,11 @@ def explain(dump, fault, unpacker):
             bad = line if number == fault.line else bad
     found = cause_of(fault.fault, front, before, bad)
     if found:
-        print("cause: " + found[0])
-        print("help:  " + with_file(found[1], dump.name, unpacker))
+        cause, remedy = found
+        if remedy.endswith(CUT_OFF) and not has_header(dump):
+            remedy = NO_HEADER
+        print("cause: " + cause)
+        print("help:  " + with_file(remedy, dump.name, unpacker))
 
 
 @command
