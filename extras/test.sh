@@ -109,6 +109,11 @@ same 'vcdkit-table --hex: a real number, no value' 'time (ns),q,level
 0,-,0.5
 3,xX,0.5
 5,2a,-1000' "$(vcdkit-table --hex "$folder/small.vcd" q level)"
+same 'vcdkit-table: real numbers' 'time (ns),level
+0,inf
+3,1e-09
+5,nan' "$(sed 's/r0.5/rInf/; s/bxx1 !/r1e-9 "/; s/r-1e3/rNaN/' "$folder/small.vcd" |
+    vcdkit-table - level)"
 same 'vcdkit-table --decimal, ticks' 'time (tick),q
 3,xxxxx1
 5,42' "$(vcdkit-table --decimal --unit tick "$folder/small.vcd" q)"
@@ -150,7 +155,7 @@ same 'vcdkit-diff: the end' 'ends 122ns 90ns
 status 1' "$(status vcdkit-diff $dump "$folder/short.vcd")"
 sed 's/100ps/1ns/' $dump > "$folder/scale.vcd"
 same 'vcdkit-diff: the time scale' 'timescale 100ps 1ns' \
-    "$(vcdkit-diff $dump "$folder/scale.vcd" | head -n 1)"
+    "$(vcdkit-diff $dump "$folder/scale.vcd" | sed -n 1p)"
 printf '%s' '$timescale 1ns $end $var reg 6 % q $end $enddefinitions $end ' \
     '#0 $dumpall b000xx1 % $end #2 #3 bx1 % #5 b101010 %' > "$folder/again.vcd"
 same 'vcdkit-diff: codes, digits and sections do not matter' 'alone A level 1
@@ -166,7 +171,7 @@ same 'vcdkit-diff: values that are written again' 'status 0' \
     "$(status vcdkit-diff "$folder/small.vcd" "$folder/again.vcd")"
 same 'vcdkit-diff: nothing in common' 'timescale 100ps 1ns
 alone A bench 24
-alone B clk 1' "$(vcdkit-diff $dump samples/counter.vcd | head -n 3)"
+alone B clk 1' "$(vcdkit-diff $dump samples/counter.vcd | sed -n 1,3p)"
 sed 's/b101010/b101011/' "$folder/small.vcd" > "$folder/again.vcd"
 same 'vcdkit-diff: a body on the line of the header' 'differs 5ns q 101010 101011
 status 1' "$(status vcdkit-diff "$folder/small.vcd" "$folder/again.vcd")"
