@@ -7,8 +7,8 @@ one time is not seen, and events have no column.
 
 Values have all their digits, or are numbers (--hex, --decimal). Where a value has an x or a z,
 --hex writes x or z for four such digits and X for a mixture, and --decimal leaves all digits. `-`
-is no value yet. Real numbers are written as 1.5, 3, 1e-09, nan or inf. Times are whole numbers of the
-unit of the time scale, or exact ones of --unit.
+is no value yet. Real numbers are as 1.5, 3, 1e-09, nan or inf. Times are whole numbers of the unit
+of the time scale, or exact ones of --unit.
 
 examples:
   vcdkit-table --hex --at 10ns,20ns,30ns sim.vcd tb.pc tb.bus
