@@ -1,4 +1,4 @@
-//! How often the values of codes change, rise and fall.
+//! What `edges` counts of each code (changes, rises, falls), and the lines that it writes.
 ghost use Rattle.std.specs.Prelude.{◌≡◌, ℕ, ◌-◌, ◌^◌, ◌<◌, ◌∷◌, ◌++◌, [], List, true, false, length, Some, slice_get, decimal, flat_map};
 ghost use Rattle.vcd_engine.specs.Names.{AreTallied, AtRow, BodyItem, Change, change_to, Code, Counts, edges_line, HasBits, Header, HeadView, IdCode, IsText, IsViewOf, KeepsTable, leaves_open, marks_of, Puts, PutsWhere, selected, Takes};
 
@@ -79,7 +79,8 @@ fn put_row<W: Sink>(
     put(out, b"\n")
 }
 
-/// Writes the rows of the marked variables, in order of declaration.
+/// Writes a line of `edges` for each marked variable, in order of declaration. Fails where a write
+/// does. `marks` has a byte for each row of the view: 1 at a selected variable.
 pub(crate) fn put_rows<W: Sink>(
     table: &Table<'_>,
     view: HeadView<'_>,

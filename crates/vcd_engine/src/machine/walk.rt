@@ -137,8 +137,9 @@ pub(crate) trait AheadTask<L: LoopKind> {
         ensures ready { is_ready self.new ≡ true }
         ensures same { SameTask (machine self.old) (machine self.new) };
 
-    /// Takes an item that is no time mark, and puts what is due with it after the text that is
-    /// held. The registers are those after the item.
+    /// Takes an item that is no time mark. What is due with it goes to `pieces`, or to `out` after
+    /// what they hold. Fails where a write does. `regs` are those after the item; `line` is what is
+    /// known of the line of the last time.
     fn take_item<W: Sink>(
         &mut self,
         view: HeadView<'_>,
