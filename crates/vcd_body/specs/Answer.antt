@@ -28,6 +28,10 @@ abbrev pub writes_failed : {A : Type 0} → Result A Stop → ℕ
 writes_failed (Err Write) = 1
 writes_failed result = 0
 
+-- a failed read was the last one of its source, of which this says whether the last one failed
+abbrev pub EndsAtRead : {A : Type 0} → Bool → Result A Stop → Type 0
+EndsAtRead last_failed result = (input : ℕ) → result ≡ Err (Read input) → last_failed ≡ true
+
 -- the answer to a fault of the body of this input at this line
 abbrev pub stop_of_body : BodyFault → ℕ → ℕ → Stop
 stop_of_body ReadFailed input line = Read input

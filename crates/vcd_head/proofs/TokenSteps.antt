@@ -115,4 +115,4 @@ module _ {X : Type 0} {g : Ghosts X} (most : ℕ) (i : Input) (placed : List (Pl
 
 -- a call that ends before a token is read
 pub stays : {X : Type 0} {g : Ghosts X} (failures : X → ℕ) (f : Feed X g) (e : CallEnd) → e ≡ CallEnd.Ends → Advances failures f f e
-stays failures f e is = rw is (record { loans = record { source = refl; chunk = refl; token = refl; value = refl }; limit = refl; chunk = refl; on = λ q. cc; goes = λ q o. cc; failed = λ q o. cc; same = λ q. refl })
+stays failures f e is = rw is (record { loans = record { source = refl; chunk = refl; token = refl; value = refl }; limit = refl; chunk = refl; on = λ q. cc; goes = λ q o. cc; failed = λ q o. cc; last = λ q o. cc; same = λ q. refl })

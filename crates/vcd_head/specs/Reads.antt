@@ -1,5 +1,5 @@
 -- How far the reading of a header has come, by what its feed has given.
-use Rattle.std.specs.Prelude.{◌≡◌, ◌≢◌, ℕ, ◌+◌, List, [], ◌∷◌, ◌++◌, Some, Result, Err, MatchResult, OnOk}
+use Rattle.std.specs.Prelude.{◌≡◌, ◌≢◌, ℕ, ◌+◌, List, [], ◌∷◌, ◌++◌, true, Some, Result, Err, MatchResult, OnOk}
 use Rattle.vcd_model.specs.Input.{Input}
 use Rattle.vcd_model.specs.Tokens.{Token, stream_of}
 use Rattle.vcd_model.specs.HeaderPhrases.{HeaderPhrase}
@@ -113,8 +113,9 @@ pub record ReadsHead {X : Type 0} {g : Ghosts X} (failures : X → ℕ) (most : 
   -- line and token, the first token given that has one, or empty where none was left; where
   -- memory is refused, no token given so far has a fault.
   pub reads : (i : Input) → HasGiven i [] old → MatchResult result (λ head. GivesHead most i new (shown head)) (λ fault. Fails most i fault new)
-  -- a failed read is returned only where the source failed now, or had failed before
+  -- a failed read is returned only where the source failed now, in its last read, or had failed before
   pub failed : HasNotFailed old → result ≡ Err ReadFailed → failures (source_of new) ≡ failures (source_of old) + 1
+  pub last : HasNotFailed old → result ≡ Err ReadFailed → g.last_failed (source_of new) ≡ true
   pub same : result ≢ Err ReadFailed → failures (source_of new) ≡ failures (source_of old)
   pub «open» : HasNotFailed old → OnOk result (HasNotFailed new)
   pub lengths : (limit_of new ≡ limit_of old) × (chunk_len_of new ≡ chunk_len_of old)

@@ -1,5 +1,5 @@
 -- What a call that reads tokens leaves of a feed, whatever the tokens are.
-use Rattle.std.specs.Prelude.{◌≡◌, ◌≢◌, ℕ, ◌+◌, ◌^◌, ◌<◌, ◌≤◌, OnOk, Result, Some, Err}
+use Rattle.std.specs.Prelude.{◌≡◌, ◌≢◌, ℕ, ◌+◌, ◌^◌, ◌<◌, ◌≤◌, true, OnOk, Result, Some, Err}
 use Rattle.vcd_text.specs.Feed.{SameLoans, limit_of, chunk_len_of, answer_of, seen, source_of}
 use Rattle.vcd_text.specs.declared.device.Source.{Ghosts}
 use Rattle.vcd_text.specs.declared.feed.Feed.{Feed}
@@ -16,7 +16,7 @@ abbrev pub HasNotFailed : {X : Type 0} {g : Ghosts X} → Feed X g → Type 0
 HasNotFailed f = answer_of f ≢ Some (Err halt.ReadFailed)
 
 -- The loans and lengths stay, and what was looked at grows. The end is a failure of the source just
--- where the source failed.
+-- where the source failed, and nothing was read after that.
 pub record Advances {X : Type 0} {g : Ghosts X} (failures : X → ℕ) (old new : Feed X g) (end : CallEnd) : Type 0 where
   pub loans : SameLoans old new
   pub limit : limit_of new ≡ limit_of old
@@ -24,6 +24,7 @@ pub record Advances {X : Type 0} {g : Ghosts X} (failures : X → ℕ) (old new 
   pub on : end ≡ GoesOn → seen old ≤ seen new
   pub goes : end ≡ GoesOn → HasNotFailed old → HasNotFailed new
   pub failed : end ≡ Fails → HasNotFailed old → failures (source_of new) ≡ failures (source_of old) + 1
+  pub last : end ≡ Fails → HasNotFailed old → g.last_failed (source_of new) ≡ true
   pub same : end ≢ Fails → failures (source_of new) ≡ failures (source_of old)
 
 -- So it advances, by a byte or more where the call succeeds, and not beyond the bytes that an input

@@ -139,6 +139,7 @@ pub(crate) fn fill<S: Source>(source: &mut S, chunk: &mut [u8], parked: &mut Par
         (S.rest source.new) chunk.new parked.old parked.new result }
     ensures failures { result ≢ Filled.Failed → S.failures source.new ≡ S.failures source.old }
     ensures failed { result ≡ Filled.Failed → S.failures source.new ≡ S.failures source.old + 1 }
+    ensures last { result ≡ Filled.Failed → S.last_failed source.new ≡ true }
 {
     let Ok(n) = source.read(chunk) else {
         return Filled::Failed;

@@ -19,7 +19,7 @@ returns-in_err-passed-clause-reads g c =
 pub returns-in_err-passed-clause-advances : goal.returns-in_err-passed-clause-advances
 returns-in_err-passed-clause-advances g c =
     let p = err_from_is_err_and c.from_residual.result c.from_residual.ensures.1 in
-    rw (p.1, p.2, c.in_err-passed.ensures.memory) (record { loans = record { source = refl; chunk = refl; token = refl; value = refl }; limit = refl; chunk = refl; on = λ e. cc; goes = λ e o. cc; failed = λ e o. cc; same = λ e. refl })
+    rw (p.1, p.2, c.in_err-passed.ensures.memory) (record { loans = record { source = refl; chunk = refl; token = refl; value = refl }; limit = refl; chunk = refl; on = λ e. cc; goes = λ e o. cc; failed = λ e o. cc; last = λ e o. cc; same = λ e. refl })
 
 pub returns-clause-reads : goal.returns-clause-reads
 returns-clause-reads g c = λ i b.

@@ -9,6 +9,7 @@ returns-in_err-read_phrases g c = record {
       let p = err_from_is_err_and c.from_residual.result c.from_residual.ensures.1 in
       rw (p.1, p.2) (λ i s. c.in_err-read_phrases.ensures.reads i (carries_nothing c.args.most i c.new-draft.result c.args.feed.now c.requires.most c.new-draft.ensures s));
   failed = search rules;
+  last = search rules;
   same = search rules;
   «open» = search rules;
   lengths = search rules;
@@ -20,6 +21,7 @@ returns g c = record {
   reads = λ i s.
       finished c.args.most i c.read_phrases.new.draft c.read_phrases.new.feed c.finish.result (c.in_ok-read_phrases.ensures.reads i (carries_nothing c.args.most i c.new-draft.result c.args.feed.now c.requires.most c.new-draft.ensures s)) c.finish.ensures.head c.finish.ensures.memory;
   failed = search rules;
+  last = search rules;
   same = search rules;
   «open» = search rules;
   lengths = search rules;

@@ -21,6 +21,7 @@ returns-in-Ok-Finish-clause-goes g c =
         on = λ x. cc;
         goes = λ x o. cc;
         failed = λ x o. cc;
+        last = λ x o. cc;
         same = λ x. e.advances.same (λ y. cc);
       };
       progress = tt;

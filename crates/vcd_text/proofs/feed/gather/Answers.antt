@@ -1,5 +1,5 @@
 use Rattle.std.specs.Prelude.{Err, IfSome, Ok, Result, Some}
-use Rattle.std.proofs.Common.{◌≡◌, ◌≢◌, ℕ, zero, suc, ◌+◌, ◌-◌, ◌≤◌, ◌<◌, List, length, true, false, arith, refl, ap, sym, subst, ◌∙◌, add-one}
+use Rattle.std.proofs.Common.{◌≡◌, ◌≢◌, ℕ, zero, suc, ◌+◌, ◌-◌, ◌≤◌, ◌<◌, List, length, Bool, true, false, arith, refl, ap, sym, subst, ◌∙◌, add-one}
 use Rattle.vcd_text.specs.ReadAhead.{HasRest}
 use Rattle.vcd_text.specs.Registers.{Fits, looked, settled}
 use Rattle.vcd_text.specs.Turn.{Turns}
@@ -42,9 +42,9 @@ some-token chunk tok tok' old mid new begun skips h = by_sizes old.size refl h.0
 far-enough : (first old mid new : Parked) → first.base + first.at + old.size ≤ old.base + old.at → old.base + old.at + mid.size ≤ mid.base + mid.at + old.size → mid.base + mid.at + new.size ≤ new.base + new.at + mid.size → first.base + first.at + new.size ≤ new.base + new.at
 far-enough first old mid new a b d = omega (arith, a, b, d)
 
-module _ {X : Type 0} (failures : X → ℕ) (source source' : X) (chunk limit : ℕ) (old new : Parked) (fits : Fits new chunk limit) (kept : new.kept ≡ old.kept) where
+module _ {X : Type 0} (failures : X → ℕ) (last_failed : X → Bool) (source source' : X) (chunk limit : ℕ) (old new : Parked) (fits : Fits new chunk limit) (kept : new.kept ≡ old.kept) where
   -- one that is settled already
-  again-turns : (answer : Result Next Halt) → settled old.phase ≡ Some answer → answer ≢ Ok token → new.phase ≡ old.phase → looked new ≡ looked old → new.size ≡ 0 → source' ≡ source → Turns failures source source' chunk limit old new answer
+  again-turns : (answer : Result Next Halt) → settled old.phase ≡ Some answer → answer ≢ Ok token → new.phase ≡ old.phase → looked new ≡ looked old → new.size ≡ 0 → source' ≡ source → Turns failures last_failed source source' chunk limit old new answer
   again-turns answer is other phase same empty source_is = record {
     fits = fits;
     kept = kept;
@@ -54,6 +54,7 @@ module _ {X : Type 0} (failures : X → ℕ) (source source' : X) (chunk limit :
     again = subst (λ o. IfSome o (λ (r : Result Next Halt). (answer ≡ r) × (source' ≡ source))) (sym is) (refl, source_is);
     going = λ e. absurd (other e);
     failed = λ not_failed e. absurd (not_failed (is ∙ ap Some e));
+    last = λ not_failed e. absurd (not_failed (is ∙ ap Some e));
     same = λ _. ap failures source_is;
     shows = λ e. absurd (other e);
     empty = λ _. empty;
@@ -64,8 +65,8 @@ module _ {X : Type 0} (failures : X → ℕ) (source source' : X) (chunk limit :
     settled-not answer = subst (λ p. IfSome (settled p) answer) (sym going) tt
 
     -- one that halts
-    halts-turns : (h : Halt) (size : ℕ) → looked old + size ≤ looked new → new.phase ≡ Halted h → new.size ≡ 0 → (h ≡ ReadFailed → failures source' ≡ failures source + 1) → (h ≢ ReadFailed → failures source' ≡ failures source) → Turns failures source source' chunk limit old new (Err h)
-    halts-turns h size far phase empty failed same = record {
+    halts-turns : (h : Halt) (size : ℕ) → looked old + size ≤ looked new → new.phase ≡ Halted h → new.size ≡ 0 → (h ≡ ReadFailed → failures source' ≡ failures source + 1) → (h ≡ ReadFailed → last_failed source' ≡ true) → (h ≢ ReadFailed → failures source' ≡ failures source) → Turns failures last_failed source source' chunk limit old new (Err h)
+    halts-turns h size far phase empty failed last same = record {
       fits = fits;
       kept = kept;
       further = omega (arith, far);
@@ -74,13 +75,14 @@ module _ {X : Type 0} (failures : X → ℕ) (source source' : X) (chunk limit :
       again = settled-not _;
       going = λ e. absurd (cc);
       failed = λ _ e. failed (err-is h e);
+      last = λ _ e. last (err-is h e);
       same = λ n. same (λ e. n (ap Err e));
       shows = λ e. absurd (cc);
       empty = λ _. empty;
     }
 
     -- one that gives a token, and does not halt
-    token-turns : looked old < looked new → 0 < new.size → ((h : Halt) → settled new.phase ≢ Some (Err h)) → failures source' ≡ failures source → Turns failures source source' chunk limit old new (Ok token)
+    token-turns : looked old < looked new → 0 < new.size → ((h : Halt) → settled new.phase ≢ Some (Err h)) → failures source' ≡ failures source → Turns failures last_failed source source' chunk limit old new (Ok token)
     token-turns further some no_halt same = record {
       fits = fits;
       kept = kept;
@@ -90,13 +92,14 @@ module _ {X : Type 0} (failures : X → ℕ) (source source' : X) (chunk limit :
       again = settled-not _;
       going = λ _. no_halt;
       failed = λ _ e. absurd (cc);
+      last = λ _ e. absurd (cc);
       same = λ _. same;
       shows = λ _. some;
       empty = λ n. absurd (n refl);
     }
 
     -- one that comes to the end
-    finish-turns : (size : ℕ) → looked old + size ≤ looked new → new.phase ≡ Ended → new.size ≡ 0 → failures source' ≡ failures source → Turns failures source source' chunk limit old new (Ok Finish)
+    finish-turns : (size : ℕ) → looked old + size ≤ looked new → new.phase ≡ Ended → new.size ≡ 0 → failures source' ≡ failures source → Turns failures last_failed source source' chunk limit old new (Ok Finish)
     finish-turns size far phase empty same = record {
       fits = fits;
       kept = kept;
@@ -106,13 +109,14 @@ module _ {X : Type 0} (failures : X → ℕ) (source source' : X) (chunk limit :
       again = settled-not _;
       going = λ e. absurd (cc);
       failed = λ _ e. absurd (cc);
+      last = λ _ e. absurd (cc);
       same = λ _. same;
       shows = λ e. absurd (cc);
       empty = λ _. empty;
     }
 
     -- one that ends
-    ends-turns : (mid : Parked) (result : Next) → looked old + mid.size ≤ looked mid → Finishes mid new result → failures source' ≡ failures source → Turns failures source source' chunk limit old new (Ok result)
+    ends-turns : (mid : Parked) (result : Next) → looked old + mid.size ≤ looked mid → Finishes mid new result → failures source' ≡ failures source → Turns failures last_failed source source' chunk limit old new (Ok result)
     ends-turns mid token far ends same =
         let at = ap looked ends.1 in
         let size = ap (λ (p : Parked). p.size) ends.1 in
@@ -124,7 +128,7 @@ module _ {X : Type 0} (failures : X → ℕ) (source source' : X) (chunk limit :
         finish-turns mid.size (omega (arith, far, at)) (ap (λ (p : Parked). p.phase) ends.1) (omega (arith, size, ends.0)) same
 
 pub returns-in-Ended-clause-turns : goal.returns-in-Ended-clause-turns
-returns-in-Ended-clause-turns g c = again-turns g.S.Source.failures _ _ _ _ _ _ (record {
+returns-in-Ended-clause-turns g c = again-turns g.S.Source.failures g.S.Source.last_failed _ _ _ _ _ _ (record {
   at = c.requires.fits.at;
   stop = c.requires.fits.stop;
   end = c.requires.fits.end;
@@ -136,7 +140,7 @@ returns-in-Ended-clause-turns g c = again-turns g.S.Source.failures _ _ _ _ _ _ 
 }) refl (Ok Finish) (ap settled c.in-Ended.is) (λ e. cc) refl refl refl refl
 
 pub returns-in-Halted-clause-turns : goal.returns-in-Halted-clause-turns
-returns-in-Halted-clause-turns g c = again-turns g.S.Source.failures _ _ _ _ _ _ (record {
+returns-in-Halted-clause-turns g c = again-turns g.S.Source.failures g.S.Source.last_failed _ _ _ _ _ _ (record {
   at = c.requires.fits.at;
   stop = c.requires.fits.stop;
   end = c.requires.fits.end;
@@ -155,7 +159,7 @@ returns-in-Whole-clause-turns g c =
     let range = c.in-Whole.ensures.fits (rw (fits, full) (rw fits at (c.skip.ensures.fits (length c.args.token.now) (rw fits t.fits)))) in
     let phase = c.in-Whole.ensures.on.phase ∙ (c.skip.ensures.on.phase ∙ t.going) in
     let further : looked c.args.parked.now + c.collect.new.parked.size < looked c.collect.new.parked = omega (arith, c.in-Whole.ensures.whole, c.skip.ensures.on.looked, c.loop-parked.invariant.3) in
-    token-turns g.S.Source.failures _ _ _ _ _ _ (rw (fits, full) at range) (c.in-Whole.ensures.on.kept ∙ (c.skip.ensures.on.kept ∙ c.loop-parked.invariant.2)) c.in-Going.is
+    token-turns g.S.Source.failures g.S.Source.last_failed _ _ _ _ _ _ (rw (fits, full) at range) (c.in-Whole.ensures.on.kept ∙ (c.skip.ensures.on.kept ∙ c.loop-parked.invariant.2)) c.in-Going.is
     (omega (arith, further)) (some-token _ _ _ _ _ _ c.skip.ensures.begun c.skip.ensures.skips c.in-Whole.ensures.collects) (λ h e. let none = ap settled phase in cc) c.loop-parked.invariant.0
 
 pub returns-in-Halted-clause-says : goal.returns-in-Halted-clause-says
@@ -282,8 +286,8 @@ returns-in-TooLong-clause-turns g c =
     let halts : c.halted.new.parked ≡ record c.collect.new.parked { size = 0; phase = Halted TokenTooLong } = c.halted.ensures.halts in
     let far = far-enough c.args.parked.now c.loop-parked.parked c.skip.new.parked c.collect.new.parked c.loop-parked.invariant.3 c.skip.ensures.on.looked on.looked in
     rw c.halted.ensures.result
-    (halts-turns g.S.Source.failures _ _ _ _ _ _ (c.halted.ensures.fits _ _ (rw (fits, full) at range)) (c.halted.ensures.kept ∙ (on.kept ∙ (c.skip.ensures.on.kept ∙ c.loop-parked.invariant.2))) c.in-Going.is TokenTooLong c.collect.new.parked.size
-    (rw (ap looked halts) far) (ap (λ (p : Parked). p.phase) halts) (ap (λ (p : Parked). p.size) halts) (λ e. absurd (cc)) (λ _. c.loop-parked.invariant.0))
+    (halts-turns g.S.Source.failures g.S.Source.last_failed _ _ _ _ _ _ (c.halted.ensures.fits _ _ (rw (fits, full) at range)) (c.halted.ensures.kept ∙ (on.kept ∙ (c.skip.ensures.on.kept ∙ c.loop-parked.invariant.2))) c.in-Going.is TokenTooLong c.collect.new.parked.size
+    (rw (ap looked halts) far) (ap (λ (p : Parked). p.phase) halts) (ap (λ (p : Parked). p.size) halts) (λ e. absurd (cc)) (λ e. absurd (cc)) (λ _. c.loop-parked.invariant.0))
 
 pub returns-then-parked-clause-turns : goal.returns-then-parked-clause-turns
 returns-then-parked-clause-turns g c =
@@ -295,8 +299,8 @@ returns-then-parked-clause-turns g c =
     let halts : c.halted-then-parked.new.parked ≡ record c.collect.new.parked { size = 0; line = c.collect.new.parked.line_feeds + 1; phase = Halted InputTooLong } = c.halted-then-parked.ensures.halts in
     let far = far-enough c.args.parked.now c.loop-parked.parked c.skip.new.parked c.collect.new.parked c.loop-parked.invariant.3 c.skip.ensures.on.looked on.looked in
     rw c.halted-then-parked.ensures.result
-    (halts-turns g.S.Source.failures _ _ _ _ _ _ (c.halted-then-parked.ensures.fits _ _ (rw (fits, full) at range)) (c.halted-then-parked.ensures.kept ∙ (on.kept ∙ (c.skip.ensures.on.kept ∙ c.loop-parked.invariant.2))) c.in-Going.is InputTooLong c.collect.new.parked.size
-    (rw (ap looked halts) far) (ap (λ (p : Parked). p.phase) halts) (ap (λ (p : Parked). p.size) halts) (λ e. absurd (cc)) (λ _. c.loop-parked.invariant.0))
+    (halts-turns g.S.Source.failures g.S.Source.last_failed _ _ _ _ _ _ (c.halted-then-parked.ensures.fits _ _ (rw (fits, full) at range)) (c.halted-then-parked.ensures.kept ∙ (on.kept ∙ (c.skip.ensures.on.kept ∙ c.loop-parked.invariant.2))) c.in-Going.is InputTooLong c.collect.new.parked.size
+    (rw (ap looked halts) far) (ap (λ (p : Parked). p.phase) halts) (ap (λ (p : Parked). p.size) halts) (λ e. absurd (cc)) (λ e. absurd (cc)) (λ _. c.loop-parked.invariant.0))
 
 pub returns-in-Failed-clause-turns : goal.returns-in-Failed-clause-turns
 returns-in-Failed-clause-turns g c =
@@ -309,8 +313,8 @@ returns-in-Failed-clause-turns g c =
     let halts : c.halted-in-Failed.new.parked ≡ record c.fill.new.parked { size = 0; line = c.fill.new.parked.line_feeds + 1; phase = Halted ReadFailed } = c.halted-in-Failed.ensures.halts in
     let far = far-enough c.args.parked.now c.loop-parked.parked c.skip.new.parked c.collect.new.parked c.loop-parked.invariant.3 c.skip.ensures.on.looked on.looked in
     rw c.halted-in-Failed.ensures.result
-    (halts-turns g.S.Source.failures _ _ _ _ _ _ (c.halted-in-Failed.ensures.fits _ _ (rw fits at (filled.fits _ (rw full at range)))) (c.halted-in-Failed.ensures.kept ∙ (filled.kept ∙ (on.kept ∙ (c.skip.ensures.on.kept ∙ c.loop-parked.invariant.2)))) c.in-Going.is ReadFailed c.collect.new.parked.size
-    (rw (ap looked halts, filled.looked.0) far) (ap (λ (p : Parked). p.phase) halts) (ap (λ (p : Parked). p.size) halts) (λ _. filled.failed refl ∙ ap (λ n. n + 1) c.loop-parked.invariant.0) (λ n. absurd (n refl)))
+    (halts-turns g.S.Source.failures g.S.Source.last_failed _ _ _ _ _ _ (c.halted-in-Failed.ensures.fits _ _ (rw fits at (filled.fits _ (rw full at range)))) (c.halted-in-Failed.ensures.kept ∙ (filled.kept ∙ (on.kept ∙ (c.skip.ensures.on.kept ∙ c.loop-parked.invariant.2)))) c.in-Going.is ReadFailed c.collect.new.parked.size
+    (rw (ap looked halts, filled.looked.0) far) (ap (λ (p : Parked). p.phase) halts) (ap (λ (p : Parked). p.size) halts) (λ _. filled.failed refl ∙ ap (λ n. n + 1) c.loop-parked.invariant.0) (λ _. filled.last refl) (λ n. absurd (n refl)))
 
 pub returns-in-End-clause-turns : goal.returns-in-End-clause-turns
 returns-in-End-clause-turns g c =
@@ -321,5 +325,5 @@ returns-in-End-clause-turns g c =
     let on = c.in-Part.ensures.on in
     let filled = c.in-End.ensures in
     let far = far-enough c.args.parked.now c.loop-parked.parked c.skip.new.parked c.collect.new.parked c.loop-parked.invariant.3 c.skip.ensures.on.looked on.looked in
-    ends-turns g.S.Source.failures _ _ _ _ _ _ (c.finish.ensures.fits _ _ (rw fits at (filled.fits _ (rw full at range)))) (c.finish.ensures.kept ∙ (filled.kept ∙ (on.kept ∙ (c.skip.ensures.on.kept ∙ c.loop-parked.invariant.2)))) c.in-Going.is
+    ends-turns g.S.Source.failures g.S.Source.last_failed _ _ _ _ _ _ (c.finish.ensures.fits _ _ (rw fits at (filled.fits _ (rw full at range)))) (c.finish.ensures.kept ∙ (filled.kept ∙ (on.kept ∙ (c.skip.ensures.on.kept ∙ c.loop-parked.invariant.2)))) c.in-Going.is
     c.fill.new.parked c.finish.result (rw (filled.looked.0, filled.looked.1) far) c.finish.ensures.finishes (filled.failures (λ e. cc) ∙ c.loop-parked.invariant.0)
