@@ -26,7 +26,7 @@ use Rattle.vcd_text.proofs.Writes.{AppendsSome, appends-first, both-written, som
 use Rattle.vcd_body.specs.Ahead.{GaveLast}
 use Rattle.vcd_body.specs.Reads.{BodyHas, GaveAll}
 use Rattle.vcd_body.specs.declared.item.Regs.{Regs}
-use Rattle.vcd_body.specs.Answer.{IsLeft, reads_failed}
+use Rattle.vcd_body.specs.Answer.{EndsAtRead, IsLeft, reads_failed}
 use Rattle.vcd_text.specs.Device.{Device, Supply, Writes, WritesSome}
 use Rattle.vcd_body.specs.Device.{Grows, GrowsSome}
 use Rattle.vcd_model.proofs.MergeSoFar.{fault_output}
@@ -379,3 +379,12 @@ step_reads failures old new (Err (Dump input line fault)) o a = let e = a.same (
 step_reads failures old new (Err (Read input)) o a = a.failed refl o
 step_reads failures old new (Err Write) o a = let e = a.same (λ x. cc) in omega (arith, e)
 step_reads failures old new (Err (Unmatched name)) o a = let e = a.same (λ x. cc) in omega (arith, e)
+
+-- a read that a step failed with was the last one of its source
+pub step_last : {X : Type 0} {g : Ghosts X} (failures : X → ℕ) (old new : Feed X g) (r : Result More Stop) → HasNotFailed old → Advances failures old new (step_end r) → EndsAtRead (g.last_failed (source_of new)) r
+step_last failures old new (Ok Again) o a = λ input is. absurd (cc)
+step_last failures old new (Ok (Ended done)) o a = λ input is. absurd (cc)
+step_last failures old new (Err (Dump input line fault)) o a = λ input is. absurd (cc)
+step_last failures old new (Err (Read input)) o a = λ input is. a.last refl o
+step_last failures old new (Err Write) o a = λ input is. absurd (cc)
+step_last failures old new (Err (Unmatched name)) o a = λ input is. absurd (cc)

@@ -22,6 +22,7 @@ pub use Rattle.vcd_model.specs.Selection.{first_unmatched, selected, selects_cod
 pub use Rattle.vcd_text.specs.Advances.{Advances, CallEnd}
 pub use Rattle.vcd_text.specs.Ahead.{bytes_of, passed_of}
 pub use Rattle.vcd_text.specs.Device.{Counts, Device, Puts, PutsTo, PutsWhere, TakenBy, Takes}
+pub use Rattle.vcd_body.specs.Answer.{EndsAtRead}
 pub use Rattle.vcd_text.specs.Feed.{seen}
 pub use Rattle.vcd_view.specs.Needs.{room, view_size}
 pub use Rattle.vcd_view.specs.Over.{FitsEachInput}

@@ -18,7 +18,7 @@ use Rattle.vcd_text.specs.declared.device.Source.{Ghosts}
 use Rattle.vcd_text.specs.declared.feed.Feed.{Feed}
 use Rattle.vcd_view.specs.Views.{IsViewOf}
 use Rattle.vcd_view.specs.declared.view.HeadView.{HeadView}
-use Rattle.vcd_body.specs.Answer.{IsLeft, reads_failed}
+use Rattle.vcd_body.specs.Answer.{EndsAtRead, IsLeft, reads_failed}
 use Rattle.vcd_body.specs.declared.answer.Stop.{Stop}
 use Rattle.vcd_body.specs.declared.answer.Stop.TheVariants.{Dump, Read, Write, Unmatched}
 use Rattle.vcd_body.specs.declared.answer.Done.{Done}
@@ -92,10 +92,12 @@ pub record MayRun {X : Type 0} {g : Ghosts X} (failures : X → ℕ) (f : Feed X
   pub unfailed : HasNotFailed f
   pub bound : FitsBound f v room
 
--- a run does this task; failures are counted, and the windows stay
+-- a run does this task; a failure is counted and is the last call of its device, and the windows
+-- stay
 pub record RunsTask {X : Type 0} {g : Ghosts X} (failures : X → ℕ) (task : Request) (v : HeadView) (old new : Feed X g) (out out' : Device) (result : Result Done Stop) : Type 0 where
   pub gives : Does task v old new out out' result
   pub devices : CountsBoth failures old new out out' result
+  pub last : EndsAtRead (g.last_failed (source_of new)) result
   pub windows : SameWindows old new
 
 -- so it does, and where it is done the body was read to its end

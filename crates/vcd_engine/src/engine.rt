@@ -1,6 +1,6 @@
 //! A run over the items of a body, one item a step. It names no command.
 ghost use Rattle.std.specs.Prelude.{◌≡◌, ◌≢◌, ◌-◌, ◌^◌, ◌<◌, [], List, true, false, MatchBool, Ok, MatchResult};
-ghost use Rattle.vcd_engine.specs.Names.{Advances, Again, BeginsAs, BodyItem, CallEnd, CanRun, close_text, Counts, CountsOn, Early, EndsAsAsked, Finish, Finishes, HasBegun, HasRoomFor, Header, Holds, is_going, IsValid, IsViewOf, IsWithinEachBound, item_text, MayRun, MayStep, parts, request_of, request_of_begun, request_of_engine, room_in, room_of_begun, room_size, RunsTask, SameHold, SameWindows, seen, StartsOver, Steps, StepsAhead, StepsOver, Takes, view_in};
+ghost use Rattle.vcd_engine.specs.Names.{Advances, Again, BeginsAs, BodyItem, CallEnd, CanRun, close_text, Counts, CountsOn, Early, EndsAsAsked, EndsAtRead, Finish, Finishes, HasBegun, HasRoomFor, Header, Holds, is_going, IsValid, IsViewOf, IsWithinEachBound, item_text, MayRun, MayStep, parts, request_of, request_of_begun, request_of_engine, room_in, room_of_begun, room_size, RunsTask, SameHold, SameWindows, seen, StartsOver, Steps, StepsAhead, StepsOver, Takes, view_in};
 ghost use Rattle.vcd_engine.specs.Waits.{StepsOrStops};
 ghost use Rattle.vcd_body.specs.Whole.{IsPrompt};
 ghost use Rattle.vcd_text.specs.Feed.{source_of};
@@ -278,6 +278,7 @@ impl<'v, 'n, 'r> Engine<'v, 'n, 'r> {
 
         ensures gives { Finishes W.device self.old feed.old feed.new out.old out.new result }
         ensures devices { CountsOn S.failures W.device feed.old feed.new out.old out.new result }
+        ensures last { EndsAtRead (S.last_failed (source_of feed.new)) result }
         ensures answer { EndsAsAsked (request_of_engine self.old) result }
         ensures windows { SameWindows feed.old feed.new }
     {

@@ -1,6 +1,7 @@
-use Rattle.std.proofs.Common.{◌≡◌, Err, refl, rules}
+use Rattle.std.proofs.Common.{◌≡◌, Err, refl, rules, subst}
 use Rattle.vcd_text.specs.Device.{Device}
-use Rattle.vcd_engine.specs.Engine.{request_of}
+use Rattle.vcd_body.specs.declared.answer.Stop.TheVariants.{Read}
+use Rattle.vcd_engine.specs.Engine.{StopsUnread, request_of}
 use Rattle.vcd_engine.proofs.RoomLemmas.{within_each}
 use Rattle.vcd_engine.proofs.RunLemmas.{never_begun}
 use Rattle.vcd_engine.proofs.engine.run_task.Goals as goal
@@ -14,6 +15,11 @@ returns-in_err-begun-clause-runs g c = record {
       let new : Device = (g.W.Sink.device c.start.new.out) in
       rw e (never_begun (request_of c.args.task) _ i front h name _ _ out new c.args.feed.now stop refl st (c.in_err-begun.ensures.starts h views));
   devices = search rules;
+  last = λ input is.
+      let stop = c.in_err-begun.field-0.0 in
+      let e : c.from_residual.result ≡ Err stop = search rules in
+      let named : stop ≡ Read input = cc in
+      absurd (subst StopsUnread named c.in_err-begun.ensures.begins.answer);
   windows = search rules;
 }
 

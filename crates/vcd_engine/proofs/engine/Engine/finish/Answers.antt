@@ -7,9 +7,11 @@ use Rattle.vcd_text.specs.Advances.{Advances, CallEnd}
 use Rattle.vcd_text.proofs.AdvancesLemmas.{advances_nowhere, advances_on}
 use Rattle.vcd_body.specs.declared.answer.More.{More}
 use Rattle.vcd_body.specs.declared.answer.Done.{Done}
+use Rattle.vcd_body.specs.declared.answer.Stop.{Stop}
+use Rattle.vcd_body.specs.declared.answer.Stop.TheVariants.{Read}
 use Rattle.vcd_body.specs.declared.answer.More.TheVariants.{Again, Ended}
 use Rattle.vcd_text.specs.ReadAhead.ReadsAsNeeded.{Nothing}
-use Rattle.vcd_engine.proofs.RunLemmas.{runs_first, steps_end, steps_stop, steps_go_on, steps_read, asked, can_run, step_reads}
+use Rattle.vcd_engine.proofs.RunLemmas.{runs_first, steps_end, steps_stop, steps_go_on, steps_read, asked, can_run, step_last, step_reads}
 use Rattle.vcd_engine.proofs.WaitLemmas.{steps_done, stops_before}
 use Rattle.vcd_engine.proofs.engine.Engine.finish.Goals as goal
 
@@ -54,6 +56,14 @@ returns-in_err-advance-clause-gives g c = λ h i front name begin holds st w.
       | inl gives ↦ steps_stop t h i front s.0 begin out new s.2 c.advance.new.self c.advance.new.feed name _ _ _ can limit (c.in_err-advance.ensures.over.advances.chunk ∙ since.chunk) stop failed (asked (request_of_engine c.items.self) t h i front s.0 c.advance.new.self c.advance.new.feed out new _ (Err stop) same refl (gives h i front s.0 s.1))
       | inr stops ↦ stops_before t c.items.self h i front s.0 name _ _ _ begin out new c.items.feed c.advance.new.feed stop same can limit failed s.2 s.3 stops s.1
     ])
+
+pub returns-in_err-advance-clause-last : goal.returns-in_err-advance-clause-last
+returns-in_err-advance-clause-last g c = λ input is.
+    let stop = c.in_err-advance.field-0.0 in
+    let e : c.from_residual.result ≡ Err stop = search rules in
+    let named : stop ≡ Read input = cc in
+    let unfailed = c.items.invariant.0.goes refl c.requires.run.unfailed in
+    step_last g.S.Source.failures c.items.feed c.advance.new.feed (Err stop) unfailed c.in_err-advance.ensures.over.advances input (ap (λ (s : Stop). Err s) named)
 
 pub returns-in-Ended-clause-gives : goal.returns-in-Ended-clause-gives
 returns-in-Ended-clause-gives g c = λ h i front name begin holds st w.
