@@ -21,6 +21,12 @@ get_map_or f [] k x e h = absurd (omega arith)
 get_map_or f (y ∷ xs) zero x e h = ap f (sym e)
 get_map_or f (y ∷ xs) (suc k) x e h = get_map_or f xs k x e (omega arith)
 
+-- of the elements of which one was set, what this says of that one
+pub set_last : {X : Type 0} (f : X → Bool) (xs : List X) (k : ℕ) (x : X) → k < length xs → f x ≡ true → slice_get (map f (slice_set xs k x)) k ≡ Some true
+set_last f [] k x h e = absurd (omega arith)
+set_last f (y ∷ xs) zero x h e = ap Some e
+set_last f (y ∷ xs) (suc k) x h e = set_last f xs k x (omega arith) e
+
 -- what is left of an input
 abbrev pub left_in : Seat → ℕ
 left_in s = cond s.finished 0 (2 ^ 63 - parked_seen s.parked)

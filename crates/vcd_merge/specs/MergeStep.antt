@@ -41,6 +41,11 @@ left_of seats = sum_by (λ (s : Seat). cond s.finished 0 (2 ^ 63 - parked_seen s
 abbrev pub failures_with : {A : Type 0} → List ℕ → ℕ → Result A Stop → List ℕ
 failures_with ns k result = slice_set ns k (get_or ns k 0 + reads_failed result)
 
+-- a failed read was the last one of the source that it names, where these say of each source
+-- whether its last one failed
+abbrev pub EndsAtReadOf : {A : Type 0} → List Bool → Result A Stop → Type 0
+EndsAtReadOf last_failed result = (input : ℕ) → result ≡ Err (Read input) → slice_get last_failed input ≡ Some true
+
 -- the time whose line was written last among the changes of these items
 abbrev pub last_written : List Keyed → Option ℕ
 last_written ks = last_or None (map (λ e. e.time) (merge_kept ks))

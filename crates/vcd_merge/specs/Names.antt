@@ -16,7 +16,7 @@ pub use Rattle.vcd_view.specs.Views.{IsExponent, IsViewOf, Views}
 pub use Rattle.vcd_view.specs.declared.view.Code.{Code}
 pub use Rattle.vcd_head.specs.Merged.{ShowHeaders}
 pub use Rattle.vcd_head.specs.Shown.{shown}
-pub use Rattle.vcd_body.specs.Answer.{goes_on, NamesInput, reads_failed}
+pub use Rattle.vcd_body.specs.Answer.{EndsAtRead, goes_on, NamesInput, reads_failed}
 pub use Rattle.vcd_body.specs.Given.{IsGoodText}
 pub use Rattle.vcd_body.specs.Taken.{TakesItem}
 pub use Rattle.vcd_merge.specs.MergeAhead.{PutsDue, seat_with, TakesNext}
@@ -25,7 +25,7 @@ pub use Rattle.vcd_merge.specs.MergeParts.{AreParts, AreSeated, part, part_len, 
 pub use Rattle.vcd_merge.specs.MergeRoom.{MergeIsWithinBound, no_windows, windows_size}
 pub use Rattle.vcd_merge.specs.MergeRun.{Follows}
 pub use Rattle.vcd_merge.specs.MergeStart.{AreBegun, AreOpen, HasBegun, HaveNoItems}
-pub use Rattle.vcd_merge.specs.MergeStep.{AreMarked, failures_with, Gives, Holds, is_going, IsReady, last_written, left_of, standing, standing_of}
+pub use Rattle.vcd_merge.specs.MergeStep.{AreMarked, EndsAtReadOf, failures_with, Gives, Holds, is_going, IsReady, last_written, left_of, standing, standing_of}
 pub use Rattle.vcd_merge.specs.MergeTrail.{AheadTurns, Runs, RunTurns, stage, stage_with, Touches, TurnsAt}
 pub use Rattle.vcd_merge.specs.Order.{AllWait}
 pub use Rattle.vcd_merge.specs.Seat.{AtSeat, IsSeated, Lane, SameSeat, Spot, spot, spot_with, Turns}

@@ -1,6 +1,6 @@
 //! `merge`: the changes of several dumps in one order of time.
 ghost use Rattle.std.specs.Prelude.{◌≡◌, ◌≢◌, ℕ, ◌+◌, ◌-◌, ◌*◌, ◌^◌, ◌<◌, ◌≤◌, Bool, true, false, ◌⊎◌, take, slice_get, List, length, All, MatchOption, MatchBool, IfErr, IfOk, Some, Option, Ok, map};
-ghost use Rattle.vcd_merge.specs.Names.{AllWait, AreBegun, AreMarked, AreParts, AreSeated, AtSeat, BodyItem, Counts, CountsWrites, Device, Dump, failures_after, failures_with, Follows, Gives, goes_on, greatest_time, HasBegun, Header, Holds, is_going, IsNext, IsReady, Lane, last_written, left_of, merge_close, merge_open, merged_head, merged_items, MergeIsWithinBound, NamesInput, no_windows, part, part_len, Runs, SameLengths, ShowHeaders, shown, Spot, spot_at, standing, standing_of, supply, Takes, Touches, TurnsAt, Views, windows_size, Writes};
+ghost use Rattle.vcd_merge.specs.Names.{AllWait, AreBegun, AreMarked, AreParts, AreSeated, AtSeat, BodyItem, Counts, CountsWrites, Device, Dump, EndsAtReadOf, failures_after, failures_with, Follows, Gives, goes_on, greatest_time, HasBegun, Header, Holds, is_going, IsNext, IsReady, Lane, last_written, left_of, merge_close, merge_open, merged_head, merged_items, MergeIsWithinBound, NamesInput, no_windows, part, part_len, Runs, SameLengths, ShowHeaders, shown, Spot, spot_at, standing, standing_of, supply, Takes, Touches, TurnsAt, Views, windows_size, Writes};
 
 use crate::beginning::set_seats;
 use crate::merge_state::Merge;
@@ -57,6 +57,7 @@ fn run_turn<S: Source, W: Sink>(
         (standing heads.now seats.old written.old sources.old windows.old)
         (standing heads.now seats.new written.new sources.new windows.new)
         (W.device out.old) (W.device out.new) run.input result }
+    ensures last { EndsAtReadOf (map S.last_failed sources.new) result }
     ensures kept { (j : ℕ) → j ≢ run.input → slice_get seats.new j ≡ slice_get seats.old j }
     ensures sources { length sources.new ≡ length sources.old }
     ensures seated { IfOk result
@@ -159,6 +160,7 @@ fn run_next<S: Source, W: Sink>(
         (standing heads.now seats.old written.old sources.old windows.old)
         (standing heads.now seats.new written.new sources.new windows.new)
         (W.device out.old) (W.device out.new) result }
+    ensures last { EndsAtReadOf (map S.last_failed sources.new) result }
     ensures order { result ≡ Ok More.Again → AllWait seats.new order.new.inputs order.new.len }
 {
     let Some(next) = order.take_next(seats) else {
@@ -191,6 +193,7 @@ fn run_step<S: Source, W: Sink>(
         (standing_of merge.old sources.old windows.old)
         (standing_of merge.new sources.new windows.new)
         (W.device out.old) (W.device out.new) result }
+    ensures last { EndsAtReadOf (map S.last_failed sources.new) result }
     ensures order { result ≡ Ok More.Again
         → AllWait merge.new.seats.now order.new.inputs order.new.len }
     ensures heads { merge.new.heads.now ≡ merge.old.heads.now }
@@ -261,6 +264,7 @@ pub fn merge_step<S: Source, W: Sink>(
         → (slice_get sources.new j ≡ slice_get sources.old j)
         × (part (part_len (length merge.old.seats.now) windows.old.tokens.now) j windows.new.values.now
         ≡ part (part_len (length merge.old.seats.now) windows.old.tokens.now) j windows.old.values.now)) }
+    ensures last { EndsAtReadOf (map S.last_failed sources.new) result }
     ensures writes { CountsWrites (W.device out.old) (W.device out.new) result }
     ensures going { is_going merge.new ≡ goes_on result }
 {
@@ -300,6 +304,7 @@ impl<'h, 's> Merge<'h, 's> {
         ensures reads { (k : ℕ) × (k < length sources.old)
             × (map S.failures sources.new ≡ failures_with (map S.failures sources.old) k result)
             × NamesInput k result }
+        ensures last { EndsAtReadOf (map S.last_failed sources.new) result }
         ensures writes { CountsWrites (W.device out.old) (W.device out.new) result }
         ensures over { is_going self.new ≡ false }
     {

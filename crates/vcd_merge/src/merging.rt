@@ -1,6 +1,6 @@
 //! The steps of one input of a merge, over its source and its windows alone.
 ghost use Rattle.std.specs.Prelude.{◌≡◌, ◌≢◌, ℕ, ◌+◌, ◌-◌, ◌^◌, ◌<◌, ◌≤◌, ◌++◌, [], List, Option, Some, None, length, slice_get, IfOk, IfSome, MatchOption, Ok, true, false, is_some, ◌&&◌};
-ghost use Rattle.vcd_merge.specs.Names.{Advances, AheadTurns, AtSeat, BodyItem, bytes_of, CallEnd, chunk_len_of, Code, Counts, CountsWrites, Device, failures_after, Fits, HasNotFailed, IsGoodText, IsRun, IsSeated, Lane, limit_of, longest_of, Moved, NamesInput, parked_of, parked_seen, parts, passed_of, Puts, PutsDue, reads_failed, RunTurns, SameLoans, SameSeat, seat_with, seen, shown, source_of, spot, spot_with, stage, stage_with, time_due, Turns, Views};
+ghost use Rattle.vcd_merge.specs.Names.{Advances, AheadTurns, AtSeat, BodyItem, bytes_of, CallEnd, chunk_len_of, Code, Counts, CountsWrites, Device, EndsAtRead, failures_after, Fits, HasNotFailed, IsGoodText, IsRun, IsSeated, Lane, limit_of, longest_of, Moved, NamesInput, parked_of, parked_seen, parts, passed_of, Puts, PutsDue, reads_failed, RunTurns, SameLoans, SameSeat, seat_with, seen, shown, source_of, spot, spot_with, stage, stage_with, time_due, Turns, Views};
 ghost use Rattle.vcd_body.specs.declared.answer.Stop.TheVariants as stop;
 ghost use Rattle.vcd_body.specs.declared.item.Item.TheVariants as item;
 ghost use Rattle.vcd_body.specs.declared.item.Regs.{Regs};
@@ -360,6 +360,7 @@ pub(crate) fn run_of<S: Source, W: Sink>(
     ensures seated { IfOk result (λ _. IsSeated (length chunk.old) (length token.old) seat.new) }
     ensures same { SameSeat seat.old seat.new }
     ensures reads { S.failures source.new ≡ S.failures source.old + reads_failed result }
+    ensures last { EndsAtRead (S.last_failed source.new) result }
     ensures named { NamesInput run.input result }
     ensures writes { CountsWrites (W.device out.old) (W.device out.new) result }
     ensures progress { IfOk result

@@ -1,6 +1,6 @@
 //! `merge` over whole inputs.
 ghost use Rattle.std.specs.Prelude.{◌≡◌, ℕ, ◌+◌, ◌-◌, ◌^◌, ◌<◌, ◌≤◌, List, length, map, All};
-ghost use Rattle.vcd_merge.specs.Names.{AreParts, AreSeated, CountsWrites, failures_with, Follows, HaveNoItems, Header, Lane, MergeIsWithinBound, NamesInput, part_len, SameLengths, ShowHeaders, supply, windows_size};
+ghost use Rattle.vcd_merge.specs.Names.{AreParts, AreSeated, CountsWrites, EndsAtReadOf, failures_with, Follows, HaveNoItems, Header, Lane, MergeIsWithinBound, NamesInput, part_len, SameLengths, ShowHeaders, supply, windows_size};
 
 use crate::merge_state::Merge;
 use crate::seat::Seat;
@@ -46,6 +46,7 @@ pub fn merge<S: Source, W: Sink>(
     ensures reads { (k : ℕ) × (k < length sources.old)
         × (map S.failures sources.new ≡ failures_with (map S.failures sources.old) k result)
         × NamesInput k result }
+    ensures last { EndsAtReadOf (map S.last_failed sources.new) result }
     ensures writes { CountsWrites (W.device out.old) (W.device out.new) result }
 {
     let mut merge = Merge::start(heads, seats, out)?;

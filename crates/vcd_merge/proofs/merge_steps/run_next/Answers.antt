@@ -5,7 +5,8 @@ use Rattle.vcd_model.specs.Merge.{factor}
 use Rattle.vcd_text.specs.Device.{Device}
 use Rattle.vcd_merge.specs.MergeStep.{Standing, standing}
 use Rattle.vcd_body.specs.declared.answer.More.{More}
-use Rattle.vcd_body.specs.declared.answer.Stop.TheVariants.{Write}
+use Rattle.vcd_body.specs.declared.answer.Stop.{Stop}
+use Rattle.vcd_body.specs.declared.answer.Stop.TheVariants.{Read, Write}
 use Rattle.vcd_merge.specs.declared.seat.Seat.{Seat}
 use Rattle.vcd_merge.proofs.PartLemmas.{parts_same}
 use Rattle.vcd_merge.proofs.MergeAnswers.{found}
@@ -209,3 +210,10 @@ returns-clause-runs g c =
         left = λ again. cc;
       };
     }
+
+pub returns-in_err-run_turn-clause-last : goal.returns-in_err-run_turn-clause-last
+returns-in_err-run_turn-clause-last g c = λ input is.
+    let stop = c.in_err-run_turn.field-0.0 in
+    let e : c.from_residual.result ≡ Err stop = search rules in
+    let named : stop ≡ Read input = cc in
+    c.in_err-run_turn.ensures.last input (ap (λ (s : Stop). Err s) named)

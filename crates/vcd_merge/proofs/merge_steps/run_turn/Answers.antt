@@ -6,8 +6,8 @@ use Rattle.vcd_view.specs.Views.{Views}
 use Rattle.vcd_merge.specs.MergeParts.{part_len}
 use Rattle.vcd_merge.specs.Seat.{AtSeat}
 use Rattle.vcd_merge.proofs.PartLemmas.{get_other, len_put, lent_len, part_other, spot_lent, spot_put, spot_other, seated_put}
-use Rattle.vcd_body.specs.Answer.{reads_failed}
-use Rattle.vcd_merge.proofs.MergeCounts.{get_map_or, left_moved, map_set}
+use Rattle.vcd_body.specs.Answer.{NamesInput, reads_failed}
+use Rattle.vcd_merge.proofs.MergeCounts.{get_map_or, left_moved, map_set, set_last}
 use Rattle.vcd_body.proofs.Results.{if_ok_more}
 use Rattle.vcd_merge.proofs.merge_steps.run_turn.Goals as goal
 
@@ -54,6 +54,14 @@ returns-clause-touches g c =
       untouched = λ j other. (get_other c.args.sources.now k j c.run_of.new.source other, part_other (part_len (length seats) tokens) (length seats) k values c.run_of.new.value all c.requires.input lv j other);
       writes = c.run_of.ensures.writes;
     }
+
+pub returns-clause-last : goal.returns-clause-last
+returns-clause-last g c =
+    let k = c.args.run.input in
+    let within : k < length c.args.sources.now = omega arith in
+    λ input is.
+    let named : input ≡ k = subst (NamesInput k) is c.run_of.ensures.named in
+    rw named (set_last g.S.Source.last_failed c.args.sources.now k c.run_of.new.source within (c.run_of.ensures.last input is))
 
 pub returns-clause-seated : goal.returns-clause-seated
 returns-clause-seated g c =

@@ -44,6 +44,12 @@ returns-in_err-merge-clause-reads g c =
     let is : c.from_residual.result ≡ Err c.in_err-merge.field-0.0 = search rules in
     rw (is, stop) ((0, omega arith, sym (ap (slice_set ns 0) (add-zero (get_or ns 0 0)) ∙ set-get_or ns 0 0), tt))
 
+pub returns-in_err-merge-clause-last : goal.returns-in_err-merge-clause-last
+returns-in_err-merge-clause-last g c = λ input is.
+    let stop : c.in_err-merge.field-0.0 ≡ Write = c.in_err-merge.ensures.stops in
+    let e : c.from_residual.result ≡ Err c.in_err-merge.field-0.0 = search rules in
+    absurd (cc)
+
 pub start-requires-clause-bound : goal.start-requires-clause-bound
 start-requires-clause-bound g c =
     let parts = c.requires.parts in

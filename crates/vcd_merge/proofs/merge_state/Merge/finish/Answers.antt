@@ -7,6 +7,7 @@ use Rattle.vcd_merge.specs.MergeStep.{Gives, Standing, failures_with, standing_o
 use Rattle.vcd_body.specs.declared.answer.Done.{Done}
 use Rattle.vcd_body.specs.declared.answer.More.{More}
 use Rattle.vcd_body.specs.declared.answer.Stop.{Stop}
+use Rattle.vcd_body.specs.declared.answer.Stop.TheVariants.{Read}
 use Rattle.vcd_body.specs.declared.answer.More.TheVariants.{Again, Ended}
 use Rattle.vcd_merge.specs.declared.windows.Windows.{Windows}
 use Rattle.vcd_merge.proofs.MergeRuns.{advances_on, ended_merge, keeps_limit, long, same_failures, still_low, stopped_merge}
@@ -91,6 +92,13 @@ returns-in_err-run_step-clause-reads g c =
     let a = v.ready.sources in
     let b = c.items.auto.sources in
     rw is ((st.runs.input, omega (arith, within, a, b), st.runs.leaves.touches.reads ∙ ap (λ (l : List ℕ). failures_with {A = More} l st.runs.input (Err stop)) v.reads, still_named More Done st.runs.input stop st.runs.leaves.touches.named))
+
+pub returns-in_err-run_step-clause-last : goal.returns-in_err-run_step-clause-last
+returns-in_err-run_step-clause-last g c = λ input is.
+    let stop = c.in_err-run_step.field-0.0 in
+    let e : c.from_residual.result ≡ Err stop = search rules in
+    let named : stop ≡ Read input = cc in
+    c.in_err-run_step.ensures.last input (ap (λ (s : Stop). Err s) named)
 
 pub returns-in-Ended-clause-gives : goal.returns-in-Ended-clause-gives
 returns-in-Ended-clause-gives g c = λ hs lanes ds names begin holds w.
