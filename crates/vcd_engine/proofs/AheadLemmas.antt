@@ -33,7 +33,7 @@ use Rattle.vcd_engine.specs.Pieces.{GrowsBut, held_in}
 use Rattle.vcd_engine.specs.declared.pieces.Pieces.{Pieces}
 use Rattle.vcd_body.proofs.AskedLemmas.{split_last}
 use Rattle.vcd_engine.proofs.PieceLemmas.{but_some, but_written}
-use Rattle.vcd_text.specs.Device.{Puts, WritesSome}
+use Rattle.vcd_text.specs.Device.{Puts, Writes, WritesSome}
 use Rattle.std.specs.Prelude.{IfErr}
 use Rattle.vcd_engine.proofs.EngineLemmas.{last_more, none_at}
 
@@ -44,6 +44,14 @@ grows_on out mid new a b c first then = (first.0 ++ then.0, then.1 ∙ ap (λ l.
 -- or of the last a prefix
 pub some_on : (out mid new : Device) (a b c : List ℕ) → Grows out mid a b → GrowsSome mid new b c → GrowsSome out new a c
 some_on out mid new a b c first then = (first.0 ++ then.0, then.1 ∙ ap (λ l. l ++ then.0) first.1 ∙ append_assoc a first.0 then.0, some-behind out mid new first.0 then.0 first.2 then.2)
+
+-- what one text has more than what stands was written
+pub written_behind : (begin out new : Device) (text more : List ℕ) → Writes begin out text → Grows out new text more → Writes begin new more
+written_behind begin out new text more w due = subst (Writes begin new) (sym due.1) (both-written begin out new text due.0 w due.2)
+
+-- or a prefix of it
+pub some_written : (begin out new : Device) (text more : List ℕ) → Writes begin out text → GrowsSome out new text more → WritesSome begin new more
+some_written begin out new text more w due = subst (WritesSome begin new) (sym due.1) (some-behind begin out new text due.0 w due.2)
 
 module _ (t : Request) (h : Header) (limit lines : ℕ) (bytes : List ℕ) (before : List BodyItem) where
   module _ (n : ℕ) (items : List BodyItem) (m : Machine) (r : Regs) (s : StandsAhead t h limit lines bytes before n items m r) where

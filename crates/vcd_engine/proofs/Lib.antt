@@ -9,6 +9,10 @@ pub mod WalkLemmas
 pub mod PieceLemmas
 pub mod CheckLemmas
 pub mod RoomLemmas
+pub mod BodyOutcomes
+pub mod RunEnds
+pub mod EarlyEnds
+pub mod StartStops
 pub mod RunLemmas
 pub mod WaitLemmas
 pub mod ItemTextLemmas

@@ -29,7 +29,8 @@ use Rattle.vcd_engine.specs.Step.{StepsGive}
 use Rattle.vcd_engine.specs.Several.{TakesSeveral}
 use Rattle.vcd_engine.specs.Waits.{StepsOrStops, StopsAfter, StopsOn}
 use Rattle.vcd_engine.specs.declared.engine.Engine.{Engine}
-use Rattle.vcd_engine.proofs.RunLemmas.{begins_with, over_matched, some_written}
+use Rattle.vcd_engine.proofs.AheadLemmas.{some_written}
+use Rattle.vcd_engine.proofs.BodyOutcomes.{begins_with, over_matched}
 
 -- several steps, and then nothing more was written
 pub grows_still : (out mid out' : Device) (text more : List ℕ) → Grows out mid text more → Writes mid out' [] → Grows out out' text more

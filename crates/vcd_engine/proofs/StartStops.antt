@@ -1,0 +1,50 @@
+-- What a run leaves that stops at its begin.
+use Rattle.std.proofs.Common.{◌≡◌, ℕ, inl, List, [], Err, refl, sym, ap, subst, ◌∙◌}
+use Rattle.vcd_model.specs.Input.{Input}
+use Rattle.vcd_model.specs.Tokens.{Token, stream_of}
+use Rattle.vcd_model.specs.Header.{Header}
+use Rattle.vcd_model.specs.Outcome.{Outcome, Opened, Request, over_dump, body_of, items_in, fault_in, open_text}
+use Rattle.vcd_text.specs.Feed.{HasGiven, limit_of}
+use Rattle.vcd_text.specs.ReadAhead.ReadsAsNeeded.{Nothing}
+use Rattle.vcd_text.specs.declared.device.Source.{Ghosts}
+use Rattle.vcd_text.specs.declared.feed.Feed.{Feed}
+use Rattle.vcd_text.proofs.Writes.{AppendsSome, appends-first}
+use Rattle.vcd_text.specs.Device.{Device, Supply, Writes}
+use Rattle.vcd_engine.specs.Engine.{StopsAtStart}
+use Rattle.vcd_engine.specs.Run.{Belongs, Follows, IsRefused}
+use Rattle.vcd_body.specs.declared.answer.Stop.{Stop}
+use Rattle.vcd_body.specs.declared.answer.Stop.TheVariants.{Dump, Read, Write, Unmatched}
+use Rattle.vcd_engine.proofs.BodyOutcomes.{over_matched, over_unmatched, begins_with}
+
+-- a run whose engine was not begun
+pub never_begun : {X : Type 0} {g : Ghosts X} (t : Request) (limit : ℕ) (i : Input) (front : List Token) (h : Header) (name : List ℕ) (chunk : ℕ) (before : Supply) (out out' : Device) (f : Feed X g) (stop : Stop) → limit_of f ≡ limit → HasGiven i front f → StopsAtStart t h out out' stop
+    → Follows t limit chunk i front h name before before out out' (Err stop)
+unfolding body_of
+never_begun t limit i front h name chunk before out out' f stop l st starts = record {
+  left = i;
+  is_left = inl (refl, refl);
+  rest = st.given_first.0;
+  tokens = ap (λ n. (stream_of n i).tokens) (sym l) ∙ st.given_first.1;
+  belongs = by_stop stop starts;
+  read = Nothing refl;
+  early = tt;
+  refused = by_refusal stop starts;
+}
+  where
+    o : Opened
+    o = record { header = h; stream = stream_of limit i; rest = st.given_first.0 }
+
+    by_refusal : (s : Stop) → StopsAtStart t h out out' s → IsRefused t h s
+    by_refusal Write b = tt
+    by_refusal (Unmatched place) b = b.0
+    by_refusal (Dump input line fault) b = absurd b
+    by_refusal (Read input) b = absurd b
+
+    by_stop : (s : Stop) → StopsAtStart t h out out' s → Belongs t (over_dump t name o) name out out' (Err s)
+    by_stop Write b =
+        let can = b.0 in
+        let whole = begins_with t h [] (items_in o) name (fault_in o) can.valid refl in
+        (subst (AppendsSome out.held out'.held) (sym (ap (λ (x : Outcome). x.output) (over_matched t name o can.body can.matched) ∙ whole.1)) (appends-first out.held out'.held (open_text t h []) whole.0 b.1.0), b.1.1)
+    by_stop (Unmatched place) b = let e = over_unmatched t name o place b.0 in (e, subst (λ (x : Outcome). Writes out out' x.output) (sym e) b.1)
+    by_stop (Dump input line fault) b = absurd b
+    by_stop (Read input) b = absurd b
