@@ -1,5 +1,4 @@
--- Inputs that go on after an input was read on its turn: none of the others comes to stand before
--- its place.
+-- Inputs after one was read on its turn: none of the others comes before the key that it reached.
 use Rattle.std.proofs.Common.{◌≡◌, ◌≢◌, ℕ, true, false, List, [], ◌∷◌, ◌++◌, length, slice_get, Option, Some, ◌⊎◌, inl, inr, refl, sym, ap, subst, ◌∙◌, append-nil, append_assoc}
 use Rattle.std.specs.List.{AllByRecursion}
 use Rattle.std.proofs.lemmas.Option.{slice_get_within}
@@ -15,7 +14,7 @@ use Rattle.vcd_merge.specs.MergeTrail.{GoOn, GoesOn, IsReached, ReadInTurn}
 use Rattle.vcd_merge.specs.Seat.{Lane, ReadsNoMore}
 use Rattle.vcd_merge.specs.declared.seat.Seat.{Seat}
 use Rattle.vcd_merge.proofs.MergeSteps.{next_first, same_header, same_or_not, seat_spot}
-use Rattle.vcd_merge.proofs.PartLemmas.{get_other, get_set}
+use Rattle.vcd_merge.proofs.PartLemmas.{get_other, get_set, same_some}
 
 -- ---- inputs that go on
 
@@ -45,7 +44,7 @@ module _ (ds es : List Dump) (seats news : List Seat) (k : ℕ) (next : IsNext s
       by_place : (j : ℕ) (c : Dump) (y : Seat) → (j ≡ k) ⊎ (j ≢ k) → slice_get es j ≡ Some c → slice_get news j ≡ Some y → y.finished ≡ false → GoesOn ds seats j c
       by_place j c y (inl here) at_c at_y on =
           let both : Some e ≡ Some c = sym own ∙ ap (slice_get es) (sym here) ∙ at_c in
-          let is : e ≡ c = cc in
+          let is : e ≡ c = same_some e c both in
           record {
             dump = d;
             seat = next.seat;
@@ -68,7 +67,7 @@ go_item ds seats news k next stay d x at =
     let e : Dump = record { header = d.header; items = d.items ++ x ∷ []; fault = d.fault } in
     go_by ds (with_item ds k d x) seats news k next stay d at e (x ∷ []) (get_set ds k e (slice_get_within ds k d at)) refl refl (λ j other. get_other ds k j e other)
 
--- ---- a place that was reached
+-- ---- a key that was reached
 
 pub reached_on : (hs : List Header) (ds es : List Dump) (seats news : List Seat) (k : ℕ) (place : Key) → GoOn ds seats es news → IsReached hs ds seats k place → IsReached hs es news k place
 reached_on hs ds es seats news k place go reached = λ j e y other at_e at_y on.

@@ -6,6 +6,7 @@ pub mod SeatLemmas
 pub mod SeatTrails
 pub mod PartLemmas
 pub mod MergeSteps
+pub mod SpotLemmas
 pub mod MergeAnswers
 pub mod MergeCounts
 pub mod InTurn
@@ -19,5 +20,7 @@ pub mod MergeReads
 pub mod MergeStart
 pub mod MergeRoomLemmas
 pub mod MergeWholes
+pub mod WholesOpened
+pub mod WholesFit
 pub mod Unsettled
 pub mod MergeStops

@@ -1,6 +1,6 @@
 -- What a step of a merge answers, by what the step of its input gave.
-use Rattle.std.proofs.Common.{◌≡◌, ◌≢◌, ℕ, ◌*◌, ◌/◌, ◌<◌, ◌≤◌, ◌⊎◌, true, false, List, [], ◌∷◌, ◌++◌, length, take, slice_get, Option, Some, None, Ok, Err, refl, sym, ap, subst, ◌∙◌, arith, inl, inr}
-use Rattle.std.specs.Prelude.{option_map, All, IfSome, MatchOption, is_some}
+use Rattle.std.proofs.Common.{true≢false, ◌≡◌, ◌≢◌, ℕ, true, false, List, [], ◌∷◌, ◌++◌, length, take, slice_get, Option, Some, None, Ok, Err, refl, sym, ap, subst, ◌∙◌, arith, inl, inr}
+use Rattle.std.specs.Prelude.{All, IfSome}
 use Rattle.std.specs.List.{AllByRecursion}
 use Rattle.std.proofs.lemmas.Option.{get_or_from_slice_get, slice_get_within}
 use Rattle.vcd_model.specs.Header.{Header}
@@ -14,117 +14,17 @@ use Rattle.vcd_model.proofs.MergedLists.{merged_by, merged_more}
 use Rattle.vcd_model.proofs.MergedText.{IsTimed, text_more, timed_rest, written_more}
 use Rattle.vcd_text.specs.Answer.{failed_after}
 use Rattle.vcd_text.specs.ReadAhead.{HasRest}
-use Rattle.vcd_head.specs.Shown.{shown}
-use Rattle.vcd_view.specs.Views.{Views}
-use Rattle.vcd_head.specs.declared.head.Head.{Head}
 use Rattle.vcd_text.specs.Device.{Device, Writes}
-use Rattle.vcd_merge.specs.MergeStep.{AreGiven, AreMarked, Gives, HasFault, Holds, IsReady, ReadsOne, Standing, Takes, cut_at, last_written, next_item}
+use Rattle.vcd_merge.specs.MergeStep.{AreGiven, AreMarked, Gives, HasFault, Holds, ReadsOne, Standing, Takes, cut_at, last_written, next_item}
 use Rattle.vcd_merge.specs.MergeOrder.{IsNext}
-use Rattle.vcd_merge.specs.MergeParts.{part, part_len, spot_at, spot_of}
+use Rattle.vcd_merge.specs.MergeParts.{part_len, spot_at}
 use Rattle.vcd_merge.specs.Seat.{AtSeat, GivesOne, HasDump, HasReadNoMore, Lane, ReadsNoMore, Spot, Turns}
 use Rattle.vcd_body.specs.declared.answer.More.TheVariants.{Again}
 use Rattle.vcd_body.specs.declared.answer.Stop.{Stop}
 use Rattle.vcd_body.specs.declared.answer.Stop.TheVariants.{Dump as Faulty, Read, Write, Unmatched}
 use Rattle.vcd_merge.specs.declared.seat.Seat.{Seat}
-use Rattle.vcd_merge.proofs.PartLemmas.{part_long}
-use Rattle.vcd_merge.proofs.MergeSteps.{all_before, given_more, given_still, dump_at, len_map, lane_at, same_header, some_at, seat_spot, spot_seat, time_at}
-
--- all that belongs to the input whose turn it is
-pub record Found {X : Type 0} (rest : X → Option (List ℕ)) (hs : List Header) (lanes : List Lane) (ds : List Dump) (s : Standing X) (k : ℕ) : Type 0 where
-  pub lane : Lane
-  pub dump : Dump
-  pub head : Head
-  pub spot : Spot
-  pub lane_there : slice_get lanes k ≡ Some lane
-  pub dump_there : slice_get ds k ≡ Some dump
-  pub head_there : slice_get s.heads k ≡ Some head
-  pub spot_there : spot_at rest s.seats s.sources s.chunks s.tokens k ≡ Some spot
-  pub views : Views (shown head) lane.header
-  pub is : AtSeat (factor hs lane.header) (first_number (take k hs)) lane dump.items spot
-
-pub found : {X : Type 0} (rest : X → Option (List ℕ)) (hs : List Header) (lanes : List Lane) (ds : List Dump) (s : Standing X) (k : ℕ) → AreGiven rest hs lanes ds s → IsReady s → IsNext s.seats k → Found rest hs lanes ds s k
-found rest hs lanes ds s k g ready next =
-    let w = slice_get_within s.seats k next.seat next.there in
-    let l = lane_at rest hs lanes ds s g k w in
-    let d = dump_at rest hs lanes ds s g k w in
-    let h = some_at s.heads k (let e = ready.heads in omega arith) in
-    let p = seat_spot rest s k next.seat ready.sources next.there in
-    record {
-      lane = l.0;
-      dump = d.0;
-      head = h.0;
-      spot = p.0;
-      lane_there = l.1;
-      dump_there = d.1;
-      head_there = h.1;
-      spot_there = p.1;
-      views = g.views k h.0 l.0 h.1 l.1;
-      is = g.at k l.0 d.0 p.0 l.1 d.1 p.1;
-    }
-
-token_in : (o : Option Seat) (r : Option (Option (List ℕ))) (c t : List ℕ) (p : Spot) → spot_of o r c t ≡ Some p → t ≡ p.token
-token_in (Some s) (Some rest) c t p e = let same : record { seat = s; rest = rest; chunk = c; token = t } ≡ p = cc in ap (λ (q : Spot). q.token) same
-token_in (Some s) None c t p e = cc
-token_in None r c t p e = cc
-
--- how long its part of the tokens' window is
-pub token_len : {X : Type 0} (rest : X → Option (List ℕ)) (s s' : Standing X) (k : ℕ) (p : Spot) → IsReady s → k < length s.seats → length s'.seats ≡ length s.seats → length s'.tokens ≡ length s.tokens → spot_at rest s'.seats s'.sources s'.chunks s'.tokens k ≡ Some p
-    → length p.token ≡ part_len (length s.seats) s.tokens
-token_len rest s s' k p ready w seats tokens at =
-    let n = length s'.seats in
-    let same : part_len n s'.tokens ≡ part_len (length s.seats) s.tokens = ap (λ m. m / n) tokens ∙ ap (λ m. length s.tokens / m) seats in
-    let t = token_in (slice_get s'.seats k) (option_map rest (slice_get s'.sources k)) (part (part_len n s'.chunks) k s'.chunks) (part (part_len n s'.tokens) k s'.tokens) p at in
-    let all : n * part_len n s'.tokens ≡ length s'.tokens = rw (same, seats, tokens) ready.parts.tokens_are in
-    ap length (sym t) ∙ part_long (part_len n s'.tokens) n k s'.tokens all (omega arith) ∙ same
-
-chunk_in : (o : Option Seat) (r : Option (Option (List ℕ))) (c t : List ℕ) (p : Spot) → spot_of o r c t ≡ Some p → c ≡ p.chunk
-chunk_in (Some s) (Some rest) c t p e = let same : record { seat = s; rest = rest; chunk = c; token = t } ≡ p = cc in ap (λ (q : Spot). q.chunk) same
-chunk_in (Some s) None c t p e = cc
-chunk_in None r c t p e = cc
-
--- and of the chunks' window
-pub chunk_len : {X : Type 0} (rest : X → Option (List ℕ)) (s s' : Standing X) (k : ℕ) (p : Spot) → IsReady s → k < length s.seats → length s'.seats ≡ length s.seats → length s'.chunks ≡ length s.chunks → spot_at rest s'.seats s'.sources s'.chunks s'.tokens k ≡ Some p
-    → length p.chunk ≡ part_len (length s.seats) s.chunks
-chunk_len rest s s' k p ready w seats chunks at =
-    let n = length s'.seats in
-    let same : part_len n s'.chunks ≡ part_len (length s.seats) s.chunks = ap (λ m. m / n) chunks ∙ ap (λ m. length s.chunks / m) seats in
-    let c = chunk_in (slice_get s'.seats k) (option_map rest (slice_get s'.sources k)) (part (part_len n s'.chunks) k s'.chunks) (part (part_len n s'.tokens) k s'.tokens) p at in
-    let all : n * part_len n s'.chunks ≡ length s'.chunks = rw (same, seats, chunks) ready.parts.chunks_are in
-    ap length (sym c) ∙ part_long (part_len n s'.chunks) n k s'.chunks all (omega arith) ∙ same
-
-rest_in : {X : Type 0} (rest : X → Option (List ℕ)) (o : Option Seat) (x : Option X) (c t : List ℕ) (p : Spot) → spot_of o (option_map rest x) c t ≡ Some p → (y : X) × (x ≡ Some y) × (p.rest ≡ rest y)
-rest_in rest (Some s) (Some y) c t p e = let same : record { seat = s; rest = rest y; chunk = c; token = t } ≡ p = cc in (y, refl, sym (ap (λ (q : Spot). q.rest) same))
-rest_in rest (Some s) None c t p e = cc
-rest_in rest None x c t p e = cc
-
--- the source of a spot
-pub spot_source : {X : Type 0} (rest : X → Option (List ℕ)) (s : Standing X) (k : ℕ) (p : Spot) → spot_at rest s.seats s.sources s.chunks s.tokens k ≡ Some p → (y : X) × (slice_get s.sources k ≡ Some y) × (p.rest ≡ rest y)
-spot_source rest s k p at = rest_in rest (slice_get s.seats k) (slice_get s.sources k) (part (part_len (length s.seats) s.chunks) k s.chunks) (part (part_len (length s.seats) s.tokens) k s.tokens) p at
-
--- it is the turn of one input
-pub same_next : (seats : List Seat) (j k : ℕ) → IsNext seats j → IsNext seats k → j ≡ k
-same_next seats j k a b = by_least (a.least k b.seat b.there b.unfinished) (b.least j a.seat a.there a.unfinished)
-  where
-    by_least : (a.seat.time < b.seat.time) ⊎ ((a.seat.time ≡ b.seat.time) × (j ≤ k)) → (b.seat.time < a.seat.time) ⊎ ((b.seat.time ≡ a.seat.time) × (k ≤ j)) → j ≡ k
-    by_least (inl x) (inl y) = absurd (omega (arith, x, y))
-    by_least (inl x) (inr y) = let e = y.0 in absurd (omega (arith, x, e))
-    by_least (inr x) (inl y) = let e = x.0 in absurd (omega (arith, e, y))
-    by_least (inr x) (inr y) = let e = x.1 in let f = y.1 in omega (arith, e, f)
-
--- seats whose spots stay
-pub seats_stay : {X : Type 0} (rest : X → Option (List ℕ)) (s s' : Standing X) (j : ℕ) → length s.sources ≡ length s.seats → length s'.sources ≡ length s'.seats → spot_at rest s'.seats s'.sources s'.chunks s'.tokens j ≡ spot_at rest s.seats s.sources s.chunks s.tokens j
-    → slice_get s'.seats j ≡ slice_get s.seats j
-seats_stay {X} rest s s' j same sources spots = by_seats (slice_get s.seats j) refl (slice_get s'.seats j) refl
-  where
-    by_seats : (o : Option Seat) → slice_get s.seats j ≡ o → (o' : Option Seat) → slice_get s'.seats j ≡ o' → slice_get s'.seats j ≡ slice_get s.seats j
-    by_seats None e None e' = e' ∙ sym e
-    by_seats (Some y) e o' e' =
-        let p = seat_spot rest s j y same e in
-        spot_seat rest s' j p.0 (spots ∙ p.1) ∙ ap (λ (z : Seat). Some z) p.2 ∙ sym e
-    by_seats None e (Some y) e' =
-        let p = seat_spot rest s' j y sources e' in
-        let there = spot_seat rest s j p.0 (sym spots ∙ p.1) in
-        cc
+use Rattle.vcd_merge.proofs.MergeSteps.{all_before, given_more, given_still, dump_at, len_map, lane_at, same_header, seat_spot, spot_seat, time_at}
+use Rattle.vcd_merge.proofs.SpotLemmas.{seats_stay, spot_source}
 
 -- what a step has read, by the spot of the input that it leaves
 pub reads_one : {X : Type 0} (rest : X → Option (List ℕ)) (lanes : List Lane) (ds : List Dump) (s s' : Standing X) (k : ℕ) (l : Lane) (d : Dump) (p : Spot) (cut : Option ℕ) → IsNext s.seats k → slice_get lanes k ≡ Some l → slice_get ds k ≡ Some d
@@ -226,8 +126,7 @@ module _ {X : Type 0} (rest : X → Option (List ℕ)) (hs : List Header) (lanes
         let w = slice_get_within s'.seats k p.seat seat in
         let done = all k p.seat w in
         let e = ap (λ (x : Seat). x.finished) (get_or_from_slice_get s'.seats k p.seat p.seat seat) in
-        let f : false ≡ true = sym t.1.0 ∙ sym e ∙ done in
-        cc
+        absurd (true≢false (sym done ∙ e ∙ t.1.0))
 
     -- it stops
     pub stopped : (stop : Stop) → Turns {A = A} k scale first l d.items s.written s'.written p out out' (Err stop) → Gives rest hs lanes ds s s' out out' (Err stop)
@@ -250,7 +149,7 @@ module _ {X : Type 0} (rest : X → Option (List ℕ)) (hs : List Header) (lanes
 pub are_marked : {X : Type 0} (rest : X → Option (List ℕ)) (hs : List Header) (lanes : List Lane) (ds : List Dump) (s : Standing X) → AreGiven rest hs lanes ds s → length s.sources ≡ length s.seats → AreMarked hs ds s.seats
 are_marked rest hs lanes ds s g same = record {
   dumps_are = g.dumps_are;
-  many = let m = g.many in let e = ap (λ (h : List Header). length h) g.dumps_are in let n = len_map (λ (d : Dump). d.header) ds in omega arith;
+  many = sym (len_map (λ (d : Dump). d.header) ds) ∙ ap (λ (h : List Header). length h) g.dumps_are ∙ g.many;
   time = λ k d x a b. time_at rest hs lanes ds s g k d x same a b;
   marked = λ k d x a b.
       let w = slice_get_within s.seats k x b in
@@ -258,12 +157,3 @@ are_marked rest hs lanes ds s g same = record {
       let p = seat_spot rest s k x same b in
       ap (λ (y : Seat). y.regs.marked) (sym p.2) ∙ (g.at k l.0 d p.0 l.1 a p.1).gave.known.marked_is;
 }
-
--- whether there is a next input
-pub some_next : {A : Type 0} (o : Option A) (P : Type 0) (Q : A → Type 0) → is_some o ≡ true → MatchOption o P Q → (x : A) × Q x
-some_next None P Q e m = cc
-some_next (Some x) P Q e m = (x, m)
-
-pub none_next : {A : Type 0} (o : Option A) (P : Type 0) (Q : A → Type 0) → is_some o ≡ false → MatchOption o P Q → P
-none_next None P Q e m = m
-none_next (Some x) P Q e m = cc

@@ -11,7 +11,7 @@ use Rattle.vcd_merge.specs.MergeTrail.{ReadInTurn, RunGives}
 use Rattle.vcd_merge.specs.Seat.{Lane}
 use Rattle.vcd_body.specs.declared.answer.More.{More}
 use Rattle.vcd_body.specs.declared.answer.Stop.{Stop}
-use Rattle.vcd_merge.proofs.MergeAnswers.{same_next}
+use Rattle.vcd_merge.proofs.SpotLemmas.{same_next}
 use Rattle.vcd_merge.proofs.MergeReads.{AreReadSoFar, read_along}
 use Rattle.vcd_merge.proofs.MergeRuns.{keeps_limit}
 

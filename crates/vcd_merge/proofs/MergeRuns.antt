@@ -38,9 +38,12 @@ use Rattle.vcd_merge.proofs.MergeReads as reads
 use Rattle.vcd_merge.proofs.InTurn.{go_item, go_same, go_still}
 use Rattle.vcd_merge.proofs.MergeReads.{AreReadSoFar, IsRead, cut_left, left_whole, other_left, read_more, reads_for}
 use Rattle.vcd_merge.proofs.MergeSteps.{get_map, len_map, same_or_not}
-use Rattle.vcd_merge.proofs.MergeStops.{BackFits, EndFits, HasLaterFault, StopFits, WriteFits, backs, clean_is, ends, fault_merged, kept_some, one_next, stops, writes, written_some}
+use Rattle.vcd_merge.proofs.MergeStops.{BackFits, EndFits, HasLaterFault, StopFits, WriteFits, backs, clean_is, ends, fault_merged, kept_some, stops, writes, written_some}
 use Rattle.vcd_merge.proofs.MergeWholes as whole
-use Rattle.vcd_merge.proofs.MergeWholes.{AreNeeded, Wholes, choose_all, entire, entire_headers, entire_of, fit_at, follows, left_all, opened_dumps, opened_headers, opened_of}
+use Rattle.vcd_merge.proofs.MergeWholes.{Wholes, choose_all, entire, entire_of, fit_at, opened_of}
+use Rattle.vcd_merge.proofs.WholesFit.{left_all}
+use Rattle.vcd_merge.proofs.WholesOpened.{AreNeeded, entire_headers, follows, opened_dumps, opened_headers}
+use Rattle.vcd_merge.proofs.SpotLemmas.{same_next}
 use Rattle.vcd_merge.proofs.Unsettled.{unsettled}
 
 -- ---- what is counted
@@ -268,7 +271,7 @@ module _ {X : Type 0} (rest : X → _) (failures : X → ℕ) (hs : List Header)
           has = gives.0.2
 
           counted : map failures s'.sources ≡ failures_with {A = More} (map failures s.sources) input (Err (Read input))
-          counted = counts ∙ ap (λ i. failures_with {A = More} (map failures s.sources) i (Err (Read input))) (one_next s.seats k input next has.next)
+          counted = counts ∙ ap (λ i. failures_with {A = More} (map failures s.sources) i (Err (Read input))) (same_next s.seats k input next has.next)
 
           by_place : (j : ℕ) (x : whole.Whole hs limit) (old new : Supply) → StopFits rest hs lanes ds s limit is_limit ready holds.given input line 31 (Some n) has j x → (j ≡ input) ⊎ (j ≢ input) → slice_get lanes j ≡ Some x.lane → slice_get olds j ≡ Some old
               → slice_get news j ≡ Some new → IsRead limit chunk hs ds s.seats j x.lane old new x.left

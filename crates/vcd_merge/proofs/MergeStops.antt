@@ -23,21 +23,13 @@ use Rattle.vcd_merge.specs.MergeParts.{part_len}
 use Rattle.vcd_merge.specs.MergeStep.{AreGiven, HasFault, IsReady, Standing, Takes, cut_at, next_item}
 use Rattle.vcd_merge.specs.Seat.{AtSeat, HasDump, Lane, Spot}
 use Rattle.vcd_merge.specs.declared.seat.Seat.{Seat}
-use Rattle.vcd_merge.proofs.MergeAnswers.{token_len}
+use Rattle.vcd_merge.proofs.SpotLemmas.{token_len}
 use Rattle.vcd_model.proofs.MergeSoFar.{after_key, all_keyed, fault_outcome_is, none_between, outcome_begins, still_late, still_later, up_to_last}
 use Rattle.vcd_merge.proofs.MergeSteps.{all_before, dump_at, get_map, lane_at, len_map, next_first, same_header, same_or_not, seat_spot, some_at}
-use Rattle.vcd_merge.proofs.MergeWholes.{AllFit, Whole, Wholes, choose_all, entire, entire_headers, entire_of, fit_at, grown_all, late_all, others_all, so_far}
+use Rattle.vcd_merge.proofs.MergeWholes.{AllFit, Whole, Wholes, choose_all, entire, entire_of, fit_at, so_far}
+use Rattle.vcd_merge.proofs.WholesFit.{grown_all, late_all, others_all}
+use Rattle.vcd_merge.proofs.WholesOpened.{entire_headers}
 use Rattle.vcd_merge.proofs.WholeInputs.{finished, goes_on}
-
--- one input alone is next
-pub one_next : (seats : List Seat) (k j : ℕ) → IsNext seats k → IsNext seats j → k ≡ j
-one_next seats k j a b = by_times (a.least j b.seat b.there b.unfinished) (b.least k a.seat a.there a.unfinished)
-  where
-    by_times : (a.seat.time < b.seat.time) ⊎ ((a.seat.time ≡ b.seat.time) × (k ≤ j)) → (b.seat.time < a.seat.time) ⊎ ((b.seat.time ≡ a.seat.time) × (j ≤ k)) → k ≡ j
-    by_times (inl l) (inl m) = omega arith
-    by_times (inl l) (inr m) = let e = m.0 in omega arith
-    by_times (inr l) (inl m) = let e = l.0 in omega arith
-    by_times (inr l) (inr m) = let e = l.1 in let f = m.1 in omega arith
 
 -- a fault of the input stands after any place that was reached while it had not finished
 abbrev pub HasLaterFault : (hs : List Header) (limit : ℕ) → List Seat → (k : ℕ) → Whole hs limit → Type 0
@@ -67,7 +59,7 @@ module _ {X : Type 0} (rest : X → _) (hs : List Header) (lanes : List Lane) (d
         spot = p.0;
         there = seat.1 ∙ ap (λ (x : Seat). Some x) (sym p.2);
         at = g.at k l d p.0 at_l at_d p.1;
-        long = token_len rest s s' k p.0 ready (omega (arith, h, seats)) seats tokens p.1 ∙ is_limit;
+        long = token_len rest s s' k p.0 ready (omega (arith, h, seats)) seats p.1 tokens ∙ is_limit;
         same = same_header rest hs lanes ds s' g k l d at_l at_d;
       }
 

@@ -26,14 +26,12 @@ use Rattle.vcd_body.specs.declared.answer.Stop.{Stop}
 use Rattle.vcd_body.specs.declared.answer.Stop.TheVariants.{Dump as Faulty, Read, Write, Unmatched}
 use Rattle.vcd_merge.specs.declared.seat.Seat.{Seat}
 use Rattle.vcd_body.proofs.Results.{writes-none}
-use Rattle.vcd_merge.proofs.MergeAnswers.{Found, again, are_marked, chunk_len, ended, open_with, spot_source, stopped, taken, token_len, written_with_it}
+use Rattle.vcd_merge.proofs.MergeAnswers.{again, are_marked, ended, open_with, stopped, taken, written_with_it}
 use Rattle.vcd_merge.proofs.InTurn.{go_item, go_still, go_through, in_turn, turn_on}
 use Rattle.vcd_merge.proofs.MergeCounts.{map_set}
 use Rattle.vcd_merge.proofs.MergeSteps.{get_map, same_or_not}
-use Rattle.vcd_merge.proofs.PartLemmas.{get_other, get_set, len_put, parts_same, seated_put, spot_other, spot_put}
-
-same_part : (n n' : ℕ) (t t' : List ℕ) → n' ≡ n → length t' ≡ length t → part_len n' t' ≡ part_len n t
-same_part n n' t t' e l = ap (λ m. m / n') l ∙ ap (λ m. length t / m) e
+use Rattle.vcd_merge.proofs.PartLemmas.{get_other, get_set, len_put, parts_same, same_part, seated_put, spot_other, spot_put}
+use Rattle.vcd_merge.proofs.SpotLemmas.{Found, chunk_len, spot_source, token_len}
 
 -- the merge with one input at a stage
 abbrev lent : (n k : ℕ) → (xs ys : List ℕ) → List ℕ
@@ -273,8 +271,8 @@ module _ {X : Type 0} (rest : X → Option (List ℕ)) (failures : X → ℕ) (h
   there : {A : Type 0} (r : Result A Stop) (t : IsTurned r) → Arrives rest failures hs lanes ds s k before out t.turns.mid
   there r t =
       let spot : spot_at rest s.seats s.sources s.chunks s.tokens k ≡ Some (spot_in rest (stage r t)) = f.spot_there ∙ ap (λ (q : Spot). Some q) t.spot_is in
-      let chunk = ap (λ (q : Spot). length q.chunk) (sym t.spot_is) ∙ chunk_len rest s s k f.spot ready within refl refl f.spot_there in
-      let token = ap (λ (q : Spot). length q.token) (sym t.spot_is) ∙ token_len rest s s k f.spot ready within refl refl f.spot_there in
+      let chunk = ap (λ (q : Spot). length q.chunk) (sym t.spot_is) ∙ chunk_len rest s s k f.spot ready within refl f.spot_there refl in
+      let token = ap (λ (q : Spot). length q.token) (sym t.spot_is) ∙ token_len rest s s k f.spot ready within refl f.spot_there refl in
       arrives rest failures hs lanes ds s holds ready k before f.dump f.lane next f.dump_there f.lane_there early (stage r t) refl refl spot t.source_at chunk token t.turns.mid t.turns.trail
 
   -- what its last step gave
@@ -309,10 +307,10 @@ module _ {X : Type 0} (rest : X → Option (List ℕ)) (failures : X → ℕ) (h
     mid_stay j other = stay j other ∙ sym ((there r t).stay j other)
 
     mid_token : length p.token ≡ part_len (length (there r t).mid.seats) (there r t).mid.tokens
-    mid_token = token_len rest s s' k p ready within many tokens at_p ∙ sym (same_part (length s.seats) (length (there r t).mid.seats) s.tokens (there r t).mid.tokens (there r t).seats (there r t).tokens)
+    mid_token = token_len rest s s' k p ready within many at_p tokens ∙ sym (same_part (length s.seats) (length (there r t).mid.seats) s.tokens (there r t).mid.tokens (there r t).seats (there r t).tokens)
 
     mid_chunk : length p.chunk ≡ part_len (length (there r t).mid.seats) (there r t).mid.chunks
-    mid_chunk = chunk_len rest s s' k p ready within many chunks at_p ∙ sym (same_part (length s.seats) (length (there r t).mid.seats) s.chunks (there r t).mid.chunks (there r t).seats (there r t).chunks)
+    mid_chunk = chunk_len rest s s' k p ready within many at_p chunks ∙ sym (same_part (length s.seats) (length (there r t).mid.seats) s.chunks (there r t).mid.chunks (there r t).seats (there r t).chunks)
 
     runs : (result : Result More Stop) (after : Device) → Gives rest hs lanes (there r t).dumps (there r t).mid s' t.turns.mid.out after result → RunGives rest failures hs lanes alone ds s s' out after result
     runs result after gives = record {

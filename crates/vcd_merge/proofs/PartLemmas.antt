@@ -1,5 +1,5 @@
 -- The parts of the windows, where one of them was written.
-use Rattle.std.proofs.Common.{◌≡◌, ◌≢◌, ℕ, zero, suc, ◌+◌, ◌-◌, ◌*◌, ◌/◌, ◌<◌, ◌≤◌, List, [], ◌∷◌, length, take, drop, slice_get, slice_set, Option, Some, refl, sym, ap, subst, ◌∙◌, arith, ◌⊎◌, inl, inr, length-take, length-drop}
+use Rattle.std.proofs.Common.{◌≡◌, ◌≢◌, ℕ, zero, suc, ◌+◌, ◌-◌, ◌*◌, ◌/◌, ◌<◌, ◌≤◌, List, [], ◌∷◌, length, take, drop, slice_get, slice_set, Option, Some, None, refl, sym, ap, subst, ◌∙◌, arith, ◌⊎◌, inl, inr, length-take, length-drop}
 use Rattle.std.specs.Prelude.{get_or, All}
 use Rattle.std.proofs.lemmas.Option.{slice_get-get_or}
 use Rattle.std.proofs.Math.Nat.{mul-le-mul_left}
@@ -60,6 +60,17 @@ lent_len len n place xs all within = let e = part_ends len n place within in ome
 
 pub part_long : (len n place : ℕ) (xs : List ℕ) → n * len ≡ length xs → place < n → length (part len place xs) ≡ len
 part_long len n place xs all within = let e = part_ends len n place within in omega (arith, length-take len (drop (place * len) xs), length-drop (place * len) xs)
+
+-- parts of as many windows of the same length are as long
+pub same_part : (n n' : ℕ) (xs xs' : List ℕ) → n' ≡ n → length xs' ≡ length xs → part_len n' xs' ≡ part_len n xs
+same_part n n' xs xs' e l = ap (λ m. m / n') l ∙ ap (λ m. length xs / m) e
+
+-- where there is one element, there is no other, and not none
+pub same_some : {A : Type 0} (x y : A) → Some x ≡ Some y → x ≡ y
+same_some x y e = cc
+
+pub none_is : {A : Type 0} (x : A) → None ≡ Some x → ⊥
+none_is x e = cc
 
 -- an element that was set, and the others
 pub get_set : {X : Type 0} (xs : List X) (k : ℕ) (x : X) → k < length xs → slice_get (slice_set xs k x) k ≡ Some x

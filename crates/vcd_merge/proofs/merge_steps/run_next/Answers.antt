@@ -9,7 +9,7 @@ use Rattle.vcd_body.specs.declared.answer.Stop.{Stop}
 use Rattle.vcd_body.specs.declared.answer.Stop.TheVariants.{Read, Write}
 use Rattle.vcd_merge.specs.declared.seat.Seat.{Seat}
 use Rattle.vcd_merge.proofs.PartLemmas.{parts_same}
-use Rattle.vcd_merge.proofs.MergeAnswers.{found}
+use Rattle.vcd_merge.proofs.SpotLemmas.{found}
 use Rattle.vcd_merge.proofs.MergeCounts.{still_counted, still_named, still_written}
 use Rattle.vcd_merge.proofs.MergeTrails.{has_ended, was_cut, was_stopped, went_on}
 use Rattle.vcd_merge.proofs.OrderLemmas.{none_waiting, others_stay, some_waits}

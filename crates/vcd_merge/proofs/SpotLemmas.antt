@@ -1,0 +1,117 @@
+-- What belongs to an input of a merge, before a step of it and after.
+use Rattle.std.proofs.Common.{◌≡◌, ℕ, ◌*◌, ◌<◌, ◌≤◌, ◌⊎◌, List, length, take, slice_get, Option, Some, None, refl, sym, ap, subst, ◌∙◌, arith, inl, inr}
+use Rattle.std.specs.Prelude.{option_map}
+use Rattle.std.proofs.lemmas.Option.{slice_get_within}
+use Rattle.vcd_model.specs.Header.{Header}
+use Rattle.vcd_model.specs.HeadText.{first_number}
+use Rattle.vcd_model.specs.Merge.{Dump, factor}
+use Rattle.vcd_head.specs.Shown.{shown}
+use Rattle.vcd_view.specs.Views.{Views}
+use Rattle.vcd_head.specs.declared.head.Head.{Head}
+use Rattle.vcd_merge.specs.MergeStep.{AreGiven, IsReady, Standing}
+use Rattle.vcd_merge.specs.MergeOrder.{IsNext}
+use Rattle.vcd_merge.specs.MergeParts.{part, part_len, spot_at, spot_of}
+use Rattle.vcd_merge.specs.Seat.{AtSeat, Lane, Spot}
+use Rattle.vcd_merge.specs.declared.seat.Seat.{Seat}
+use Rattle.vcd_merge.proofs.PartLemmas.{part_long}
+use Rattle.vcd_merge.proofs.MergeSteps.{dump_at, lane_at, some_at, seat_spot, spot_seat}
+use Rattle.vcd_merge.proofs.PartLemmas.{same_part, same_some}
+
+-- all that belongs to the input whose turn it is
+pub record Found {X : Type 0} (rest : X → Option (List ℕ)) (hs : List Header) (lanes : List Lane) (ds : List Dump) (s : Standing X) (k : ℕ) : Type 0 where
+  pub lane : Lane
+  pub dump : Dump
+  pub head : Head
+  pub spot : Spot
+  pub lane_there : slice_get lanes k ≡ Some lane
+  pub dump_there : slice_get ds k ≡ Some dump
+  pub head_there : slice_get s.heads k ≡ Some head
+  pub spot_there : spot_at rest s.seats s.sources s.chunks s.tokens k ≡ Some spot
+  pub views : Views (shown head) lane.header
+  pub is : AtSeat (factor hs lane.header) (first_number (take k hs)) lane dump.items spot
+
+pub found : {X : Type 0} (rest : X → Option (List ℕ)) (hs : List Header) (lanes : List Lane) (ds : List Dump) (s : Standing X) (k : ℕ) → AreGiven rest hs lanes ds s → IsReady s → IsNext s.seats k → Found rest hs lanes ds s k
+found rest hs lanes ds s k g ready next =
+    let w = slice_get_within s.seats k next.seat next.there in
+    let l = lane_at rest hs lanes ds s g k w in
+    let d = dump_at rest hs lanes ds s g k w in
+    let h = some_at s.heads k (subst (λ n. k < n) (sym ready.heads) w) in
+    let p = seat_spot rest s k next.seat ready.sources next.there in
+    record {
+      lane = l.0;
+      dump = d.0;
+      head = h.0;
+      spot = p.0;
+      lane_there = l.1;
+      dump_there = d.1;
+      head_there = h.1;
+      spot_there = p.1;
+      views = g.views k h.0 l.0 h.1 l.1;
+      is = g.at k l.0 d.0 p.0 l.1 d.1 p.1;
+    }
+
+-- the parts that a spot has
+chunk_in : (o : Option Seat) (r : Option (Option (List ℕ))) (c t : List ℕ) (p : Spot) → spot_of o r c t ≡ Some p → c ≡ p.chunk
+chunk_in (Some s) (Some rest) c t p e = ap (λ (q : Spot). q.chunk) (same_some (record { seat = s; rest = rest; chunk = c; token = t }) p e)
+chunk_in (Some s) None c t p e = cc
+chunk_in None r c t p e = cc
+
+token_in : (o : Option Seat) (r : Option (Option (List ℕ))) (c t : List ℕ) (p : Spot) → spot_of o r c t ≡ Some p → t ≡ p.token
+token_in (Some s) (Some rest) c t p e = ap (λ (q : Spot). q.token) (same_some (record { seat = s; rest = rest; chunk = c; token = t }) p e)
+token_in (Some s) None c t p e = cc
+token_in None r c t p e = cc
+
+-- how long a part of a window is, by the window before
+part_in : (n n' k : ℕ) (xs xs' ys : List ℕ) → n' ≡ n → length xs' ≡ length xs → n * part_len n xs ≡ length xs → k < n → part (part_len n' xs') k xs' ≡ ys → length ys ≡ part_len n xs
+part_in n n' k xs xs' ys e l all w is =
+    let same : part_len n' xs' ≡ part_len n xs = same_part n n' xs xs' e l in
+    let whole : n' * part_len n' xs' ≡ length xs' = rw (same, e, l) all in
+    ap length (sym is) ∙ part_long (part_len n' xs') n' k xs' whole (omega (arith, w, e)) ∙ same
+
+module _ {X : Type 0} (rest : X → Option (List ℕ)) (s s' : Standing X) (k : ℕ) (p : Spot) (ready : IsReady s) (w : k < length s.seats) (seats : length s'.seats ≡ length s.seats) (at : spot_at rest s'.seats s'.sources s'.chunks s'.tokens k ≡ Some p) where
+  -- how long the part of an input is in the chunks' window, and in the tokens'
+  pub chunk_len : length s'.chunks ≡ length s.chunks → length p.chunk ≡ part_len (length s.seats) s.chunks
+  chunk_len chunks =
+      let n = length s'.seats in
+      part_in (length s.seats) n k s.chunks s'.chunks p.chunk seats chunks ready.parts.chunks_are w
+      (chunk_in (slice_get s'.seats k) (option_map rest (slice_get s'.sources k)) (part (part_len n s'.chunks) k s'.chunks) (part (part_len n s'.tokens) k s'.tokens) p at)
+
+  pub token_len : length s'.tokens ≡ length s.tokens → length p.token ≡ part_len (length s.seats) s.tokens
+  token_len tokens =
+      let n = length s'.seats in
+      part_in (length s.seats) n k s.tokens s'.tokens p.token seats tokens ready.parts.tokens_are w
+      (token_in (slice_get s'.seats k) (option_map rest (slice_get s'.sources k)) (part (part_len n s'.chunks) k s'.chunks) (part (part_len n s'.tokens) k s'.tokens) p at)
+
+rest_in : {X : Type 0} (rest : X → Option (List ℕ)) (o : Option Seat) (x : Option X) (c t : List ℕ) (p : Spot) → spot_of o (option_map rest x) c t ≡ Some p → (y : X) × (x ≡ Some y) × (p.rest ≡ rest y)
+rest_in rest (Some s) (Some y) c t p e = (y, refl, sym (ap (λ (q : Spot). q.rest) (same_some (record { seat = s; rest = rest y; chunk = c; token = t }) p e)))
+rest_in rest (Some s) None c t p e = cc
+rest_in rest None x c t p e = cc
+
+-- the source of a spot
+pub spot_source : {X : Type 0} (rest : X → Option (List ℕ)) (s : Standing X) (k : ℕ) (p : Spot) → spot_at rest s.seats s.sources s.chunks s.tokens k ≡ Some p → (y : X) × (slice_get s.sources k ≡ Some y) × (p.rest ≡ rest y)
+spot_source rest s k p at = rest_in rest (slice_get s.seats k) (slice_get s.sources k) (part (part_len (length s.seats) s.chunks) k s.chunks) (part (part_len (length s.seats) s.tokens) k s.tokens) p at
+
+by_least : (s t j k : ℕ) → (s < t) ⊎ ((s ≡ t) × (j ≤ k)) → (t < s) ⊎ ((t ≡ s) × (k ≤ j)) → j ≡ k
+by_least s t j k (inl x) (inl y) = absurd (omega (arith, x, y))
+by_least s t j k (inl x) (inr y) = let e = y.0 in absurd (omega (arith, x, e))
+by_least s t j k (inr x) (inl y) = let e = x.0 in absurd (omega (arith, e, y))
+by_least s t j k (inr x) (inr y) = let e = x.1 in let f = y.1 in omega (arith, e, f)
+
+-- it is the turn of one input
+pub same_next : (seats : List Seat) (j k : ℕ) → IsNext seats j → IsNext seats k → j ≡ k
+same_next seats j k a b = by_least a.seat.time b.seat.time j k (a.least k b.seat b.there b.unfinished) (b.least j a.seat a.there a.unfinished)
+
+-- seats whose spots stay
+pub seats_stay : {X : Type 0} (rest : X → Option (List ℕ)) (s s' : Standing X) (j : ℕ) → length s.sources ≡ length s.seats → length s'.sources ≡ length s'.seats → spot_at rest s'.seats s'.sources s'.chunks s'.tokens j ≡ spot_at rest s.seats s.sources s.chunks s.tokens j
+    → slice_get s'.seats j ≡ slice_get s.seats j
+seats_stay {X} rest s s' j same sources spots = by_seats (slice_get s.seats j) refl (slice_get s'.seats j) refl
+  where
+    by_seats : (o : Option Seat) → slice_get s.seats j ≡ o → (o' : Option Seat) → slice_get s'.seats j ≡ o' → slice_get s'.seats j ≡ slice_get s.seats j
+    by_seats None e None e' = e' ∙ sym e
+    by_seats (Some y) e o' e' =
+        let p = seat_spot rest s j y same e in
+        spot_seat rest s' j p.0 (spots ∙ p.1) ∙ ap (λ (z : Seat). Some z) p.2 ∙ sym e
+    by_seats None e (Some y) e' =
+        let p = seat_spot rest s' j y sources e' in
+        let there = spot_seat rest s j p.0 (sym spots ∙ p.1) in
+        cc
