@@ -2,10 +2,10 @@
 """prove.py CRATE COMMAND [WORD ..]: proves each crate below crates/CRATE, runs
 `rt COMMAND WORD ..` in it, and shows how far it is.
 
-Crates that do not need each other are proved at the same time, on as many processors as there are,
-and as 4 GB of available memory for each allow. rt locks the folders of a crate and of those below
-it while it works. So what is proved beside another crate is proved in a copy in the temporary
-folder (TMPDIR), most of it links, and what rt built and kept there is moved back.
+Crates that do not need each other are proved at the same time, two at most, on as many processors
+as there are, and as 4 GB of available memory for each allow. rt locks the folders of a crate and of
+those below it while it works. So what is proved beside another crate is proved in a copy in the
+temporary folder (TMPDIR), most of it links, and what rt built and kept there is moved back.
 
 What rt and the prover write goes to the file make.log of the top folder, with what the program
 writes, each line after its crate's name. The screen has a line for each crate that was proved:
@@ -184,12 +184,16 @@ class Proof:
             above = [self.chain[it] for it in self.order if name in self.below[it]]
             self.chain[name] = sum(map(os.path.getsize, sources_of(name))) + max(above, default=0)
 
+    def is_alone(self, crate):
+        """Returns whether no other crate can be proved beside this one."""
+        return all(other == crate or other in self.below[crate] or crate in self.below[other]
+                   for other in self.order)
+
     def jobs(self, crate):
-        """Returns the processors for a crate: half of them, or all if no other can be proved beside
-        it."""
-        is_alone = all(other == crate or other in self.below[crate] or crate in self.below[other]
-                       for other in self.order)
-        return self.lanes if is_alone else max(self.lanes // 2, 1)
+        """Returns how many processes prove a crate: as many as processors, or three quarters of
+        these where another can be proved beside it. The last functions of a proof wait for one
+        another, so that two such proofs together want no more processors than there are."""
+        return self.lanes if self.is_alone(crate) else max(3 * self.lanes // 4, 1)
 
     def start(self, crate, words, **how):
         is_free = all(run.room for run in self.running)
@@ -201,12 +205,12 @@ class Proof:
             Run(crate, words, self.said, None if is_free else self.below[crate], **how))
 
     def start_libraries(self):
-        """Starts the proofs of the libraries that can start now, those with most above them first.
-        Where one is proved at a time, rt chooses by itself how many processors it uses."""
+        """Starts the proofs of the libraries that can start now, those with most above them first,
+        up to two at the same time. Where one is proved at a time, rt chooses by itself how many
+        processors it uses."""
         lacking = {*self.left, *(run.crate for run in self.running)}
         for crate in sorted(self.left[:-1], key=self.chain.get, reverse=True):
-            free = self.lanes - sum(self.jobs(run.crate) for run in self.running)
-            if not lacking & self.below[crate] and self.jobs(crate) <= free:
+            if not lacking & self.below[crate] and len(self.running) < min(self.lanes, 2):
                 flags = ["--jobs", str(self.jobs(crate))] if self.lanes > 1 else []
                 self.start(crate, ["lib", *flags], stdin=subprocess.DEVNULL)
 
