@@ -1,6 +1,3 @@
-mod AskedLemmas
-mod AskedRows
 mod MemoryLemmas
-mod OpensLemmas
 mod RunsLemmas
 mod Statuses

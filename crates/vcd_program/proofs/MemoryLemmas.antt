@@ -14,11 +14,11 @@ use Rattle.vcdkit.specs.Message.{Shows, unopened_outcome}
 use Rattle.vcdkit.specs.Run.{AreRead, IsOutcome, header_behind}
 use Rattle.vcdkit.specs.Run.IsOutcome.{Whole, Part}
 use Rattle.vcd_program.specs.Memory.{End, HaveTexts, IsLeft, IsLeftBy, IsLeftOf, IsOutOfMemory, OpensIn, bytes_among, noted}
-use Rattle.vcd_program.specs.Opens.{Opens, called}
-use Rattle.vcd_program.specs.Asked.{inputs_asked}
+use Rattle.vcd_host.specs.Opens.{Opens, called}
+use Rattle.vcd_host.specs.Asked.{inputs_asked}
 use Rattle.vcd_program.specs.Runs.{Fails, Finishes, Leaves, Runs, RunsOn, answer_outcome}
 use Rattle.vcd_words.specs.Words.{words_used}
-use Rattle.vcd_program.specs.declared.host.OpenFault.TheVariants.{Unopened}
+use Rattle.vcd_host.specs.declared.host.OpenFault.TheVariants.{Unopened}
 use Rattle.vcd_text.specs.declared.device.Bytes.{Bytes}
 use Rattle.vcd_program.specs.declared.memory.Memory.{Memory}
 use Rattle.vcd_program.specs.declared.memory.MemoryFile.{MemoryFile}

@@ -21,14 +21,14 @@ use Rattle.vcd_words.specs.declared.job.Want as job
 use Rattle.vcdkit.specs.Message.{Shows, unopened_outcome, use_outcome}
 use Rattle.vcdkit.specs.Run.{HasRun, IsOutcome}
 use Rattle.vcdkit.specs.Run.IsOutcome.{Whole, Part}
-use Rattle.vcd_program.specs.Opens.{Opens, OpensSome, OpensUpTo, StopsAmong, called, text_of}
+use Rattle.vcd_host.specs.Opens.{Opens, OpensSome, OpensUpTo, StopsAmong, called, text_of}
 use Rattle.vcd_program.specs.Runs.{Answers, EndsSo, Finishes, Leaves, Runs, names_wanted}
-use Rattle.vcd_program.specs.declared.host.OpenFault.{OpenFault}
-use Rattle.vcd_program.specs.declared.opened.OpenStop.{OpenStop}
-use Rattle.vcd_program.specs.declared.opened.OpenStop.TheVariants as stop
+use Rattle.vcd_host.specs.declared.host.OpenFault.{OpenFault}
+use Rattle.vcd_host.specs.declared.opened.OpenStop.{OpenStop}
+use Rattle.vcd_host.specs.declared.opened.OpenStop.TheVariants as stop
 use Rattle.std.specs.Borrow.{Bor}
 use Rattle.std.proofs.lemmas.List.{length-map}
-use Rattle.vcd_program.proofs.AskedLemmas.{wants_merge}
+use Rattle.vcd_host.proofs.AskedLemmas.{wants_merge}
 
 -- ---- devices
 

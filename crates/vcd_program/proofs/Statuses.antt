@@ -11,9 +11,9 @@ use Rattle.vcdkit.specs.Message.{unopened_outcome}
 use Rattle.vcdkit.proofs.Statuses.{end-low}
 use Rattle.vcdkit.specs.Run.{IsOutcome}
 use Rattle.vcdkit.specs.Run.IsOutcome.{Whole, Part}
-use Rattle.vcd_program.specs.Opens.{called}
+use Rattle.vcd_host.specs.Opens.{called}
 use Rattle.vcd_program.specs.Runs.{Answers, Finishes, Runs, RunsOn, answer_outcome}
-use Rattle.vcd_program.specs.declared.host.OpenFault.{OpenFault}
+use Rattle.vcd_host.specs.declared.host.OpenFault.{OpenFault}
 use Rattle.vcd_program.proofs.RunsLemmas.{command-refused, statuses}
 
 outcome-low : (o : Outcome) (out out' err err' : Device) (status : ℕ) → o.status ≤ 3 → IsOutcome o out out' err err' status → status ≤ 3

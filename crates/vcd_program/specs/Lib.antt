@@ -1,7 +1,3 @@
-pub mod Buffer
-pub mod Buffered
-pub mod Asked
-pub mod Opens
 pub mod Runs
 pub mod Memory
 pub mod Names

@@ -11,11 +11,11 @@ use Rattle.vcd_model.specs.Words.{Words, UseFault, Job, command_outcome, job_of}
 use Rattle.vcd_text.specs.Answer.{whole}
 use Rattle.vcd_words.specs.Words.{program_app, words_used}
 use Rattle.vcdkit.specs.Message.{unopened_outcome}
-use Rattle.vcd_program.specs.Opens.{called}
-use Rattle.vcd_program.specs.Asked.{inputs_asked}
+use Rattle.vcd_host.specs.Opens.{called}
+use Rattle.vcd_host.specs.Asked.{inputs_asked}
 use Rattle.vcd_program.specs.Runs.{answer_outcome}
-use Rattle.vcd_program.specs.declared.host.OpenFault.{OpenFault}
-use Rattle.vcd_program.specs.declared.host.OpenFault.TheVariants.{Unopened, OutOfMemory}
+use Rattle.vcd_host.specs.declared.host.OpenFault.{OpenFault}
+use Rattle.vcd_host.specs.declared.host.OpenFault.TheVariants.{Unopened, OutOfMemory}
 use Rattle.vcd_text.specs.declared.device.Bytes.{Bytes}
 use Rattle.vcd_program.specs.declared.memory.Left.{Left}
 use Rattle.vcd_program.specs.declared.memory.Memory.{Memory}

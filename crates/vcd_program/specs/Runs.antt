@@ -17,9 +17,9 @@ use Rattle.vcd_words.specs.Words.{parse_status_of, program_app, words_used}
 use Rattle.vcdkit.specs.Failure.{CountsReads, writes_failed}
 use Rattle.vcdkit.specs.Message.{Shows, end_message, end_status, unopened_outcome}
 use Rattle.vcdkit.specs.Run.{AreNeeded, AreRead, IsOutcome}
-use Rattle.vcd_program.specs.Asked.{inputs_asked}
-use Rattle.vcd_program.specs.Opens.{Opens, OpensSome, OpensUpTo, called}
-use Rattle.vcd_program.specs.declared.host.OpenFault.{OpenFault}
+use Rattle.vcd_host.specs.Asked.{inputs_asked}
+use Rattle.vcd_host.specs.Opens.{Opens, OpensSome, OpensUpTo, called}
+use Rattle.vcd_host.specs.declared.host.OpenFault.{OpenFault}
 
 -- ---- what a job leaves
 

@@ -2,12 +2,10 @@
 ghost use Rattle.std.specs.Prelude.{◌≡◌, ◌-◌, ◌^◌, ◌<◌, ◌≤◌, ◌+◌, map, string_bytes};
 ghost use Rattle.vcd_program.specs.Names.{Answers, AsksFor, Finishes, kind_of, MayFailOnce, RunsMatches, RunsOn, RunsWords};
 
-use crate::asked::inputs_of;
-use crate::host::{Host, Output};
-use crate::opened::{OpenStop, called, open_inputs};
 use clap::{ArgMatches, Error};
 use std::alloc::{AllocError, Global};
 use std::hash::BuildHasher;
+use vcd_host::{Host, OpenStop, Output, called, inputs_of, open_inputs};
 use vcd_text::{Sink, put};
 use vcd_words::{Job, UseFault, command_of, job_of, parse_status};
 use vcdkit::{open_fault, run_with_hasher, use_fault, write_fault};

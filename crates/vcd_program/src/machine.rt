@@ -2,14 +2,13 @@
 ghost use Rattle.std.specs.Prelude.{◌≡◌, ◌-◌, ◌^◌, ◌<◌, ◌≤◌, ⊤};
 ghost use Rattle.vcd_program.specs.Names.{failed_calls};
 
-use crate::buffered::Buffered;
 use crate::command_line::run_program;
-use crate::host::{Host, OpenFault};
 use std::env::Env;
 use std::fs::File;
 use std::hash::{BuildHasher, BuildHasherDefault, FoldHasher, RandomState};
 use std::io::{ErrorKind, Read, Stdin};
 use std::{env, io};
+use vcd_host::{Buffered, Host, OpenFault};
 use vcd_text::{Sink, Watch};
 use vcd_words::UseFault;
 use vcdkit::{Again, use_fault};

@@ -1,12 +1,12 @@
 //! A host in memory: files by name and standard input, as bytes.
-ghost use Rattle.std.specs.Prelude.{◌≡◌, IfOk, OnOk, map, option_map, string_bytes, Some, ◌++◌, ◌∷◌, [], true};
+ghost use Rattle.std.specs.Prelude.{◌≡◌, IfOk, OnOk, map, option_map, string_bytes, Some, ◌++◌, ◌∷◌, []};
 ghost use Rattle.vcd_program.specs.Names.{bytes_in, bytes_named, end_of, IsLeftBy, noted, OpensIn, text_of};
 
 use crate::command_line::run_program;
-use crate::host::{Host, OpenFault, Output};
 use std::alloc::{AllocError, Global};
 use std::hash::{BuildHasher, BuildHasherDefault, FoldHasher};
-use vcd_text::{Bytes, Sink, Watch, WriteFailed};
+use vcd_host::{Host, OpenFault};
+use vcd_text::{Bytes, Sink, Watch};
 
 /// A file in memory.
 #[repr(C)]
@@ -86,15 +86,6 @@ impl<'a> Host for Memory<'a> {
             Some(rest) => Ok(Bytes { rest }),
             None => Err(OpenFault::Unopened),
         }
-    }
-}
-
-/// It keeps nothing in a buffer.
-impl Output for Watch<Vec<u8>> {
-    ghost flushes = { λ old done new. (done ≡ true) × (new ≡ old) };
-
-    fn flush(&mut self) -> Result<(), WriteFailed> {
-        Ok(())
     }
 }
 

@@ -2,7 +2,7 @@
 use std::alloc::{AllocError, Global};
 use std::io;
 use std::io::Write;
-use vcd_program::{Buffered, Output};
+use vcd_host::{Buffered, Output};
 use vcd_text::{Sink, put, put_few, put_parts};
 
 // Notes how many bytes each write brings. It takes 3,000 of them at most where it is `narrow`, and

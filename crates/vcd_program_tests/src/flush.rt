@@ -2,7 +2,8 @@
 use super::command_lines::words_of;
 use std::alloc::{AllocError, Global};
 use std::hash::{BuildHasherDefault, FoldHasher};
-use vcd_program::{Buffered, Memory, run_program};
+use vcd_host::Buffered;
+use vcd_program::{Memory, run_program};
 use vcd_text::Watch;
 use vcd_text::doubles::Narrow;
 

@@ -1,6 +1,6 @@
 // A program that is given one step at a time: before it reads on, it has written what is due.
 ghost use Rattle.std.specs.Prelude.{ℕ, List, Option, Result};
-ghost use Rattle.vcd_program.specs.declared.host.OpenFault.{OpenFault};
+ghost use Rattle.vcd_host.specs.declared.host.OpenFault.{OpenFault};
 
 use super::command_lines::words_of;
 use std::alloc::{AllocError, Global};
@@ -8,7 +8,8 @@ use std::cell::Cell;
 use std::hash::{BuildHasherDefault, FoldHasher};
 use std::io;
 use std::io::{Read, Write};
-use vcd_program::{Buffered, Host, OpenFault, run_program};
+use vcd_host::{Buffered, Host, OpenFault};
+use vcd_program::run_program;
 use vcd_text::Watch;
 
 // The bytes of a step, and the text that is due with them.

@@ -2,11 +2,11 @@ use Rattle.std.proofs.Common.{rules, ◌≡◌, length, map, ap, sym, subst, ◌
 use Rattle.vcd_words.specs.Job.{model_want, names_asked}
 use Rattle.vcd_words.specs.Words.{words_used}
 use Rattle.vcdkit.specs.Message.{unopened_outcome, Shows}
-use Rattle.vcd_program.specs.Asked.{inputs_asked, inputs_for}
-use Rattle.vcd_program.specs.Opens.{called, text_of, Opens}
-use Rattle.vcd_program.specs.declared.opened.OpenStop.TheVariants as stop
-use Rattle.vcd_program.proofs.AskedLemmas.{asked-is}
-use Rattle.vcd_program.proofs.OpensLemmas.{opens-many}
+use Rattle.vcd_host.specs.Asked.{inputs_asked, inputs_for}
+use Rattle.vcd_host.specs.Opens.{called, text_of, Opens}
+use Rattle.vcd_host.specs.declared.opened.OpenStop.TheVariants as stop
+use Rattle.vcd_host.proofs.AskedLemmas.{asked-is}
+use Rattle.vcd_host.proofs.OpensLemmas.{opens-many}
 use Rattle.vcd_program.proofs.RunsLemmas.{memory-shown, memory-stopped, merge-same, names-many, names-same, no-memory, ran, stopped}
 use Rattle.vcd_program.proofs.command_line.run_job.Goals as goal
 

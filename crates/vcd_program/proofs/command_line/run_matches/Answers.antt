@@ -1,5 +1,5 @@
 use Rattle.vcd_words.specs.Words.{words_used}
-use Rattle.vcd_program.specs.Asked.{inputs_asked}
+use Rattle.vcd_host.specs.Asked.{inputs_asked}
 use Rattle.vcd_program.proofs.RunsLemmas.{refused}
 use Rattle.vcd_program.proofs.command_line.run_matches.Goals as goal
 

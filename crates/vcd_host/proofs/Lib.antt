@@ -1,0 +1,3 @@
+pub mod AskedLemmas
+mod AskedRows
+pub mod OpensLemmas

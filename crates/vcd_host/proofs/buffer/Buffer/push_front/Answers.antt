@@ -1,0 +1,24 @@
+use Rattle.std.proofs.Common.{◌≡◌, ◌+◌, ◌∙◌, ◌++◌, ℕ, List, ap, sym, length, take, drop, arith}
+use Rattle.std.proofs.lemmas.List.{length-take-le, take-take}
+use Rattle.std.proofs.Math.Seq.{take-append-add, take-append_seam}
+use Rattle.vcd_host.proofs.buffer.Buffer.push_front.Goals as goal
+
+pub returns : goal.returns
+returns c =
+    let b = c.args.self.now in
+    let xs = c.deref_mut.result.now in
+    let from = c.args.from.now in
+    let n = c.args.n in
+    let few = c.requires.few in
+    let room = c.requires.room in
+    let value = c.deref_mut.ensures.value in
+    let held : length (take b.len xs) ≡ b.len = length-take-le b.len xs (omega (arith, ap length value, b.size, room)) in
+    let new = c.copy_short.new.to in
+    let all : b.bytes.len ≡ length new = omega (arith, c.copy_short.ensures.long, c.deref_mut.ensures.len, b.size) in
+    ap (take (b.len + n)) (ap (λ k. take k (new ++ drop (length new) b.bytes.items)) all ∙ take-append_seam new (drop (length new) b.bytes.items))
+    ∙ sym (take-take (b.len + n) (b.len + 64) new (omega (arith, few)))
+    ∙ ap (take (b.len + n)) c.copy_short.ensures.copied
+    ∙ ap (λ k. take (k + n) (take b.len xs ++ take 64 from)) (sym held)
+    ∙ take-append-add (take b.len xs) (take 64 from) n
+    ∙ ap (λ (l : List ℕ). take b.len xs ++ l) (take-take n 64 from few)
+    ∙ ap (λ (l : List ℕ). take b.len l ++ take n from) value

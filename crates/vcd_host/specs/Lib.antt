@@ -1,0 +1,5 @@
+pub mod Buffer
+pub mod Buffered
+pub mod Asked
+pub mod Opens
+pub mod Names

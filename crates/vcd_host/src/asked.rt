@@ -1,0 +1,46 @@
+//! Which inputs words ask for.
+ghost use Rattle.std.specs.Prelude.{◌≡◌, IfOk, map, option_and_then};
+ghost use Rattle.vcd_host.specs.Names.{input_asked, input_named, inputs_for, text_of};
+
+use clap::ArgMatches;
+use std::alloc::{AllocError, Global};
+use vcd_words::{files_of, input_of};
+
+/// Returns the input that a word for a file names. It is none for `-`, which is standard input.
+fn input_named(word: &str) -> Option<&str>
+    ensures { text_of result ≡ input_named word.now }
+{
+    if word == "-" {
+        return None;
+    }
+    Some(word)
+}
+
+/// Returns the only input of a command: that of its word, standard input where it has none.
+fn only_input<'a>(matches: &ArgMatches<'a>) -> Option<&'a str>
+    ensures { text_of result ≡ option_and_then input_named (input_asked matches.now) }
+{
+    input_named(input_of(matches)?)
+}
+
+/// Returns the inputs that the matches name, for a merge or for another job.
+pub fn inputs_of<'a>(
+    alloc: Global,
+    merge: bool,
+    matches: &ArgMatches<'a>,
+) -> Result<Vec<Option<&'a str>>, AllocError>
+    ensures { IfOk result (λ inputs. map text_of inputs.items ≡ inputs_for merge matches.now) }
+{
+    let mut inputs = Vec::new(alloc);
+    if !merge {
+        inputs.push(only_input(matches))?;
+        return Ok(inputs);
+    }
+    let Some(files) = files_of(matches) else {
+        return Ok(inputs);
+    };
+    for file in files {
+        inputs.push(input_named(file))?;
+    }
+    Ok(inputs)
+}

@@ -1,0 +1,193 @@
+//! Bytes that wait, in memory that is taken once.
+ghost use Rattle.std.specs.Prelude.{◌≡◌, ◌+◌, ◌-◌, ◌<◌, ◌≤◌, ◌∷◌, ◌++◌, [], true, length, take, drop, vec_len, IfOk};
+
+use std::alloc::{AllocError, Global};
+use std::simd::prelude::*;
+
+/// The most bytes that wait.
+// 65,536 are no faster, and a reader of a live pipe would wait longer.
+pub(crate) const ROOM: usize = 8_192;
+
+/// The most bytes that are copied by one copy of this many, whatever their number.
+const SHORT: usize = 64;
+
+/// As many bytes as one copy brings to the buffer as a number.
+pub(crate) const FEW: usize = 8;
+
+/// The most bytes that `push_parts` copies.
+const PARTS: usize = 1 + SHORT + FEW;
+
+/// The bytes that a sink has taken and its device has not, one after the other.
+#[derive(Drop)]
+pub(crate) struct Buffer {
+    bytes: Vec<u8>,
+    pub(crate) len: usize,
+    ghost size: { vec_len bytes ≡ 8192 },
+    ghost room: { len ≤ 8192 },
+}
+
+/// Copies bytes over as many others.
+// As many as `merge` writes most often are read before one is written: else the compiler asks
+// whether the two overlap. `merge` of scalars takes 135.6 an item, without these arms 142.4.
+#[inline(always)]
+fn copy(from: &[u8], to: &mut [u8])
+    requires { length to.old ≡ length from.now }
+    ensures { to.new ≡ from.now }
+{
+    match *from {
+        [a] => to[0] = a,
+        [a, b, c] => {
+            to[0] = a;
+            to[1] = b;
+            to[2] = c;
+        }
+        [a, b, c, d] => {
+            to[0] = a;
+            to[1] = b;
+            to[2] = c;
+            to[3] = d;
+        }
+        [a, b, c, d, e] => {
+            to[0] = a;
+            to[1] = b;
+            to[2] = c;
+            to[3] = d;
+            to[4] = e;
+        }
+        _ => to.copy_from_slice(from),
+    }
+}
+
+/// Copies the first 64 bytes to an offset.
+#[inline(always)]
+fn copy_short(to: &mut [u8], place: usize, from: &[u8])
+    requires room { place + 64 ≤ length to.old }
+    requires there { 64 ≤ length from.now }
+    ensures long { length to.new ≡ length to.old }
+    ensures copied { take (place + 64) to.new ≡ take place to.old ++ take 64 from.now }
+{
+    u8x64::from_slice(from).copy_to_slice(&mut to[place..]);
+}
+
+/// Returns these bytes, brought together in a number, so that one write copies them.
+#[inline(always)]
+fn together(bytes: [u8; 8]) -> [u8; 8]
+    ensures { result ≡ bytes }
+{
+    u64::from_le_bytes(bytes).to_le_bytes()
+}
+
+/// Copies these bytes to an offset.
+#[inline(always)]
+fn copy_few(to: &mut [u8], place: usize, from: [u8; 8])
+    requires room { place + 8 ≤ length to.old }
+    ensures long { length to.new ≡ length to.old }
+    ensures copied { take (place + 8) to.new ≡ take place to.old ++ from }
+{
+    to[place..place + 8].copy_from_slice(&together(from));
+}
+
+/// Copies a byte, the first n of `from` and the eight of `end` to an offset.
+// The front is always one copy of 64: a copy of a length that is not known is a call, 12.2 more an
+// item of Verilator's.
+#[inline(always)]
+fn copy_parts(to: &mut [u8], place: usize, first: u8, from: &[u8], n: usize, end: [u8; 8])
+    requires few { n ≤ 64 }
+    requires there { 64 ≤ length from.now }
+    requires room { place + 73 ≤ length to.old }
+    ensures long { length to.new ≡ length to.old }
+    ensures copied { take (place + 1 + n + 8) to.new
+        ≡ take place to.old ++ (first ∷ take n from.now ++ end) }
+{
+    to[place] = first;
+    copy_short(to, place + 1, from);
+    copy_few(to, place + 1 + n, end);
+}
+
+impl Buffer {
+    ghost use Rattle.vcd_host.specs.Buffer.{kept};
+
+    /// Returns a buffer in which no byte waits.
+    pub(crate) fn new(alloc: Global) -> Result<Buffer, AllocError>
+        ensures { IfOk result (λ buffer. kept buffer ≡ []) }
+    {
+        let bytes = vec![in alloc; 0u8; ROOM]?;
+        Ok(Buffer { bytes, len: 0 })
+    }
+
+    /// Returns the bytes that wait.
+    pub(crate) fn as_slice(&self) -> &[u8]
+        ensures { result.now ≡ kept self.now }
+    {
+        &self.bytes[..self.len]
+    }
+
+    /// Appends bytes, for which there is room.
+    #[inline(always)]
+    pub(crate) fn push(&mut self, from: &[u8])
+        requires { self.old.len + length from.now ≤ 8192 }
+        ensures { kept self.new ≡ kept self.old ++ from.now }
+    {
+        let end = self.len + from.len();
+        copy(from, &mut self.bytes[self.len..end]);
+        self.len = end;
+    }
+
+    /// Appends the first n of these bytes, by one copy of all of them.
+    #[inline(always)]
+    pub(crate) fn push_few(&mut self, bytes: [u8; 8], n: usize)
+        requires few { n ≤ 8 }
+        requires room { self.old.len + 8 ≤ 8192 }
+        ensures { kept self.new ≡ kept self.old ++ take n bytes }
+    {
+        copy_few(&mut self.bytes, self.len, bytes);
+        self.len += n;
+    }
+
+    /// Returns whether n bytes may be pushed as the front of these by `push_front` and
+    /// `push_parts`: they are few, and there is room for as many as those copy.
+    #[inline(always)]
+    pub(crate) fn has_room(&self, from: &[u8], n: usize) -> bool
+        ensures few { result ≡ true → n ≤ 64 }
+        ensures there { result ≡ true → 64 ≤ length from.now }
+        ensures room { result ≡ true → self.now.len + 73 ≤ 8192 }
+    {
+        n <= SHORT && from.len() >= SHORT && self.len <= ROOM - PARTS
+    }
+
+    /// Appends the first n of these bytes, by one copy of 64.
+    #[inline(always)]
+    pub(crate) fn push_front(&mut self, from: &[u8], n: usize)
+        requires few { n ≤ 64 }
+        requires there { 64 ≤ length from.now }
+        requires room { self.old.len + 64 ≤ 8192 }
+        ensures { kept self.new ≡ kept self.old ++ take n from.now }
+    {
+        copy_short(&mut self.bytes, self.len, from);
+        self.len += n;
+    }
+
+    /// Appends a byte, the first n of `from` and the first m of `end`, by copies of known lengths.
+    #[inline(always)]
+    pub(crate) fn push_parts(&mut self, first: u8, from: &[u8], n: usize, end: [u8; 8], m: usize)
+        requires few { n ≤ 64 }
+        requires end { m ≤ 8 }
+        requires there { 64 ≤ length from.now }
+        requires room { self.old.len + 73 ≤ 8192 }
+        ensures { kept self.new ≡ kept self.old ++ (first ∷ take n from.now ++ take m end) }
+    {
+        let place = self.len;
+        copy_parts(&mut self.bytes, place, first, from, n, end);
+        self.len = place + 1 + n + m;
+    }
+
+    /// Removes the first n bytes.
+    pub(crate) fn remove_front(&mut self, n: usize)
+        requires { n ≤ self.old.len }
+        ensures kept { kept self.new ≡ drop n (kept self.old) }
+        ensures len { self.new.len ≡ self.old.len - n }
+    {
+        self.bytes.copy_within(n..self.len, 0);
+        self.len -= n;
+    }
+}

@@ -1,0 +1,50 @@
+//! What a program is run in: where its inputs are opened, and where its output goes.
+ghost use Rattle.std.specs.Prelude.{◌≡◌, ℕ, Bool, List, Option, IfOk, is_ok, option_map, Result, true};
+ghost use Rattle.vcd_host.specs.Names.{Keeps, OpenFault};
+
+use vcd_text::{Sink, Source, Watch, WriteFailed};
+
+/// Why there is no input.
+#[derive(Clone, Copy, PartialEq, Eq, Debug)]
+pub enum OpenFault {
+    /// The input cannot be opened.
+    Unopened,
+    /// Memory ran out.
+    OutOfMemory,
+}
+
+/// Where inputs are opened.
+pub trait Host {
+    /// An input that is open.
+    type Input: Source + Drop;
+
+    // What a call of `open` with this name may return, and what it leaves the host. A contract that
+    // speaks of it for every host says which calls were made: there is no other way to it.
+    ghost opens: { Self → Option (List ℕ) → Result Self.Input OpenFault → Self → Type 0 };
+
+    /// Opens the file of this name, or standard input where there is none.
+    fn open(&mut self, name: Option<&str>) -> Result<Self::Input, OpenFault>
+        ensures opens { opens self.old (option_map (λ n. n.now) name.entry) result self.new }
+        ensures fresh { IfOk result (λ input. Self.Input.failures input ≡ 0) };
+}
+
+/// A sink that may keep bytes in a buffer until it is flushed.
+pub trait Output: Sink {
+    // What a call of `flush` leaves the sink, where it is done and where it fails.
+    ghost flushes: { Self → Bool → Self → Type 0 };
+
+    /// Passes on what is in the buffer. It is no write that is counted.
+    fn flush(&mut self) -> Result<(), WriteFailed>
+        ensures flushes { flushes self.old (is_ok result) self.new }
+        ensures held { Keeps (Self.device self.old).held (Self.device self.new).held }
+        ensures failures { (Self.device self.new).failures ≡ (Self.device self.old).failures };
+}
+
+/// It keeps nothing in a buffer.
+impl Output for Watch<Vec<u8>> {
+    ghost flushes = { λ old done new. (done ≡ true) × (new ≡ old) };
+
+    fn flush(&mut self) -> Result<(), WriteFailed> {
+        Ok(())
+    }
+}

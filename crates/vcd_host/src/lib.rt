@@ -1,0 +1,28 @@
+//! What the program is run in: where its inputs come from, and where its output goes.
+//!
+//! `inputs_of` returns which inputs the matches of a command line name, and `open_inputs` opens
+//! them on a `Host`, in order, up to the first that cannot be opened. `Buffered` is an `Output`
+//! over any device of `std::io::Write`.
+//!
+//! # The modules
+//!
+//! - `host`: `Host` and `Output`
+//! - `asked`: which inputs the words ask for
+//! - `opened`: inputs that are opened one by one
+//! - `buffer`: bytes that wait, in memory that is taken once
+//! - `buffered`: an output whose bytes wait in a buffer
+//!
+//! In `specs/`: `Asked`; `Opens`, which inputs were opened; `Buffer`, `Buffered`, what an output
+//! has taken.
+#![tactic(auto)]
+
+mod asked;
+mod buffer;
+mod buffered;
+mod host;
+mod opened;
+
+pub use asked::inputs_of;
+pub use buffered::Buffered;
+pub use host::{Host, OpenFault, Output};
+pub use opened::{OpenStop, Opened, called, open_inputs};

@@ -1,9 +1,0 @@
--- What was taken by a sink with a buffer.
-use Rattle.std.specs.Prelude.{ℕ, List, Option}
-use Rattle.std.specs.Io.KnownBytes.{append_known}
-use Rattle.vcd_program.specs.Buffer.{kept}
-use Rattle.vcd_program.specs.declared.buffered.Buffered.{Buffered}
-
--- the bytes of the device and then those that wait, where the former are known
-abbrev pub taken : {D : Type 0} → (D → Option (List ℕ)) → Buffered D → Option (List ℕ)
-taken contents sink = append_known (contents sink.device) (kept sink.buffer)
