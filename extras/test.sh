@@ -114,6 +114,9 @@ same 'vcdkit-table: real numbers' 'time (ns),level
 3,1e-09
 5,nan' "$(sed 's/r0.5/rInf/; s/bxx1 !/r1e-9 "/; s/r-1e3/rNaN/' "$folder/small.vcd" |
     vcdkit-table - level)"
+same 'vcdkit-table: a text that is no number' 'time (ns),level
+0,foo
+5,-1000' "$(sed 's/r0.5/rfoo/' "$folder/small.vcd" | vcdkit-table --hex - level)"
 same 'vcdkit-table --decimal, ticks' 'time (tick),q
 3,xxxxx1
 5,42' "$(vcdkit-table --decimal --unit tick "$folder/small.vcd" q)"

@@ -154,6 +154,12 @@ class Questions:
         times, values = Dump(NESTED).changes("bench.level")
         self.assertEqual((plain(times)[:3], plain(values)[:3]), ([0, 50, 150], [0, 0.25, 0.5]))
 
+    def test_a_real_text_that_is_no_number(self):
+        dump = Dump(b"$var real 64 ! q $end\n$enddefinitions $end\n#0\nrfoo !\n#1\nr1e3 !\n")
+        self.assertEqual(dump.sample([0, 1]), {0: {"q": "foo"}, 1: {"q": 1000.0}})
+        self.assertEqual(list(dump.rows("q")), [(0, ["foo"]), (1, [1000.0])])
+        self.assertEqual(list(map(str, plain(dump.changes("q")[1]))), ["nan", "1000.0"])
+
     def test_changes_are_those_of_another_reader(self):
         tried = 0
         for dump in dumps():

@@ -4,7 +4,7 @@ import re
 from typing import BinaryIO, Iterator, List, NamedTuple, Optional, Tuple
 
 from .times import Timescale
-from .values import Signal, Value, extension
+from .values import Signal, Value, extension, real
 
 BLOCK = 1 << 22
 BODY = b"$enddefinitions $end\n"
@@ -69,8 +69,9 @@ def full(text: str, size: int) -> Value:
 
 
 def value(text: bytes, signal: Signal):
-    """Returns the Value or the float that a body has for a signal."""
-    return (float(text[1:]) if text[:1] == b"r" else full(text.decode(), signal.size))
+    """Returns the Value or the real number that a body has for a signal."""
+    return (real(text[1:].decode(errors="backslashreplace")) if text[:1] == b"r"
+            else full(text.decode(), signal.size))
 
 
 def number(one):
@@ -96,8 +97,8 @@ def changes(out: BinaryIO, signal: Signal, digits: bool, numpy):
     seen = {line: value(line.split(b" ")[0].lstrip(b"b") if line[:1] in b"br" else line[:1], signal)
             for line in set(lines)}
     if signal.is_real:  # a dump may give it digits too
-        seen = {line: float("nan" if number(one) is None else number(one))
-                for line, one in seen.items()}
+        seen = {line: float("nan") if number(one) is None or isinstance(number(one), str)
+                else float(number(one)) for line, one in seen.items()}
     elif not digits and signal.size <= 64:
         seen = {line: number(one) for line, one in seen.items()}
     values = [seen[line] for line in lines]

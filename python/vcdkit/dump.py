@@ -187,9 +187,9 @@ class Dump:
                ) -> Dict[Time, Dict[str, Any]]:
         """Returns of each time, as it was given, the value of each path at its end.
 
-        A value is a Value; a float of a real number; None where there is none yet. Times may come
-        in any order. Without names all signals are sampled; events have no value. Of variables
-        with one path the last one counts."""
+        A value is a Value; a float of a real number, or its text where that is none; None where
+        there is none yet. Times may come in any order. Without names all signals are sampled;
+        events have no value. Of variables with one path the last one counts."""
         asked = {time: self.ticks(time) for time in
                  ([times] if isinstance(times, (numbers.Number, str)) else times)}
         every = sorted(set(asked.values()))

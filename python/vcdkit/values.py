@@ -66,6 +66,15 @@ def extension(digits: str) -> str:
     return "0" if digits[0] == "1" else digits[0]
 
 
-def value_of(text: str) -> Union[Value, float, None]:
+def real(text: str) -> Union[float, str]:
+    """Returns a real number. A dump may have a text there that is none: that is returned as it
+    is."""
+    try:
+        return float(text)
+    except ValueError:
+        return text
+
+
+def value_of(text: str) -> Union[Value, float, str, None]:
     """Returns the value that `sample` writes: digits, `r` and a real number, or `-`."""
-    return None if text == "-" else float(text[1:]) if text[0] == "r" else Value(text)
+    return None if text == "-" else real(text[1:]) if text[0] == "r" else Value(text)

@@ -168,7 +168,10 @@ def same(one, other):
     """Whether two values are the same; real numbers are compared as numbers, and NaN is NaN."""
     if one == other or one is None or other is None or not one[:1] == other[:1] == b"r":
         return one == other
-    mine, its = float(one[1:]), float(other[1:])
+    try:
+        mine, its = float(one[1:]), float(other[1:])
+    except ValueError:  # a text that is no number
+        return False
     return mine == its or isnan(mine) and isnan(its)
 
 

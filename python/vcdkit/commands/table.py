@@ -25,8 +25,10 @@ def shown(value, size, form):
     """Returns a value as a cell has it."""
     if value is None:
         return "-"
-    if not isinstance(value, Value):
+    if isinstance(value, float):
         return repr(value)[:-2] if repr(value).endswith(".0") else repr(value)
+    if not isinstance(value, Value):  # no number
+        return value
     if form == "hex":
         return value.hex()
     return int(value) if form == "decimal" and value.is_known else value

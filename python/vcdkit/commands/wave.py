@@ -51,7 +51,7 @@ class Window:
 def shown(value, form):
     """Returns a value as a lane has it."""
     if not isinstance(value, Value):
-        return "%g" % value
+        return "%g" % value if isinstance(value, float) else value
     if form == "binary":
         return value
     return str(int(value)) if form == "decimal" and value.is_known else value.hex().upper().replace(
@@ -61,7 +61,7 @@ def shown(value, form):
 def colour(value, known):
     """Returns the colour of a value."""
     if not isinstance(value, Value):
-        return known if value == value else X  # no number
+        return known if isinstance(value, float) and value == value else X  # no number
     return X if "x" in value else Z if "z" in value else known
 
 
