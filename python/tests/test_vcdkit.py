@@ -131,6 +131,9 @@ class Questions:
                          ["bench.slow.clock", "bench.slow.count"])
         self.assertEqual(len(dump.select(["bench.slow", "bench.slow.count", "bench.level"])), 5)
         self.assertEqual(dump.signals[0], ("bench.lane0", "wire", 2, "!"))
+        self.assertEqual((dump.signals[1:3], dump.signals[-1]),
+                         (list(dump.signals)[1:3], list(dump.signals)[23]))
+        self.assertEqual(list(zip(*dump.signals.columns())), list(dump.signals))
 
     def test_sample(self):
         dump = Dump(NESTED)

@@ -17,12 +17,17 @@ def words_of(rows: str) -> List[str]:
     return words
 
 
+def each(kind, *columns: Iterable) -> Iterator[Any]:
+    """Makes a NamedTuple of this kind of each row of columns."""
+    return map(tuple.__new__, itertools.repeat(kind), zip(*columns))
+
+
 def tuples(kind, *columns: Iterable) -> List[Any]:
     """Returns a NamedTuple of this kind for each row of columns."""
     was_enabled = gc.isenabled()
     gc.disable()  # else it looks through all of them many times
     try:
-        return list(map(tuple.__new__, itertools.repeat(kind), zip(*columns)))
+        return list(each(kind, *columns))
     finally:
         if was_enabled:
             gc.enable()
@@ -30,28 +35,29 @@ def tuples(kind, *columns: Iterable) -> List[Any]:
 
 class Signals(Sequence[Signal]):
     """The variables of a header, in the order of declaration. The rows of `list` are taken apart
-    when the first one is asked for."""
+    when the first one is asked for; a Signal is made each time it is asked for."""
 
     def __init__(self, rows: str):
         self._rows, self._count = rows, rows.count("\n")
-        self._signals: Optional[List[Signal]] = None
+        self._columns: Optional[Tuple[List[str], List[str], List[int], List[str]]] = None
 
-    def _all(self) -> List[Signal]:
-        if self._signals is None:
+    def columns(self) -> Tuple[List[str], List[str], List[int], List[str]]:
+        """Returns the paths, the types, the sizes and the codes, a list of each."""
+        if self._columns is None:
             words = words_of(self._rows)
-            self._signals = tuples(Signal, words[0::4], words[1::4], map(int, words[2::4]),
-                                   words[3::4])
+            self._columns = words[0::4], words[1::4], list(map(int, words[2::4])), words[3::4]
             self._rows = ""
-        return self._signals
+        return self._columns
 
     def __len__(self) -> int:
         return self._count
 
     def __getitem__(self, at):
-        return self._all()[at]
+        columns = [column[at] for column in self.columns()]
+        return tuples(Signal, *columns) if isinstance(at, slice) else Signal(*columns)
 
     def __iter__(self) -> Iterator[Signal]:
-        return iter(self._all())
+        return each(Signal, *self.columns())
 
     def __repr__(self) -> str:
         return "<%d signals>" % self._count

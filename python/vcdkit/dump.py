@@ -53,7 +53,7 @@ class Dump:
         is_bytes = isinstance(source, (bytes, bytearray, memoryview))
         self._text: Text = Bytes(bytes(source), name or "(bytes)") if is_bytes else File(source)
         self._options = () if token_limit is None else ("--token-limit", str(token_limit))
-        self._signals: Optional[Sequence[Signal]] = None
+        self._signals: Optional[_rows.Signals] = None
         self._header: Optional[Header] = None
 
     def _made(self, command: str, words: Sequence[str], of: Tuple[Text, ...] = ()) -> "Dump":
@@ -118,8 +118,9 @@ class Dump:
     # The header.
 
     @property
-    def signals(self) -> Sequence[Signal]:
-        """The variables of the header, in the order of declaration."""
+    def signals(self) -> _rows.Signals:
+        """The variables of the header, in the order of declaration: a sequence. Its columns() are
+        lists of the paths, types, sizes and codes."""
         if self._signals is None:
             self._signals = _rows.Signals(self._answer("list"))
         return self._signals
@@ -127,17 +128,17 @@ class Dump:
     def find(self, pattern: str, flags: int = 0) -> List[Signal]:
         """Returns the signals in whose paths a regular expression is found (re.search)."""
         search = re.compile(pattern, flags).search
-        return [one for one in self.signals if search(one.path)]
+        paths = self.signals.columns()[0]
+        return [self.signals[at] for at, path in enumerate(paths) if search(path)]
 
     def select(self, names: Names) -> List[Signal]:
         """Returns the signals that names select, each once, in the order of the names. UnknownName
         where one selects nothing."""
         found: Dict[str, Dict[int, Signal]] = {name: {} for name in _list(names)}
-        for at, one in enumerate(self.signals):
-            path = one.path
+        for at, path in enumerate(self.signals.columns()[0]):
             while path:
                 if path in found:
-                    found[path][at] = one
+                    found[path][at] = self.signals[at]
                 path = path.rpartition(".")[0]
         chosen: Dict[int, Signal] = {}
         for name, its in found.items():
@@ -327,9 +328,9 @@ def _opened(text: Text) -> Iterator[BinaryIO]:
         raise UnknownName(error.name, _hint(error.name, base.signals)) from None
 
 
-def _hint(name: str, signals: Sequence[Signal]) -> str:
+def _hint(name: str, signals: _rows.Signals) -> str:
     """Returns what to write in place of a name that selects nothing."""
-    paths = [one.path for one in signals]
+    paths = signals.columns()[0]
     bare = re.sub(r"\s*\[[-\d]+(:[-\d]+)?\]\Z", "", name)
     near = ([path for path in paths if path == bare]
             or [path for path in paths if path.startswith(bare + "[")]
