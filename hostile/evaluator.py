@@ -344,7 +344,7 @@ def marks(items):
     return [i.time for i in items if i.kind == "time"]
 
 
-# ---- the commands: what stands once the items were read, and what follows at the end
+# ---- the commands: what is due once the items were read, and what follows at the end
 
 def check(head, items, options, names):
     counts = [

@@ -117,7 +117,7 @@ def memory(place, case):
     yield from too_much(case, asked)
     got = [place.run(case, files, refuse=n) for n in range(1, requests + 1)]
     for n in range(requests):
-        # A library asks for more than it needs in some places, or to give some back, and goes on
+        # A library sometimes asks for more than it needs, or to give some back, and continues
         # where that is refused.
         if got[n] not in ((b"", b"vcdkit: out of memory\n", 3), whole):
             yield say(case, "request %d of %d refused" % (n + 1, requests), whole, got[n])
@@ -125,7 +125,7 @@ def memory(place, case):
     if case.known_code and not got[-3] == got[-1] == whole:
         yield say(case, "the key of a known code refused", [whole, whole], [got[-3], got[-1]])
     # How the last variable of a header is read, and so what it asks for, depends on whether 64
-    # bytes lie behind it in the chunk: five comments are more. The names of the files are as long,
+    # bytes come after it in the chunk: five comments are more. The names of the files are as long,
     # since they are copied too.
     few, many = [place.counts(case,
                               place.files_of(case,
