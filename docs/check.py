@@ -3,11 +3,11 @@
 
 Of each ```console block of the pages for users (DOCUMENTS), each line that begins with `$ ` is run
 by bash in the repository's top folder; the lines below it, up to the next one, are what it prints,
-standard output and error together. A command whose line ends in `\\` goes on in the next line, one
-with << 'END' up to the line END. The variable T names an empty folder for the files that a document
-writes; it goes at the end. A block that begins with ```console PROGRAM .. is passed over where one
-of these programs (or modules of Python) is not there, and the last line says so. VCDKIT is ./vcdkit,
-which `make` leaves there; extras/ is on the PATH, and python/ on PYTHONPATH.
+standard output and error together. A command whose line ends in `\\` continues in the next line,
+one with << 'END' up to the line END. The variable T names an empty folder for the files that a
+document writes; it is removed at the end. A block that begins with ```console PROGRAM .. is passed
+over where one of these programs (or modules of Python) is not there, and the last line says so.
+VCDKIT is ./vcdkit, which `make` leaves there; extras/ is on the PATH, and python/ on PYTHONPATH.
 
 The exit status is 0 where all is as written, 1 where some output differs, 2 where there is no
 ./vcdkit."""

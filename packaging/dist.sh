@@ -87,7 +87,7 @@ deb() {
     dpkg-deb --root-owner-group -Zxz -b "$tree" "$out/$1_${version}_$2.deb" > /dev/null
 }
 
-# The packages: what `make install` puts in place, in two parts.
+# The packages: what `make install` installs, in two parts.
 if command -v dpkg-deb > /dev/null; then
     rm -f "$out"/*vcdkit_*.deb
     tree=$folder/vcdkit

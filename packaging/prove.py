@@ -9,8 +9,8 @@ temporary folder (TMPDIR), most of it links, and what rt built and kept there is
 
 What rt and the prover write goes to the file make.log of the top folder, with what the program
 writes, each line after its crate's name. The screen has a line for each crate that was proved:
-'crate k of n, NAME: so many functions proved, so many minutes'; on a terminal also a line that says
-what is being proved. Standard input is handed on. The first failure ends the other proofs: the exit
+'crate k of n, NAME: N functions proved, M minutes'; on a terminal also a line that says what is
+being proved. Standard input is handed on. The first failure ends the other proofs: the exit
 status is that of rt, and the last lines of that crate are shown."""
 import collections
 import os
@@ -43,8 +43,8 @@ def listed():
 
 
 def crates_below(crate):
-    """Returns, for a crate of crates.txt and each below it, all that it stands on; each crate comes
-    after those that it stands on."""
+    """Returns, for a crate of crates.txt and each below it, all that it depends on; each crate
+    comes after those that it depends on."""
     lines, found = listed(), {}
 
     def visit(name):
@@ -136,8 +136,8 @@ class Run:
         return (time.monotonic() - self.began) / 60
 
     def end(self):
-        """Ends rt if it still works, moves what it made in a copy to its place, and returns its
-        status."""
+        """Ends rt if it still works, moves what it made in a copy to the crate's folder, and
+        returns its status."""
         if self.rt.poll() is None:
             self.rt.terminate()
         status = self.rt.wait()
