@@ -14,7 +14,7 @@ from .values import Edges, Report, Signal, value_of
 
 try:
     import numpy
-except ImportError:  # lists in place of arrays
+except ImportError:  # lists instead of arrays
     numpy = None
 
 Names = Union[str, Iterable[str]]
@@ -329,7 +329,7 @@ def _opened(text: Text) -> Iterator[BinaryIO]:
 
 
 def _hint(name: str, signals: _rows.Signals) -> str:
-    """Returns what to write in place of a name that selects nothing."""
+    """Returns what to write instead of a name that selects nothing."""
     paths = signals.columns()[0]
     bare = re.sub(r"\s*\[[-\d]+(:[-\d]+)?\]\Z", "", name)
     near = ([path for path in paths if path == bare]

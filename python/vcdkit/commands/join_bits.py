@@ -36,7 +36,7 @@ def goes_on(run, bit):
 
 class Vectors:
     """The vectors that were made: of each code of a bit the first code of its vector and its
-    place, and of each vector its digits."""
+    index, and of each vector its digits."""
 
     def __init__(self):
         self.places, self.digits, self.changed = {}, {}, {}
