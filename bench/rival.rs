@@ -5,7 +5,7 @@
 use std::collections::HashMap;
 use std::io::Read;
 
-// Codes whose number is below this have a place in the table; others are in a map.
+// Codes whose number is below this have an entry in the table; others are in a map.
 const TABLE: usize = 1 << 20;
 
 #[derive(Default)]
