@@ -1,7 +1,7 @@
 #!/usr/bin/env python3
-"""plain_dump.py MB [VARIABLES]  writes a plain dump of MB megabytes (of 1,000,000 bytes) to standard
-output, the same each time: VARIABLES variables of one bit (64) in a scope, and in steps of 5 a
-timestamp with 16 changes after it."""
+"""plain_dump.py MB [VARIABLES]  writes a plain dump of MB megabytes (of 1,000,000 bytes) to
+standard output, the same each time: VARIABLES variables of one bit (64) in a scope, and in steps
+of 5 a timestamp with 16 changes after it."""
 import random
 import sys
 
