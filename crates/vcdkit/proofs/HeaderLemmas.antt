@@ -39,7 +39,7 @@ use Rattle.vcd_merge.specs.Seat.{IsSeated, Lane}
 use Rattle.vcd_body.specs.declared.answer.Stop.TheVariants.{Dump}
 use Rattle.vcdkit.specs.declared.failure.Failure.{Failure}
 use Rattle.vcdkit.specs.declared.failure.Failure.TheVariants as failure
-use Rattle.vcdkit.specs.Failure.{head_failure, CountsRead}
+use Rattle.vcdkit.specs.Failure.{head_failure, CountsRead, EndsAtRead}
 use Rattle.vcdkit.specs.Inputs.{Begins, HasFailed, IsBegun, IsNew}
 
 -- ---- what settles a run
@@ -202,6 +202,23 @@ module _ {X : Type 0} {x : Ghosts X} (most limit chunk : ℕ) (i : Input) (befor
   failed place why counted (fault, is, f) =
       let same = subst (λ (q : Failure). CountsRead place before.failures (supply_of feed).failures (Some q)) is counted in
       subst (λ (q : Failure). HasFailed most limit chunk place i before (supply_of feed) q) (sym is) (ended place (token_of feed).line refl fault same f)
+
+-- a read that a header ended with was the last one of its reader
+pub head_last : (last_failed : Bool) (fault : HeadFault) (place line : ℕ) → (fault ≡ ReadFailed → last_failed ≡ true) → EndsAtRead last_failed (Some (head_failure fault place line))
+head_last last_failed ReadFailed place line e = λ input is. e refl
+head_last last_failed OutOfMemory place line e = λ input is. absurd (cc)
+head_last last_failed TokenTooLong place line e = λ input is. absurd (cc)
+head_last last_failed EndOfInput place line e = λ input is. absurd (cc)
+head_last last_failed UnknownCommand place line e = λ input is. absurd (cc)
+head_last last_failed OutOfPlace place line e = λ input is. absurd (cc)
+head_last last_failed BadTimescale place line e = λ input is. absurd (cc)
+head_last last_failed BadScope place line e = λ input is. absurd (cc)
+head_last last_failed BadVariable place line e = λ input is. absurd (cc)
+head_last last_failed CodeDiffers place line e = λ input is. absurd (cc)
+head_last last_failed NoScope place line e = λ input is. absurd (cc)
+head_last last_failed TooDeep place line e = λ input is. absurd (cc)
+head_last last_failed TooMany place line e = λ input is. absurd (cc)
+head_last last_failed InputTooLong place line e = λ input is. absurd (cc)
 
 -- memory ran out before anything was read
 pub none_read : (most limit chunk place : ℕ) (i : Input) (before : Supply) → HasFailed most limit chunk place i before before failure.OutOfMemory

@@ -1,5 +1,5 @@
 -- How a run ends, and what it leaves.
-use Rattle.std.proofs.Common.{◌≡◌, ◌==◌, ℕ, Bool, true, false, ◌+◌, ◌++◌, inl, List, [], ◌∷◌, length, map, get_or, set, Option, Some, Result, Ok, Err, refl, sym, ap, subst, ◌∙◌, arith}
+use Rattle.std.proofs.Common.{◌≡◌, ◌==◌, ℕ, Bool, true, false, ◌+◌, ◌<◌, ◌++◌, inl, List, [], ◌∷◌, length, map, get_or, set, slice_set, Option, Some, Result, Ok, Err, refl, sym, ap, subst, ◌∙◌, arith}
 use Rattle.std.specs.Prelude.{MatchResult, IfOk, IfErr}
 use Rattle.std.specs.List.{list_any}
 use Rattle.vcd_model.specs.Input.{Input}
@@ -24,7 +24,7 @@ use Rattle.vcd_text.specs.declared.device.Source.{Ghosts}
 use Rattle.vcd_text.specs.declared.feed.Feed.{Feed}
 use Rattle.vcd_text.proofs.Writes.{appends-none}
 use Rattle.vcd_engine.specs.Run.{Belongs, Follows, IsRefused, is_early}
-use Rattle.vcd_body.specs.Answer.{reads_failed, writes_failed}
+use Rattle.vcd_body.specs.Answer.{EndsAtRead as EndsAtStop, reads_failed, writes_failed}
 use Rattle.vcd_body.specs.declared.answer.Done.{Done}
 use Rattle.vcd_body.specs.declared.answer.Stop.{Stop}
 use Rattle.vcd_body.specs.declared.answer.Stop.TheVariants.{Dump, Read, Write, Unmatched}
@@ -32,14 +32,16 @@ use Rattle.vcd_words.specs.declared.job.Want.{Want}
 use Rattle.vcdkit.specs.declared.failure.Failure.{Failure}
 use Rattle.vcdkit.specs.declared.failure.Failure.TheVariants as failure
 use Rattle.vcd_words.specs.declared.refusal.Refusal.{Refusal}
-use Rattle.vcdkit.specs.Failure.{end_of}
+use Rattle.vcdkit.specs.Failure.{end_of, failure_of, merge_end, CountsRead, EndsAtRead, EndsAtReadOf}
 use Rattle.vcd_words.specs.Refusal.{model_refusal}
 use Rattle.vcd_words.specs.Job.{is_merge, model_want, names_asked}
 use Rattle.vcdkit.specs.Inputs.{HasFailed, IsBegun}
 use Rattle.vcdkit.specs.Run.{Ends, EndsAll, IsAfter, IsOfJob, Leaves, LeavesAll, settled_for}
 use Rattle.vcdkit.proofs.NeededLemmas.{none_others}
 use Rattle.vcdkit.proofs.HeaderLemmas.{all_read, left_since, reads_for, settled_header, settled_run, unsettled_header}
+use Rattle.vcd_merge.specs.MergeStep.{EndsAtReadOf as EndsAtStops}
 use Rattle.vcd_merge.specs.Seat.{Lane}
+use Rattle.vcd_merge.proofs.MergeCounts.{set_last}
 use Rattle.vcdkit.proofs.OutcomeLemmas.{after_header, at_header, names_due, over_none, over_one}
 
 writes-none : (out : Device) → Writes out out []
@@ -82,6 +84,29 @@ list_reads n (Err stop) m = rw m (omega arith)
 pub list_writes : (out out' : Device) (r : Result Done Stop) → Counts out out' r → MatchResult r (λ done. done ≡ Done.Whole) (λ stop. stop ≡ Write) → out'.failures ≡ out.failures + writes_failed r
 list_writes out out' (Ok done) f m = omega (arith, f)
 list_writes out out' (Err stop) f m = rw m (omega (arith, f))
+
+pub list_last : (last_failed : Bool) (r : Result Done Stop) → MatchResult r (λ done. done ≡ Done.Whole) (λ stop. stop ≡ Write) → EndsAtStop last_failed r
+list_last last_failed (Ok done) m = λ input is. absurd (cc)
+list_last last_failed (Err stop) m = λ input is. absurd (cc)
+
+-- a run over one input ends with the failure of its task
+pub ended_last : (last_failed : Bool) (r : Result Done Stop) → EndsAtStop last_failed r → EndsAtRead last_failed (failure_of (end_of r 0))
+ended_last last_failed (Ok done) e = λ input is. absurd (cc)
+ended_last last_failed (Err (Dump only line fault)) e = λ input is. absurd (cc)
+ended_last last_failed (Err (Read only)) e = λ input is. e only refl
+ended_last last_failed (Err Write) e = λ input is. absurd (cc)
+ended_last last_failed (Err (Unmatched name)) e = λ input is. absurd (cc)
+
+-- a run over several inputs ends with the failure of their merge
+pub merged_last : (last_failed : List Bool) (r : Result Done Stop) → EndsAtStops last_failed r → EndsAtReadOf last_failed (failure_of (merge_end r))
+merged_last last_failed (Ok done) e = λ input is. absurd (cc)
+merged_last last_failed (Err stop) e = λ input is. e input (cc)
+
+-- of several readers the one at an index was read
+pub one_last : {X : Type 0} (f : X → Bool) (xs : List X) (k before after : ℕ) (x : X) (why : Option Failure) → k < length xs → CountsRead k before after why → EndsAtRead (f x) why → EndsAtReadOf (map f (slice_set xs k x)) why
+one_last f xs k before after x why within counts e = λ input is.
+    let named : input ≡ k = (subst (CountsRead k before after) is counts).0 in
+    rw named (set_last f xs k x within (e input is))
 
 pub listed : {X : Type 0} {x : Ghosts X} (limit chunk : ℕ) (i : Input) (front : List Token) (h : Header) (name : List ℕ) (before : Supply) (old : Feed X x) (out out' : Device) (r : Result Done Stop)
     → limit_of old ≡ limit → HasGiven i front old → Takes out out' (list_text h) r → Counts out out' r → MatchResult r (λ done. done ≡ Done.Whole) (λ stop. stop ≡ Write)

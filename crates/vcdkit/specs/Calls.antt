@@ -18,7 +18,7 @@ use Rattle.vcd_body.specs.declared.answer.Done.{Done}
 use Rattle.vcd_words.specs.Job.{model_want, names_asked}
 use Rattle.vcd_words.specs.declared.job.Job.{Job}
 use Rattle.vcd_words.specs.declared.job.Want.{Want}
-use Rattle.vcdkit.specs.Failure.{CountsReadsOf, CountsWrites, writes_failed}
+use Rattle.vcdkit.specs.Failure.{CountsReadsOf, CountsWrites, EndsAtReadOf, writes_failed}
 use Rattle.vcdkit.specs.Message.{Shows, end_message, end_status}
 use Rattle.vcdkit.specs.Run.{Ends, EndsAll, HasRun, IsAfter, IsOfJob, settled_for}
 use Rattle.vcdkit.specs.declared.failure.Failure.{Failure}
@@ -67,11 +67,13 @@ pub record MayFailOnce {W E : Type 0} (w : Sinks W) (e : Sinks E) (out : W) (err
 abbrev pub FailOnce : {W E : Type 0} → Sinks W → Sinks E → (out out' : W) → (err err' : E) → Type 0
 FailOnce w e out out' err err' = ((w.device out').failures ≤ (w.device out).failures + 1) × ((e.device err').failures ≤ (e.device err).failures + 1)
 
--- a job over inputs with these names ended done or failed, and its status and its line say which
+-- a job over inputs with these names ended done or failed, and its status and its line say which; a
+-- failed read was the last one of its reader
 abbrev pub EndsSo : {X W E : Type 0} → Ghosts X → Sinks W → Sinks E → Job → List (List ℕ) → (old new : List X) → (out out' : W) → (err err' : E) → ℕ → Type 0
 EndsSo g w e job names old new out out' err err' status = (why : Option Failure)
     × CountsReadsOf g.failures old new why × CountsWrites w.device out out' (writes_failed why)
     × (status ≡ end_status why) × Shows (e.device err) (e.device err') (end_message names (names_asked job.task) why)
+    × EndsAtReadOf (map g.last_failed new) why
 
 -- where the bytes of the readers are known, it ended as the definitions say
 abbrev pub RunsJob : {X W E : Type 0} → Ghosts X → Sinks W → Sinks E → Job → List (List ℕ) → (old new : List X) → (out out' : W) → (err err' : E) → ℕ → Type 0

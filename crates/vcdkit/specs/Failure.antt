@@ -1,5 +1,5 @@
 -- Why a run ends before it is done, and which calls of its devices failed.
-use Rattle.std.specs.Prelude.{◌≡◌, ℕ, ◌+◌, ◌<◌, List, length, map, slice_set, slice_index, Option, Some, None, Result, Ok, Err}
+use Rattle.std.specs.Prelude.{◌≡◌, ℕ, ◌+◌, ◌<◌, Bool, true, List, length, map, slice_get, slice_set, slice_index, Option, Some, None, Result, Ok, Err}
 use Rattle.vcd_text.specs.Device.{Device}
 use Rattle.vcd_head.specs.Fault.{fault_number}
 use Rattle.vcd_head.specs.declared.fault.HeadFault.{HeadFault}
@@ -49,6 +49,14 @@ CountsRead place before after why = after ≡ before
 abbrev pub CountsReads : (before after : List ℕ) → Option Failure → Type 0
 CountsReads before after (Some (Stopped (Read input))) = (input < length before) × (after ≡ slice_set before input (slice_index before input + 1))
 CountsReads before after why = after ≡ before
+
+-- a failed read was the last one of its reader, of which this says whether its last one failed
+abbrev pub EndsAtRead : Bool → Option Failure → Type 0
+EndsAtRead last_failed why = (input : ℕ) → why ≡ Some (Stopped (Read input)) → last_failed ≡ true
+
+-- so of all readers, of the one that the failure names
+abbrev pub EndsAtReadOf : List Bool → Option Failure → Type 0
+EndsAtReadOf last_failed why = (input : ℕ) → why ≡ Some (Stopped (Read input)) → slice_get last_failed input ≡ Some true
 
 -- how many writes of the output failed
 abbrev pub writes_failed : Option Failure → ℕ

@@ -9,7 +9,7 @@ pub use Rattle.vcd_text.specs.Device.{failures_after, Puts, PutsTo, Takes}
 pub use Rattle.vcd_text.specs.Feed.{chunk_len_of, limit_of, SameLoans, source_of}
 pub use Rattle.vcd_view.specs.Views.{IsViewOf}
 pub use Rattle.vcd_head.specs.Moments.{asked}
-pub use Rattle.vcd_body.specs.Answer.{reads_failed, writes_failed as stop_writes}
+pub use Rattle.vcd_body.specs.Answer.{EndsAtRead as EndsAtStop, reads_failed, writes_failed as stop_writes}
 pub use Rattle.vcd_body.specs.declared.answer.Stop.TheVariants.{Write}
 pub use Rattle.vcd_words.specs.Job.{HasTicks, is_asked, is_merge, model_want, names_asked}
 pub use Rattle.vcd_engine.specs.Engine.{request_of as request_of_task}
@@ -17,7 +17,7 @@ pub use Rattle.vcd_engine.specs.Room.{AnyRoom, AreWithinBound, KeepsBound, room_
 pub use Rattle.vcd_engine.specs.Run.{Does}
 pub use Rattle.vcd_merge.specs.MergeParts.{SameLengths}
 pub use Rattle.vcdkit.specs.Calls.{AreReaders, EndsSo, FailOnce, InputEnds, JobEnds, MayFailOnce, Merges, RunsJob, WantEnds}
-pub use Rattle.vcdkit.specs.Failure.{CountsAt, CountsReadsOf, CountsWrites, end_of, failure_of, head_failure, merge_end, stop_failure, writes_failed}
+pub use Rattle.vcdkit.specs.Failure.{CountsAt, CountsReadsOf, CountsWrites, end_of, EndsAtRead, EndsAtReadOf, failure_of, head_failure, merge_end, stop_failure, writes_failed}
 pub use Rattle.vcdkit.specs.Inputs.{AddsBegun, BeginsAmong, BeginsBy, HasParts, IsNewIn, IsNewOver, OpensAll, OpensInput, SameParts}
 pub use Rattle.vcdkit.specs.Message.{failure_message, failure_status, refusal_message, refusal_status, Reports, Shows, stop_message, stop_status, unopened_outcome, use_outcome}
 pub use Rattle.vcdkit.specs.Tasks.{cut_request, IsEnough, request_for, task_request}

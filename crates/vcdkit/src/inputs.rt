@@ -1,6 +1,6 @@
 //! The inputs of a job: the memory of their windows, and their headers.
-ghost use Rattle.std.specs.Prelude.{◌≡◌, ◌≢◌, ◌*◌, ◌-◌, ◌^◌, ◌<◌, ◌≤◌, ℕ, All, IfOk, OnOk, length, vec_len};
-ghost use Rattle.vcdkit.specs.Names.{AddsBegun, BeginsAmong, BeginsBy, chunk_len_of, CountsAt, CountsReadsOf, failure_of, HasNotFailed, HasParts, IsNewIn, IsNewOver, limit_of, MayLend, OpensAll, OpensInput, SameLengths, SameLoans, SameParts, source_of, writes_failed};
+ghost use Rattle.std.specs.Prelude.{◌≡◌, ◌≢◌, ◌*◌, ◌-◌, ◌^◌, ◌<◌, ◌≤◌, ℕ, All, IfOk, OnOk, length, map, vec_len};
+ghost use Rattle.vcdkit.specs.Names.{AddsBegun, BeginsAmong, BeginsBy, chunk_len_of, CountsAt, CountsReadsOf, EndsAtRead, EndsAtReadOf, failure_of, HasNotFailed, HasParts, IsNewIn, IsNewOver, limit_of, MayLend, OpensAll, OpensInput, SameLengths, SameLoans, SameParts, source_of, writes_failed};
 
 use crate::failure::Failure;
 use std::alloc::{AllocError, Global};
@@ -64,6 +64,7 @@ pub(crate) fn open_input<S: Source, B: BuildHasher>(
     requires open { HasNotFailed feed.old }
     ensures reads { OpensInput reading.now.most input feed.old feed.new result }
     ensures failures { CountsAt S.failures input (source_of feed.old) (source_of feed.new) result }
+    ensures last { EndsAtRead (S.last_failed (source_of feed.new)) (failure_of result) }
     ensures no_write { writes_failed (failure_of result) ≡ 0 }
     ensures open { OnOk result (HasNotFailed feed.new) }
     ensures lengths { (limit_of feed.new ≡ limit_of feed.old)
@@ -99,6 +100,7 @@ fn begin<S: Source, B: BuildHasher>(
     ensures begins { BeginsBy S.Source reading.now.most input (length token.old) (length chunk.old)
         reader.old reader.new chunk.new token.new result }
     ensures reads { CountsAt S.failures input reader.old reader.new result }
+    ensures last { EndsAtRead (S.last_failed reader.new) (failure_of result) }
     ensures no_write { writes_failed (failure_of result) ≡ 0 }
     ensures seated { IfOk result (λ begun. IsNewOver (length chunk.old) (length token.old) begun.seat) }
 {
@@ -124,6 +126,7 @@ fn begin_at<S: Source, B: BuildHasher>(
         windows.old windows.new result }
     ensures others { (j : ℕ) → j ≢ input → SameParts (length readers.old) j windows.old windows.new }
     ensures lengths { SameLengths windows.old windows.new }
+    ensures last { EndsAtReadOf (map S.last_failed readers.new) (failure_of result) }
     ensures no_write { writes_failed (failure_of result) ≡ 0 }
     ensures seated { IfOk result (λ begun. IsNewIn (length readers.old) windows.old begun.seat) }
 {
@@ -171,6 +174,7 @@ pub(crate) fn open_inputs<S: Source, B: BuildHasher>(
     requires failures { All (λ r. S.failures r < 2 ^ 64 - 1) readers.old }
     ensures begins { OpensAll S.Source readers.old readers.new windows.old windows.new result }
     ensures reads { CountsReadsOf S.failures readers.old readers.new (failure_of result) }
+    ensures last { EndsAtReadOf (map S.last_failed readers.new) (failure_of result) }
     ensures no_write { writes_failed (failure_of result) ≡ 0 }
     ensures lengths { SameLengths windows.old windows.new }
     ensures many { IfOk result (λ inputs. (length inputs.heads.items ≡ length readers.old)

@@ -1,6 +1,6 @@
 //! A job, from its readers to its output, its message and its status.
 ghost use Rattle.std.specs.Prelude.{◌≡◌, ◌+◌, ◌-◌, ◌^◌, ◌<◌, ◌≤◌, map, length, string_bytes, true, false, IfSome};
-ghost use Rattle.vcdkit.specs.Names.{AreReaders, AreWithinBound, chunk_len_of, CountsAt, CountsReadsOf, CountsWrites, Does, end_of, EndsSo, FailOnce, failure_of, HasNotFailed, InputEnds, is_asked, is_merge, IsEnough, IsValid, JobEnds, limit_of, MayFailOnce, merge_end, Merges, names_asked, reads_failed, request_for, request_of_task, room_size, RunsJob, SameLoans, source_of, stop_writes, WantEnds, writes_failed};
+ghost use Rattle.vcdkit.specs.Names.{AreReaders, AreWithinBound, chunk_len_of, CountsAt, CountsReadsOf, CountsWrites, Does, end_of, EndsAtRead, EndsAtReadOf, EndsAtStop, EndsSo, FailOnce, failure_of, HasNotFailed, InputEnds, is_asked, is_merge, IsEnough, IsValid, JobEnds, limit_of, MayFailOnce, merge_end, Merges, names_asked, reads_failed, request_for, request_of_task, room_size, RunsJob, SameLoans, source_of, stop_writes, WantEnds, writes_failed};
 
 use crate::failure::Failure;
 use crate::inputs::{MOST_DECLARATIONS, Reading, open_input, open_inputs, windows_for};
@@ -56,6 +56,7 @@ fn run_in<S: Source, W: Sink>(
     ensures reads { S.failures (source_of feed.new)
         ≡ S.failures (source_of feed.old) + reads_failed result }
     ensures writes { CountsWrites W.device out.old out.new (stop_writes result) }
+    ensures last { EndsAtStop (S.last_failed (source_of feed.new)) result }
     ensures loans { SameLoans feed.old feed.new }
 {
     match task {
@@ -82,6 +83,7 @@ fn run_want<S: Source, W: Sink>(
     ensures ends { WantEnds W.Sink view.entry want.old feed.old feed.new out.old out.new result }
     ensures reads { CountsAt S.failures 0 (source_of feed.old) (source_of feed.new) result }
     ensures writes { CountsWrites W.device out.old out.new (writes_failed (failure_of result)) }
+    ensures last { EndsAtRead (S.last_failed (source_of feed.new)) (failure_of result) }
     ensures loans { SameLoans feed.old feed.new }
     ensures names { names_asked want.new ≡ names_asked want.old }
     ensures asked { is_asked want.new ≡ true }
@@ -113,6 +115,7 @@ fn run_input<S: Source, W: Sink, B: BuildHasher>(
     ensures ends { InputEnds S.Source W.Sink job.old reader.old reader.new out.old out.new result }
     ensures reads { CountsAt S.failures 0 reader.old reader.new result }
     ensures writes { CountsWrites W.device out.old out.new (writes_failed (failure_of result)) }
+    ensures last { EndsAtRead (S.last_failed reader.new) (failure_of result) }
     ensures names { names_asked job.new.task ≡ names_asked job.old.task }
 {
     let mut memory = windows_for(alloc, job, 1)?;
@@ -145,6 +148,7 @@ fn run_merge<S: Source, W: Sink, B: BuildHasher>(
     ensures ends { Merges S.Source W.Sink job.now readers.old readers.new out.old out.new result }
     ensures reads { CountsReadsOf S.failures readers.old readers.new (failure_of result) }
     ensures writes { CountsWrites W.device out.old out.new (writes_failed (failure_of result)) }
+    ensures last { EndsAtReadOf (map S.last_failed readers.new) (failure_of result) }
 {
     let mut memory = windows_for(alloc, job, readers.len())?;
     let mut windows = Windows {
@@ -170,6 +174,7 @@ fn run_readers<S: Source, W: Sink, B: BuildHasher>(
     ensures ends { JobEnds S.Source W.Sink job.old readers.old readers.new out.old out.new result }
     ensures reads { CountsReadsOf S.failures readers.old readers.new (failure_of result) }
     ensures writes { CountsWrites W.device out.old out.new (writes_failed (failure_of result)) }
+    ensures last { EndsAtReadOf (map S.last_failed readers.new) (failure_of result) }
     ensures names { names_asked job.new.task ≡ names_asked job.old.task }
 {
     if job.task.is_merge() {
@@ -206,7 +211,7 @@ pub fn run_with_hasher<S: Source, W: Sink, E: Sink, B: BuildHasher>(
     ensures failures { FailOnce W.Sink E.Sink out.old out.new err.old err.new }
 
     // It ends done or failed, over any readers and writers: for a failed read only where one of the
-    // reader that is named failed and of no other, and likewise for a write.
+    // reader that is named failed, its last one, and of no other, and likewise for a write.
     ensures ends { EndsSo S.Source W.Sink E.Sink job (map string_bytes names.now)
         readers.old readers.new out.old out.new err.old err.new result }
 
@@ -247,7 +252,7 @@ pub fn run<S: Source, W: Sink, E: Sink>(
     ensures failures { FailOnce W.Sink E.Sink out.old out.new err.old err.new }
 
     // It ends done or failed, over any readers and writers: for a failed read only where one of the
-    // reader that is named failed and of no other, and likewise for a write.
+    // reader that is named failed, its last one, and of no other, and likewise for a write.
     ensures ends { EndsSo S.Source W.Sink E.Sink job (map string_bytes names.now)
         readers.old readers.new out.old out.new err.old err.new result }
 

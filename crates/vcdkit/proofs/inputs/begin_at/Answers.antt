@@ -1,7 +1,8 @@
-use Rattle.std.proofs.Common.{◌∙◌, ap, length, refl}
+use Rattle.std.proofs.Common.{◌∙◌, ap, length, refl, arith}
 use Rattle.std.proofs.lemmas.Option.{get_or_from_slice_get}
 use Rattle.vcd_merge.specs.MergeParts.{part_len}
 use Rattle.vcd_merge.proofs.PartLemmas.{lent_len, part_other, part_put}
+use Rattle.vcdkit.proofs.RunLemmas.{one_last}
 use Rattle.vcdkit.proofs.inputs.begin_at.Goals as goal
 
 pub returns-clause-begins : goal.returns-clause-begins
@@ -32,3 +33,6 @@ returns-clause-others g c = λ j other.
       chunks = part_other (part_len n chunks) n c.args.input chunks c.begin.new.chunk c.requires.parts.chunks_are c.requires.input (c.begin.auto.chunk ∙ kc) j other;
       tokens = part_other (part_len n tokens) n c.args.input tokens c.begin.new.token c.requires.parts.tokens_are c.requires.input (c.begin.auto.token ∙ kt) j other;
     }
+
+pub returns-clause-last : goal.returns-clause-last
+returns-clause-last g c = one_last g.S.Source.last_failed c.args.readers.now c.args.input _ _ c.begin.new.reader _ (omega arith) c.begin.ensures.reads c.begin.ensures.last

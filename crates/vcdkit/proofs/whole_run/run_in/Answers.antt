@@ -1,6 +1,6 @@
 use Rattle.std.proofs.Common.{refl}
 use Rattle.vcd_engine.proofs.RoomLemmas.{no_room_in_each}
-use Rattle.vcdkit.proofs.RunLemmas.{list_reads, list_writes, listed}
+use Rattle.vcdkit.proofs.RunLemmas.{list_last, list_reads, list_writes, listed}
 use Rattle.vcdkit.proofs.whole_run.run_in.Goals as goal
 
 pub list-requires-clause-bound : goal.list-requires-clause-bound
@@ -15,3 +15,6 @@ returns-in-None-clause-reads g c = list_reads _ c.list.result c.list.ensures.ans
 
 pub returns-in-None-clause-writes : goal.returns-in-None-clause-writes
 returns-in-None-clause-writes g c = list_writes (g.W.Sink.device c.args.out.now) (g.W.Sink.device c.list.new.out) c.list.result c.list.ensures.counts c.list.ensures.answer
+
+pub returns-in-None-clause-last : goal.returns-in-None-clause-last
+returns-in-None-clause-last g c = list_last _ c.list.result c.list.ensures.answer

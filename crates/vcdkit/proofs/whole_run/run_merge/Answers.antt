@@ -6,6 +6,7 @@ use Rattle.vcdkit.specs.declared.failure.Failure.TheVariants.{OutOfMemory}
 use Rattle.vcdkit.specs.Inputs.{AreParked, headers_in}
 use Rattle.vcdkit.proofs.OpenLemmas.{nothing_stops, still_low}
 use Rattle.vcdkit.proofs.EndLemmas.{counts_merge, lends_within, merge_ends, part_is, parts_of, stopped}
+use Rattle.vcdkit.proofs.RunLemmas.{merged_last}
 use Rattle.vcdkit.proofs.whole_run.run_merge.Goals as goal
 
 pub returns-in_err-memory-clause-ends : goal.returns-in_err-memory-clause-ends
@@ -71,3 +72,6 @@ pub returns-clause-reads : goal.returns-clause-reads
 returns-clause-reads g c =
     let (k, within, counts, named) = c.merge.ensures.reads in
     rw c.merged.ensures (counts_merge _ _ _ k c.merge.result c.in_ok-inputs.ensures.reads (omega (arith, length-map c.open_inputs.new.readers g.S.Source.failures)) counts named)
+
+pub returns-clause-last : goal.returns-clause-last
+returns-clause-last g c = rw c.merged.ensures (merged_last _ c.merge.result c.merge.ensures.last)

@@ -5,7 +5,7 @@ use Rattle.vcd_words.specs.Job.{model_want}
 use Rattle.vcdkit.specs.Tasks.{request_for}
 use Rattle.vcdkit.specs.declared.failure.Failure.TheVariants.{OutOfMemory, Refused}
 use Rattle.vcdkit.proofs.OutcomeLemmas.{asked_for}
-use Rattle.vcdkit.proofs.RunLemmas.{followed, no_room, no_ticks}
+use Rattle.vcdkit.proofs.RunLemmas.{ended_last, followed, no_room, no_ticks}
 use Rattle.vcdkit.proofs.whole_run.run_want.Goals as goal
 
 pub returns-in_err-write_ticks-clause-ends : goal.returns-in_err-write_ticks-clause-ends
@@ -32,3 +32,6 @@ returns-clause-ends g c = λ h i front name v st.
 
 pub run_in-requires-clause-bound : goal.run_in-requires-clause-bound
 run_in-requires-clause-bound g c = c.need_of-need.ensures.bound _ _ _ c.requires.chunk (record { values = search rules; slots = search rules; marks = search rules })
+
+pub returns-clause-last : goal.returns-clause-last
+returns-clause-last g c = rw (c.ended.ensures) (ended_last _ c.run_in.result c.run_in.ensures.last)
