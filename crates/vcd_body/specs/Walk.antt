@@ -47,6 +47,10 @@ module _ {V C : Type 0} (takes : HeadView → Stage V C → Stage V C → Result
   abbrev pub MayTakeNext : {A : Type 0} → HeadView → Stage V C → Stage V C → Option (Result A WriteFailed) → Type 0
   MayTakeNext v s s' result = MatchOption result (s' ≡ s) (λ one. TakesOne v s s' (as_done one))
 
+  -- so, up to this position, where there is a result; else nothing has changed
+  abbrev pub MayTakeUpTo : {A : Type 0} → HeadView → Stage V C → (Ahead → Stage V C) → Ahead → Option (Result A WriteFailed) → Type 0
+  MayTakeUpTo v s s' to result = MatchOption result (s' s.ahead ≡ s) (λ one. TakesOne v s (s' to) (as_done one))
+
   -- a mark was taken, with which nothing is written, where there is a result; else nothing has
   -- changed
   abbrev pub MayTakeMark : HeadView → (Device → Stage V C) → (Device → Stage V C) → Option (Unit {0}) → Type 0

@@ -120,4 +120,4 @@ pub use table::Table;
 pub use table_text::{put_full, put_short};
 pub use time_line::{put_time, put_time_unless};
 pub use value::Value;
-pub use walk::{Viewed, Visit, Walked, walk_ahead};
+pub use walk::{Extent, Viewed, Visit, Walked, walk_ahead};

@@ -6,16 +6,17 @@ ghost use Rattle.vcd_text.specs.declared.ahead.Ahead.{Ahead};
 ghost use Rattle.vcd_text.specs.declared.device.WriteFailed.{WriteFailed};
 ghost use Rattle.vcd_view.specs.declared.view.HeadView.{HeadView};
 ghost use Rattle.vcd_body.specs.Items.{regs_after};
-ghost use Rattle.vcd_body.specs.Taken.{IsChangeBy, Opens, TakesItem};
-ghost use Rattle.vcd_body.specs.Walk.{MayTakeMark, MayTakeNext, Stage, TakesOne, Walks, as_done, stage_at};
+ghost use Rattle.vcd_body.specs.Taken.{IsChangeBy, Opens, OpensVector, TakesItem};
+ghost use Rattle.vcd_body.specs.Walk.{MayTakeMark, MayTakeNext, MayTakeUpTo, Stage, TakesOne, Walks, as_done, stage_at};
 ghost use Rattle.vcd_body.specs.declared.item.Form.{Form};
 ghost use Rattle.vcd_body.specs.declared.item.Item.TheVariants as item;
 ghost use Rattle.vcd_body.specs.declared.item.Regs.{Regs};
 ghost use Rattle.vcd_body.specs.declared.words.First.TheVariants as first;
 
 use crate::ahead::{
-    Opening, Plain, has_run, has_short_run, mark_ahead, near_mark, opening_ahead, real_ahead,
-    scalar_ahead, short_ahead, time_ahead, vector_ahead, vector_bits, vector_tokens_ahead,
+    Opening, Plain, VectorTokens, has_run, has_short_run, mark_ahead, near_mark, opening_ahead,
+    real_ahead, scalar_ahead, short_ahead, time_ahead, vector_ahead, vector_bits,
+    vector_tokens_ahead,
 };
 use crate::item::Regs;
 use crate::words::First;
@@ -43,6 +44,15 @@ impl Viewed for HeadView<'_> {
     }
 }
 
+/// Where an item lies ahead: after one position, up to another.
+#[derive(Clone, Copy)]
+pub struct Extent<'a> {
+    /// Before the item.
+    pub from: Ahead<'a>,
+    /// After the item.
+    pub to: Ahead<'a>,
+}
+
 /// What is done with the items ahead, in a command that is lent. What a loop is to keep in
 /// registers is in the visit, which comes and goes by value.
 pub trait Visit<C>: Drop {
@@ -59,15 +69,15 @@ pub trait Visit<C>: Drop {
     // Whether no other item is to be taken.
     ghost over: { Self → Bool };
 
-    /// Returns whether a time mark with this time is left, and so ends the walk before it.
-    fn leaves(&self, command: &C, time: u64) -> bool
+    /// Returns whether the walk ends before a time mark with this time, and leaves it.
+    fn ends_before(&self, command: &C, time: u64) -> bool
         ensures { result ≡ is_left self.now command.now time };
 
     /// Returns whether no other item is to be taken.
     fn is_over(&self) -> bool
         ensures { result ≡ over self.now };
 
-    /// Takes a time mark, from one position ahead to another. The registers are those before it.
+    /// Takes a time mark that lies here. The registers are those before it.
     fn take_mark(
         &mut self,
         command: &mut C,
@@ -75,40 +85,40 @@ pub trait Visit<C>: Drop {
         regs: Regs,
         time: u64,
         mark: Plain<'_>,
-        ahead: Ahead<'_>,
-        next: Ahead<'_>,
+        extent: Extent<'_>,
     )
-        requires stands { stands self.old command.old (bytes_of ahead) regs }
+        requires stands { stands self.old command.old (bytes_of extent.from) regs }
         requires left { is_left self.old command.old time ≡ false }
-        requires item { TakesItem view ahead next regs mark }
+        requires item { TakesItem view extent.from extent.to regs mark }
         requires time { mark.item ≡ item.Time time }
         ensures takes { (out : Device) → takes view.entry
-            (stage_at ahead.entry regs self.old command.old out)
-            (stage_at next.entry (regs_after regs mark.entry.item) self.new command.new out) (Ok tt) }
-        ensures stands { stands self.new command.new (bytes_of next.entry)
+            (stage_at extent.entry.from regs self.old command.old out)
+            (stage_at extent.entry.to (regs_after regs mark.entry.item) self.new command.new out)
+            (Ok tt) }
+        ensures stands { stands self.new command.new (bytes_of extent.entry.to)
             (regs_after regs mark.entry.item) };
 
-    /// Takes a change, from one position ahead to another, and puts what is due with it. The
-    /// registers are those after it, as before it.
+    /// Takes a change that lies here, and puts what is due with it. The registers are those after
+    /// it, as before it.
     fn take_change<W: Sink>(
         &mut self,
         command: &mut C,
         view: HeadView<'_>,
         regs: Regs,
         change: Plain<'_>,
-        ahead: Ahead<'_>,
-        next: Ahead<'_>,
+        extent: Extent<'_>,
         out: &mut W,
     ) -> Result<(), WriteFailed>
         requires failures { (W.device out.old).failures < 2 ^ 64 - 1 }
-        requires stands { stands self.old command.old (bytes_of ahead) regs }
-        requires item { TakesItem view ahead next regs change }
+        requires stands { stands self.old command.old (bytes_of extent.from) regs }
+        requires item { TakesItem view extent.from extent.to regs change }
         requires form { (form : Form) × IsChangeBy form change }
         ensures takes { takes view.entry
-            (stage_at ahead.entry regs self.old command.old (W.device out.old))
-            (stage_at next.entry regs self.new command.new (W.device out.new)) result }
+            (stage_at extent.entry.from regs self.old command.old (W.device out.old))
+            (stage_at extent.entry.to regs self.new command.new (W.device out.new)) result }
         ensures counts { Counts (W.device out.old) (W.device out.new) result }
-        ensures stands { IfOk result (λ _. stands self.new command.new (bytes_of next.entry) regs) }
+        ensures stands { IfOk result
+            (λ _. stands self.new command.new (bytes_of extent.entry.to) regs) }
         ensures over { over self.new ≡ over self.old };
 }
 
@@ -149,6 +159,14 @@ impl<'a, V> Walked<'a, V> {
             ended,
         }
     }
+
+    /// Returns whether other items may be taken after these.
+    #[inline(always)]
+    fn can_go_on(&self) -> bool
+        ensures { result ≡ true → self.now.ended ≡ Ok false }
+    {
+        matches!(self.ended, Ok(false))
+    }
 }
 
 /// Takes a change that was found ahead, and returns that it was no mark.
@@ -159,20 +177,19 @@ fn take_change<C, V: Visit<C>, W: Sink>(
     view: HeadView<'_>,
     regs: Regs,
     change: Plain<'_>,
-    ahead: Ahead<'_>,
-    next: Ahead<'_>,
+    extent: Extent<'_>,
     out: &mut W,
 ) -> Result<bool, WriteFailed>
     requires failures { (W.device out.old).failures < 2 ^ 64 - 1 }
-    requires stands { V.stands visit.old command.old (bytes_of ahead) regs }
-    requires item { TakesItem view ahead next regs change }
+    requires stands { V.stands visit.old command.old (bytes_of extent.from) regs }
+    requires item { TakesItem view extent.from extent.to regs change }
     requires form { (form : Form) × IsChangeBy form change }
     ensures next { TakesOne V.takes V.stands view.entry
-        (stage_at ahead.entry regs visit.old command.old (W.device out.old))
-        (stage_at next.entry regs visit.new command.new (W.device out.new)) (as_done result) }
+        (stage_at extent.entry.from regs visit.old command.old (W.device out.old))
+        (stage_at extent.entry.to regs visit.new command.new (W.device out.new)) (as_done result) }
     ensures over { V.over visit.new ≡ V.over visit.old }
 {
-    visit.take_change(command, view, regs, change, ahead, next, out)?;
+    visit.take_change(command, view, regs, change, extent, out)?;
     Ok(false)
 }
 
@@ -186,33 +203,67 @@ fn take_mark<'a, C, V: Visit<C>>(
     opening: Opening<'_>,
     regs: &mut Regs,
     ahead: &mut Ahead<'a>,
-    next: Ahead<'a>,
+    to: Ahead<'a>,
 ) -> Option<()>
     requires stands { V.stands visit.old command.old (bytes_of ahead.old) regs.old }
-    requires opens { Opens ahead.old next opening }
+    requires opens { Opens ahead.old to opening }
     requires first { opening.first ≡ first.Mark }
     ensures { MayTakeMark V.takes V.stands view.entry
         (stage_at ahead.old regs.old visit.old command.old)
         (stage_at ahead.new regs.new visit.new command.new) result }
 {
-    let time = time_ahead(opening, next)?;
-    if visit.leaves(command, time) {
+    let time = time_ahead(opening, to)?;
+    if visit.ends_before(command, time) {
         return None;
     }
     let before = *regs;
-    let mark = mark_ahead(opening, time, next, regs)?;
-    visit.take_mark(command, view, before, time, mark, *ahead, next);
-    *ahead = next;
+    let mark = mark_ahead(opening, time, to, regs)?;
+    let from = *ahead;
+    visit.take_mark(command, view, before, time, mark, Extent { from, to });
+    *ahead = to;
     Some(())
+}
+
+/// Takes the change that the tokens of a vector are, which lies here, and returns that it was no
+/// mark. None where they are no such change, and then nothing has changed.
+// Whether the digits have a number is asked once: what is done with it follows in each arm. The arm
+// for digits of a known number takes 5 % off `merge` of 27,505 codes and of Verilator's, and adds 6
+// % to `check`.
+#[inline(always)]
+fn take_vector<C, V: Visit<C>, W: Sink>(
+    command: &mut C,
+    visit: &mut V,
+    view: HeadView<'_>,
+    regs: Regs,
+    tokens: VectorTokens<'_>,
+    extent: Extent<'_>,
+    out: &mut W,
+) -> Option<Result<bool, WriteFailed>>
+    requires failures { (W.device out.old).failures < 2 ^ 64 - 1 }
+    requires stands { V.stands visit.old command.old (bytes_of extent.from) regs }
+    requires opens { OpensVector extent.from extent.to tokens }
+    ensures { MayTakeUpTo V.takes V.stands view.entry
+        (stage_at extent.entry.from regs visit.old command.old (W.device out.old))
+        (λ a. stage_at a regs visit.new command.new (W.device out.new)) extent.entry.to result }
+{
+    match vector_bits(tokens, extent.to.bytes()) {
+        Some(bits) => {
+            let change = vector_ahead(tokens, Some(bits), extent.to, view)?;
+            Some(take_change(command, visit, view, regs, change, extent, out))
+        }
+        None => {
+            let change = vector_ahead(tokens, None, extent.to, view)?;
+            Some(take_change(command, visit, view, regs, change, extent, out))
+        }
+    }
 }
 
 /// Takes the next item that lies ahead, and returns whether it was a mark. None where it takes
 /// none, and then nothing has changed.
-// What begins the item is asked once, and whether digits have a number: what is done with it
-// follows in each arm. All arms are in one function that is inlined. With arms for changes in one
-// of their own `pick` of all takes 188 and 253 an item of 27,505 codes and Verilator's, as it is
-// 160 and 227; not inlined, `check` takes nearly three times as many. The arm for digits of a known
-// number takes 5 % off `merge` of these, and adds 6 % to `check`.
+// What begins the item is asked once: what is done with it follows in each arm. All arms are
+// inlined. With arms for changes in a function of their own `pick` of all takes 188 and 253 an item
+// of 27,505 codes and Verilator's, as it is 160 and 227; not inlined, `check` takes nearly three
+// times as many.
 #[inline(always)]
 fn take_next<C, V: Visit<C>, W: Sink>(
     command: &mut C,
@@ -228,37 +279,32 @@ fn take_next<C, V: Visit<C>, W: Sink>(
         (stage_at ahead.old regs.old visit.old command.old (W.device out.old))
         (stage_at ahead.new regs.new visit.new command.new (W.device out.new)) result }
 {
-    let mut next = *ahead;
-    let opening = opening_ahead(&mut next)?;
+    let from = *ahead;
+    let mut to = from;
+    let opening = opening_ahead(&mut to)?;
     let taken = match opening.first {
         First::Bit | First::Scalar => {
-            let change = scalar_ahead(opening, next, view)?;
-            take_change(command, visit, view, *regs, change, *ahead, next, out)
+            let change = scalar_ahead(opening, to, view)?;
+            let extent = Extent { from, to };
+            take_change(command, visit, view, *regs, change, extent, out)
         }
         First::Vector => {
-            let tokens = vector_tokens_ahead(opening, &mut next)?;
-            match vector_bits(tokens, next.bytes()) {
-                Some(bits) => {
-                    let change = vector_ahead(tokens, Some(bits), next, view)?;
-                    take_change(command, visit, view, *regs, change, *ahead, next, out)
-                }
-                None => {
-                    let change = vector_ahead(tokens, None, next, view)?;
-                    take_change(command, visit, view, *regs, change, *ahead, next, out)
-                }
-            }
+            let tokens = vector_tokens_ahead(opening, &mut to)?;
+            let extent = Extent { from, to };
+            take_vector(command, visit, view, *regs, tokens, extent, out)?
         }
         First::Mark => {
-            take_mark(command, visit, view, opening, regs, ahead, next)?;
+            take_mark(command, visit, view, opening, regs, ahead, to)?;
             return Some(Ok(true));
         }
         First::Real => {
-            let change = real_ahead(opening, &mut next, view)?;
-            take_change(command, visit, view, *regs, change, *ahead, next, out)
+            let change = real_ahead(opening, &mut to, view)?;
+            let extent = Extent { from, to };
+            take_change(command, visit, view, *regs, change, extent, out)
         }
         First::Other => return None,
     };
-    *ahead = next;
+    *ahead = to;
     Some(taken)
 }
 
@@ -281,10 +327,12 @@ fn take_short<C, V: Visit<C>, W: Sink>(
         (stage_at ahead.new regs visit.new command.new (W.device out.new)) result }
     ensures over { V.over visit.new ≡ V.over visit.old }
 {
-    let mut next = *ahead;
-    let change = short_ahead(&mut next, view)?;
-    let taken = take_change(command, visit, view, regs, change, *ahead, next, out);
-    *ahead = next;
+    let from = *ahead;
+    let mut to = from;
+    let change = short_ahead(&mut to, view)?;
+    let extent = Extent { from, to };
+    let taken = take_change(command, visit, view, regs, change, extent, out);
+    *ahead = to;
     Some(taken)
 }
 
@@ -334,9 +382,9 @@ fn take_near<C, V: Visit<C>>(
         (stage_at ahead.old regs.old visit.old command.old)
         (stage_at ahead.new regs.new visit.new command.new) result }
 {
-    let mut next = *ahead;
-    let opening = near_mark(&mut next)?;
-    take_mark(command, visit, view, opening, regs, ahead, next)
+    let mut to = *ahead;
+    let opening = near_mark(&mut to)?;
+    take_mark(command, visit, view, opening, regs, ahead, to)
 }
 
 /// Takes the items that come next, as long as each is a short change or a time mark on a line of
@@ -372,9 +420,8 @@ fn take_lines<'a, C, V: Visit<C>, H: Viewed, W: Sink>(
     ahead.forget();
     'runs: loop {
         let run = take_shorts(command, visit, head, regs, ahead, out);
-        match run.ended {
-            Ok(false) => {}
-            Ok(true) | Err(_) => return run,
+        if !run.can_go_on() {
+            return run;
         }
         ahead = run.ahead;
         regs = run.regs;
@@ -435,9 +482,8 @@ pub fn walk_ahead<'a, C, V: Visit<C>, H: Viewed, W: Sink>(
         (stage_at result.ahead result.regs result.visit command.new (W.device out.new)) result.ended }
 {
     let lines = begin_lines(command, visit, head, regs, ahead, out);
-    match lines.ended {
-        Ok(false) => {}
-        Ok(true) | Err(_) => return lines,
+    if !lines.can_go_on() {
+        return lines;
     }
     let view = head.view();
     let mut ahead = lines.ahead;
@@ -456,9 +502,8 @@ pub fn walk_ahead<'a, C, V: Visit<C>, H: Viewed, W: Sink>(
         }
         if was_mark && has_run(ahead) {
             let run = take_lines(command, visit, head, regs, ahead, out);
-            match run.ended {
-                Ok(false) => {}
-                Ok(true) | Err(_) => return run,
+            if !run.can_go_on() {
+                return run;
             }
             ahead = run.ahead;
             regs = run.regs;

@@ -8,12 +8,12 @@ ghost use Rattle.vcd_body.specs.declared.item.Regs.{Regs};
 use std::alloc::{AllocError, Global};
 use std::test::Fail;
 use vcd_body::{
-    Bits, Form, Id, Item, Plain, Regs, Visit, change_text, left_out, next_item, pass_items,
+    Bits, Extent, Form, Id, Item, Plain, Regs, Visit, change_text, left_out, next_item, pass_items,
     put_change, walk_ahead,
 };
 use vcd_head::{Head, HeadFault, HeadView, read_head};
 use vcd_text::doubles::{Narrow, Pieces};
-use vcd_text::{Ahead, Feed, Sink, Source, Watch, WriteFailed};
+use vcd_text::{Feed, Sink, Source, Watch, WriteFailed};
 
 // Variables of 1 and of 4 bits, in six lines.
 const HEAD: &[u8] = b"$timescale 1ns $end\n$scope module tb $end\n$var wire 1 ! clk $end\n\
@@ -246,10 +246,11 @@ impl Noted {
         }
     }
 
-    fn take(&mut self, item: Plain<'_>, ahead: Ahead<'_>, next: Ahead<'_>)
-        requires { (view : HeadView) × (r : Regs) × TakesItem view ahead next r item }
+    fn take(&mut self, item: Plain<'_>, extent: Extent<'_>)
+        requires { (view : HeadView) × (r : Regs) × TakesItem view extent.from extent.to r item }
     {
-        let needless = left_out(item, next.bytes(), ahead.passed(), next.passed());
+        let from = extent.from.passed();
+        let needless = left_out(item, extent.to.bytes(), from, extent.to.passed());
         if self.noted.is_ok() {
             self.noted = self.note(item, needless);
         }
@@ -267,7 +268,7 @@ impl Visit<()> for Noted {
 
     ghost over = { λ _. false };
 
-    fn leaves(&self, _command: &(), _time: u64) -> bool {
+    fn ends_before(&self, _command: &(), _time: u64) -> bool {
         false
     }
 
@@ -282,10 +283,9 @@ impl Visit<()> for Noted {
         _regs: Regs,
         _time: u64,
         mark: Plain<'_>,
-        ahead: Ahead<'_>,
-        next: Ahead<'_>,
+        extent: Extent<'_>,
     ) {
-        self.take(mark, ahead, next);
+        self.take(mark, extent);
     }
 
     fn take_change<W: Sink>(
@@ -294,11 +294,10 @@ impl Visit<()> for Noted {
         _view: HeadView<'_>,
         _regs: Regs,
         change: Plain<'_>,
-        ahead: Ahead<'_>,
-        next: Ahead<'_>,
+        extent: Extent<'_>,
         _out: &mut W,
     ) -> Result<(), WriteFailed> {
-        self.take(change, ahead, next);
+        self.take(change, extent);
         Ok(())
     }
 }

@@ -16,7 +16,7 @@ ghost use Rattle.vcd_changes.specs.Walk.{Came, HasRoom, is_full, rows_at};
 
 use crate::row::{ChangeRow, row_of};
 use std::io;
-use vcd_body::{Item, Plain, Regs, Visit, Walked, keyword_comes, pass_items, walk_ahead};
+use vcd_body::{Extent, Item, Plain, Regs, Visit, Walked, keyword_comes, pass_items, walk_ahead};
 use vcd_head::HeadView;
 use vcd_text::{Ahead, Feed, Sink, Source, Watch, WriteFailed};
 
@@ -87,7 +87,7 @@ impl<'r> Visit<Rows<'r>> for Collecting {
     ghost over = { λ _. false };
 
     #[inline(always)]
-    fn leaves(&self, _rows: &Rows<'r>, _time: u64) -> bool {
+    fn ends_before(&self, _rows: &Rows<'r>, _time: u64) -> bool {
         self.is_full()
     }
 
@@ -106,8 +106,7 @@ impl<'r> Visit<Rows<'r>> for Collecting {
         _regs: Regs,
         _time: u64,
         _mark: Plain<'_>,
-        _ahead: Ahead<'_>,
-        _next: Ahead<'_>,
+        _extent: Extent<'_>,
     ) {}
 
     #[inline(always)]
@@ -117,8 +116,7 @@ impl<'r> Visit<Rows<'r>> for Collecting {
         _view: HeadView<'_>,
         regs: Regs,
         change: Plain<'_>,
-        _ahead: Ahead<'_>,
-        next: Ahead<'_>,
+        extent: Extent<'_>,
         _out: &mut W,
     ) -> Result<(), WriteFailed> {
         let Item::Change { code, form } = change.item else {
@@ -127,7 +125,7 @@ impl<'r> Visit<Rows<'r>> for Collecting {
         if code == self.place && !self.is_full() {
             rows.rows[self.count] = row_of(regs.time, form, change.text);
             self.count += 1;
-            self.end = next.passed();
+            self.end = extent.to.passed();
         }
         Ok(())
     }

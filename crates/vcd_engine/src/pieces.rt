@@ -2,8 +2,8 @@
 ghost use Rattle.std.specs.Prelude.{◌≡◌, ℕ, ◌+◌, ◌-◌, ◌^◌, ◌<◌, ◌≤◌, List, [], length, slice_range, IfErr, IfOk, IfSome};
 ghost use Rattle.vcd_engine.specs.Names.{BodyItem, bytes_without, HasGoodText, Header, HeadView, held_in, IsInPlace, IsItem, IsLine, IsNoMark, IsPart, IsViewOf, item_line, LiesBetween, Puts, PutsBehind, time_line};
 
-use vcd_body::{Item, Plain, left_out, put_time};
-use vcd_text::{Ahead, Sink, WriteFailed, put_front};
+use vcd_body::{Extent, Item, Plain, left_out, put_time};
+use vcd_text::{Sink, WriteFailed, put_front};
 
 /// An item that is no time mark, as a command takes it. A change ahead has the bytes from `from` up
 /// to `to`; an item that the feed gave has none, and no size.
@@ -16,17 +16,17 @@ pub(crate) struct InPlace<'a> {
 }
 
 impl<'a> InPlace<'a> {
-    /// Returns the change that lies from one position ahead up to another.
+    /// Returns the change that lies here ahead.
     #[inline(always)]
-    pub(crate) fn of(plain: Plain<'a>, from: Ahead<'a>, to: Ahead<'a>) -> InPlace<'a>
+    pub(crate) fn of(plain: Plain<'a>, extent: Extent<'a>) -> InPlace<'a>
         ensures plain { result.plain ≡ plain.entry }
-        ensures place { LiesBetween from.entry to.entry result }
+        ensures place { LiesBetween extent.entry.from extent.entry.to result }
     {
         InPlace {
             plain,
-            bytes: to.bytes(),
-            from: from.passed(),
-            to: to.passed(),
+            bytes: extent.to.bytes(),
+            from: extent.from.passed(),
+            to: extent.to.passed(),
         }
     }
 

@@ -9,11 +9,11 @@ ghost use Rattle.vcd_body.specs.Whole.{IsPrompt};
 use crate::order::Turn;
 use crate::seat::Seat;
 use vcd_body::{
-    Form, Item, Plain, Regs, Stop, Viewed, Visit, change_text, keyword_comes, next_item,
+    Extent, Form, Item, Plain, Regs, Stop, Viewed, Visit, change_text, keyword_comes, next_item,
     pass_items, pass_on, put_renamed, put_renamed_ahead, put_time, walk_ahead,
 };
 use vcd_head::Head;
-use vcd_text::{Ahead, Feed, Sink, Source, WriteFailed};
+use vcd_text::{Feed, Sink, Source, WriteFailed};
 use vcd_view::{Code, HeadView, code_in};
 
 /// Returns whether a change is left out: an event inside a section is.
@@ -122,7 +122,7 @@ impl Visit<()> for Merging {
 
     // A time that is too large once it is scaled is left.
     #[inline(always)]
-    fn leaves(&self, _command: &(), time: u64) -> bool {
+    fn ends_before(&self, _command: &(), time: u64) -> bool {
         time.checked_mul(self.factor).is_none()
     }
 
@@ -139,8 +139,7 @@ impl Visit<()> for Merging {
         _regs: Regs,
         time: u64,
         _mark: Plain<'_>,
-        _ahead: Ahead<'_>,
-        _next: Ahead<'_>,
+        _extent: Extent<'_>,
     ) {
         self.time = time * self.factor;
     }
@@ -152,8 +151,7 @@ impl Visit<()> for Merging {
         view: HeadView<'_>,
         regs: Regs,
         change: Plain<'_>,
-        ahead: Ahead<'_>,
-        next: Ahead<'_>,
+        extent: Extent<'_>,
         out: &mut W,
     ) -> Result<(), WriteFailed> {
         let Item::Change { code, form } = change.item else {
@@ -171,8 +169,9 @@ impl Visit<()> for Merging {
         }
         put_due_time(self.time, &mut self.written, out)?;
         let number = self.first.saturating_add(code as u64);
-        let from = ahead.passed();
-        put_renamed_ahead(change, form, next.bytes(), from, next.passed(), number, out)
+        let from = extent.from.passed();
+        let to = extent.to.passed();
+        put_renamed_ahead(change, form, extent.to.bytes(), from, to, number, out)
     }
 }
 

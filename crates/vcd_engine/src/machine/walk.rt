@@ -14,7 +14,7 @@ ghost use Rattle.vcd_engine.specs.declared.machine.Machine.{Machine};
 ghost use Rattle.vcd_engine.specs.declared.pieces.Pieces.{Pieces};
 
 use crate::pieces::{InPlace, Pieces};
-use vcd_body::{Item, Plain, Regs, Visit, is_mark_line, walk_ahead};
+use vcd_body::{Extent, Item, Plain, Regs, Visit, is_mark_line, walk_ahead};
 use vcd_text::{Ahead, Sink, WriteFailed};
 use vcd_view::HeadView;
 
@@ -183,7 +183,7 @@ impl<L: LoopKind, C: AheadTask<L>> Visit<C> for WalkState<L> {
     ghost over = { λ _. false };
 
     #[inline(always)]
-    fn leaves(&self, command: &C, time: u64) -> bool {
+    fn ends_before(&self, command: &C, time: u64) -> bool {
         command.leaves(time)
     }
 
@@ -200,10 +200,10 @@ impl<L: LoopKind, C: AheadTask<L>> Visit<C> for WalkState<L> {
         _regs: Regs,
         time: u64,
         mark: Plain<'_>,
-        ahead: Ahead<'_>,
-        next: Ahead<'_>,
+        extent: Extent<'_>,
     ) {
-        self.line = L::after_mark(next.bytes(), ahead.passed(), next.passed(), mark.at);
+        let from = extent.from.passed();
+        self.line = L::after_mark(extent.to.bytes(), from, extent.to.passed(), mark.at);
         command.take_mark(time);
     }
 
@@ -214,11 +214,10 @@ impl<L: LoopKind, C: AheadTask<L>> Visit<C> for WalkState<L> {
         view: HeadView<'_>,
         regs: Regs,
         change: Plain<'_>,
-        ahead: Ahead<'_>,
-        next: Ahead<'_>,
+        extent: Extent<'_>,
         out: &mut W,
     ) -> Result<(), WriteFailed> {
-        let change = InPlace::of(change, ahead, next);
+        let change = InPlace::of(change, extent);
         command.take_item(view, regs, change, &self.line, &mut self.pieces, out)
     }
 }

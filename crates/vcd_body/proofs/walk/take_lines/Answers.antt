@@ -8,11 +8,8 @@ returns-then-is_empty g c = rw c.until.ensures (come_begins _ _ _ _ _ c.requires
 pub runs-init : goal.runs-init
 runs-init g c = record { come = come_again _ _ _ _ _ _ _ (come_begins _ _ _ _ _ c.requires.stands c.requires.within) c.forget.ensures; on = c.requires.on }
 
-pub returns-in-Ok-true : goal.returns-in-Ok-true
-returns-in-Ok-true g c = walks_further _ _ _ _ _ _ _ _ c.runs.invariant.come c.take_shorts-run.ensures
-
-pub returns-in-Ok-true-2 : goal.returns-in-Ok-true-2
-returns-in-Ok-true-2 g c = walks_further _ _ _ _ _ _ _ _ c.runs.invariant.come c.take_shorts-run.ensures
+pub returns-then-not-can_go_on : goal.returns-then-not-can_go_on
+returns-then-not-can_go_on g c = walks_further _ _ _ _ _ _ _ _ c.runs.invariant.come c.take_shorts-run.ensures
 
 pub returns-in_default : goal.returns-in_default
 returns-in_default g c =

@@ -10,17 +10,8 @@ take_change-taken-requires-clause-item g c = c.in_ok-change-in-Bit.ensures.takes
 pub vector_tokens_ahead-requires-clause-opens : goal.vector_tokens_ahead-requires-clause-opens
 vector_tokens_ahead-requires-clause-opens g c = (c.args.ahead.now, c.in_ok-opening.ensures.opens)
 
-pub vector_ahead-requires-clause-opens : goal.vector_ahead-requires-clause-opens
-vector_ahead-requires-clause-opens g c = (c.args.ahead.now, c.in_ok-tokens-in-Vector.ensures.opens c.args.ahead.now c.in_ok-opening.ensures.opens)
-
-pub take_change-requires-clause-item : goal.take_change-requires-clause-item
-take_change-requires-clause-item g c = c.in_ok-change-in-Some.ensures.takes c.args.ahead.now c.args.regs.now (c.in_ok-tokens-in-Vector.ensures.opens c.args.ahead.now c.in_ok-opening.ensures.opens)
-
-pub vector_ahead-requires-in-None-clause-opens : goal.vector_ahead-requires-in-None-clause-opens
-vector_ahead-requires-in-None-clause-opens g c = (c.args.ahead.now, c.in_ok-tokens-in-Vector.ensures.opens c.args.ahead.now c.in_ok-opening.ensures.opens)
-
-pub take_change-requires-in-None-clause-item : goal.take_change-requires-in-None-clause-item
-take_change-requires-in-None-clause-item g c = c.in_ok-change-in-None.ensures.takes c.args.ahead.now c.args.regs.now (c.in_ok-tokens-in-Vector.ensures.opens c.args.ahead.now c.in_ok-opening.ensures.opens)
+pub take_vector-requires-clause-opens : goal.take_vector-requires-clause-opens
+take_vector-requires-clause-opens g c = c.in_ok-tokens-in-Vector.ensures.opens c.args.ahead.now c.in_ok-opening.ensures.opens
 
 pub returns-in_err-take_mark-in-Mark : goal.returns-in_err-take_mark-in-Mark
 returns-in_err-take_mark-in-Mark g c =

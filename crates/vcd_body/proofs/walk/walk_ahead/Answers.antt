@@ -16,13 +16,8 @@ returns-then-is_over g c = rw c.until-then-is_over.ensures (_, c.items.invariant
 pub items-preserved : goal.items-preserved
 items-preserved g c = record { come = come_on _ _ _ _ _ _ _ c.items.invariant.come (_, c.view-view.ensures, rw c.in-Ok.is at c.in-Some.ensures.next) (sym c.is_over.ensures ∙ c.if-is_over.false) }
 
-pub returns-in-Ok-true-ended : goal.returns-in-Ok-true-ended
-returns-in-Ok-true-ended g c =
-    let w = come_on _ _ _ _ _ _ _ c.items.invariant.come (_, c.view-view.ensures, rw c.in-Ok.is at c.in-Some.ensures.next) (sym c.is_over.ensures ∙ c.if-is_over.false) in
-    walks_further _ _ _ _ _ _ _ _ w c.take_lines-run.ensures
-
-pub returns-in-Ok-true-ended-2 : goal.returns-in-Ok-true-ended-2
-returns-in-Ok-true-ended-2 g c =
+pub returns-then-not-can_go_on-2 : goal.returns-then-not-can_go_on-2
+returns-then-not-can_go_on-2 g c =
     let w = come_on _ _ _ _ _ _ _ c.items.invariant.come (_, c.view-view.ensures, rw c.in-Ok.is at c.in-Some.ensures.next) (sym c.is_over.ensures ∙ c.if-is_over.false) in
     walks_further _ _ _ _ _ _ _ _ w c.take_lines-run.ensures
 

@@ -19,8 +19,8 @@ take_item-requires-clause-place g c =
     let there = c.of-change.ensures.place in
     let is = c.of-change.ensures.plain in
     let f = c.requires.form in
-    let item : TakesItem c.args.view c.args.ahead c.args.next c.args.regs l.plain = rw is c.requires.item in
-    placed_there c.args.view c.args.ahead c.args.next c.args.regs l.plain l.bytes l.from l.to item there.bytes there.from there.to (f.1.0, f.0, rw is f.1.1)
+    let item : TakesItem c.args.view c.args.extent.from c.args.extent.to c.args.regs l.plain = rw is c.requires.item in
+    placed_there c.args.view c.args.extent.from c.args.extent.to c.args.regs l.plain l.bytes l.from l.to item there.bytes there.from there.to (f.1.0, f.0, rw is f.1.1)
 
 pub take_item-requires-clause-line : goal.take_item-requires-clause-line
 take_item-requires-clause-line g c =

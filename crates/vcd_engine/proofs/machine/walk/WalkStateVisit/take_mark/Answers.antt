@@ -13,14 +13,14 @@ use Rattle.vcd_engine.proofs.machine.walk.WalkStateVisit.take_mark.Goals as goal
 pub after_mark-self-requires : goal.after_mark-self-requires
 after_mark-self-requires g c =
     let n = c.requires.item in
-    (c.args.time, rw (c.passed.ensures.passed, c.passed-2.ensures.passed, c.bytes.ensures, n.same.0) (subst (λ (i : Item). HasSpelled c.args._view (bytes_of c.args.ahead) (passed_of c.args.ahead) (passed_of c.args.next) c.args.mark.at c.args.mark.code_at c.args.mark.text.now i) c.requires.time n.spelled))
+    (c.args.time, rw (c.passed-from.ensures.passed, c.passed.ensures.passed, c.bytes.ensures, n.same.0) (subst (λ (i : Item). HasSpelled c.args._view (bytes_of c.args.extent.from) (passed_of c.args.extent.from) (passed_of c.args.extent.to) c.args.mark.at c.args.mark.code_at c.args.mark.text.now i) c.requires.time n.spelled))
 
 pub returns-clause-takes : goal.returns-clause-takes
 returns-clause-takes g c = λ out.
     let n = c.requires.item in
     let mark = c.args.mark in
     let r = c.args._regs in
-    let marked : HasMark c.bytes.result.now c.passed.result c.passed-2.result mark.at c.args.time = rw (c.passed.ensures.passed, c.passed-2.ensures.passed, c.bytes.ensures, n.same.0) (subst (λ (i : Item). HasSpelled c.args._view (bytes_of c.args.ahead) (passed_of c.args.ahead) (passed_of c.args.next) mark.at mark.code_at mark.text.now i) c.requires.time n.spelled) in
+    let marked : HasMark c.bytes.result.now c.passed-from.result c.passed.result mark.at c.args.time = rw (c.passed-from.ensures.passed, c.passed.ensures.passed, c.bytes.ensures, n.same.0) (subst (λ (i : Item). HasSpelled c.args._view (bytes_of c.args.extent.from) (passed_of c.args.extent.from) (passed_of c.args.extent.to) mark.at mark.code_at mark.text.now i) c.requires.time n.spelled) in
     record {
       plain = mark;
       item = n;
@@ -39,7 +39,7 @@ returns-clause-stands g c =
     let n = c.requires.item in
     let mark = c.args.mark in
     let r = c.args._regs in
-    let marked : HasMark c.bytes.result.now c.passed.result c.passed-2.result mark.at c.args.time = rw (c.passed.ensures.passed, c.passed-2.ensures.passed, c.bytes.ensures, n.same.0) (subst (λ (i : Item). HasSpelled c.args._view (bytes_of c.args.ahead) (passed_of c.args.ahead) (passed_of c.args.next) mark.at mark.code_at mark.text.now i) c.requires.time n.spelled) in
+    let marked : HasMark c.bytes.result.now c.passed-from.result c.passed.result mark.at c.args.time = rw (c.passed-from.ensures.passed, c.passed.ensures.passed, c.bytes.ensures, n.same.0) (subst (λ (i : Item). HasSpelled c.args._view (bytes_of c.args.extent.from) (passed_of c.args.extent.from) (passed_of c.args.extent.to) mark.at mark.code_at mark.text.now i) c.requires.time n.spelled) in
     record {
       ready = c.take_mark.ensures.ready;
       part = subst (λ (bs : List ℕ). IsPart bs c.args.self.now.pieces) (sym n.same.0) c.requires.stands.part;
