@@ -31,6 +31,7 @@ impl<I: Drop> Opened<I> {
         ensures readers { OnOk result (self.new.readers.items
             ≡ self.old.readers.items ++ reader ∷ []) }
         ensures names { OnOk result (AddsOne name.entry self.old.names.items self.new.names.items) }
+        ensures same { IfErr result (λ _. self.new.readers.items ≡ self.old.readers.items) }
     {
         self.names.push(String::from_str(alloc, called(name))?)?;
         Ok(self.readers.push(reader)?)
@@ -65,6 +66,7 @@ fn open_next<'a, H: Host>(
         host.old host.new opened.old.readers.items opened.new.readers.items) }
     ensures names { OnOk result (AddsOne name.entry opened.old.names.items opened.new.names.items) }
     ensures stop { IfErr result (StopsAt H.opens (text_of name.entry) host.old host.new) }
+    ensures same { IfErr result (λ _. opened.new.readers.items ≡ opened.old.readers.items) }
 {
     match host.open(name) {
         Ok(reader) => Ok(opened.push(alloc, name, reader)?),

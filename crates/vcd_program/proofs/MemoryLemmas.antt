@@ -46,6 +46,9 @@ bytes_of b = Some b.rest.now
 abbrev no_failures : Bytes → ℕ
 no_failures b = 0
 
+abbrev none_failed : Bytes → Bool
+none_failed b = false
+
 -- what opening one after the other leaves: the files as they were, the names noted, and the bytes
 -- of each name
 record Opened (files : List MemoryFile) (input : Text) (names : List (Option Text)) (inputs : List Bytes) (host after : Memory) : Type 0 where
@@ -114,7 +117,7 @@ missed files input names inputs host next after name o p = (
 
 -- what words leave that were parsed
 left-parsed : (words : Option Words) (asked : List (Option Text)) (files : List MemoryFile) (input : Text) (host after : Memory) (left : End) (out err : List ℕ) (status : ℕ) → host.files.now ≡ files → host.input.now ≡ input → noted host ≡ [] → LeftAs left after out err status
-    → Runs OpensIn bytes_of no_failures words asked host after (holding []) (holding out) (holding []) (holding err) status → IsLeftOf words asked files input left ⊎ IsOutOfMemory left
+    → Runs OpensIn bytes_of no_failures none_failed words asked host after (holding []) (holding out) (holding []) (holding err) status → IsLeftOf words asked files input left ⊎ IsOutOfMemory left
 left-parsed words asked files input host after left out err status f i n holds (Runs.Refused fault is same leaves) =
     inl (IsLeftOf.Refused fault is (is-left left after out err status [] (command_outcome words [] []) holds (ap noted same ∙ n) leaves))
 left-parsed words asked files input host after left out err status f i n holds (Runs.Ran want limit is readers done opened ends gives) =
@@ -141,7 +144,7 @@ left-parsed words asked files input host after left out err status f i n holds (
 
 -- what any words leave
 left-by : (words : List Text) (files : List MemoryFile) (input : Text) (host after : Memory) (left : End) (out err : List ℕ) (status : ℕ) → host.files.now ≡ files → host.input.now ≡ input → noted host ≡ [] → LeftAs left after out err status
-    → RunsOn words OpensIn bytes_of no_failures host after (holding []) (holding out) (holding []) (holding err) status → IsLeftBy words files input left
+    → RunsOn words OpensIn bytes_of no_failures none_failed host after (holding []) (holding out) (holding []) (holding err) status → IsLeftBy words files input left
 left-by words files input host after left out err status f i n holds (RunsOn.NoMatches why is only same (inl some)) =
     IsLeftBy.NoMatches why is only some.0 some.1 (is-left left after out err status [] (answer_outcome why some.1) holds (ap noted same ∙ n) some.2)
 left-by words files input host after left out err status f i n holds (RunsOn.NoMatches why is only same (inr fails)) = IsLeftBy.NoMemory (out-of-memory left after out err status holds fails)
@@ -151,10 +154,10 @@ left-by words files input host after left out err status f i n holds (RunsOn.Par
 -- the output is flushed, as nothing is kept in a buffer
 left-flushed : {W : Type 0} (device : W → Device) (flushes : W → Bool → W → Type 0) (words : List Text) (files : List MemoryFile) (input : Text) (host after : Memory) (left : End) (out' : W) (out err : List ℕ) (status : ℕ)
     → ((old new : W) (done : Bool) → flushes old done new → (done ≡ true) × (new ≡ old)) → device out' ≡ holding out → host.files.now ≡ files → host.input.now ≡ input → noted host ≡ [] → LeftAs left after out err status
-    → Finishes device flushes (λ out_now err_now n. RunsOn words OpensIn bytes_of no_failures host after (holding []) out_now (holding []) err_now n) out' (holding err) status → IsLeftBy words files input left
+    → Finishes device flushes (λ out_now err_now n. RunsOn words OpensIn bytes_of no_failures none_failed host after (holding []) out_now (holding []) err_now n) out' (holding err) status → IsLeftBy words files input left
 left-flushed device flushes words files input host after left out' out err status flush is f i n holds (Finishes.Flushed before leaves flushed held same) =
     left-by words files input host after left out err status f i n holds
-    (subst (λ d. RunsOn words OpensIn bytes_of no_failures host after (holding []) d (holding []) (holding err) status) (ap device (sym (flush before out' true flushed).1) ∙ is) leaves)
+    (subst (λ d. RunsOn words OpensIn bytes_of no_failures none_failed host after (holding []) d (holding []) (holding err) status) (ap device (sym (flush before out' true flushed).1) ∙ is) leaves)
 left-flushed device flushes words files input host after left out' out err status flush is f i n holds (Finishes.Failed before leaves machine fails held same) =
     let bad : false ≡ true = (flush before out' false fails).0 in cc
 left-flushed device flushes words files input host after left out' out err status flush is f i n holds (Finishes.Unflushed before shown was leaves below fails held same then status_is) =
@@ -167,9 +170,9 @@ is-holding bytes all n e z = ap (λ l. record { held = Some l; failures = n }) e
 pub left-in-memory : {W : Type 0} (device : W → Device) (flushes : W → Bool → W → Type 0) (words : List Text) (files : List MemoryFile) (input : Text) (host after : Memory) (left : End) (out' : W) (out err : List ℕ) (status : ℕ) (out0 err0 err1 : Device)
     → ((old new : W) (done : Bool) → flushes old done new → (done ≡ true) × (new ≡ old)) → device out' ≡ holding out → host.files.now ≡ files → host.input.now ≡ input → noted host ≡ [] → LeftAs left after out err status
     → out0 ≡ holding [] → err0 ≡ holding [] → err1 ≡ holding err
-    → Finishes device flushes (λ out_now err_now n. RunsOn words OpensIn bytes_of no_failures host after out0 out_now err0 err_now n) out' err1 status → IsLeftBy words files input left
+    → Finishes device flushes (λ out_now err_now n. RunsOn words OpensIn bytes_of no_failures none_failed host after out0 out_now err0 err_now n) out' err1 status → IsLeftBy words files input left
 left-in-memory device flushes words files input host after left out' out err status out0 err0 err1 flush is f i n holds e0 e1 e2 fin =
     left-flushed device flushes words files input host after left out' out err status flush is f i n holds
-    (subst (λ d. Finishes device flushes (λ out_now err_now n. RunsOn words OpensIn bytes_of no_failures host after (holding []) out_now (holding []) err_now n) out' d status) e2
-    (subst (λ d. Finishes device flushes (λ out_now err_now n. RunsOn words OpensIn bytes_of no_failures host after (holding []) out_now d err_now n) out' err1 status) e1
-    (subst (λ d. Finishes device flushes (λ out_now err_now n. RunsOn words OpensIn bytes_of no_failures host after d out_now err0 err_now n) out' err1 status) e0 fin)))
+    (subst (λ d. Finishes device flushes (λ out_now err_now n. RunsOn words OpensIn bytes_of no_failures none_failed host after (holding []) out_now (holding []) err_now n) out' d status) e2
+    (subst (λ d. Finishes device flushes (λ out_now err_now n. RunsOn words OpensIn bytes_of no_failures none_failed host after (holding []) out_now d err_now n) out' err1 status) e1
+    (subst (λ d. Finishes device flushes (λ out_now err_now n. RunsOn words OpensIn bytes_of no_failures none_failed host after d out_now err0 err_now n) out' err1 status) e0 fin)))

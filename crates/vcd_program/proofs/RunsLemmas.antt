@@ -102,40 +102,40 @@ pub without-output : (o : Outcome) (out err err' : Device) (status : ℕ) → o.
 without-output o out err err' status none shown is = Whole (subst (λ l. Writes out out l) (sym none) (writes-none out)) shown is
 
 -- memory ran out before an input was opened
-pub no-memory : {H I : Type 0} (opens : H → Option Text → Result I OpenFault → H → Type 0) (rest : I → Option (List ℕ)) (failures : I → ℕ) (words : Option Words) (names : List (Option Text)) (host : H) (out err err' : Device) (status : ℕ) (j : Job)
-    → job_of words ≡ Ok j → Shows err err' (program_line (codes "out of memory")) → status ≡ 3 → Runs opens rest failures words names host host out out err err' status
-no-memory opens rest failures words names host out err err' status j e shown is = Runs.NoMemory j e ([], names, refl, [], host, refl, inl refl) (writes-none out, shown, is)
+pub no-memory : {H I : Type 0} (opens : H → Option Text → Result I OpenFault → H → Type 0) (rest : I → Option (List ℕ)) (failures : I → ℕ) (last_failed : I → Bool) (words : Option Words) (names : List (Option Text)) (host : H) (out err err' : Device) (status : ℕ) (j : Job)
+    → job_of words ≡ Ok j → Shows err err' (program_line (codes "out of memory")) → status ≡ 3 → Runs opens rest failures last_failed words names host host out out err err' status
+no-memory opens rest failures last_failed words names host out err err' status j e shown is = Runs.NoMemory j e ([], names, refl, [], host, refl, inl refl) (writes-none out, shown, is)
 
 -- words that ask for no job
-pub refused : {H I : Type 0} (opens : H → Option Text → Result I OpenFault → H → Type 0) (rest : I → Option (List ℕ)) (failures : I → ℕ) (words : Option Words) (names : List (Option Text)) (host : H) (out err err' : Device) (status : ℕ) (f : UseFault)
-    → IsFaultOf f (job_of words) → Shows err err' (use_outcome f).message → status ≡ (use_outcome f).status → Runs opens rest failures words names host host out out err err' status
-refused {H} {I} opens rest failures words names host out err err' status f e shown is = by_fault f e shown is
+pub refused : {H I : Type 0} (opens : H → Option Text → Result I OpenFault → H → Type 0) (rest : I → Option (List ℕ)) (failures : I → ℕ) (last_failed : I → Bool) (words : Option Words) (names : List (Option Text)) (host : H) (out err err' : Device) (status : ℕ) (f : UseFault)
+    → IsFaultOf f (job_of words) → Shows err err' (use_outcome f).message → status ≡ (use_outcome f).status → Runs opens rest failures last_failed words names host host out out err err' status
+refused {H} {I} opens rest failures last_failed words names host out err err' status f e shown is = by_fault f e shown is
   where
-    said : (g : model.UseFault) → job_of words ≡ Err g → Shows err err' (model.use_outcome g).message → status ≡ 2 → Runs opens rest failures words names host host out out err err' status
+    said : (g : model.UseFault) → job_of words ≡ Err g → Shows err err' (model.use_outcome g).message → status ≡ 2 → Runs opens rest failures last_failed words names host host out out err err' status
     said g e shown is = Runs.Refused g e refl (subst (λ o. IsOutcome o out out err err' status) (sym (command-refused words g e)) (Whole (writes-none out) shown is))
 
-    by_fault : (f : UseFault) → IsFaultOf f (job_of words) → Shows err err' (use_outcome f).message → status ≡ (use_outcome f).status → Runs opens rest failures words names host host out out err err' status
+    by_fault : (f : UseFault) → IsFaultOf f (job_of words) → Shows err err' (use_outcome f).message → status ≡ (use_outcome f).status → Runs opens rest failures last_failed words names host host out out err err' status
     by_fault use_fault.BadWords e shown is = said model.UseFault.BadWords e shown is
     by_fault (use_fault.BadLimit word) e shown is = said (model.UseFault.BadLimit word.now) e shown is
     by_fault (use_fault.BadTime word) e shown is = said (model.UseFault.BadTime word.now) e shown is
     by_fault use_fault.FromAboveTo e shown is = said model.UseFault.FromAboveTo e shown is
     by_fault use_fault.NotRising e shown is = said model.UseFault.NotRising e shown is
     by_fault use_fault.TooManyFiles e shown is = said model.UseFault.TooManyFiles e shown is
-    by_fault use_fault.OutOfMemory e shown is = no-memory opens rest failures words names host out err err' status e.0 e.1 (memory-shown err err' shown) is
+    by_fault use_fault.OutOfMemory e shown is = no-memory opens rest failures last_failed words names host out err err' status e.0 e.1 (memory-shown err err' shown) is
 
 -- an input that cannot be opened
-pub stopped : {H I : Type 0} (opens : H → Option Text → Result I OpenFault → H → Type 0) (rest : I → Option (List ℕ)) (failures : I → ℕ) (words : Option Words) (asked names : List (Option Text)) (host host' : H) (out err err' : Device) (status : ℕ)
+pub stopped : {H I : Type 0} (opens : H → Option Text → Result I OpenFault → H → Type 0) (rest : I → Option (List ℕ)) (failures : I → ℕ) (last_failed : I → Bool) (words : Option Words) (asked names : List (Option Text)) (host host' : H) (out err err' : Device) (status : ℕ)
     (j : Job) (why : OpenStop) (said : Option (Bor Text)) → job_of words ≡ Ok j → names ≡ asked → why ≡ stop.Unopened said → StopsAmong opens names host host' why → Shows err err' (unopened_outcome (called (text_of said))).message → status ≡ 3
-    → Runs opens rest failures words asked host host' out out err err' status
-stopped opens rest failures words asked names host host' out err err' status j why said e named is at shown three =
+    → Runs opens rest failures last_failed words asked host host' out out err err' status
+stopped opens rest failures last_failed words asked names host host' out err err' status j why said e named is at shown three =
     Runs.Stopped j e (text_of said) (subst (λ l. OpensUpTo opens l (text_of said) host host') named (subst (λ w. StopsAmong opens names host host' w) is at))
     (without-output (unopened_outcome (called (text_of said))) out err err' status refl shown three)
 
 -- memory ran out while inputs were opened
-pub memory-stopped : {H I : Type 0} (opens : H → Option Text → Result I OpenFault → H → Type 0) (rest : I → Option (List ℕ)) (failures : I → ℕ) (words : Option Words) (asked names : List (Option Text)) (host host' : H) (out err err' : Device) (status : ℕ)
+pub memory-stopped : {H I : Type 0} (opens : H → Option Text → Result I OpenFault → H → Type 0) (rest : I → Option (List ℕ)) (failures : I → ℕ) (last_failed : I → Bool) (words : Option Words) (asked names : List (Option Text)) (host host' : H) (out err err' : Device) (status : ℕ)
     (j : Job) (why : OpenStop) → job_of words ≡ Ok j → names ≡ asked → why ≡ stop.OutOfMemory → StopsAmong opens names host host' why → Shows err err' (program_line (codes "out of memory")) → status ≡ 3
-    → Runs opens rest failures words asked host host' out out err err' status
-memory-stopped opens rest failures words asked names host host' out err err' status j why e named is at shown three =
+    → Runs opens rest failures last_failed words asked host host' out out err err' status
+memory-stopped opens rest failures last_failed words asked names host host' out err err' status j why e named is at shown three =
     Runs.NoMemory j e (subst (λ l. OpensSome opens l host host') named (subst (λ w. StopsAmong opens names host host' w) is at)) (writes-none out, shown, three)
 
 -- ---- answers of a parse
@@ -194,15 +194,15 @@ pub names-many : {A : Type 0} (bytes : A → Text) (names : List A) (asked : Lis
 names-many bytes names asked e = sym (length-map names bytes) ∙ ap length e ∙ length-map asked called
 
 -- the job was run over the inputs that the words ask for
-pub ran : {H I : Type 0} (opens : H → Option Text → Result I OpenFault → H → Type 0) (rest : I → Option (List ℕ)) (failures : I → ℕ) (words : Option Words) (asked : List (Option Text)) (host host' : H) (out out' err err' : Device) (status : ℕ)
+pub ran : {H I : Type 0} (opens : H → Option Text → Result I OpenFault → H → Type 0) (rest : I → Option (List ℕ)) (failures : I → ℕ) (last_failed : I → Bool) (words : Option Words) (asked : List (Option Text)) (host host' : H) (out out' err err' : Device) (status : ℕ)
     (want : Want) (limit chunk : ℕ) (names wanted : List Text) (readers after : List I)
     → job_of words ≡ Ok (record { want = want; limit = limit }) → chunk ≡ 65536 → names ≡ map called asked → wanted ≡ names_wanted want → Opens opens host asked readers host'
-    → EndsSo names wanted (map failures readers) (map failures after) out out' err err' status
+    → EndsSo names wanted (map failures readers) (map failures after) (map last_failed after) out out' err err' status
     → ((texts : List Text) → map rest readers ≡ map (λ text. Some text) texts → HasRun want limit chunk names texts (map (supply rest failures) readers) (map (supply rest failures) after) out out' err err' status)
-    → Runs opens rest failures words asked host host' out out' err err' status
-ran opens rest failures words asked host host' out out' err err' status want limit chunk names wanted readers after e at named wants opened ends gives =
+    → Runs opens rest failures last_failed words asked host host' out out' err err' status
+ran opens rest failures last_failed words asked host host' out out' err err' status want limit chunk names wanted readers after e at named wants opened ends gives =
     Runs.Ran want limit e readers after opened
-    (subst (λ l. EndsSo l (names_wanted want) (map failures readers) (map failures after) out out' err err' status) named (subst (λ l. EndsSo names l (map failures readers) (map failures after) out out' err err' status) wants ends))
+    (subst (λ l. EndsSo l (names_wanted want) (map failures readers) (map failures after) (map last_failed after) out out' err err' status) named (subst (λ l. EndsSo names l (map failures readers) (map failures after) (map last_failed after) out out' err err' status) wants ends))
     (λ texts h. subst (λ l. Leaves words want limit l texts (map (supply rest failures) readers) (map (supply rest failures) after) out out' err err' status) named
     (leaves-of words want limit names texts (map (supply rest failures) readers) (map (supply rest failures) after) out out' err err' status e
     (subst (λ n. HasRun want limit n names texts (map (supply rest failures) readers) (map (supply rest failures) after) out out' err err' status) at (gives texts h))))

@@ -14,7 +14,7 @@ use Rattle.vcd_text.specs.Device.{Device, Supply, Writes, supply}
 use Rattle.vcd_text.specs.declared.device.Sink.{Ghosts as Sinks}
 use Rattle.vcd_text.specs.declared.device.Source.{Ghosts}
 use Rattle.vcd_words.specs.Words.{parse_status_of, program_app, words_used}
-use Rattle.vcdkit.specs.Failure.{CountsReads, writes_failed}
+use Rattle.vcdkit.specs.Failure.{CountsReads, EndsAtReadOf, writes_failed}
 use Rattle.vcdkit.specs.Message.{Shows, end_message, end_status, unopened_outcome}
 use Rattle.vcdkit.specs.Run.{AreNeeded, AreRead, IsOutcome}
 use Rattle.vcd_host.specs.Asked.{inputs_asked}
@@ -35,10 +35,11 @@ names_wanted (Want.Edges names) = names
 names_wanted want = []
 
 -- over any inputs: the job ends done or failed, and says which; for a failed read only where one of
--- the input that is named failed and of no other, and likewise for a write
-abbrev pub EndsSo : (names asked : List Text) (before after : List ℕ) (out out' err err' : Device) (status : ℕ) → Type 0
-EndsSo names asked before after out out' err err' status =
+-- the input that is named failed, its last one, and of no other, and likewise for a write
+abbrev pub EndsSo : (names asked : List Text) (before after : List ℕ) (last_failed : List Bool) (out out' err err' : Device) (status : ℕ) → Type 0
+EndsSo names asked before after last_failed out out' err err' status =
     (why : _) × CountsReads before after why × (out'.failures ≡ out.failures + writes_failed why) × (status ≡ end_status why) × Shows err err' (end_message names asked why)
+    × EndsAtReadOf last_failed why
 
 -- over inputs with these names and texts: the outcome of the words and of what was read of each,
 -- and no more was read than what settles it; or nothing where memory ran out
@@ -51,21 +52,21 @@ pub data Leaves (words : Option Words) (want : Want) (limit : ℕ) (names texts 
 -- ---- what words leave that were parsed
 
 -- what a program leaves whose words ask for these inputs, before it flushes
-pub data Runs {H I : Type 0} (opens : H → Option Text → Result I OpenFault → H → Type 0) (rest : I → Option (List ℕ)) (failures : I → ℕ) (words : Option Words) (asked : List (Option Text)) (host host' : H) (out out' err err' : Device) (status : ℕ) : Type 0 where
+pub data Runs {H I : Type 0} (opens : H → Option Text → Result I OpenFault → H → Type 0) (rest : I → Option (List ℕ)) (failures : I → ℕ) (last_failed : I → Bool) (words : Option Words) (asked : List (Option Text)) (host host' : H) (out out' err err' : Device) (status : ℕ) : Type 0 where
   -- the words ask for no job: no input is opened
   Refused : (fault : UseFault) (is : job_of words ≡ Err fault) (same : host' ≡ host) (leaves : IsOutcome (command_outcome words [] []) out out' err err' status)
-      → Runs opens rest failures words asked host host' out out' err err' status
+      → Runs opens rest failures last_failed words asked host host' out out' err err' status
   -- all inputs were opened, and the job was run over them
   Ran : (want : Want) (limit : ℕ) (is : job_of words ≡ Ok (record { want = want; limit = limit })) (readers after : List I) (opened : Opens opens host asked readers host')
-      (ends : EndsSo (map called asked) (names_wanted want) (map failures readers) (map failures after) out out' err err' status)
+      (ends : EndsSo (map called asked) (names_wanted want) (map failures readers) (map failures after) (map last_failed after) out out' err err' status)
       (leaves : (texts : List Text) → map rest readers ≡ map (λ text. Some text) texts → Leaves words want limit (map called asked) texts (map (supply rest failures) readers) (map (supply rest failures) after) out out' err err' status)
-      → Runs opens rest failures words asked host host' out out' err err' status
+      → Runs opens rest failures last_failed words asked host host' out out' err err' status
   -- one of them cannot be opened
   Stopped : (job : Job) (is : job_of words ≡ Ok job) (name : Option Text) (opened : OpensUpTo opens asked name host host') (leaves : IsOutcome (unopened_outcome (called name)) out out' err err' status)
-      → Runs opens rest failures words asked host host' out out' err err' status
+      → Runs opens rest failures last_failed words asked host host' out out' err err' status
   -- memory ran out before the job was run
   NoMemory : (job : Job) (is : job_of words ≡ Ok job) (opened : OpensSome opens asked host host') (fails : Fails (codes "out of memory") out out' err err' status)
-      → Runs opens rest failures words asked host host' out out' err err' status
+      → Runs opens rest failures last_failed words asked host host' out out' err err' status
 
 -- ---- what any words leave
 
@@ -80,21 +81,21 @@ abbrev pub Answers : ErrorKind → (out out' err err' : Device) → ℕ → Type
 Answers why out out' err err' status = ((why ≢ kind.OutOfMemory) × (text : Text) × IsOutcome (answer_outcome why text) out out' err err' status) ⊎ Fails (codes "out of memory") out out' err err' status
 
 -- what a program leaves that is run on these words, its name first, before it flushes
-pub data RunsOn {H I : Type 0} (words : List Text) (opens : H → Option Text → Result I OpenFault → H → Type 0) (rest : I → Option (List ℕ)) (failures : I → ℕ) (host host' : H) (out out' err err' : Device) (status : ℕ) : Type 0 where
+pub data RunsOn {H I : Type 0} (words : List Text) (opens : H → Option Text → Result I OpenFault → H → Type 0) (rest : I → Option (List ℕ)) (failures : I → ℕ) (last_failed : I → Bool) (host host' : H) (out out' err err' : Device) (status : ℕ) : Type 0 where
   -- what their matches ask for
-  Parsed : (matches : ArgMatches) (is : HasMatchesOf program_app words matches) (runs : Runs opens rest failures (words_used matches) (inputs_asked matches) host host' out out' err err' status)
-      → RunsOn words opens rest failures host host' out out' err err' status
+  Parsed : (matches : ArgMatches) (is : HasMatchesOf program_app words matches) (runs : Runs opens rest failures last_failed (words_used matches) (inputs_asked matches) host host' out out' err err' status)
+      → RunsOn words opens rest failures last_failed host host' out out' err err' status
   -- they have no matches, for the reason that the command line has for them: no input is opened
   NoMatches : (why : ErrorKind) (is : (why ≡ kind.OutOfMemory) ⊎ IsAmong why (fault_of program_app words)) (only : takes program_app words ≡ true → why ≡ kind.OutOfMemory) (same : host' ≡ host)
-      (answers : Answers why out out' err err' status) → RunsOn words opens rest failures host host' out out' err err' status
+      (answers : Answers why out out' err err' status) → RunsOn words opens rest failures last_failed host host' out out' err err' status
 
 -- ---- runs, by what inputs, the output and the error stream say of themselves
 
 abbrev pub RunsMatches : {H I W E : Type 0} → (H → Option Text → Result I OpenFault → H → Type 0) → Ghosts I → Sinks W → Sinks E → ArgMatches → (host host' : H) → (out out' : W) → (err err' : E) → ℕ → Type 0
-RunsMatches opens g w e matches host host' out out' err err' status = Runs opens g.rest g.failures (words_used matches) (inputs_asked matches) host host' (w.device out) (w.device out') (e.device err) (e.device err') status
+RunsMatches opens g w e matches host host' out out' err err' status = Runs opens g.rest g.failures g.last_failed (words_used matches) (inputs_asked matches) host host' (w.device out) (w.device out') (e.device err) (e.device err') status
 
 abbrev pub RunsWords : {H I W E : Type 0} → List Text → (H → Option Text → Result I OpenFault → H → Type 0) → Ghosts I → Sinks W → Sinks E → (host host' : H) → (out out' : W) → (err err' : E) → ℕ → Type 0
-RunsWords words opens g w e host host' out out' err err' status = RunsOn words opens g.rest g.failures host host' (w.device out) (w.device out') (e.device err) (e.device err') status
+RunsWords words opens g w e host host' out out' err err' status = RunsOn words opens g.rest g.failures g.last_failed host host' (w.device out) (w.device out') (e.device err) (e.device err') status
 
 -- ---- what is left in the end
 

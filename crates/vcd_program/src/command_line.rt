@@ -146,7 +146,8 @@ pub fn run_program<H: Host, W: Output, E: Sink, B: BuildHasher>(
     requires out_failures { (W.device out.old).failures < 2 ^ 64 - 1 }
     requires err_failures { (E.device err.old).failures < 2 ^ 64 - 2 }
     ensures { Finishes W.device W.flushes (λ out_now err_now status. RunsOn
-        (map string_bytes words.now) H.opens H.Input.rest H.Input.failures host.old host.new
+        (map string_bytes words.now) H.opens H.Input.rest H.Input.failures H.Input.last_failed
+        host.old host.new
         (W.device out.old) out_now (E.device err.old) err_now status)
         out.new (E.device err.new) result }
 {
