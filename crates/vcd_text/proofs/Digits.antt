@@ -68,7 +68,7 @@ pub digit_bounds : (b : ℕ) → is_ascii_digit b ≡ true → (48 ≤ b) × (b 
 digit_bounds b is = (grind arith, grind arith)
 
 -- as many digits spell no more
-value_below : (ds : List ℕ) → list_all is_ascii_digit ds ≡ true → decimal_value ds < 10 ^ length ds
+pub value_below : (ds : List ℕ) → list_all is_ascii_digit ds ≡ true → decimal_value ds < 10 ^ length ds
 value_below [] all = omega arith
 value_below (d ∷ ds) all =
     let parts = and_parts (is_ascii_digit d) (list_all is_ascii_digit ds) all in
@@ -91,14 +91,6 @@ none_spelled ds h = by_test (list_all is_ascii_digit ds) refl
     by_test true e = (let some : Some (decimal_value ds) ≡ None = sym (ap (λ b. cond b (Some (decimal_value ds)) None) e) ∙ h in cc)
     by_test false e = e
 
--- a number of at most eight digits
-pub eight_below : (ds : List ℕ) (number : ℕ) → length ds ≤ 8 → spelled ds ≡ Some number → number < 100000000
-eight_below ds number few h =
-    let is = of_spelled ds number h in
-    let below = value_below ds is.0 in
-    let most : 10 ^ length ds ≤ 10 ^ 8 = pow-le-pow_right (omega arith) {i = length ds} {j = 8} few in
-    omega (arith, is.1)
-
 -- one to 16 digits spell a number below 2^64
 pub few_below : (ds : List ℕ) → 0 < length ds → length ds ≤ 16 → spelled ds ≡ spelled_below ds
 few_below [] some few = absurd (omega arith)
@@ -120,17 +112,26 @@ decimal_value-append (x ∷ xs) ys =
     let both : ((x - 48) * 10 ^ length xs + decimal_value xs) * 10 ^ length ys ≡ (x - 48) * 10 ^ length xs * 10 ^ length ys + decimal_value xs * 10 ^ length ys = add-mul ((x - 48) * 10 ^ length xs) (decimal_value xs) (10 ^ length ys) in
     let t : (x - 48) * 10 ^ length (xs ++ ys) + decimal_value (xs ++ ys) ≡ ((x - 48) * 10 ^ length xs + decimal_value xs) * 10 ^ length ys + decimal_value ys = omega arith in t
 
--- ---- digits in two parts, of which the second has eight
+-- ---- digits in two parts
 
 both : (xs ys : List ℕ) → list_all is_ascii_digit xs ≡ true → list_all is_ascii_digit ys ≡ true → spelled (xs ++ ys) ≡ Some (decimal_value (xs ++ ys))
 both xs ys front back = rw (list_all-append is_ascii_digit xs ys, front, back) refl
 
-pub two_spelled : (xs ys : List ℕ) (high low : ℕ) → length ys ≡ 8 → spelled xs ≡ Some high → spelled ys ≡ Some low → Some (high * 100000000 + low) ≡ spelled (xs ++ ys)
-two_spelled xs ys high low eight front back =
+-- the number of both, where the power of ten has as many zeros as the second part digits
+pub two_spelled : (xs ys : List ℕ) (high low power : ℕ) → power ≡ 10 ^ length ys → spelled xs ≡ Some high → spelled ys ≡ Some low → Some (high * power + low) ≡ spelled (xs ++ ys)
+two_spelled xs ys high low power is front back =
     let h = of_spelled xs high front in
     let l = of_spelled ys low back in
-    let value : decimal_value (xs ++ ys) ≡ high * 100000000 + low = rw (decimal_value-append xs ys, eight, h.1, l.1) refl in
+    let value : decimal_value (xs ++ ys) ≡ high * power + low = rw (decimal_value-append xs ys, h.1, l.1, is) refl in
     ap Some (sym value) ∙ sym (both xs ys h.0 l.0)
+
+-- which is small, where there are at most 16
+pub two_below : (xs ys : List ℕ) (high low power : ℕ) → power ≡ 10 ^ length ys → spelled xs ≡ Some high → spelled ys ≡ Some low → length (xs ++ ys) ≤ 16 → high * power + low < 2 ^ 64
+two_below xs ys high low power is front back few =
+    let all = of_spelled (xs ++ ys) (high * power + low) (sym (two_spelled xs ys high low power is front back)) in
+    let below = value_below (xs ++ ys) all.0 in
+    let most : 10 ^ length (xs ++ ys) ≤ 10 ^ 16 = pow-le-pow_right (omega arith) {i = length (xs ++ ys)} {j = 16} few in
+    omega (arith, all.1)
 
 pub front_fails : (xs ys : List ℕ) → spelled xs ≡ None → None ≡ spelled (xs ++ ys)
 front_fails xs ys h = rw (list_all-append is_ascii_digit xs ys, none_spelled xs h) refl
