@@ -30,7 +30,7 @@ use Rattle.vcd_body.specs.Binary.{binary_digits}
 use Rattle.vcd_body.specs.declared.bits.Bits.{Bits}
 use Rattle.vcd_body.proofs.ReadLemmas.{known_change, known_time}
 
--- a look ahead that was at one place passes one token more, which stands on this line, and is at
+-- a look ahead that was at one place passes one token more, which is on this line, and is at
 -- place n
 abbrev PassesOne : ℕ → ℕ → List ℕ → ℕ → ℕ → List ℕ → ℕ → Type 0
 PassesOne limit lines bytes at n token line = (ts : List Token) → Passed limit lines bytes at ts → Passed limit lines bytes n (ts ++ record { bytes = token; line = line } ∷ [])
@@ -89,7 +89,7 @@ module _ (codes : List IdCode) (limit lines : ℕ) (bytes : List ℕ) (before it
       known = k;
     }
 
-  -- these tokens are one phrase more, behind any phrases with the items so far
+  -- these tokens are one phrase more, after any phrases with the items so far
   abbrev GoesOn : List Token → BodyItem → ℕ → Type 0
   GoesOn ts x line = (given : List Token) (earlier : List (Placed BodyPhrase)) → items_of (phrases_of earlier) ≡ before ++ items → IsSoFar (body_grammar codes) given earlier []
       → IsSoFar (body_grammar codes) (given ++ ts) (earlier ++ record { phrase = BodyPhrase.Gives x; line = line } ∷ []) []
@@ -165,7 +165,7 @@ module _ (codes : List IdCode) (limit lines : ℕ) (bytes : List ℕ) (before it
           known_more r x k,
         )
 
-    -- a value, and the code behind it
+    -- a value, and the code after it
     pub both_taken : (f : Form) (n' place line line' : ℕ) (token code text : List ℕ) → n < n' → Passed limit lines bytes n' ((g.tokens ++ record { bytes = token; line = line } ∷ []) ++ record { bytes = code; line = line' } ∷ []) → text ≡ drop 1 token
         → (c : IdCode) → slice_get codes place ≡ Some c → ((earlier : List BodyPhrase) → PassBoth codes earlier token code (BodyItem.Changes (record { code = c; form = model_form f; text = drop 1 token }))) → TakesOne n' r (item.Change place f) text
     both_taken f n' place line line' token code text less p is c at h =

@@ -1,4 +1,4 @@
--- What callers use: nothing was given yet, and what was given stands first in the body.
+-- What callers use: nothing was given yet, and what was given comes first in the body.
 use Rattle.std.proofs.Common.{◌≡◌, ℕ, List, [], ◌∷◌, ◌++◌, Option, Some, None, refl, sym, ap, subst, ◌∙◌, append-nil, arith}
 use Rattle.std.proofs.lemmas.List.{append_assoc}
 use Rattle.vcd_model.specs.Input.{Input}
@@ -19,7 +19,7 @@ use Rattle.vcd_body.specs.Items.{AreRegsAfter}
 use Rattle.vcd_body.specs.Reads.{GaveItem, GaveItems}
 use Rattle.vcd_body.specs.Ahead.{GaveAhead, GaveLast}
 
--- nothing was given behind the header
+-- nothing was given after the header
 pub gave_nothing : {X : Type 0} {g : Ghosts X} (codes : List IdCode) (i : Input) (front : List Token) (f : Feed X g) (r : Regs) → HasGiven i front f → AreRegsAfter [] r → GaveItems codes i front [] f r
 gave_nothing codes i front f r s k = record {
   given = [];
@@ -30,7 +30,7 @@ gave_nothing codes i front f r s k = record {
   known = k;
 }
 
--- the phrases of a reading so far are the first ones of any reading that goes on
+-- the phrases of a reading so far are the first ones of any reading that continues
 module _ (codes : List IdCode) where
   abbrev GoesOnWith : List Token → List Token → List (Placed BodyPhrase) → Type 0
   GoesOnWith given ts placed = (more : List (Placed BodyPhrase)) × ((reading_of (body_grammar codes) (given ++ ts)).placed ≡ placed ++ more)
@@ -39,7 +39,7 @@ module _ (codes : List IdCode) where
   on_by_one : (given : List Token) (t : Token) (ts : List Token) (placed : List (Placed BodyPhrase)) → GoesOnWith (given ++ t ∷ []) ts placed → GoesOnWith given (t ∷ ts) placed
   on_by_one given t ts placed h = (h.0, ap (λ (l : List Token). (reading_of (body_grammar codes) l).placed) (sym (append_assoc given (t ∷ []) ts)) ∙ h.1)
 
-  -- any reading so far goes on with these tokens
+  -- any reading so far continues with these tokens
   abbrev AllGoOn : List Token → Type 0
   AllGoOn ts = (given : List Token) (placed : List (Placed BodyPhrase)) (before : List (List ℕ)) → IsSoFar (body_grammar codes) given placed before → GoesOnWith given ts placed
 

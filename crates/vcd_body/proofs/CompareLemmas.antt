@@ -90,7 +90,7 @@ module _ (xs ys : List ℕ) (size : ℕ) where
 pub differ_for : (xs ys : List ℕ) (size : ℕ) → extend xs size ≢ extend ys size → true ≡ not (bytes_eq (extend xs size) (extend ys size))
 differ_for xs ys size other = test_is xs ys size false ((λ f. absurd (let g : false ≡ true = f in cc)), λ same. absurd (other same))
 
--- digits so many places before the last are the same where the values are
+-- digits this many places before the last are the same where the values are
 pub same_from_last : (xs ys : List ℕ) (size back : ℕ) → back < length xs → back < length ys → extend xs size ≡ extend ys size → slice_get xs (length xs - 1 - back) ≡ slice_get ys (length ys - 1 - back)
 same_from_last xs ys size back few less e =
     let l = ap length e in
@@ -137,20 +137,20 @@ differ_where_as_many xs ys size many r d =
     differ_at_longest xs ys size n (omega arith) (omega arith) r (subst (λ l. Decides r (l ≡ extend ys n)) x (subst (λ l. Decides r (xs ≡ l)) y d))
 
 -- digits that are held a byte each, and those of a text of as many
-pub same_plain : (share text : List ℕ) → length share ≡ length text → ((k : ℕ) → k < length text → held_digit (get_or share k 0) ≡ to_ascii_lowercase (get_or text k 0)) → map held_digit share ≡ str_to_ascii_lowercase text
-same_plain [] [] many same = refl
-same_plain [] (y ∷ text) many same = absurd (omega arith)
-same_plain (x ∷ share) [] many same = absurd (omega arith)
-same_plain (x ∷ share) (y ∷ text) many same =
+pub same_unpacked : (share text : List ℕ) → length share ≡ length text → ((k : ℕ) → k < length text → held_digit (get_or share k 0) ≡ to_ascii_lowercase (get_or text k 0)) → map held_digit share ≡ str_to_ascii_lowercase text
+same_unpacked [] [] many same = refl
+same_unpacked [] (y ∷ text) many same = absurd (omega arith)
+same_unpacked (x ∷ share) [] many same = absurd (omega arith)
+same_unpacked (x ∷ share) (y ∷ text) many same =
     let e = same 0 (omega arith) in
-    let es = same_plain share text (omega arith) (λ k h. same (suc k) (omega arith)) in
+    let es = same_unpacked share text (omega arith) (λ k h. same (suc k) (omega arith)) in
     rw (e, es) refl
 
-pub plain_at : (share text : List ℕ) (k : ℕ) → length share ≡ length text → k < length text → map held_digit share ≡ str_to_ascii_lowercase text → held_digit (get_or share k 0) ≡ to_ascii_lowercase (get_or text k 0)
-plain_at share [] k many h e = absurd (omega arith)
-plain_at [] (y ∷ text) k many h e = absurd (omega arith)
-plain_at (x ∷ share) (y ∷ text) zero many h e = ap (λ l. get_or l 0 0) e
-plain_at (x ∷ share) (y ∷ text) (suc k) many h e = plain_at share text k (omega arith) (omega arith) (ap (drop 1) e)
+pub unpacked_at : (share text : List ℕ) (k : ℕ) → length share ≡ length text → k < length text → map held_digit share ≡ str_to_ascii_lowercase text → held_digit (get_or share k 0) ≡ to_ascii_lowercase (get_or text k 0)
+unpacked_at share [] k many h e = absurd (omega arith)
+unpacked_at [] (y ∷ text) k many h e = absurd (omega arith)
+unpacked_at (x ∷ share) (y ∷ text) zero many h e = ap (λ l. get_or l 0 0) e
+unpacked_at (x ∷ share) (y ∷ text) (suc k) many h e = unpacked_at share text k (omega arith) (omega arith) (ap (drop 1) e)
 
 -- ---- the last digit
 
@@ -169,15 +169,15 @@ last_at (d ∷ []) o k h = let z : k ≡ 0 = omega arith in rw z refl
 last_at (d ∷ e ∷ ds) o zero h = absurd (omega arith)
 last_at (d ∷ e ∷ ds) o (suc k) h = last_at (e ∷ ds) (Some d) k (omega arith)
 
-pub last_packed : (len : ℕ) (bytes : List ℕ) (size k : ℕ) → used_by state.Digits len ≤ length bytes → len ≡ suc k → last_digit_in (value_at_size size (held_by state.Digits len bytes)) ≡ slice_get (digits_held (held_by state.Digits len bytes)) k
+pub last_packed : (len : ℕ) (bytes : List ℕ) (size k : ℕ) → used_by state.Packed len ≤ length bytes → len ≡ suc k → last_digit_in (value_at_size size (held_by state.Packed len bytes)) ≡ slice_get (digits_held (held_by state.Packed len bytes)) k
 last_packed len bytes size k used is =
-    let ds = digits_held (held_by state.Digits len bytes) in
+    let ds = digits_held (held_by state.Packed len bytes) in
     let l = length_held len bytes used in
     last_extended ds size (omega arith) ∙ last_at ds None k (omega arith)
 
-pub last_plain : (len : ℕ) (bytes : List ℕ) (size k : ℕ) → length bytes ≡ suc k → last_digit_in (value_at_size size (held_by state.Plain len bytes)) ≡ slice_get (digits_held (held_by state.Plain len bytes)) k
-last_plain len bytes size k is =
-    let ds = digits_held (held_by state.Plain len bytes) in
+pub last_unpacked : (len : ℕ) (bytes : List ℕ) (size k : ℕ) → length bytes ≡ suc k → last_digit_in (value_at_size size (held_by state.Unpacked len bytes)) ≡ slice_get (digits_held (held_by state.Unpacked len bytes)) k
+last_unpacked len bytes size k is =
+    let ds = digits_held (held_by state.Unpacked len bytes) in
     let l = length-map bytes held_digit in
     last_extended ds size (omega arith) ∙ last_at ds None k (omega arith)
 
@@ -188,14 +188,14 @@ last_number len size k some is bytes =
     last_extended ds size (omega arith) ∙ last_at ds None k (omega arith)
 
 -- a state that holds one, or none
-pub last_of_state : (st : State) (len : ℕ) (bytes : List ℕ) (size : ℕ) → st ≢ state.Plain → st ≢ state.Digits → st ≢ state.Bits → one_digit st ≡ last_digit_in (value_at_size size (held_by st len bytes))
+pub last_of_state : (st : State) (len : ℕ) (bytes : List ℕ) (size : ℕ) → st ≢ state.Unpacked → st ≢ state.Packed → st ≢ state.Bits → one_digit st ≡ last_digit_in (value_at_size size (held_by st len bytes))
 last_of_state state.Unset len bytes size p h b = refl
 last_of_state state.Zero len bytes size p h b = sym (last_extended (48 ∷ []) size (omega arith))
 last_of_state state.One len bytes size p h b = sym (last_extended (49 ∷ []) size (omega arith))
 last_of_state state.Unknown len bytes size p h b = sym (last_extended (120 ∷ []) size (omega arith))
 last_of_state state.High len bytes size p h b = sym (last_extended (122 ∷ []) size (omega arith))
-last_of_state state.Plain len bytes size p h b = absurd (p refl)
-last_of_state state.Digits len bytes size p h b = absurd (h refl)
+last_of_state state.Unpacked len bytes size p h b = absurd (p refl)
+last_of_state state.Packed len bytes size p h b = absurd (h refl)
 last_of_state state.Bits len bytes size p h b = absurd (b refl)
 last_of_state state.Real len bytes size p h b = refl
 

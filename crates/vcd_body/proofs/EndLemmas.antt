@@ -66,9 +66,9 @@ rows f g xs ys at to room more same =
     let less : k < 16 = omega (arith, a, h) in
     lane f xs at k room less ∙ same k less ∙ sym (lane g ys to k more less))
 
-pub plain_ends : (share text : List ℕ) (size : ℕ) → 16 ≤ length share → 16 ≤ length text → ((i : ℕ) → Fits w8 (get_or text i 0)) → extend (map held_digit share) size ≡ extend (str_to_ascii_lowercase text) size
+pub unpacked_ends : (share text : List ℕ) (size : ℕ) → 16 ≤ length share → 16 ≤ length text → ((i : ℕ) → Fits w8 (get_or text i 0)) → extend (map held_digit share) size ≡ extend (str_to_ascii_lowercase text) size
     → map code_of (chunk (length share - 16) 16 share) ≡ map code_of (chunk (length text - 16) 16 text)
-plain_ends share text size many most fits e = rows code_of code_of share text (length share - 16) (length text - 16) (omega arith) (omega arith) (λ k less.
+unpacked_ends share text size many most fits e = rows code_of code_of share text (length share - 16) (length text - 16) (omega arith) (omega arith) (λ k less.
     let m = length-map share held_digit in
     let p = length share - 16 + k in
     let i : length (map held_digit share) - 16 + k ≡ p = omega (arith, m) in

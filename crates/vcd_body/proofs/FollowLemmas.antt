@@ -63,7 +63,7 @@ nothing_changes code v s h p = by_case (p == code) (kept_in v s h p)
     by_case true (Some k) = refl
     by_case false o = refl
 
--- a change is told by what it makes of what was kept
+-- a change is known by what it makes of what was kept
 pub change_as : (code : ℕ) (f g : Kept → Kept) (v v' : List ℕ) (s s' : List Slot) (h h' : List Share) → ((k : Kept) → kept_in v s h code ≡ Some k → f k ≡ g k) → ChangesAt code f v s h v' s' h' → ChangesAt code g v s h v' s' h'
 change_as code f g v v' s s' h h' same a = λ p. a p ∙ by_place p (same_or_not p code)
   where
@@ -130,9 +130,9 @@ bit_digit true tag is = ap (λ n. one_digit (state_in n)) is
 bit_digit false tag is = ap (λ n. one_digit (state_in n)) is
 
 -- the way to a digit from the other one tells whether it rises
-pub way_turns : (one : Bool) (way : ℕ) → way ≡ cond one 2 0 → ((way == 2) ≡ one) × ((way == 0) ≡ not one)
-way_turns true way e = rw e (refl, refl)
-way_turns false way e = rw e (refl, refl)
+pub way_flips : (one : Bool) (way : ℕ) → way ≡ cond one 2 0 → ((way == 2) ≡ one) × ((way == 0) ≡ not one)
+way_flips true way e = rw e (refl, refl)
+way_flips false way e = rw e (refl, refl)
 
 -- a slot that holds the other digit of 0 and 1, or the same
 pub other_bit : (tag : ℕ) (one : Bool) → tag ≡ number_of (cond one state.Zero state.One) → state_in tag ≡ cond one state.Zero state.One
@@ -159,8 +159,8 @@ module _ (values : List ℕ) (slots : List Slot) (shares : List Share) (code : �
       let same : p.0 ≡ slot = cc (sym p.2 ∙ at) in
       subst P (ap (λ (s : Slot). kept_with values (end_at shares (length values) code) (whole s p.1)) (sym same) ∙ p.4) (all p.1 p.3)
 
-  pub kept_turns : (one : Bool) → state_in slot.tag ≡ cond one state.Zero state.One → (f : Form) → f ≢ form.RealText → (size : ℕ) → with_step one (not one) (with_held (Held.Digits (cond one 49 48 ∷ [])) k) ≡ with_change size f (cond one 49 48 ∷ []) k
-  kept_turns one is f digits size = by_slot (λ x. with_step one (not one) (with_held (Held.Digits (cond one 49 48 ∷ [])) x) ≡ with_change size f (cond one 49 48 ∷ []) x)
+  pub kept_flips : (one : Bool) → state_in slot.tag ≡ cond one state.Zero state.One → (f : Form) → f ≢ form.RealText → (size : ℕ) → with_step one (not one) (with_held (Held.Digits (cond one 49 48 ∷ [])) k) ≡ with_change size f (cond one 49 48 ∷ []) k
+  kept_flips one is f digits size = by_slot (λ x. with_step one (not one) (with_held (Held.Digits (cond one 49 48 ∷ [])) x) ≡ with_change size f (cond one 49 48 ∷ []) x)
       (λ h there. bit_turned (whole slot h) one is f digits size (end_at shares (length values) code) values)
 
   pub kept_stays : (one : Bool) → state_in slot.tag ≡ cond one state.One state.Zero → (f : Form) → f ≢ form.RealText → (size : ℕ) → k ≡ with_change size f (cond one 49 48 ∷ []) k

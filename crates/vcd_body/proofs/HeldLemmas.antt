@@ -19,11 +19,11 @@ get_taken [] (suc n) i h = refl
 get_taken (x ∷ xs) (suc n) zero h = refl
 get_taken (x ∷ xs) (suc n) (suc i) h = get_taken xs n i (omega arith)
 
--- so many packed digits are held
+-- this many packed digits are held
 pub length_held : (len : ℕ) (bytes : List ℕ) → bytes_for len ≤ length bytes → length (digits_in len bytes) ≡ len
 length_held len bytes h = length_digits len bytes
 
-pub count_held : (st : State) (len : ℕ) (bytes : List ℕ) → st ≡ state.Digits → used_by st len ≤ length bytes → len ≡ length (digits_held (held_by st len bytes))
+pub count_held : (st : State) (len : ℕ) (bytes : List ℕ) → st ≡ state.Packed → used_by st len ≤ length bytes → len ≡ length (digits_held (held_by st len bytes))
 count_held st len bytes is h = rw is (sym (length_held len bytes (let u = ap (λ (x : State). used_by x len) is in omega (arith, u, h))))
 
 -- ---- extended digits
@@ -56,8 +56,8 @@ no_digits state.Zero len size place bytes u s e = cc
 no_digits state.One len size place bytes u s e = cc
 no_digits state.Unknown len size place bytes u s e = cc
 no_digits state.High len size place bytes u s e = cc
-no_digits state.Plain len size place bytes u s e = absurd (first_there (map held_digit bytes) (let l = length-map bytes held_digit in omega arith) e)
-no_digits state.Digits len size place bytes u s e = absurd (first_there (digits_in len bytes) (let l = length_held len bytes u in omega arith) e)
+no_digits state.Unpacked len size place bytes u s e = absurd (first_there (map held_digit bytes) (let l = length-map bytes held_digit in omega arith) e)
+no_digits state.Packed len size place bytes u s e = absurd (first_there (digits_in len bytes) (let l = length_held len bytes u in omega arith) e)
 no_digits state.Bits len size place bytes u s e = absurd (first_there (binary_digits (count_in len) (number_in len)) (some_binary len s) e)
 no_digits state.Real len size place bytes u s e = refl
 

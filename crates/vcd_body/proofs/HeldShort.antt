@@ -9,7 +9,7 @@ use Rattle.vcd_body.proofs.Shortest.{IsBare, bare_is_short, extend_where_fits, l
 abbrev pub Serves : ℕ → List ℕ → Type 0
 Serves from ds = (from < length ds) × ((size : ℕ) → length ds ≤ size → extend (drop from ds) size ≡ extend ds size)
 
--- what digits are extended by is told by the first of them
+-- what digits are extended by is known by the first of them
 pub extension_at : (ds : List ℕ) (from : ℕ) → from < length ds → extension (drop from ds) ≡ extension (get_or ds from 0 ∷ [])
 extension_at [] from h = absurd (omega arith)
 extension_at (d ∷ ds) zero h = refl

@@ -1,4 +1,4 @@
--- Lines that stand in some bytes but for digits on the left that are not needed.
+-- Lines that are in some bytes but for digits on the left that are not needed.
 use Rattle.std.proofs.Common.{◌≡◌, ◌≢◌, ℕ, zero, suc, ◌+◌, ◌-◌, ◌≤◌, ◌<◌, ◌==◌, false, List, [], ◌∷◌, ◌++◌, length, replicate, take, drop, Option, Some, None, IfSome, SomeIff, sym, ap, ap₂, subst, ◌∙◌, append_assoc, arith}
 use Rattle.std.specs.Prelude.{slice_range}
 use Rattle.std.specs.Char.{to_ascii_lowercase}
@@ -59,7 +59,7 @@ module _ (l rest : List ℕ) (s : (size : ℕ) → str_to_ascii_lowercase rest �
 pub end_is : (l : List ℕ) (k : ℕ) → take (length l - k) (drop k l) ≡ drop k l
 end_is l k = ap (λ m. take m (drop k l)) (sym (length-drop k l)) ∙ take-length (drop k l)
 
--- it stands there too
+-- it is there too
 pub end_place : (bytes l : List ℕ) (at k : ℕ) → k ≤ length l → l ≡ slice_range bytes at (at + length l) → take (length l - k) (drop k l) ≡ slice_range bytes (at + k) (at + k + length (take (length l - k) (drop k l)))
 end_place bytes l at k few place =
     let rest = length l - k in
@@ -75,7 +75,7 @@ first_of zero l first rest e = cc
 first_of (suc n) [] first rest e = cc
 first_of (suc n) (x ∷ l) first rest e = ap (take 1) e
 
--- without some of a text behind the first byte
+-- without some of a text after the first byte
 pub without_some : (bytes : List ℕ) (from to k first : ℕ) (text rest : List ℕ) → from + 1 + k ≤ to → k ≤ length text → slice_range bytes from to ≡ first ∷ text ++ rest → bytes_without bytes from to k ≡ first ∷ drop k text ++ rest
 without_some bytes from to k first text rest within few e =
     let n = to - (from + 1 + k) in

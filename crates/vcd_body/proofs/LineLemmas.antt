@@ -1,4 +1,4 @@
--- Changes that stand in some bytes, and their lines.
+-- Changes that are in some bytes, and their lines.
 use Rattle.std.proofs.Common.{◌≡◌, ◌≢◌, ℕ, zero, suc, ◌+◌, ◌-◌, max, ◌≤◌, ◌<◌, ◌==◌, Bool, true, false, not, ◌&&◌, List, [], ◌∷◌, ◌++◌, length, take, drop, get_or, Some, Result, Ok, Err, IfOk, ◌⊎◌, inl, inr, refl, sym, ap, ap₂, subst, ◌∙◌, append_assoc, arith}
 use Rattle.std.specs.Prelude.{bit_and, nat_le, ◌^◌, slice_get, slice_index, slice_range}
 use Rattle.std.specs.Char.{to_ascii_lowercase}
@@ -89,12 +89,12 @@ token_there bytes from to token further within before place = record { start = t
 pub scalar_there : (bytes : List ℕ) (from to : ℕ) (token text : List ℕ) (digit : ℕ) (rest : List ℕ) → token ≡ digit ∷ rest → text ≡ take 1 token → HasToken bytes from to token → HasChange bytes from to form.Scalar text (drop 1 token)
 scalar_there bytes from to token text digit rest e is t = (digit, is ∙ ap (take 1) e, subst (HasToken bytes from to) (e ∙ ap (λ l. digit ∷ drop 1 l) (sym e)) t)
 
--- a letter and a text, and a code behind them
+-- a letter and a text, and a code after them
 pub both_there : (bytes bytes' : List ℕ) (from middle to : ℕ) (token text code : List ℕ) (letter : ℕ) (rest : List ℕ) → token ≡ letter ∷ rest → text ≡ drop 1 token → bytes' ≡ bytes → HasToken bytes from middle token → HasToken bytes' middle to code → HasChange bytes from to form.Vector text code
 both_there bytes bytes' from middle to token text code letter rest e is same t u =
     (letter, middle, subst (HasToken bytes from middle) (e ∙ ap (λ l. letter ∷ l) (sym (is ∙ ap (drop 1) e))) t, subst (λ b. HasToken b middle to code) same u)
 
--- a text within a token stands at its own place
+-- a text within a token is at its own offset
 part_there : (bytes : List ℕ) (start end k : ℕ) (token : List ℕ) → token ≡ slice_range bytes start end → length token ≡ end - start → start ≤ end → k ≤ length token → drop k token ≡ slice_range bytes (start + k) end
 part_there bytes start end k token is long order few =
     let all : end - start ≡ k + (end - (start + k)) = omega arith in
@@ -207,7 +207,7 @@ digit_there bytes from to at start text code (digit, is, t) places =
     let one : at + length text ≡ at + 1 = omega arith in
     (inside, places.text_is ∙ ap (slice_range bytes at) one ∙ one_byte bytes at inside)
 
--- a token that begins at once, and the byte behind it
+-- a token that begins right here, and the byte after it
 pub token_line : (bytes : List ℕ) (from to : ℕ) (token : List ℕ) (x : ℕ) → HasToken bytes from to token → to ≡ from + length token + 1 → slice_index bytes (to - 1) ≡ x → slice_range bytes from to ≡ token ++ x ∷ []
 token_line bytes from to token x t e last =
     let n = length token in
@@ -292,7 +292,7 @@ bit_line_there bytes from to code_at text code e (digit, is, t) last long fits =
 
 -- ---- digits
 
--- as they stand they are those that are written
+-- unchanged they are those that are written
 pub bare_short : (s : List ℕ) → IsBare s → (size : ℕ) → s ≡ short (extend s size)
 bare_short s b size = bare_is_short s (max size (length s)) b (omega arith) ∙ ap short (sym (extend_where_fits s size (max size (length s)) refl))
 

@@ -1,4 +1,4 @@
--- The line of a time mark that stands in some bytes.
+-- The line of a time mark that is in some bytes.
 use Rattle.std.proofs.Common.{◌≡◌, ℕ, ◌+◌, ◌-◌, ◌^◌, ◌<◌, ◌==◌, ◌&&◌, ◌||◌, not, true, List, [], ◌∷◌, ◌++◌, length, get_or, decimal, sym, ap, ap₂, ◌∙◌, subst, arith, rules}
 use Rattle.std.specs.Prelude.{slice_index, slice_range}
 use Rattle.std.specs.List.{list_all}
@@ -28,7 +28,7 @@ digits_written ds time all value small lead =
     let k = some_digits ds all in
     sym (decimal-digits_value own ds k.0 k.1 lead (subst (λ n. n < 2 ^ 64) (sym value) small)) ∙ ap decimal value
 
--- a mark without white bytes before it, with no zero that leads, and with a line feed behind it
+-- a mark without white bytes before it, with no zero that leads, and with a line feed after it
 pub mark_line : (bytes : List ℕ) (from to time : ℕ) → HasMark bytes from to (from + 1) time → slice_index bytes from ≡ 35 → slice_index bytes (to - 1) ≡ 10 → (slice_index bytes (from + 1) ≡ 48 → to ≡ from + 3) → slice_range bytes from to ≡ time_line time
 mark_line bytes from to time m first last lead =
     let within = m.within in

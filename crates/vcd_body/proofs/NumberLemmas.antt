@@ -213,12 +213,12 @@ held_few state.Zero len most bytes a b m = omega arith
 held_few state.One len most bytes a b m = omega arith
 held_few state.Unknown len most bytes a b m = omega arith
 held_few state.High len most bytes a b m = omega arith
-held_few state.Plain len most bytes a b m = let l = length-map bytes held_digit in omega arith
-held_few state.Digits len most bytes a b m = let l = length_digits len bytes in omega arith
+held_few state.Unpacked len most bytes a b m = let l = length-map bytes held_digit in omega arith
+held_few state.Packed len most bytes a b m = let l = length_digits len bytes in omega arith
 held_few state.Bits len most bytes a b m = let l = length_binary (count_in len) (number_in len) in omega arith
 held_few state.Real len most bytes a b m = omega arith
 
--- a number of so many digits
+-- a number of this many digits
 pub small_number : (l n : ℕ) → n / 2 ^ l ≡ 0 → n < 2 ^ l
 small_number l n none =
     let s = lt-div-mul-add {a = n} (pow_pos l) in

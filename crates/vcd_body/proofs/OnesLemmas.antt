@@ -40,7 +40,7 @@ ones_bits v k long less =
     ∙ bit_mask_l (map (λ x. x == 49) lanes) (31 - k)
     ∙ ap (λ (b : Bool). cond b 1 0) (get_or-map (λ x. x == 49) lanes (31 - k) 0 false (omega (arith, many)) ∙ ap (λ x. x == 49) lane)
 
--- ---- of which so many digits count
+-- ---- of which this many digits count
 
 pub front_fits : (m n : ℕ) → n ≤ 32 → m < 2 ^ 32 → m / 2 ^ (32 - n) < 2 ^ n
 front_fits m n few fits =

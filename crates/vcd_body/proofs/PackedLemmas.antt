@@ -182,7 +182,7 @@ digit_among n bytes p less =
     let t = length_digits n bytes in
     slice_get-get_or (digits_in n bytes) p 0 (omega (arith, t, less)) ∙ ap (λ d. Some d) (digit_there n bytes p less)
 
--- there is none behind the last one
+-- there is none after the last one
 pub none_behind : (n : ℕ) (bytes : List ℕ) (p : ℕ) → n ≤ p → slice_get (digits_in n bytes) p ≡ None
 none_behind n bytes p h = slice_get_past (digits_in n bytes) p (let t = length_digits n bytes in omega arith)
 

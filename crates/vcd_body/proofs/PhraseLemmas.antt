@@ -14,7 +14,7 @@ use Rattle.vcd_model.proofs.BodyGrammar.{start_of-keyword, start_of-mark, start_
 use Rattle.vcd_view.specs.Keywords.{NoEnds}
 use Rattle.vcd_view.proofs.KeywordLemmas.{until, not_until}
 use Rattle.vcd_body.specs.declared.item.Regs.{Regs}
-use Rattle.vcd_body.specs.declared.words.First.TheVariants as first
+use Rattle.vcd_body.specs.declared.words.PhraseKind.TheVariants as kind
 use Rattle.vcd_body.specs.Items.{AreRegsAfter, RefusesMark}
 use Rattle.vcd_body.specs.declared.fault.BodyFault.{BodyFault}
 use Rattle.vcd_body.specs.Words.{Begins, IsScalar, is_of_header}
@@ -28,7 +28,7 @@ head_and_rest token b rest e = e ∙ ap (λ l. b ∷ l) (sym (ap (drop 1) e))
 pub first_byte : (token : List ℕ) (b : ℕ) (rest : List ℕ) → token ≡ b ∷ rest → take 1 token ≡ b ∷ []
 first_byte token b rest e = ap (take 1) e
 
--- a fault of a mark that may not stand where it does
+-- a fault of a mark that may not be where it is
 pub mark_own : (r : Regs) (time : ℕ) (fault : BodyFault) → RefusesMark r time fault → fault ≢ BodyFault.ReadFailed
 mark_own r time fault (inl e) = rw e.0 (λ x. cc)
 mark_own r time fault (inr e) = rw e.0 (λ x. cc)
@@ -38,16 +38,16 @@ mark_misplaced r time fault (inl e) = inl e.1
 mark_misplaced r time fault (inr e) = inr e.2
 
 module _ (codes : List IdCode) where
-  start_mark : (token : List ℕ) → Begins token first.Mark → start_of token ≡ Mark (drop 1 token)
+  start_mark : (token : List ℕ) → Begins token kind.Mark → start_of token ≡ Mark (drop 1 token)
   start_mark token b = ap start_of (head_and_rest token 35 b.0 b.1) ∙ start_of-mark codes (drop 1 token)
 
   start_digit : (token : List ℕ) (b : IsScalar token) → start_of token ≡ Digit b.0 (drop 1 token)
   start_digit token b = ap start_of (head_and_rest token b.0 b.1 b.3) ∙ start_of-digit codes b.0 (drop 1 token) b.2
 
-  start_digits : (token : List ℕ) → Begins token first.Vector → start_of token ≡ Digits (drop 1 token)
+  start_digits : (token : List ℕ) → Begins token kind.Vector → start_of token ≡ Digits (drop 1 token)
   start_digits token b = ap start_of (head_and_rest token b.0 b.1 b.3) ∙ start_of-digits codes b.0 (drop 1 token) b.2
 
-  start_number : (token : List ℕ) → Begins token first.Real → start_of token ≡ Number (drop 1 token)
+  start_number : (token : List ℕ) → Begins token kind.Real → start_of token ≡ Number (drop 1 token)
   start_number token b = ap start_of (head_and_rest token b.0 b.1 b.3) ∙ start_of-number codes b.0 (drop 1 token) b.2
 
   start_keyword : (token : List ℕ) (k : Keyword) → token ≡ keyword_text k → start_of token ≡ Command k
@@ -78,7 +78,7 @@ module _ (codes : List IdCode) where
 
   -- ---- time marks
 
-  module _ (earlier : List BodyPhrase) (token : List ℕ) (b : Begins token first.Mark) where
+  module _ (earlier : List BodyPhrase) (token : List ℕ) (b : Begins token kind.Mark) where
     pub bad_time : (is_decimal (drop 1 token) && nat_lt (decimal_value (drop 1 token)) (2 ^ 64)) ≡ false → body_fault codes earlier [] token ≡ Some 13
     bad_time h = start_fault earlier token (Mark (drop 1 token)) (start_mark token b) ∙ rw h refl
 
@@ -127,9 +127,9 @@ module _ (codes : List IdCode) where
       phrase_is token [] (Digit b.0 (drop 1 token)) (start_digit token b) ∙ rw d (ap (λ t. Some (BodyPhrase.Gives (BodyItem.Changes (record { code = c; form = ChangeForm.Scalar; text = t })))) (sym (first_byte token b.0 b.1 b.3))),
     )
 
-  -- ---- digits, and the code behind them
+  -- ---- digits, and the code after them
 
-  module _ (earlier : List BodyPhrase) (token : List ℕ) (b : Begins token first.Vector) where
+  module _ (earlier : List BodyPhrase) (token : List ℕ) (b : Begins token kind.Vector) where
     pub bad_digits : (not (is_empty (drop 1 token)) && list_all is_value_digit (drop 1 token)) ≡ false → body_fault codes earlier [] token ≡ Some 15
     bad_digits h = start_fault earlier token (Digits (drop 1 token)) (start_digits token b) ∙ rw h refl
 
@@ -149,9 +149,9 @@ module _ (codes : List IdCode) where
       phrase_is token (t ∷ []) (Digits (drop 1 token)) (start_digits token b) ∙ rw d refl,
     )
 
-  -- ---- the text of a real number, and the code behind it
+  -- ---- the text of a real number, and the code after it
 
-  module _ (earlier : List BodyPhrase) (token : List ℕ) (b : Begins token first.Real) where
+  module _ (earlier : List BodyPhrase) (token : List ℕ) (b : Begins token kind.Real) where
     pub no_number : is_empty (drop 1 token) ≡ true → body_fault codes earlier [] token ≡ Some 15
     no_number h = start_fault earlier token (Number (drop 1 token)) (start_number token b) ∙ rw h refl
 
@@ -232,7 +232,7 @@ module _ (codes : List IdCode) where
       misplaced Keyword.Var h = refl
       misplaced Keyword.Version h = refl
 
-  pub no_phrase : (earlier : List BodyPhrase) (token : List ℕ) → Begins token first.Other → keyword_of token ≡ None → body_fault codes earlier [] token ≡ Some 3
+  pub no_phrase : (earlier : List BodyPhrase) (token : List ℕ) → Begins token kind.Other → keyword_of token ≡ None → body_fault codes earlier [] token ≡ Some 3
   unfolding start_of body_fault keyword_of
   no_phrase earlier [] b k = refl
   no_phrase earlier (x ∷ rest) b k = rw (k, b.0, b.1, b.2, b.3) refl

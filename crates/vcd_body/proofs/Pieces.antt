@@ -6,7 +6,7 @@ use Rattle.std.proofs.Math.Seq.{drop-cons, take-length}
 use Rattle.std.proofs.lemmas.List.{take-append-le}
 use Rattle.vcd_text.proofs.Writes.{AppendsSome, appends-first, appends-more, appends-some}
 
--- a piece behind the first n bytes
+-- a piece after the first n bytes
 pub piece-more : (old mid new : Option (List ℕ)) (all piece : List ℕ) (n m : ℕ) → piece ≡ take m (drop n all) → Appends old mid (take n all) → Appends mid new piece → Appends old new (take (n + m) all)
 piece-more old mid new all piece n m e p q = appends-more old mid new all (drop n all) n m refl p (subst (Appends mid new) e q)
 

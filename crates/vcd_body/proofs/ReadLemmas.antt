@@ -1,4 +1,4 @@
--- One item more, and what is known behind it.
+-- One item more, and what is known after it.
 use Rattle.std.proofs.Common.{◌≡◌, ℕ, ◌+◌, ◌≤◌, max, Bool, true, false, cond, not, List, [], ◌∷◌, ◌++◌, take, fold, count_by, filter_map, Option, Some, None, is_some, refl, sym, ap, subst, ◌∙◌, arith, append-nil}
 use Rattle.std.specs.Prelude.{MatchBool}
 use Rattle.std.specs.List.{last_or}
@@ -59,7 +59,7 @@ section_stays items x b e s = rw (count_push is_begin items x, count_push is_end
     same_sum : (n : ℕ) → n + 0 ≡ n
     same_sum n = omega arith
 
--- ---- what is known behind one item more
+-- ---- what is known after one item more
 
 pub known_change : (items : List BodyItem) (r : Regs) (c : Change) → AreRegsAfter items r → AreRegsAfter (items ++ BodyItem.Changes c ∷ []) r
 known_change items r c k = record {
@@ -144,7 +144,7 @@ module _ {X : Type 0} {g : Ghosts X} (codes : List IdCode) (i : Input) (front : 
   pub known_so_far : (f : Feed X g) (r : Regs) (b : Begun codes i front items f r) → AreRegsAfter (items_of (phrases_of b.placed)) r
   known_so_far f r b = subst (λ (l : List BodyItem). AreRegsAfter l r) (sym b.items_are) b.known
 
-  -- a fault behind the items that were given
+  -- a fault after the items that were given
   pub fault_given : (placed : List (Placed BodyPhrase)) (fault : BodyFault) (f : Feed X g) → items_of (phrases_of placed) ≡ items → Fails codes i front (items_of (phrases_of placed)) fault f → Fails codes i front items fault f
   fault_given placed fault f e h = subst (λ (l : List BodyItem). Fails codes i front l fault f) e h
 

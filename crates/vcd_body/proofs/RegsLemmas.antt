@@ -1,4 +1,4 @@
--- A change whose code stands behind its value.
+-- A change whose code comes after its value.
 use Rattle.std.proofs.Common.{◌≡◌, ℕ, ◌<◌, ◌≤◌, Bool, true, false, ◌||◌, nat_le, List, [], ◌∷◌, length, drop, Some, sym, ap, subst, ◌∙◌}
 use Rattle.std.specs.Prelude.{slice_get}
 use Rattle.std.specs.List.{list_all}
@@ -18,7 +18,7 @@ use Rattle.vcd_view.specs.Shown.{HeadShown}
 use Rattle.vcd_view.specs.Views.{Views}
 use Rattle.vcd_model.specs.Header.{Header}
 use Rattle.vcd_body.specs.declared.item.Form.TheVariants as form
-use Rattle.vcd_body.specs.declared.words.First.TheVariants as first
+use Rattle.vcd_body.specs.declared.words.PhraseKind.TheVariants as kind
 use Rattle.vcd_body.specs.Words.{Begins}
 use Rattle.vcd_body.specs.Reads.{Looks, ReadsPhrase}
 use Rattle.vcd_body.specs.Given.{IsGoodText}
@@ -35,7 +35,7 @@ module _ {X : Type 0} {g : Ghosts X} (codes : List IdCode) (i : Input) (front : 
   abbrev ReadBehind : ChangeForm → ℕ → Type 0
   ReadBehind k place = (c : IdCode) × (slice_get codes place ≡ Some c) × ReadsPhrase codes i front placed f (BodyPhrase.Gives (BodyItem.Changes (record { code = c; form = k; text = drop 1 (value_of f) })))
 
-  pub real_read : Begins t first.Real → (place : ℕ) → value_of f ≡ t → FoundBehind place → ReadBehind ChangeForm.RealText place
+  pub real_read : Begins t kind.Real → (place : ℕ) → value_of f ≡ t → FoundBehind place → ReadBehind ChangeForm.RealText place
   real_read b place e h =
       let p = real_passes codes (phrases_of placed) t b (token_of f).bytes h.0 h.2 in (
         h.0,
@@ -44,7 +44,7 @@ module _ {X : Type 0} {g : Ghosts X} (codes : List IdCode) (i : Input) (front : 
             (taken_phrase codes i front placed (t ∷ []) f (BodyPhrase.Gives (BodyItem.Changes (record { code = h.0; form = ChangeForm.RealText; text = drop 1 t }))) p.0 p.1 h.3),
       )
 
-  pub vector_read : Begins t first.Vector → (place : ℕ) → value_of f ≡ t → (h : FoundBehind place) → (h.0.event || nat_le (length (drop 1 t)) h.0.size) ≡ true → ReadBehind ChangeForm.Vector place
+  pub vector_read : Begins t kind.Vector → (place : ℕ) → value_of f ≡ t → (h : FoundBehind place) → (h.0.event || nat_le (length (drop 1 t)) h.0.size) ≡ true → ReadBehind ChangeForm.Vector place
   vector_read b place e h fits =
       let p = vector_passes codes (phrases_of placed) t b (token_of f).bytes h.0 h.2 fits in (
         h.0,

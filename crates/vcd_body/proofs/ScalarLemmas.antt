@@ -12,13 +12,13 @@ use Rattle.vcd_body.specs.declared.ahead.Opening.{Opening}
 use Rattle.vcd_body.specs.declared.item.Form.TheVariants as form
 use Rattle.vcd_body.specs.declared.item.Item.TheVariants as item
 use Rattle.vcd_body.specs.declared.item.Regs.{Regs}
-use Rattle.vcd_body.specs.declared.words.First.TheVariants as first
+use Rattle.vcd_body.specs.declared.words.PhraseKind.TheVariants as kind
 use Rattle.vcd_body.proofs.AheadLemmas.{passes_same, scalar_taken}
 use Rattle.vcd_body.proofs.LineLemmas.{token_there, scalar_there, scalar_places}
 use Rattle.vcd_body.proofs.WordLemmas.{scalar_begins}
 
 -- where its token was taken, it was
-pub scalar_takes : (v : HeadView) (a a' : Ahead) (r : Regs) (o : Opening) (f : Found) (text : Bor (List ℕ)) → Opens a a' o → (o.first ≡ first.Bit) ⊎ (o.first ≡ first.Scalar)
+pub scalar_takes : (v : HeadView) (a a' : Ahead) (r : Regs) (o : Opening) (f : Found) (text : Bor (List ℕ)) → Opens a a' o → (o.kind ≡ kind.Bit) ⊎ (o.kind ≡ kind.Scalar)
     → IsFoundScalar v o.token.now f → text.now ≡ take 1 o.token.now
     → TakesItem v a a' r (record { item = item.Change f.place form.Scalar; text = text; most = f.most; at = passed_of a' - 1 - length o.token.now; code_at = passed_of a' - 1 - length o.token.now + 1; bits = None })
 scalar_takes v a a' r o f text opens is found text_is =
@@ -29,7 +29,7 @@ scalar_takes v a a' r o f text opens is found text_is =
     let taken = opens.token in
     let further = taken.further in
     let less : from < to = omega (arith, further) in
-    let begins = scalar_begins token o.first is opens.begins in
+    let begins = scalar_begins token o.kind is opens.begins in
     let there = token_there bytes from to token taken.further taken.within taken.before taken.place in
     record {
       gives = λ h limit lines bytes before items views over k g.

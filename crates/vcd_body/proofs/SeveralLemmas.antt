@@ -71,7 +71,7 @@ last_code len d bytes some fit at =
     let s = same_code c (omega (arith, fit)) in
     (s.0 ∙ ap (λ n. 48 == n) is, s.1 ∙ ap (λ n. 49 == n) is)
 
--- a step from digits, whose last one is told by a byte, to those of a text
+-- a step from digits, whose last one is known by a byte, to those of a text
 module _ (s : Step) (text : List ℕ) (size : ℕ) (many : 16 ≤ length text) (fits : (i : ℕ) → Fits w8 (get_or text i 0)) (differ : s.differs ≡ true) where
   abbrev pub after : ℕ
   after = get_or text (length text - 1) 0
@@ -95,10 +95,10 @@ module _ (s : Step) (text : List ℕ) (size : ℕ) (many : 16 ≤ length text) (
       new : Some (to_ascii_lowercase after) ≡ last_digit_in (Some (Value.Bits (extend (str_to_ascii_lowercase text) size)))
       new = last_is form.Vector text after size (inr refl) (omega (arith, many)) (sym (slice_get-get_or text (length text - 1) 0 (omega (arith, many))))
 
-  pub plain_told : (share : List ℕ) → 0 < length share → extend (map held_digit share) size ≢ extend (str_to_ascii_lowercase text) size
+  pub unpacked_told : (share : List ℕ) → 0 < length share → extend (map held_digit share) size ≢ extend (str_to_ascii_lowercase text) size
       → s.rises ≡ goes_from 48 49 (Some (get_or share (length share - 1) 0)) (Some after) → s.falls ≡ goes_from 49 48 (Some (get_or share (length share - 1) 0)) (Some after)
       → IsStep s (Some (Value.Bits (extend (map held_digit share) size))) (Value.Bits (extend (str_to_ascii_lowercase text) size))
-  plain_told share some other rise fall =
+  unpacked_told share some other rise fall =
       let p = length share - 1 in
       let raw = get_or share p 0 in
       let l = length-map share held_digit in
@@ -133,7 +133,7 @@ kept_there values slots shares code slot share k here there at =
     ap (λ (x : Kept). x.held) kept
 
 -- the digits that are packed in the first bytes of a share are those that are held
-pub packed_there : (values : List ℕ) (m start : ℕ) (v : Holding) (share : List ℕ) → v.state ≡ state.Digits → share ≡ take m (drop start values) → quarter_of (len_of v) ≤ length share → held_from values start v ≡ Held.Digits (digits_in (len_of v) share)
+pub packed_there : (values : List ℕ) (m start : ℕ) (v : Holding) (share : List ℕ) → v.state ≡ state.Packed → share ≡ take m (drop start values) → quarter_of (len_of v) ≤ length share → held_from values start v ≡ Held.Digits (digits_in (len_of v) share)
 packed_there values m start v share packed is room =
     ap (λ (st : State). held_by st (len_of v) (take (used_by st (len_of v)) (drop start values))) packed
     ∙ ap (λ (l : List ℕ). Held.Digits l) (digits_there (len_of v) m start values (subst (λ (l : List ℕ). quarter_of (len_of v) ≤ length l) is room) ∙ ap (digits_in (len_of v)) (sym is))

@@ -187,7 +187,7 @@ two_from zero l two = two
 two_from (suc k) [] two = λ j less. absurd (omega arith)
 two_from (suc k) (d ∷ l) two = two_from k l (λ j less. two (suc j) (omega arith))
 
--- so the digits behind the zeros that lead are the shortest
+-- so the digits after the zeros that lead are the shortest
 pub short_behind_zeros : (k : ℕ) (l : List ℕ) → k < length l → ((j : ℕ) → j < k → get_or l j 0 ≡ 48) → (k + 1 < length l → get_or l k 0 ≢ 48) → AreTwo l → (size : ℕ) → drop k l ≡ short (extend (str_to_ascii_lowercase l) size)
 short_behind_zeros k l less zeros first two size =
     let s = zeros_lead k l l less zeros two (omega arith, omega arith, λ n fits. refl) in

@@ -64,7 +64,7 @@ same_or_not j k = by_order (cases_lt j k) (cases_lt k j)
 pub length-put_mid : (a k : ℕ) (xs ys : List ℕ) → a + k ≤ length xs → length ys ≡ k → length (put_mid a k xs ys) ≡ length xs
 length-put_mid a k xs ys within same = simp (length-append, length-take, length-drop) (omega arith)
 
--- bytes that lie before a written part, or behind it
+-- bytes that lie before a written part, or after it
 reads_same : (a u s k : ℕ) (xs ys : List ℕ) → s + k ≤ length xs → length ys ≡ k → (a + u ≤ s) ⊎ (s + k ≤ a) → take u (drop a (put_mid s k xs ys)) ≡ take u (drop a xs)
 reads_same a u s k xs ys within same (inl before) = sym (drop-take a u (put_mid s k xs ys)) ∙ ap (drop a) (take-put_mid_below s k xs ys (a + u) before (omega arith)) ∙ drop-take a u xs
 reads_same a u s k xs ys within same (inr behind) = ap (take u) (drop-put_mid s k xs ys a behind (omega arith) same)
@@ -474,7 +474,7 @@ not_outside start used end n low high (inl h) = omega arith
 not_outside start used end n low high (inr h) = omega arith
 
 -- the digits that were packed lie in the bytes that are in use
-pub packed_held : (ys text : List ℕ) → digits_in (length text) ys ≡ map held_digit text → held_by state.Digits (length text) (take (used_by state.Digits (length text)) ys) ≡ Held.Digits (map held_digit text)
+pub packed_held : (ys text : List ℕ) → digits_in (length text) ys ≡ map held_digit text → held_by state.Packed (length text) (take (used_by state.Packed (length text)) ys) ≡ Held.Digits (map held_digit text)
 packed_held ys text packed = ap (λ (l : List ℕ). Held.Digits l) (digits_first (length text) ys ∙ packed)
 
 -- a form of digits
@@ -483,7 +483,7 @@ digits_form form.Scalar digits text = refl
 digits_form form.Vector digits text = refl
 digits_form form.RealText digits text = absurd (digits refl)
 
-pub packed_as : (f : Form) (ys text : List ℕ) → f ≢ form.RealText → least_bytes f (length text) ≤ length ys → digits_in (length text) ys ≡ map held_digit text → IsHeldAs f text state.Digits ys
+pub packed_as : (f : Form) (ys text : List ℕ) → f ≢ form.RealText → least_bytes f (length text) ≤ length ys → digits_in (length text) ys ≡ map held_digit text → IsHeldAs f text state.Packed ys
 packed_as f ys text digits room packed = record {
   held = packed_held ys text packed ∙ digits_form f digits text;
   used = digits_bytes f (length text) digits room;
@@ -526,8 +526,8 @@ held_one state.Zero len d bytes h = let e : byte "0" ≡ d = cc in ap (λ x. Hel
 held_one state.One len d bytes h = let e : byte "1" ≡ d = cc in ap (λ x. Held.Digits (x ∷ [])) e
 held_one state.Unknown len d bytes h = let e : byte "x" ≡ d = cc in ap (λ x. Held.Digits (x ∷ [])) e
 held_one state.High len d bytes h = let e : byte "z" ≡ d = cc in ap (λ x. Held.Digits (x ∷ [])) e
-held_one state.Plain len d bytes h = cc
-held_one state.Digits len d bytes h = cc
+held_one state.Unpacked len d bytes h = cc
+held_one state.Packed len d bytes h = cc
 held_one state.Bits len d bytes h = cc
 held_one state.Real len d bytes h = cc
 
@@ -537,8 +537,8 @@ used_none state.Zero len d h = (refl, refl)
 used_none state.One len d h = (refl, refl)
 used_none state.Unknown len d h = (refl, refl)
 used_none state.High len d h = (refl, refl)
-used_none state.Plain len d h = cc
-used_none state.Digits len d h = cc
+used_none state.Unpacked len d h = cc
+used_none state.Packed len d h = cc
 used_none state.Bits len d h = cc
 used_none state.Real len d h = cc
 
@@ -546,15 +546,15 @@ used_none state.Real len d h = cc
 pub digit_kept : (st : State) (len : ℕ) (s : Whole) (d end : ℕ) (values : List ℕ) → one_digit st ≡ Some d → kept_with values end (set_whole st len s) ≡ with_held (Held.Digits (d ∷ [])) (kept_with values end s)
 digit_kept st len s d end values h = ap (λ (x : Held). kept_as end s x) (held_one st len d (take (used_by st len) (drop s.start values)) h)
 
--- a state is told by its number
+-- a state is known by its number
 pub told_state : (st : State) → state_in (number_of st) ≡ st
 told_state state.Unset = refl
 told_state state.Zero = refl
 told_state state.One = refl
 told_state state.Unknown = refl
 told_state state.High = refl
-told_state state.Plain = refl
-told_state state.Digits = refl
+told_state state.Unpacked = refl
+told_state state.Packed = refl
 told_state state.Bits = refl
 told_state state.Real = refl
 
@@ -583,8 +583,8 @@ len_told st tag len e text = ap (λ n. len_in n (len % 4294967296) (len / 429496
     by_state state.One h = parts
     by_state state.Unknown h = parts
     by_state state.High h = parts
-    by_state state.Plain h = parts
-    by_state state.Digits h = parts
+    by_state state.Unpacked h = parts
+    by_state state.Packed h = parts
     by_state state.Bits h = absurd (h refl)
     by_state state.Real h = parts
 

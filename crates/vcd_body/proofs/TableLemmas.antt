@@ -53,8 +53,8 @@ shows_digits state.Zero len bytes a b = refl
 shows_digits state.One len bytes a b = refl
 shows_digits state.Unknown len bytes a b = refl
 shows_digits state.High len bytes a b = refl
-shows_digits state.Plain len bytes a b = refl
-shows_digits state.Digits len bytes a b = refl
+shows_digits state.Unpacked len bytes a b = refl
+shows_digits state.Packed len bytes a b = refl
 shows_digits state.Bits len bytes a b = refl
 shows_digits state.Real len bytes a b = absurd (b refl)
 
@@ -65,8 +65,8 @@ is_real state.Zero h = cc
 is_real state.One h = cc
 is_real state.Unknown h = cc
 is_real state.High h = cc
-is_real state.Plain h = cc
-is_real state.Digits h = cc
+is_real state.Unpacked h = cc
+is_real state.Packed h = cc
 is_real state.Bits h = cc
 is_real state.Real h = refl
 

@@ -142,7 +142,7 @@ module _ (codes : List IdCode) (i : Input) (front : List Token) (placed : List (
         → StopsAt codes i front (items_of (phrases_of placed)) f
     stopped_at_end limit given halt line l stands h e = AtEnd placed before refl (record { reads = record { given = given; stands = stands; so_far = h }; all = ap (λ n. (stream_of n i).tokens) l ∙ ap (λ (s : Stream). s.tokens) e })
 
-  -- a halt stands where a token is asked for
+  -- a halt is where a token is asked for
   pub halted_at : {X : Type 0} {g : Ghosts X} (limit : ℕ) (given : List Token) (before : List (List ℕ)) (n : ℕ) (f : Feed X g) → limit_of f ≡ limit → IsSoFar (body_grammar codes) given placed before → Ends limit i (front ++ given) (Some n) (token_of f).line
       → HasGiven i (front ++ given) f → FailsOver codes i front (items_of (phrases_of placed)) n f
   halted_at limit given before n f l h e stands = (

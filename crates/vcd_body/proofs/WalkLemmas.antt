@@ -64,7 +64,7 @@ module _ {V C : Type 0} (takes : HeadView → Stage V C → Stage V C → Result
         within = more.within;
       }
 
-  -- it goes on, and ends as it then does
+  -- it continues, and ends as it then does
   pub walks_further : (a b z : Stage V C) (ended : Result Bool WriteFailed) → HasCome takes stands over shows a b → Walks takes stands over shows b z ended → Walks takes stands over shows a z ended
   walks_further a b z (Ok false) come more = come_further a b z come more
   walks_further a b z (Ok true) come more = (more.0, come_further a b more.0 come more.1, more.2, more.3)

@@ -22,8 +22,8 @@ use Rattle.vcd_view.specs.declared.keyword.Keyword.TheVariants as head
 use Rattle.vcd_body.specs.Binary.{binary_digits, bit_of}
 use Rattle.vcd_body.specs.declared.bits.Bits.{Bits}
 use Rattle.vcd_body.specs.Words.{Begins, IsScalar, StandsFor, command_is, is_either}
-use Rattle.vcd_body.specs.declared.words.First.{First}
-use Rattle.vcd_body.specs.declared.words.First.TheVariants as first
+use Rattle.vcd_body.specs.declared.words.PhraseKind.{PhraseKind}
+use Rattle.vcd_body.specs.declared.words.PhraseKind.TheVariants as kind
 
 pub filled : (l : List ℕ) → (length l == 0) ≡ false → is_empty l ≡ false
 filled [] e = cc
@@ -54,9 +54,9 @@ bit_digit d is = by_first (d == 48) (d == 49) is
     by_first false false h = cc
 
 -- a digit of a value, whichever it is
-pub scalar_begins : (token : List ℕ) (f : First) → (f ≡ first.Bit) ⊎ (f ≡ first.Scalar) → Begins token f → IsScalar token
-scalar_begins token f (inl e) b = let s : Begins token first.Bit = subst (Begins token) e b in (s.0, s.1, bit_digit s.0 s.2, s.3)
-scalar_begins token f (inr e) b = let s : Begins token first.Scalar = subst (Begins token) e b in (s.0, s.1, s.2, s.4)
+pub scalar_begins : (token : List ℕ) (f : PhraseKind) → (f ≡ kind.Bit) ⊎ (f ≡ kind.Scalar) → Begins token f → IsScalar token
+scalar_begins token f (inl e) b = let s : Begins token kind.Bit = subst (Begins token) e b in (s.0, s.1, bit_digit s.0 s.2, s.3)
+scalar_begins token f (inr e) b = let s : Begins token kind.Scalar = subst (Begins token) e b in (s.0, s.1, s.2, s.4)
 
 -- a token that a byte begins has one
 pub some_of : (token : List ℕ) (d : ℕ) (rest : List ℕ) → token ≡ d ∷ rest → 0 < length token
@@ -227,13 +227,13 @@ low_clear mask n k few e less =
 pub no_bits : (mask k : ℕ) → mask ≡ 0 → bit_at mask k ≡ 0
 no_bits mask k e = ap (λ m. bit_at m k) e ∙ bit_at-zero k
 
--- places from i on, by how far behind it they are
+-- places from i on, by how far after it they are
 pub behind : (p : ℕ → Bool) (xs : List ℕ) (i n : ℕ) → ((k : ℕ) → k < n → p (slice_index xs (i + k)) ≡ true) → (k : ℕ) → i ≤ k → k < i + n → p (slice_index xs k) ≡ true
 behind p xs i n h k low high =
     let back : i + (k - i) ≡ k = omega arith in
     subst (λ j. p (slice_index xs j) ≡ true) back (h (k - i) (omega arith))
 
--- ---- digits that stand in some bytes
+-- ---- digits that are in some bytes
 
 -- a byte of them
 pub byte_there : (xs bytes : List ℕ) (at n k : ℕ) → k < n → xs ≡ slice_range bytes at (at + n) → slice_index xs k ≡ slice_index bytes (at + k)

@@ -58,7 +58,7 @@ abbrev pub GivesBoth : List IdCode → ChangeForm → List ℕ → List ℕ → 
 GivesBoth codes form first second found = (c : IdCode) × (slice_get codes found.place ≡ Some c) × ((earlier : List BodyPhrase) → PassBoth codes earlier first second (BodyItem.Changes (record { code = c; form = form; text = drop 1 first })))
 
 -- The first n bytes ahead are whole phrases, each with one of these items, where the items before
--- them are these. Whatever was given with those, the reading goes on with these.
+-- them are these. Whatever was given with those, the reading continues with these.
 pub record GaveAhead (codes : List IdCode) (limit lines : ℕ) (bytes : List ℕ) (n : ℕ) (before items : List BodyItem) : Type 0 where
   pub tokens : List Token
   pub passed : Passed limit lines bytes n tokens

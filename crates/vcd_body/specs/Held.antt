@@ -6,10 +6,10 @@ use Rattle.vcd_body.specs.declared.slot.HeldValue.{HeldValue}
 
 -- what is held, and its digits, none where it has none
 abbrev pub held_in : HeldValue → Held
-held_in v = held_with v.holding v.share.now
+held_in v = held_with v.holding v.bytes.now
 
 abbrev pub digits_of : HeldValue → List ℕ
-digits_of v = digits_with v.holding v.share.now
+digits_of v = digits_with v.holding v.bytes.now
 
 -- it is digits
 abbrev pub HasDigits : HeldValue → Type 0

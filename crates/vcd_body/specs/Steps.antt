@@ -39,11 +39,11 @@ abbrev pub LeavesSteps : ℕ → (Kept → Kept) → Bool → Bool → List Slot
 LeavesSteps code f rises falls slots slots' = (shares : List Share) (values after : List ℕ) (counted : List Slot) (with : List Share) → ChangesAt code (with_steps 256 rises falls) values slots' shares after counted with → ChangesAt code f values slots shares after counted with
 
 -- the slot has the digit, and its step is counted; or 256 steps are left to count
-abbrev pub TurnsTo : ℕ → ℕ → List Slot → List Slot → Type 0
-TurnsTo code digit slots slots' = (f : Form) → f ≢ form.RealText → (size : ℕ) → ChangesSlot code (with_change size f (digit ∷ [])) slots slots'
+abbrev pub FlipsTo : ℕ → ℕ → List Slot → List Slot → Type 0
+FlipsTo code digit slots slots' = (f : Form) → f ≢ form.RealText → (size : ℕ) → ChangesSlot code (with_change size f (digit ∷ [])) slots slots'
 
-abbrev pub LeavesTurn : ℕ → ℕ → Bool → Bool → List Slot → List Slot → Type 0
-LeavesTurn code digit rises falls slots slots' = (f : Form) → f ≢ form.RealText → (size : ℕ) → LeavesSteps code (with_change size f (digit ∷ [])) rises falls slots slots'
+abbrev pub LeavesFlip : ℕ → ℕ → Bool → Bool → List Slot → List Slot → Type 0
+LeavesFlip code digit rises falls slots slots' = (f : Form) → f ≢ form.RealText → (size : ℕ) → LeavesSteps code (with_change size f (digit ∷ [])) rises falls slots slots'
 
 -- the slot has the number, and its step at a size is counted; or 256 steps are left to count
 abbrev pub StepsTo : ℕ → ℕ → Bits → List Slot → List Slot → Type 0

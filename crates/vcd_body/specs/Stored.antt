@@ -23,8 +23,8 @@ one_digit state.Zero = Some (byte "0")
 one_digit state.One = Some (byte "1")
 one_digit state.Unknown = Some (byte "x")
 one_digit state.High = Some (byte "z")
-one_digit state.Plain = None
-one_digit state.Digits = None
+one_digit state.Unpacked = None
+one_digit state.Packed = None
 one_digit state.Bits = None
 one_digit state.Real = None
 
@@ -35,8 +35,8 @@ used_by state.Zero len = 0
 used_by state.One len = 0
 used_by state.Unknown len = 0
 used_by state.High len = 0
-used_by state.Plain len = len
-used_by state.Digits len = bytes_for len
+used_by state.Unpacked len = len
+used_by state.Packed len = bytes_for len
 used_by state.Bits len = 0
 used_by state.Real len = len
 
@@ -58,8 +58,8 @@ held_by state.Zero len bytes = Held.Digits (byte "0" ∷ [])
 held_by state.One len bytes = Held.Digits (byte "1" ∷ [])
 held_by state.Unknown len bytes = Held.Digits (byte "x" ∷ [])
 held_by state.High len bytes = Held.Digits (byte "z" ∷ [])
-held_by state.Plain len bytes = Held.Digits (map held_digit bytes)
-held_by state.Digits len bytes = Held.Digits (digits_in len bytes)
+held_by state.Unpacked len bytes = Held.Digits (map held_digit bytes)
+held_by state.Packed len bytes = Held.Digits (digits_in len bytes)
 held_by state.Bits len bytes = Held.Digits (binary_digits (count_in len) (number_in len))
 held_by state.Real len bytes = Held.Text bytes
 
@@ -90,8 +90,8 @@ number_of state.One = 1
 number_of state.Zero = 2
 number_of state.Unknown = 3
 number_of state.High = 4
-number_of state.Plain = 5
-number_of state.Digits = 6
+number_of state.Unpacked = 5
+number_of state.Packed = 6
 number_of state.Real = 7
 number_of state.Bits = 8
 
@@ -101,8 +101,8 @@ state_in (suc zero) = state.One
 state_in (suc (suc zero)) = state.Zero
 state_in (suc (suc (suc zero))) = state.Unknown
 state_in (suc (suc (suc (suc zero)))) = state.High
-state_in (suc (suc (suc (suc (suc zero))))) = state.Plain
-state_in (suc (suc (suc (suc (suc (suc zero)))))) = state.Digits
+state_in (suc (suc (suc (suc (suc zero))))) = state.Unpacked
+state_in (suc (suc (suc (suc (suc (suc zero)))))) = state.Packed
 state_in (suc (suc (suc (suc (suc (suc (suc zero))))))) = state.Real
 state_in (suc (suc (suc (suc (suc (suc (suc (suc n)))))))) = state.Bits
 
@@ -182,8 +182,8 @@ some_by state.Zero len = 1
 some_by state.One len = 1
 some_by state.Unknown len = 1
 some_by state.High len = 1
-some_by state.Plain len = len
-some_by state.Digits len = len
+some_by state.Unpacked len = len
+some_by state.Packed len = len
 some_by state.Bits len = cond (is_proper len) 1 0
 some_by state.Real len = 1
 

@@ -25,12 +25,12 @@ use Rattle.vcd_body.specs.declared.item.Form.{Form}
 use Rattle.vcd_body.specs.declared.item.Form.TheVariants as form
 use Rattle.vcd_body.specs.declared.item.Item.TheVariants.{Change}
 use Rattle.vcd_body.specs.declared.item.Regs.{Regs}
-use Rattle.vcd_body.specs.declared.words.First.TheVariants as first
+use Rattle.vcd_body.specs.declared.words.PhraseKind.TheVariants as kind
 
 -- a token was taken, from one position ahead to another, and this is what it begins
 pub record Opens (a a' : Ahead) (o : Opening) : Type 0 where
   pub token : TakesToken a a' o.token.now
-  pub begins : Begins o.token.now o.first
+  pub begins : Begins o.token.now o.kind
 
 -- a mark's digits spell this time
 abbrev pub HasTime : Opening → ℕ → Type 0
@@ -40,7 +40,7 @@ HasTime o time = (is_decimal (drop 1 o.token.now) ≡ true) × (decimal_value (d
 pub record OpensVector (a a' : Ahead) (t : VectorTokens) : Type 0 where
   pub middle : Ahead
   pub token : TakesToken a middle t.token.now
-  pub begins : Begins t.token.now first.Vector
+  pub begins : Begins t.token.now kind.Vector
   pub code : TakesToken middle a' t.code.now
   pub at : t.at ≡ passed_of middle - 1 - length t.token.now
   pub code_at : t.code_at ≡ passed_of a' - 1 - length t.code.now

@@ -7,11 +7,11 @@ use Rattle.vcd_text.specs.Passed.{Passed}
 use Rattle.vcd_text.specs.declared.device.Source.{Ghosts}
 use Rattle.vcd_text.specs.declared.feed.Feed.{Feed}
 use Rattle.vcd_body.specs.Words.{Begins, is_comment}
-use Rattle.vcd_body.specs.declared.words.First.{First}
-use Rattle.vcd_body.specs.declared.words.First.TheVariants.{Vector, Real, Other}
+use Rattle.vcd_body.specs.declared.words.PhraseKind.{PhraseKind}
+use Rattle.vcd_body.specs.declared.words.PhraseKind.TheVariants.{Vector, Real, Other}
 
 -- a token that begins so is an item by itself
-abbrev pub IsAlone : First → List ℕ → Type 0
+abbrev pub IsAlone : PhraseKind → List ℕ → Type 0
 IsAlone Vector token = ⊥
 IsAlone Real token = ⊥
 IsAlone Other token = is_comment token ≡ false
@@ -19,7 +19,7 @@ IsAlone first token = Unit {0}
 
 -- these are the tokens of an item: one, or two where it is the change of a vector or a real number
 abbrev pub AreWhole : List Token → Type 0
-AreWhole (t ∷ []) = (first : First) × Begins t.bytes first × IsAlone first t.bytes
+AreWhole (t ∷ []) = (first : PhraseKind) × Begins t.bytes first × IsAlone first t.bytes
 AreWhole (t ∷ u ∷ []) = Begins t.bytes Vector ⊎ Begins t.bytes Real
 AreWhole tokens = ⊥
 

@@ -12,8 +12,8 @@ use Rattle.vcd_body.specs.declared.item.Section.TheVariants as section
 use Rattle.vcd_body.specs.Items.{model_section}
 use Rattle.vcd_body.specs.declared.words.KeywordUse.{KeywordUse}
 use Rattle.vcd_body.specs.declared.words.KeywordUse.TheVariants.{Comment, Begin, End, OfHeader}
-use Rattle.vcd_body.specs.declared.words.First.{First}
-use Rattle.vcd_body.specs.declared.words.First.TheVariants.{Mark, Bit, Scalar, Vector, Real, Other}
+use Rattle.vcd_body.specs.declared.words.PhraseKind.{PhraseKind}
+use Rattle.vcd_body.specs.declared.words.PhraseKind.TheVariants.{Mark, Bit, Scalar, Vector, Real, Other}
 
 -- the whole token is `$comment`
 abbrev pub is_comment : List ℕ → Bool
@@ -71,7 +71,7 @@ abbrev pub mark_time : List ℕ → Option ℕ
 mark_time token = cond (is_decimal (drop 1 token) && nat_lt (decimal_value (drop 1 token)) (2 ^ 64)) (Some (decimal_value (drop 1 token))) None
 
 -- the token begins so
-abbrev pub Begins : List ℕ → First → Type 0
+abbrev pub Begins : List ℕ → PhraseKind → Type 0
 Begins token Mark = (digits : List ℕ) × (token ≡ byte "#" ∷ digits)
 Begins token Bit = (d : ℕ) × (code : List ℕ) × IsTrue (is_either (byte "0") (byte "1") d) × (token ≡ d ∷ code)
 Begins token Scalar = (d : ℕ) × (code : List ℕ) × IsTrue (is_value_digit d) × (is_either (byte "0") (byte "1") d ≡ false) × (token ≡ d ∷ code)

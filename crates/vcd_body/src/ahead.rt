@@ -3,13 +3,13 @@ ghost use Rattle.std.specs.Prelude.{◌≡◌, ◌⊎◌, ℕ, ◌+◌, ◌-◌,
 ghost use Rattle.vcd_body.specs.Names.{Advances, AreWhite, Begins, CallEnd, GivesAhead, GivesToLast, HasMark, HasTime, HoldsItem, IsChangeBy, IsFound, IsFoundScalar, IsPrompt, IsRun, IsScalar, LeavesRegs, Opens, OpensVector, Passed, Puts, TakesItem, TakesOpened, TakesOpenedMark, Token, ahead_of, binary_digits, byte, bytes_of, limit_of, lines_of, longest_of, passed_of, seen, source_of};
 ghost use Rattle.vcd_body.specs.declared.item.Form.TheVariants as form;
 ghost use Rattle.vcd_body.specs.declared.item.Item.TheVariants as item;
-ghost use Rattle.vcd_body.specs.declared.words.First.TheVariants as first;
+ghost use Rattle.vcd_body.specs.declared.words.PhraseKind.TheVariants as kind;
 
 use crate::bits::Bits;
 use crate::item::{Form, Item, Regs};
 use crate::phrases::{real_text, scalar_code, takes, vector_text};
 use crate::words::{
-    First, after_first, bits_at, first_by, first_byte_of, first_of, is_comment, rest_of,
+    PhraseKind, after_first, bits_at, first_byte_of, is_comment, kind_by, kind_of, rest_of,
 };
 use vcd_text::{Ahead, Feed, Sink, Source, WriteFailed, decimal_at};
 use vcd_view::{Found, HeadView, find_at_once, find_sized};
@@ -105,7 +105,7 @@ fn mark_of<'a>(time: u64, at: usize) -> Plain<'a>
 /// them.
 #[inline(always)]
 fn vector_code(token: &[u8], code: &[u8], view: HeadView<'_>, bits: Option<Bits>) -> Option<Found>
-    requires begins { Begins token.now first.Vector }
+    requires begins { Begins token.now kind.Vector }
     requires bits { IfSome bits (λ b. drop 1 token.now ≡ binary_digits b.len b.number) }
     ensures { IfSome result (IsFound view.entry form.Vector token.now code.now) }
 {
@@ -123,7 +123,7 @@ fn vector_code(token: &[u8], code: &[u8], view: HeadView<'_>, bits: Option<Bits>
 // Not inlined, so that the function that takes the other forms stays small enough to be inlined.
 #[inline(never)]
 fn real_code(token: &[u8], code: &[u8], view: HeadView<'_>) -> Option<Found>
-    requires { Begins token.now first.Real }
+    requires { Begins token.now kind.Real }
     ensures { IfSome result (IsFound view.entry form.RealText token.now code.now) }
 {
     let Ok(_) = real_text(token) else {
@@ -136,10 +136,10 @@ fn real_code(token: &[u8], code: &[u8], view: HeadView<'_>) -> Option<Found>
 #[derive(Clone, Copy)]
 pub(crate) struct Opening<'a> {
     /// What the token begins.
-    pub(crate) first: First,
+    pub(crate) kind: PhraseKind,
     pub(crate) token: &'a [u8],
-    // Whether `near_mark` gave it, in a loop that is to make no call for a mark.
-    pub(crate) near: bool,
+    // Whether `line_mark` gave it, in a loop that makes no call for a mark.
+    pub(crate) inlined: bool,
 }
 
 /// Returns the next token ahead, with what it begins; none where the look-ahead gives none.
@@ -152,9 +152,9 @@ pub(crate) fn opening_ahead<'a>(ahead: &mut Ahead<'a>) -> Option<Opening<'a>>
 {
     let token = ahead.next()?;
     Some(Opening {
-        first: first_by(token[0]),
+        kind: kind_by(token[0]),
         token,
-        near: false,
+        inlined: false,
     })
 }
 
@@ -167,31 +167,31 @@ fn short_opening<'a>(ahead: &mut Ahead<'a>) -> Option<Opening<'a>>
 {
     let token = ahead.next_short()?;
     Some(Opening {
-        first: first_by(token[0]),
+        kind: kind_by(token[0]),
         token,
-        near: false,
+        inlined: false,
     })
 }
 
 /// Returns the next token ahead where it begins a time mark, if it begins right here, has at most
 /// 15 bytes and a line feed after them. Else `opening_ahead` may give one, and nothing has changed.
 #[inline(always)]
-pub(crate) fn near_mark<'a>(ahead: &mut Ahead<'a>) -> Option<Opening<'a>>
+pub(crate) fn line_mark<'a>(ahead: &mut Ahead<'a>) -> Option<Opening<'a>>
     ensures opens { IfSome result (λ o. Opens ahead.old ahead.new o) }
-    ensures first { IfSome result (λ o. o.first ≡ first.Mark) }
+    ensures kind { IfSome result (λ o. o.kind ≡ kind.Mark) }
     ensures stays { result ≡ None → ahead.new ≡ ahead.old }
 {
     let mut next = *ahead;
     let token = next.next_near()?;
-    let first = first_by(token[0]);
-    let First::Mark = first else {
+    let kind = kind_by(token[0]);
+    let PhraseKind::Mark = kind else {
         return None;
     };
     *ahead = next;
     Some(Opening {
-        first,
+        kind,
         token,
-        near: true,
+        inlined: true,
     })
 }
 
@@ -213,7 +213,7 @@ pub(crate) fn scalar_ahead<'a>(
     view: HeadView<'_>,
 ) -> Option<Plain<'a>>
     requires opens { (a : Ahead) × Opens a ahead opening }
-    requires first { (opening.first ≡ first.Bit) ⊎ (opening.first ≡ first.Scalar) }
+    requires kind { (opening.kind ≡ kind.Bit) ⊎ (opening.kind ≡ kind.Scalar) }
     ensures takes { IfSome result (TakesOpened view.entry ahead.entry ahead.entry opening.entry) }
     ensures form { IfSome result (IsChangeBy form.Scalar) }
 {
@@ -251,7 +251,7 @@ pub(crate) fn short_ahead<'a>(ahead: &mut Ahead<'a>, view: HeadView<'_>) -> Opti
 {
     let mut next = *ahead;
     let opening = short_opening(&mut next)?;
-    let First::Bit = opening.first else {
+    let PhraseKind::Bit = opening.kind else {
         return None;
     };
     let token = opening.token;
@@ -264,7 +264,7 @@ pub(crate) fn short_ahead<'a>(ahead: &mut Ahead<'a>, view: HeadView<'_>) -> Opti
 
 /// Returns whether two lines of two bytes come right here: the begin of a run for `short_ahead`.
 #[inline(always)]
-pub(crate) fn has_run(ahead: Ahead<'_>) -> bool
+pub(crate) fn two_short_lines_come(ahead: Ahead<'_>) -> bool
     ensures { result ≡ true
         → IsRun (longest_of ahead.entry) (bytes_of ahead.entry) (passed_of ahead.entry) 2 }
 {
@@ -280,12 +280,12 @@ pub(crate) fn has_run(ahead: Ahead<'_>) -> bool
 // Asked at one short line alone, `merge` of scalars takes 125.2 an item, as it is 121.9; of wide
 // vectors 758.1 and 749.0.
 #[inline(always)]
-pub(crate) fn has_short_run(ahead: Ahead<'_>) -> bool
+pub(crate) fn short_lines_come(ahead: Ahead<'_>) -> bool
     ensures { result ≡ true
         → IsRun (longest_of ahead.entry) (bytes_of ahead.entry) (passed_of ahead.entry) 2 }
 {
     let rest = &ahead.bytes()[ahead.passed()..];
-    has_run(ahead) || (ahead.has_short() && matches!(rest.get(3), Some(b'#')))
+    two_short_lines_come(ahead) || (ahead.has_short() && matches!(rest.get(3), Some(b'#')))
 }
 
 /// Returns whether the next token ahead begins with `$`, as a keyword does. Then no item lies ahead
@@ -314,10 +314,10 @@ pub fn item_comes(ahead: Ahead<'_>) -> bool
     let Some(token) = next.next_slowly() else {
         return false;
     };
-    match first_of(token) {
-        First::Bit | First::Scalar | First::Mark => true,
-        First::Vector | First::Real => next.next_slowly().is_some(),
-        First::Other => !is_comment(token),
+    match kind_of(token) {
+        PhraseKind::Bit | PhraseKind::Scalar | PhraseKind::Mark => true,
+        PhraseKind::Vector | PhraseKind::Real => next.next_slowly().is_some(),
+        PhraseKind::Other => !is_comment(token),
     }
 }
 
@@ -358,7 +358,7 @@ pub(crate) fn vector_tokens_ahead<'a>(
     ahead: &mut Ahead<'a>,
 ) -> Option<VectorTokens<'a>>
     requires opens { (a : Ahead) × Opens a ahead.old opening }
-    requires first { opening.first ≡ first.Vector }
+    requires kind { opening.kind ≡ kind.Vector }
     ensures opens { IfSome result (λ tokens. (a : Ahead) → Opens a ahead.old opening.entry
         → OpensVector a ahead.new tokens) }
 {
@@ -374,14 +374,14 @@ pub(crate) fn vector_tokens_ahead<'a>(
     })
 }
 
-/// Returns the digits of these tokens as a number, if they are at most 32, and `0` and `1` alone.
-/// The tokens are in these bytes.
+/// Returns a vector's digits as a number, if they are 1 to 32, each `0` or `1`, and `bytes` has 32
+/// bytes from the first digit on.
 #[inline(always)]
 pub(crate) fn vector_bits(tokens: VectorTokens<'_>, bytes: &[u8]) -> Option<Bits>
     requires within { tokens.at + length tokens.token.now ≤ length bytes.now }
     requires place { tokens.token.now
         ≡ slice_range bytes.now tokens.at (tokens.at + length tokens.token.now) }
-    requires begins { Begins tokens.token.now first.Vector }
+    requires begins { Begins tokens.token.now kind.Vector }
     ensures { IfSome result (λ b. drop 1 tokens.entry.token.now ≡ binary_digits b.len b.number) }
 {
     bits_at(bytes, tokens.at + 1, after_first(tokens.token))
@@ -423,7 +423,7 @@ pub(crate) fn real_ahead<'a>(
     view: HeadView<'_>,
 ) -> Option<Plain<'a>>
     requires opens { (a : Ahead) × Opens a ahead.old opening }
-    requires first { opening.first ≡ first.Real }
+    requires kind { opening.kind ≡ kind.Real }
     ensures takes { IfSome result (TakesOpened view.entry ahead.old ahead.new opening.entry) }
     ensures form { IfSome result (IsChangeBy form.RealText) }
 {
@@ -457,7 +457,7 @@ pub(crate) fn mark_ahead<'a>(
     regs: &mut Regs,
 ) -> Option<Plain<'a>>
     requires opens { (a : Ahead) × Opens a ahead opening }
-    requires first { opening.first ≡ first.Mark }
+    requires kind { opening.kind ≡ kind.Mark }
     requires time { HasTime opening time }
     ensures takes { IfSome result (TakesOpenedMark ahead.entry regs.old opening.entry) }
     ensures time { IfSome result (λ plain. plain.item ≡ item.Time time) }
@@ -469,7 +469,7 @@ pub(crate) fn mark_ahead<'a>(
         → (is_some regs.old.section ≡ true) ⊎ (time < regs.old.time) }
     ensures regs { LeavesRegs regs.old regs.new result }
 {
-    match regs.accept_mark_by(time, !opening.near) {
+    match regs.accept_mark_by(time, !opening.inlined) {
         Ok(()) => {
             let at = begin_of(opening.token, ahead);
             Some(mark_of(time, at + 1))

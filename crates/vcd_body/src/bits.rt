@@ -71,14 +71,14 @@ pub(crate) fn is_proper(holding: Holding) -> bool
 
 /// Returns the digit at an index of those that a slot holds; none after the last.
 #[inline(always)]
-pub(crate) fn binary_digit(holding: Holding, place: usize) -> Option<u8>
-    ensures { result ≡ slice_get (held_bits holding) place }
+pub(crate) fn binary_digit(holding: Holding, index: usize) -> Option<u8>
+    ensures { result ≡ slice_get (held_bits holding) index }
 {
     let count = count_in(holding);
-    if place >= count {
+    if index >= count {
         return None;
     }
-    let back = count - 1 - place;
+    let back = count - 1 - index;
     let digit = (number_in(holding) >> back) % 2;
     Some(b'0' + digit as u8)
 }
@@ -94,11 +94,11 @@ pub(crate) fn last_binary(holding: Holding) -> Option<u8>
 
 /// Returns the digit at an index.
 #[inline(always)]
-fn digit_of_bits(bits: Bits, place: usize) -> u8
-    requires { place < bits.len }
-    ensures { result ≡ get_or (binary_digits bits.len bits.number) place 0 }
+fn digit_of_bits(bits: Bits, index: usize) -> u8
+    requires { index < bits.len }
+    ensures { result ≡ get_or (binary_digits bits.len bits.number) index 0 }
 {
-    let back = bits.len - 1 - place;
+    let back = bits.len - 1 - index;
     let digit = (bits.number >> back) % 2;
     b'0' + digit as u8
 }
@@ -108,8 +108,8 @@ pub(crate) fn put_digits(bits: Bits, to: &mut [u8])
     requires { length to.old ≡ bits.len }
     ensures { to.new ≡ binary_digits bits.len bits.number }
 {
-    for place in 0..to.len() {
-        to[place] = digit_of_bits(bits, place);
+    for index in 0..to.len() {
+        to[index] = digit_of_bits(bits, index);
     }
 }
 

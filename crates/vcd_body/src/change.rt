@@ -53,8 +53,8 @@ fn lower_into(to: &mut [u8], bytes: &[u8])
     requires { length bytes.now ≤ length to.old }
     ensures { take (length bytes.now) to.new ≡ str_to_ascii_lowercase bytes.now }
 {
-    for (place, byte) in bytes.iter().enumerate() {
-        to[place] = byte.to_ascii_lowercase();
+    for (index, byte) in bytes.iter().enumerate() {
+        to[index] = byte.to_ascii_lowercase();
     }
 }
 

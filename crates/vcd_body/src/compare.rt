@@ -20,14 +20,14 @@ fn extension_of_text(text: &[u8]) -> u8
 
 // Returns the digit at an index of a text that is extended to a size; 0 where there is none.
 #[inline(always)]
-fn text_digit(text: &[u8], size: usize, place: usize) -> u8
-    ensures { result ≡ get_or (extend (str_to_ascii_lowercase text.now) size) place 0 }
+fn text_digit(text: &[u8], size: usize, index: usize) -> u8
+    ensures { result ≡ get_or (extend (str_to_ascii_lowercase text.now) size) index 0 }
 {
     let missing = size.saturating_sub(text.len());
-    if place < missing {
+    if index < missing {
         return extension_of_text(text);
     }
-    match text.get(place - missing) {
+    match text.get(index - missing) {
         Some(digit) => digit.to_ascii_lowercase(),
         None => 0,
     }
@@ -36,11 +36,11 @@ fn text_digit(text: &[u8], size: usize, place: usize) -> u8
 // Returns the digit at an index of the held digits, which are extended to a size; 0 where there is
 // none.
 #[inline(always)]
-fn shown_digit(held: HeldValue<'_>, size: usize, place: usize) -> u8
+fn shown_digit(held: HeldValue<'_>, size: usize, index: usize) -> u8
     requires digits { HasDigits held }
-    ensures { result ≡ get_or (extend (digits_of held.entry) size) place 0 }
+    ensures { result ≡ get_or (extend (digits_of held.entry) size) index 0 }
 {
-    digit_shown(held, size, place).unwrap_or(0)
+    digit_shown(held, size, index).unwrap_or(0)
 }
 
 // Returns whether the digits that are held and a text are the same, both extended to a size that is
@@ -51,10 +51,10 @@ fn are_same(held: HeldValue<'_>, text: &[u8], size: usize) -> bool
     requires text_fits { length text.now ≤ size }
     ensures { Decides result (extend (digits_of held.entry) size ≡ extended text.now size) }
 {
-    let mut place = size;
-    while place > 0 {
-        place -= 1;
-        if shown_digit(held, size, place) != text_digit(text, size, place) {
+    let mut index = size;
+    while index > 0 {
+        index -= 1;
+        if shown_digit(held, size, index) != text_digit(text, size, index) {
             return false;
         }
     }
@@ -63,14 +63,14 @@ fn are_same(held: HeldValue<'_>, text: &[u8], size: usize) -> bool
 
 // Returns whether digits that are held a byte each and a text of as many are the same. It looks
 // from the right too.
-fn are_same_plain(share: &[u8], text: &[u8]) -> bool
-    requires { length share.now ≡ length text.now }
-    ensures { Decides result (map held_digit share.now ≡ str_to_ascii_lowercase text.now) }
+fn are_same_unpacked(bytes: &[u8], text: &[u8]) -> bool
+    requires { length bytes.now ≡ length text.now }
+    ensures { Decides result (map held_digit bytes.now ≡ str_to_ascii_lowercase text.now) }
 {
-    let mut place = text.len();
-    while place > 0 {
-        place -= 1;
-        if held_digit(share[place]) != text[place].to_ascii_lowercase() {
+    let mut index = text.len();
+    while index > 0 {
+        index -= 1;
+        if held_digit(bytes[index]) != text[index].to_ascii_lowercase() {
             return false;
         }
     }
@@ -89,7 +89,7 @@ fn several_differ(held: HeldValue<'_>, size: usize, text: &[u8]) -> bool
         return true;
     }
     match held.holding.state {
-        State::Plain if count == text.len() => !are_same_plain(held.share, text),
+        State::Unpacked if count == text.len() => !are_same_unpacked(held.bytes, text),
         _ => !are_same(held, text, count.max(text.len())),
     }
 }
@@ -115,9 +115,9 @@ pub(crate) fn value_differs(held: HeldValue<'_>, size: usize, form: Form, text: 
         (value_with size (model_form form) text.now) }
 {
     match held.holding.state {
-        State::Plain => form == Form::RealText || several_differ(held, size, text),
+        State::Unpacked => form == Form::RealText || several_differ(held, size, text),
         State::Unset => false,
-        State::Real => form != Form::RealText || held.share != text,
+        State::Real => form != Form::RealText || held.bytes != text,
         _ => form == Form::RealText || digits_differ(held, size, text),
     }
 }

@@ -20,7 +20,7 @@ pub(crate) fn counts_of(steps: [u8; 3], counts: [u64; 3]) -> [u64; 3]
 
 /// How many steps a counter of a slot has counted where it begins again at 0.
 // The byte is added to in place, and the sum says whether it was full: with a test before it is
-// written, and without `turned`, `edges` of scalars takes 58.3 an item, as it is 53.7.
+// written, and without `flipped`, `edges` of scalars takes 58.3 an item, as it is 53.7.
 pub(crate) const CARRY: u64 = 256;
 
 /// Adds `more` to a counter of a share. A full one stays.

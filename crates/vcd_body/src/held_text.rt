@@ -7,15 +7,18 @@ use crate::held::{count_of, digit_held};
 use crate::slot::{HeldValue, State};
 use vcd_text::{Sink, WriteFailed, put};
 
+// How many digits are written in one call at most.
+const BLOCK: usize = 64;
+
 // Writes a digit `count` times.
 fn put_repeated<W: Sink>(digit: u8, count: usize, w: &mut W) -> Result<(), WriteFailed>
     requires { (W.device w.old).failures < 2 ^ 64 - 1 }
     ensures { Puts (W.device w.old) (W.device w.new) (replicate count digit) result }
 {
-    let block = [digit; 64];
+    let block = [digit; BLOCK];
     let mut rest = count;
     while rest > 0 {
-        let some = rest.min(64);
+        let some = rest.min(BLOCK);
         put(w, &block[..some])?;
         rest -= some;
     }
@@ -24,10 +27,10 @@ fn put_repeated<W: Sink>(digit: u8, count: usize, w: &mut W) -> Result<(), Write
 
 // Returns the digit at an index of those that are held, 0 where there is none.
 #[inline(always)]
-fn digit_or(held: HeldValue<'_>, place: usize) -> u8
-    ensures { result ≡ get_or (digits_of held.entry) place 0 }
+fn digit_or(held: HeldValue<'_>, index: usize) -> u8
+    ensures { result ≡ get_or (digits_of held.entry) index 0 }
 {
-    digit_held(held, place).unwrap_or(0)
+    digit_held(held, index).unwrap_or(0)
 }
 
 // Copies the digits from an index on to `to`.
@@ -35,8 +38,8 @@ fn fill(held: HeldValue<'_>, from: usize, to: &mut [u8])
     requires { from + length to.old ≤ length (digits_of held) }
     ensures { to.new ≡ take (length to.old) (drop from (digits_of held.entry)) }
 {
-    for place in 0..to.len() {
-        to[place] = digit_or(held, from + place);
+    for index in 0..to.len() {
+        to[index] = digit_or(held, from + index);
     }
 }
 
@@ -46,10 +49,10 @@ fn put_from<W: Sink>(held: HeldValue<'_>, from: usize, w: &mut W) -> Result<(), 
     ensures { Puts (W.device w.old) (W.device w.new) (drop from (digits_of held.entry)) result }
 {
     let count = count_of(held);
-    let mut block = [0u8; 64];
+    let mut block = [0u8; BLOCK];
     let mut at = from;
     while at < count {
-        let some = (count - at).min(64);
+        let some = (count - at).min(BLOCK);
         fill(held, at, &mut block[..some]);
         put(w, &block[..some])?;
         at += some;
@@ -112,7 +115,7 @@ pub(crate) fn put_value_line<W: Sink>(
 {
     match held.holding.state {
         State::Unset => Ok(()),
-        State::Real => put_real(w, held.share, id),
+        State::Real => put_real(w, held.bytes, id),
         _ if size == 1 => put_all_held(held, id, w),
         _ => put_short_held(held, id, w),
     }
@@ -149,7 +152,7 @@ pub(crate) fn put_value<W: Sink>(
 {
     match held.holding.state {
         State::Unset => put(w, b"-"),
-        State::Real => put_real_text(held.share, w),
+        State::Real => put_real_text(held.bytes, w),
         _ => put_extended(held, size, w),
     }
 }

@@ -40,7 +40,7 @@
 //! # The modules
 //!
 //! - `read`: `next_item`, `change_text`
-//! - `walk`: `walk_ahead`, `Visit`, `Viewed`: the loop over the items ahead
+//! - `walk`: `walk_ahead`, `Visit`, `Viewed`, `Extent`: the loop over the items ahead
 //! - `ahead`: an item ahead, by what it begins with; `Plain`, `item_comes`, `pass_on`,
 //!   `pass_items`
 //! - `phrases`, `tokens`, `words`: phrases by what they begin with; the next token; what a token

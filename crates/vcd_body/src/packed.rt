@@ -47,19 +47,19 @@ pub(crate) fn held_digit(digit: u8) -> u8
 
 /// Returns the digit at an index of a share that holds a byte a digit; none after its end.
 #[inline(always)]
-pub(crate) fn plain_digit_at(share: &[u8], place: usize) -> Option<u8>
-    ensures { result ≡ slice_get (map held_digit share.now) place }
+pub(crate) fn unpacked_digit_at(bytes: &[u8], index: usize) -> Option<u8>
+    ensures { result ≡ slice_get (map held_digit bytes.now) index }
 {
-    Some(held_digit(byte_at(share, place)?))
+    Some(held_digit(byte_at(bytes, index)?))
 }
 
 /// Returns the code of the digit at an index, 0 where there is none.
 #[inline(always)]
-fn code_at(text: &[u8], place: usize) -> u8
+fn code_at(text: &[u8], index: usize) -> u8
     ensures small { result < 4 }
-    ensures code { result ≡ code_or text.now place }
+    ensures code { result ≡ code_or text.now index }
 {
-    match text.get(place) {
+    match text.get(index) {
         Some(digit) => code_of(*digit),
         None => 0,
     }
@@ -67,27 +67,27 @@ fn code_at(text: &[u8], place: usize) -> u8
 
 /// Returns the digits at an index of each quarter as a byte.
 #[inline(always)]
-fn four_at(text: &[u8], quarter: usize, place: usize) -> u8
+fn four_at(text: &[u8], quarter: usize, index: usize) -> u8
     requires few { quarter < 16 }
     requires quarter { quarter ≤ length text.now }
-    requires place { place < quarter }
-    ensures { result ≡ four_codes text.now quarter place }
+    requires place { index < quarter }
+    ensures { result ≡ four_codes text.now quarter index }
 {
-    code_at(text, place)
-        + 4 * code_at(text, place + quarter)
-        + 16 * code_at(text, place + quarter + quarter)
-        + 64 * code_at(text, place + (text.len() - quarter))
+    code_at(text, index)
+        + 4 * code_at(text, index + quarter)
+        + 16 * code_at(text, index + quarter + quarter)
+        + 64 * code_at(text, index + (text.len() - quarter))
 }
 
 /// Packs the digits of each quarter.
-fn pack_few(share: &mut [u8], text: &[u8], quarter: usize)
+fn pack_few(bytes: &mut [u8], text: &[u8], quarter: usize)
     requires few { quarter < 16 }
-    requires room { quarter ≤ length share.old }
+    requires room { quarter ≤ length bytes.old }
     requires quarter { quarter ≤ length text.now }
-    ensures { ArePacked share.new text.now quarter }
+    ensures { ArePacked bytes.new text.now quarter }
 {
-    for place in 0..quarter {
-        share[place] = four_at(text, quarter, place);
+    for index in 0..quarter {
+        bytes[index] = four_at(text, quarter, index);
     }
 }
 
@@ -115,15 +115,15 @@ fn codes_differ(first: u8x16, second: u8x16) -> bool
 /// Returns whether a share that holds a byte a digit and a text differ in their last 16 digits;
 /// false where either has fewer.
 #[inline(always)]
-pub(crate) fn plain_ends_differ(share: &[u8], text: &[u8]) -> bool
-    ensures differ { result ≡ true → AreTwo (map held_digit share.now) text.now }
-    ensures many { result ≡ true → (16 ≤ length share.now) × (16 ≤ length text.now) }
+pub(crate) fn unpacked_ends_differ(bytes: &[u8], text: &[u8]) -> bool
+    ensures differ { result ≡ true → AreTwo (map held_digit bytes.now) text.now }
+    ensures many { result ≡ true → (16 ≤ length bytes.now) × (16 ≤ length text.now) }
 {
-    if share.len() < 16 || text.len() < 16 {
+    if bytes.len() < 16 || text.len() < 16 {
         return false;
     }
     codes_differ(
-        codes_16(share, share.len() - 16),
+        codes_16(bytes, bytes.len() - 16),
         codes_16(text, text.len() - 16),
     )
 }
@@ -140,17 +140,17 @@ fn last_codes_16(bytes: &[u8], at: usize) -> u8x16
 /// Returns whether `len` packed digits and a text differ in their last 16 digits; false where
 /// either has fewer. The last 16 packed digits are in the last bytes that are in use.
 #[inline(always)]
-pub(crate) fn packed_ends_differ(share: &[u8], len: usize, text: &[u8]) -> bool
-    ensures differ { result ≡ true → AreTwo (digits_in len share.now) text.now }
+pub(crate) fn packed_ends_differ(bytes: &[u8], len: usize, text: &[u8]) -> bool
+    ensures differ { result ≡ true → AreTwo (digits_in len bytes.now) text.now }
     ensures many { result ≡ true → (16 ≤ quarter_of len) × (16 ≤ length text.now) }
-    ensures room { result ≡ true → quarter_of len ≤ length share.now }
+    ensures room { result ≡ true → quarter_of len ≤ length bytes.now }
 {
     let quarter = len.div_ceil(4);
-    if quarter < 16 || share.len() < quarter || text.len() < 16 {
+    if quarter < 16 || bytes.len() < quarter || text.len() < 16 {
         return false;
     }
     codes_differ(
-        last_codes_16(share, quarter - 16),
+        last_codes_16(bytes, quarter - 16),
         codes_16(text, text.len() - 16),
     )
 }
@@ -170,17 +170,17 @@ fn with_4_times(low: u8x16, high: u8x16) -> u8x16
 /// Packs 16 digits of each quarter.
 // Four digits a byte, one of each quarter: 16 bytes by four loads and no shuffle.
 #[inline(always)]
-fn pack_16(share: &mut [u8], text: &[u8], quarter: usize, at: usize)
+fn pack_16(bytes: &mut [u8], text: &[u8], quarter: usize, at: usize)
     requires within { at + 16 ≤ quarter }
-    requires room { quarter ≤ length share.old }
+    requires room { quarter ≤ length bytes.old }
     requires quarter { 3 * quarter ≤ length text.now }
-    ensures packed { (k : ℕ) → k < 16 → HasFour share.new text.now quarter (at + k) }
-    ensures before { (place : ℕ) → place < at → get_or share.new place 0 ≡ get_or share.old place 0 }
+    ensures packed { (k : ℕ) → k < 16 → HasFour bytes.new text.now quarter (at + k) }
+    ensures before { (index : ℕ) → index < at → get_or bytes.new index 0 ≡ get_or bytes.old index 0 }
 {
     let third = codes_16(text, at + 2 * quarter);
     let last = codes_16(text, at + (text.len() - quarter));
     let both = with_4_times(codes_16(text, at + quarter), with_4_times(third, last));
-    with_4_times(codes_16(text, at), both).copy_to_slice(&mut share[at..]);
+    with_4_times(codes_16(text, at), both).copy_to_slice(&mut bytes[at..]);
 }
 
 /// Returns 16 digits without the bits that `0` and `1` share: 0 or 1 for these, more than 1 for all
@@ -218,134 +218,134 @@ fn are_bits(seen: u8x16) -> bool
 /// Packs 16 digits of each quarter as if they were 0 and 1. Returns what `are_bits` takes to say
 /// whether they were.
 #[inline(always)]
-fn pack_bits_16(share: &mut [u8], text: &[u8], quarter: usize, at: usize) -> u8x16
+fn pack_bits_16(bytes: &mut [u8], text: &[u8], quarter: usize, at: usize) -> u8x16
     requires within { at + 16 ≤ quarter }
-    requires room { quarter ≤ length share.old }
+    requires room { quarter ≤ length bytes.old }
     requires quarter { 3 * quarter ≤ length text.now }
     ensures long { length result ≡ 16 }
     ensures packed { (k : ℕ) → k < 16 → get_or result k 0 < 2
-        → HasFour share.new text.now quarter (at + k) }
-    ensures before { (place : ℕ) → place < at → get_or share.new place 0 ≡ get_or share.old place 0 }
+        → HasFour bytes.new text.now quarter (at + k) }
+    ensures before { (index : ℕ) → index < at → get_or bytes.new index 0 ≡ get_or bytes.old index 0 }
 {
     let first = bits_16(text, at);
     let second = bits_16(text, at + quarter);
     let third = bits_16(text, at + 2 * quarter);
     let last = bits_16(text, at + (text.len() - quarter));
     let both = with_4_times(second, with_4_times(third, last));
-    with_4_times(first, both).copy_to_slice(&mut share[at..]);
+    with_4_times(first, both).copy_to_slice(&mut bytes[at..]);
     either(either(first, second), either(third, last))
 }
 
 /// Packs the digits of each quarter, 16 at a time, where the digits are 0 and 1 alone. Returns
 /// whether they are. Of the last 16 some may have been packed before.
-fn pack_bits(share: &mut [u8], text: &[u8], quarter: usize) -> bool
-    requires { MayPack share.old text.now quarter }
-    ensures { result ≡ true → ArePacked share.new text.now quarter }
+fn pack_bits(bytes: &mut [u8], text: &[u8], quarter: usize) -> bool
+    requires { MayPack bytes.old text.now quarter }
+    ensures { result ≡ true → ArePacked bytes.new text.now quarter }
 {
     let last = quarter - 16;
     let mut seen = u8x16::splat(0);
     let mut at = 0;
     while at < last {
-        seen = either(seen, pack_bits_16(share, text, quarter, at));
+        seen = either(seen, pack_bits_16(bytes, text, quarter, at));
         at += 16;
     }
-    are_bits(either(seen, pack_bits_16(share, text, quarter, last)))
+    are_bits(either(seen, pack_bits_16(bytes, text, quarter, last)))
 }
 
 /// Packs the digits of each quarter, 16 at a time, whatever digits they are.
 #[inline(never)]
-fn pack_any(share: &mut [u8], text: &[u8], quarter: usize)
-    requires { MayPack share.old text.now quarter }
-    ensures { ArePacked share.new text.now quarter }
+fn pack_any(bytes: &mut [u8], text: &[u8], quarter: usize)
+    requires { MayPack bytes.old text.now quarter }
+    ensures { ArePacked bytes.new text.now quarter }
 {
     let last = quarter - 16;
     let mut at = 0;
     while at < last {
-        pack_16(share, text, quarter, at);
+        pack_16(bytes, text, quarter, at);
         at += 16;
     }
-    pack_16(share, text, quarter, last);
+    pack_16(bytes, text, quarter, last);
 }
 
 /// Packs the digits of each quarter, where a quarter has 16 or more. Most digits are 0 and 1 alone.
-fn pack_many(share: &mut [u8], text: &[u8], quarter: usize)
-    requires { MayPack share.old text.now quarter }
-    ensures { ArePacked share.new text.now quarter }
+fn pack_many(bytes: &mut [u8], text: &[u8], quarter: usize)
+    requires { MayPack bytes.old text.now quarter }
+    ensures { ArePacked bytes.new text.now quarter }
 {
-    if !pack_bits(share, text, quarter) {
-        pack_any(share, text, quarter);
+    if !pack_bits(bytes, text, quarter) {
+        pack_any(bytes, text, quarter);
     }
 }
 
 /// Packs digits into the first bytes of a share: a byte for each index in a quarter of them.
 #[inline(always)]
-pub(crate) fn pack(share: &mut [u8], text: &[u8])
-    requires room { length text.now ≤ 4 * length share.old }
-    ensures { digits_in (length text.now) share.new ≡ map held_digit text.now }
+pub(crate) fn pack(bytes: &mut [u8], text: &[u8])
+    requires room { length text.now ≤ 4 * length bytes.old }
+    ensures { digits_in (length text.now) bytes.new ≡ map held_digit text.now }
 {
     let quarter = text.len().div_ceil(4);
     if quarter < 16 {
-        pack_few(share, text, quarter);
+        pack_few(bytes, text, quarter);
     } else {
-        pack_many(share, text, quarter);
+        pack_many(bytes, text, quarter);
     }
 }
 
 /// Returns the byte at an index.
 #[inline(always)]
-fn byte_at(share: &[u8], place: usize) -> Option<u8>
-    ensures { result ≡ slice_get share.now place }
+fn byte_at(bytes: &[u8], index: usize) -> Option<u8>
+    ensures { result ≡ slice_get bytes.now index }
 {
-    share.get(place).copied()
+    bytes.get(index).copied()
 }
 
 /// Returns the byte at an index, 0 where there is none.
 #[inline(always)]
-fn byte_or(share: &[u8], place: usize) -> u8
-    ensures { result ≡ get_or share.now place 0 }
+fn byte_or(bytes: &[u8], index: usize) -> u8
+    ensures { result ≡ get_or bytes.now index 0 }
 {
-    byte_at(share, place).unwrap_or(0)
+    byte_at(bytes, index).unwrap_or(0)
 }
 
 /// Returns the digit at an index of `len` digits in a share; none after the last.
 #[inline(always)]
-pub(crate) fn digit_at(share: &[u8], len: usize, place: usize) -> Option<u8>
-    ensures { result ≡ slice_get (digits_in len share.now) place }
+pub(crate) fn digit_at(bytes: &[u8], len: usize, index: usize) -> Option<u8>
+    ensures { result ≡ slice_get (digits_in len bytes.now) index }
 {
-    if place >= len {
+    if index >= len {
         return None;
     }
-    Some(digit_of(code_among(share, len, place)))
+    Some(digit_of(code_among(bytes, len, index)))
 }
 
 /// Returns the last packed digit as `b'0'` or `b'1'`; any other byte means x or z.
 #[inline(always)]
-pub(crate) fn last_packed(share: &[u8], len: usize) -> u8
+pub(crate) fn last_packed(bytes: &[u8], len: usize) -> u8
     requires some { 1 ≤ len }
-    requires room { quarter_of len ≤ length share.now }
-    ensures { (d : ℕ) → slice_get (digits_in len share.now) (len - 1) ≡ Some d
+    requires room { quarter_of len ≤ length bytes.now }
+    ensures { (d : ℕ) → slice_get (digits_in len bytes.now) (len - 1) ≡ Some d
         → ((48 == result) ≡ (48 == d)) × ((49 == result) ≡ (49 == d)) }
 {
-    b'0' + share[len.div_ceil(4) - 1] / 64
+    b'0' + bytes[len.div_ceil(4) - 1] / 64
 }
 
 /// Returns the code of one. The last quarter ends where the digits do, and may hold some of the
 /// third one again.
 #[inline(always)]
-fn code_among(share: &[u8], len: usize, place: usize) -> u8
-    requires { place < len }
-    ensures { result ≡ code_among len share.now place }
+fn code_among(bytes: &[u8], len: usize, index: usize) -> u8
+    requires { index < len }
+    ensures { result ≡ code_among len bytes.now index }
 {
     let quarter = len.div_ceil(4);
     let last = len - quarter;
-    if place >= last {
-        return byte_or(share, place - last) / 64;
+    if index >= last {
+        return byte_or(bytes, index - last) / 64;
     }
-    if place < quarter {
-        return byte_or(share, place) % 4;
+    if index < quarter {
+        return byte_or(bytes, index) % 4;
     }
-    if place - quarter < quarter {
-        return byte_or(share, place - quarter) / 4 % 4;
+    if index - quarter < quarter {
+        return byte_or(bytes, index - quarter) / 4 % 4;
     }
-    byte_or(share, place - quarter - quarter) / 16 % 4
+    byte_or(bytes, index - quarter - quarter) / 16 % 4
 }

@@ -1,6 +1,6 @@
 // The phrases of a body, by what they begin with.
 ghost use Rattle.std.specs.Prelude.{◌≡◌, ◌≢◌, true, ◌-◌, ◌^◌, ◌<◌, ◌≤◌, length, take, drop, Some, None, slice_get, OnOk, IfOk, IfErr, ◌||◌, nat_le};
-ghost use Rattle.vcd_body.specs.Names.{Advances, AreRegsWith, Begins, ChangeForm, Code, First, Form, GoesFurther, HasGoodValue, IsFoundScalar, IsScalar, IsSized, Item, MayBe, OpensOrRefuses, ReadsCode, ReadsComment, ReadsMark, ReadsRest, RefusesIn, call_end, is_value_digit, list_all, mark_time, seen, source_of, token_of, value_of};
+ghost use Rattle.vcd_body.specs.Names.{Advances, AreRegsWith, Begins, ChangeForm, Code, PhraseKind, Form, GoesFurther, HasGoodValue, IsFoundScalar, IsScalar, IsSized, Item, MayBe, OpensOrRefuses, ReadsCode, ReadsComment, ReadsMark, ReadsRest, RefusesIn, call_end, is_value_digit, list_all, mark_time, seen, source_of, token_of, value_of};
 
 use crate::bits::Bits;
 use crate::fault::BodyFault;
@@ -21,7 +21,7 @@ pub(crate) fn time_in(token: &[u8]) -> Option<u64>
 /// Takes the time mark that a token is, and returns its time. A fault changes nothing.
 #[inline(always)]
 pub(crate) fn read_mark(token: &[u8], regs: &mut Regs) -> Result<u64, BodyFault>
-    requires { Begins token.now First.Mark }
+    requires { Begins token.now PhraseKind.Mark }
     ensures time { ReadsMark token.now regs.old result }
     ensures regs { AreRegsWith Item.Time regs.old regs.new result }
     ensures own { IfErr result (λ fault. fault ≢ BodyFault.ReadFailed) }
@@ -55,7 +55,7 @@ pub(crate) fn scalar_code(token: &[u8], view: HeadView<'_>) -> Result<Found, Bod
 /// looked at.
 #[inline(always)]
 pub(crate) fn vector_text(token: &[u8], bits: Option<Bits>) -> Result<&[u8], BodyFault>
-    requires begins { Begins token.now First.Vector }
+    requires begins { Begins token.now PhraseKind.Vector }
     requires bits { MayBe bits (drop 1 token.now) }
     ensures opens { OpensOrRefuses token.now result }
     ensures text { IfOk result (λ text. text.now ≡ drop 1 token.now) }
@@ -73,7 +73,7 @@ pub(crate) fn vector_text(token: &[u8], bits: Option<Bits>) -> Result<&[u8], Bod
 /// Returns the text of a real number's change: 1 to 64 bytes.
 #[inline(always)]
 pub(crate) fn real_text(token: &[u8]) -> Result<&[u8], BodyFault>
-    requires begins { Begins token.now First.Real }
+    requires begins { Begins token.now PhraseKind.Real }
     ensures opens { OpensOrRefuses token.now result }
     ensures text { IfOk result (λ text. text.now ≡ drop 1 token.now) }
     ensures few { IfOk result (λ text. (0 < length text.now) × (length text.now ≤ 64)) }
@@ -141,7 +141,7 @@ pub(crate) fn read_vector<S: Source>(
     view: HeadView<'_>,
 ) -> Result<usize, BodyFault>
     requires failures { S.failures (source_of feed.old) < 2 ^ 64 - 1 }
-    requires begins { Begins (token_of feed.old).bytes First.Vector }
+    requires begins { Begins (token_of feed.old).bytes PhraseKind.Vector }
     ensures reads { ReadsRest view.entry ChangeForm.Vector feed.old feed.new result }
     ensures sound { HasGoodValue view.entry Form.Vector feed.new result }
     ensures advances { Advances S.failures feed.old feed.new (call_end result) }
@@ -162,7 +162,7 @@ pub(crate) fn read_real<S: Source>(
     view: HeadView<'_>,
 ) -> Result<usize, BodyFault>
     requires failures { S.failures (source_of feed.old) < 2 ^ 64 - 1 }
-    requires begins { Begins (token_of feed.old).bytes First.Real }
+    requires begins { Begins (token_of feed.old).bytes PhraseKind.Real }
     ensures reads { ReadsRest view.entry ChangeForm.RealText feed.old feed.new result }
     ensures sound { HasGoodValue view.entry Form.RealText feed.new result }
     ensures advances { Advances S.failures feed.old feed.new (call_end result) }

@@ -6,7 +6,7 @@ use crate::fault::BodyFault;
 use crate::item::{Form, Item, Regs};
 use crate::phrases::{read_mark, read_real, read_vector, scalar_code, skip_comment};
 use crate::tokens::next_token;
-use crate::words::{First, KeywordUse, command_of, first_byte_of, first_of, rest_of};
+use crate::words::{KeywordUse, PhraseKind, command_of, first_byte_of, kind_of, rest_of};
 use vcd_text::{Feed, Source};
 use vcd_view::HeadView;
 
@@ -17,7 +17,7 @@ fn read_command<S: Source>(
     regs: &mut Regs,
 ) -> Result<Option<Item>, BodyFault>
     requires failures { S.failures (source_of feed.old) < 2 ^ 64 - 1 }
-    requires begins { Begins (token_of feed.old).bytes First.Other }
+    requires begins { Begins (token_of feed.old).bytes PhraseKind.Other }
     ensures reads { ReadsCommand feed.old feed.new regs.old regs.new result }
     ensures sound { (codes : List Code) → IsGoodPhrase codes feed.new result }
     ensures regs { AreRegsPast regs.old regs.new result }
@@ -71,21 +71,21 @@ fn read_phrase<S: Source>(
         return Ok(Some(Item::Finish));
     }
     let token = feed.token();
-    let item = match first_of(token) {
-        First::Bit | First::Scalar => Item::Change {
+    let item = match kind_of(token) {
+        PhraseKind::Bit | PhraseKind::Scalar => Item::Change {
             code: scalar_code(token, view)?.place,
             form: Form::Scalar,
         },
-        First::Vector => Item::Change {
+        PhraseKind::Vector => Item::Change {
             code: read_vector(feed, view)?,
             form: Form::Vector,
         },
-        First::Mark => Item::Time(read_mark(token, regs)?),
-        First::Real => Item::Change {
+        PhraseKind::Mark => Item::Time(read_mark(token, regs)?),
+        PhraseKind::Real => Item::Change {
             code: read_real(feed, view)?,
             form: Form::RealText,
         },
-        First::Other => return read_command(feed, regs),
+        PhraseKind::Other => return read_command(feed, regs),
     };
     Ok(Some(item))
 }

@@ -3,7 +3,7 @@ ghost use Rattle.std.specs.Prelude.{◌≡◌, ◌-◌, ◌≤◌, ◌<◌, ℕ,
 ghost use Rattle.vcd_body.specs.Names.{Held, SetsCode, TellsStep, bytes_for, digits_in, goes_from, held_digit, held_from, with_change};
 
 use crate::item::Form;
-use crate::packed::{last_packed, packed_ends_differ, plain_ends_differ};
+use crate::packed::{last_packed, packed_ends_differ, unpacked_ends_differ};
 use crate::slot::{Holding, State, holding_of};
 use crate::step::Step;
 use crate::table::Table;
@@ -26,36 +26,36 @@ fn step_over(before: u8, after: u8) -> Step
 // Returns the step from digits that are held a byte each to those of a text, where they differ in
 // the last 16.
 #[inline(always)]
-fn plain_step(share: &[u8], text: &[u8]) -> Option<Step>
+fn unpacked_step(bytes: &[u8], text: &[u8]) -> Option<Step>
     ensures many { IfSome result (λ _. 16 ≤ length text.now) }
     ensures differs { IfSome result (λ step. step.differs ≡ true) }
-    ensures step { TellsStep (Held.Digits (map held_digit share.now)) text.now result }
+    ensures step { TellsStep (Held.Digits (map held_digit bytes.now)) text.now result }
 {
-    if !plain_ends_differ(share, text) {
+    if !unpacked_ends_differ(bytes, text) {
         return None;
     }
-    Some(step_over(share[share.len() - 1], text[text.len() - 1]))
+    Some(step_over(bytes[bytes.len() - 1], text[text.len() - 1]))
 }
 
 // Returns the step from `len` packed digits, in the first bytes of a share, to those of a text,
 // where they differ in the last 16.
 #[inline(always)]
-fn packed_step(share: &[u8], len: usize, text: &[u8]) -> Option<Step>
-    ensures room { IfSome result (λ _. bytes_for len ≤ length share.now) }
+fn packed_step(bytes: &[u8], len: usize, text: &[u8]) -> Option<Step>
+    ensures room { IfSome result (λ _. bytes_for len ≤ length bytes.now) }
     ensures many { IfSome result (λ _. 16 ≤ length text.now) }
     ensures differs { IfSome result (λ step. step.differs ≡ true) }
-    ensures step { TellsStep (Held.Digits (digits_in len share.now)) text.now result }
+    ensures step { TellsStep (Held.Digits (digits_in len bytes.now)) text.now result }
 {
-    if !packed_ends_differ(share, len, text) {
+    if !packed_ends_differ(bytes, len, text) {
         return None;
     }
-    Some(step_over(last_packed(share, len), text[text.len() - 1]))
+    Some(step_over(last_packed(bytes, len), text[text.len() - 1]))
 }
 
 // Returns the bytes of a share that begins and ends here.
 #[inline(always)]
 fn part_of(values: &[u8], start: usize, end: usize) -> Option<&[u8]>
-    ensures { IfSome result (λ share. share.now ≡ take (end - start) (drop start values.now)) }
+    ensures { IfSome result (λ bytes. bytes.now ≡ take (end - start) (drop start values.now)) }
 {
     values.get(start..end)
 }
@@ -69,10 +69,10 @@ impl<'a> Table<'a> {
         ensures differs { IfSome result (λ step. step.differs ≡ true) }
         ensures step { TellsStep (held_from self.now.values.now start held) text.now result }
     {
-        let share = part_of(self.values, start, end)?;
+        let bytes = part_of(self.values, start, end)?;
         match held.state {
-            State::Plain => plain_step(share.get(..held.len())?, text),
-            State::Digits => packed_step(share, held.len(), text),
+            State::Unpacked => unpacked_step(bytes.get(..held.len())?, text),
+            State::Packed => packed_step(bytes, held.len(), text),
             _ => None,
         }
     }

@@ -19,9 +19,9 @@ pub(crate) enum State {
     High,
     /// By several digits as they were written, a byte each, where its share of the values has room
     /// for them.
-    Plain,
+    Unpacked,
     /// By several digits, packed four to a byte, where its share has no room for a byte each.
-    Digits,
+    Packed,
     /// By the text of a real number, in its share of the values.
     Real,
     /// By up to 32 binary digits, as their number beside how many they are, in the slot alone.
@@ -43,8 +43,8 @@ pub struct Slot {
     // The number of the state that holds the value; from `BITS` on it is more by as many as the
     // binary digits are.
     pub(crate) tag: u8,
-    // How many steps came since the share had the counters: those that fall, those that do not
-    // turn, and those that rise. So most steps are counted here, by one byte.
+    // How many steps came since the share had the counters: those that fall, those that do
+    // neither, and those that rise. So most steps are counted here, by one byte.
     pub(crate) steps: [u8; 3],
 }
 
@@ -76,8 +76,8 @@ pub(crate) struct Holding {
 #[derive(Clone, Copy)]
 pub(crate) struct HeldValue<'a> {
     pub(crate) holding: Holding,
-    pub(crate) share: &'a [u8],
-    ghost fits: { used holding ≤ length share.now },
+    pub(crate) bytes: &'a [u8],
+    ghost fits: { used holding ≤ length bytes.now },
     ghost some: { 1 ≤ some_by holding.state (len_of holding) },
 }
 
@@ -150,8 +150,8 @@ pub(crate) fn number_of(state: State) -> u8
         State::Zero => 2,
         State::Unknown => 3,
         State::High => 4,
-        State::Plain => 5,
-        State::Digits => 6,
+        State::Unpacked => 5,
+        State::Packed => 6,
         State::Real => 7,
         State::Bits => 8,
     }
@@ -177,7 +177,7 @@ pub(crate) fn number_of_bit(digit: u8) -> u8
 
 /// Returns the number that encodes the state of the other of the digits 1 and 0.
 #[inline(always)]
-pub(crate) fn number_of_turned(digit: u8) -> u8
+pub(crate) fn number_of_flipped(digit: u8) -> u8
     requires { (digit ≡ 48) ⊎ (digit ≡ 49) }
     ensures { result ≡ number_of (cond (digit == 49) State.Zero State.One) }
 {
@@ -186,7 +186,7 @@ pub(crate) fn number_of_turned(digit: u8) -> u8
 
 /// Returns the number that encodes the state of the digit 0 for that of 1, and the other way round.
 #[inline(always)]
-pub(crate) fn turned(tag: u8) -> u8
+pub(crate) fn flipped(tag: u8) -> u8
     ensures { (one : Bool) → tag ≡ number_of (cond one State.Zero State.One)
         → result ≡ number_of (cond one State.One State.Zero) }
 {
@@ -205,8 +205,8 @@ pub(crate) fn state_in(tag: u8) -> State
         2 => State::Zero,
         3 => State::Unknown,
         4 => State::High,
-        5 => State::Plain,
-        6 => State::Digits,
+        5 => State::Unpacked,
+        6 => State::Packed,
         7 => State::Real,
         _ => State::Bits,
     }
@@ -266,6 +266,6 @@ pub(crate) fn digit_of_state(state: State) -> Option<u8>
         State::One => Some(b'1'),
         State::Unknown => Some(b'x'),
         State::High => Some(b'z'),
-        State::Unset | State::Plain | State::Digits | State::Bits | State::Real => None,
+        State::Unset | State::Unpacked | State::Packed | State::Bits | State::Real => None,
     }
 }

@@ -1,14 +1,14 @@
 // What is kept of each code, in lent slices: a slot, and a share of the values.
 ghost use Rattle.std.specs.Prelude.{◌≡◌, ◌≢◌, ◌==◌, ℕ, max, ◌+◌, ◌-◌, ◌*◌, ◌<◌, ◌≤◌, ◌∷◌, [], true, false, length, take, None, Some, slice_get, Bool};
-ghost use Rattle.vcd_body.specs.Names.{ChangesCode, ChangesSlot, Code, Held, IsHeldAs, IsLaidOut, IsUnset, KeepsTable, LeavesNumber, LeavesSteps, LeavesTurn, SetsCode, SlotsKeepLaid, StepsTo, TurnsTo, bytes_in, codes_in, end_at, held_at, held_or, is_proper, least_bytes, len_of, one_digit, set_whole, share_from, share_of, some_by, start_of, state_in, used, whole, with_held, with_number, with_step, with_steps, with_text};
+ghost use Rattle.vcd_body.specs.Names.{ChangesCode, ChangesSlot, Code, Held, IsHeldAs, IsLaidOut, IsUnset, KeepsTable, LeavesNumber, LeavesSteps, LeavesFlip, SetsCode, SlotsKeepLaid, StepsTo, FlipsTo, bytes_in, codes_in, end_at, held_at, held_or, is_proper, least_bytes, len_of, one_digit, set_whole, share_from, share_of, some_by, start_of, state_in, used, whole, with_held, with_number, with_step, with_steps, with_text};
 
 use crate::bits::{Bits, held_bits, is_number_step, is_proper};
 use crate::counters::{count_step, count_steps};
 use crate::item::Form;
 use crate::packed::pack;
 use crate::slot::{
-    HeldValue, Holding, Share, Slot, State, UPPER, holding_of, is_bit, number_of, number_of_bit,
-    number_of_turned, turned,
+    HeldValue, Holding, Share, Slot, State, UPPER, flipped, holding_of, is_bit, number_of,
+    number_of_bit, number_of_flipped,
 };
 use crate::step::{way_between, way_to};
 use crate::table::Table;
@@ -20,8 +20,8 @@ fn used_by(holding: Holding) -> usize
     ensures { result ≡ used holding }
 {
     match holding.state {
-        State::Digits => holding.len().div_ceil(4),
-        State::Plain | State::Real => holding.len(),
+        State::Packed => holding.len().div_ceil(4),
+        State::Unpacked | State::Real => holding.len(),
         State::Unset | State::Zero | State::One | State::Unknown | State::High | State::Bits => 0,
     }
 }
@@ -33,7 +33,7 @@ fn holds_some(holding: Holding) -> bool
     ensures no { result ≡ false → some_by holding.state (len_of holding) ≡ 0 }
 {
     match holding.state {
-        State::Plain | State::Digits => holding.len() > 0,
+        State::Unpacked | State::Packed => holding.len() > 0,
         State::Bits => is_proper(holding),
         State::Unset | State::Zero | State::One | State::Unknown | State::High | State::Real =>
             true,
@@ -57,8 +57,8 @@ impl<'a> Table<'a> {
             return None;
         }
         let rest = self.values.get(share.start..)?;
-        let share = rest.get(..used_by(holding))?;
-        Some(HeldValue { holding, share })
+        let bytes = rest.get(..used_by(holding))?;
+        Some(HeldValue { holding, bytes })
     }
 }
 
@@ -78,22 +78,22 @@ pub(crate) fn set_tag(slots: &mut [Slot], code: usize, tag: u8)
 /// Holds a text in a share: digits a byte each where it has room for them, and else four to a byte.
 /// Says how it is held.
 #[inline(always)]
-fn hold(share: &mut [u8], form: Form, text: &[u8]) -> State
-    requires room { least_bytes form (length text.now) ≤ length share.old }
-    ensures { IsHeldAs form text.now result share.new }
+fn hold(bytes: &mut [u8], form: Form, text: &[u8]) -> State
+    requires room { least_bytes form (length text.now) ≤ length bytes.old }
+    ensures { IsHeldAs form text.now result bytes.new }
 {
     match form {
         Form::RealText => {
-            copy_front(share, text);
+            copy_front(bytes, text);
             State::Real
         }
-        _ if text.len() <= share.len() => {
-            copy_front(share, text);
-            State::Plain
+        _ if text.len() <= bytes.len() => {
+            copy_front(bytes, text);
+            State::Unpacked
         }
         _ => {
-            pack(share, text);
-            State::Digits
+            pack(bytes, text);
+            State::Packed
         }
     }
 }
@@ -129,7 +129,8 @@ fn least_bytes(form: Form, len: usize) -> usize
 }
 
 impl<'a> Table<'a> {
-    /// Returns where the share of the code at an index ends.
+    /// Returns where in `values` the share of the code at an index ends: where the next one begins,
+    /// or all values end. Check it: in a table not laid out it may be any number.
     #[inline(always)]
     pub(crate) fn end_of(&self, code: usize) -> usize
         requires { code < length self.now.shares.now }
@@ -241,10 +242,10 @@ pub(crate) enum Stepped {
 // A digit is a state of the slot, so no byte of values is touched: held as a number of one digit,
 // `edges` of scalars takes some 10 % more.
 #[inline(always)]
-pub(crate) fn turn_at(slots: &mut [Slot], code: usize, digit: u8) -> Stepped
-    ensures counted { result ≡ Stepped.Counted → TurnsTo code digit slots.old slots.new }
+pub(crate) fn flip_at(slots: &mut [Slot], code: usize, digit: u8) -> Stepped
+    ensures counted { result ≡ Stepped.Counted → FlipsTo code digit slots.old slots.new }
     ensures uncounted { (rises falls : Bool) → result ≡ Stepped.Uncounted rises falls
-        → LeavesTurn code digit rises falls slots.old slots.new }
+        → LeavesFlip code digit rises falls slots.old slots.new }
     ensures same { result ≡ Stepped.Not → slots.new ≡ slots.old }
     ensures laid { SlotsKeepLaid slots.old slots.new }
 {
@@ -252,14 +253,14 @@ pub(crate) fn turn_at(slots: &mut [Slot], code: usize, digit: u8) -> Stepped
         return Stepped::Not;
     }
     let before = slots[code].tag;
-    if before != number_of_turned(digit) {
+    if before != number_of_flipped(digit) {
         return if before == number_of_bit(digit) {
             Stepped::Counted
         } else {
             Stepped::Not
         };
     }
-    set_tag(slots, code, turned(before));
+    set_tag(slots, code, flipped(before));
     if count_in_slot(slots, code, way_to(digit)) {
         return Stepped::Counted;
     }
@@ -295,12 +296,15 @@ pub(crate) fn step_at(slots: &mut [Slot], code: usize, size: usize, bits: Bits) 
     }
 }
 
+// How many bytes the share of a code has at least: as many as the text of a real number may have.
+const LEAST_SHARE: usize = 64;
+
 /// Returns how many bytes the value of a code of this size takes at most.
 #[inline(always)]
 fn share_of(size: usize) -> usize
     ensures { result ≡ share_of size }
 {
-    size.div_ceil(4).max(64)
+    size.div_ceil(4).max(LEAST_SHARE)
 }
 
 /// Gives each code its share of the values, one after the other, and unsets all. Where the values
@@ -319,10 +323,10 @@ pub(crate) fn lay_out(
     ensures end { result ≡ start_of codes.now values (length codes.now) }
 {
     let mut at = 0;
-    for place in 0..slots.len() {
-        slots[place] = Slot::new();
-        shares[place] = Share::at(at);
-        at = at.saturating_add(share_of(codes[place].size)).min(values);
+    for index in 0..slots.len() {
+        slots[index] = Slot::new();
+        shares[index] = Share::at(at);
+        at = at.saturating_add(share_of(codes[index].size)).min(values);
     }
     at
 }

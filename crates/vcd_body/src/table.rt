@@ -9,7 +9,7 @@ use crate::held::{digit_shown, last_held};
 use crate::item::Form;
 use crate::slot::{Share, Shown, Slot, State, number_of_digit, state_in};
 use crate::step::{Step, step_to_text, way_of};
-use crate::store::{Stepped, count_in_slot, lay_out, set_bits, set_tag, step_at, turn_at};
+use crate::store::{Stepped, count_in_slot, flip_at, lay_out, set_bits, set_tag, step_at};
 use crate::value::Value;
 use vcd_view::HeadView;
 
@@ -114,7 +114,7 @@ impl<'a> Table<'a> {
         ensures { SetsCode code (with_change size Form.Vector text.now) self.old self.new }
     {
         match text {
-            [digit] => match turn_at(self.slots, code, *digit) {
+            [digit] => match flip_at(self.slots, code, *digit) {
                 Stepped::Counted => {}
                 Stepped::Uncounted { rises, falls } => self.add(code, CARRY, rises, falls),
                 Stepped::Not => self.follow_any(code, size, Form::Vector, text),
@@ -209,12 +209,12 @@ impl<'a> Table<'a> {
     /// Returns the digit at an index of the value of a code, extended to the code's size, from the
     /// left and in lower case. None where the value has no digits, or fewer.
     #[inline]
-    pub fn digit(&self, view: HeadView<'_>, code: usize, place: usize) -> Option<u8>
+    pub fn digit(&self, view: HeadView<'_>, code: usize, index: usize) -> Option<u8>
         ensures { IsLaidOut self.now
-            → result ≡ digit_in (value_in (codes_shown view.entry) self.now code) place }
+            → result ≡ digit_in (value_in (codes_shown view.entry) self.now code) index }
     {
         let declared = view.code_at(code)?;
-        digit_shown(self.held(code)?, declared.size, place)
+        digit_shown(self.held(code)?, declared.size, index)
     }
 
     /// Returns the text of the real number that is the value of the code at an index; empty where
@@ -224,7 +224,7 @@ impl<'a> Table<'a> {
         ensures { IsLaidOut self.now → result.now ≡ real_text (held_at self.now code) }
     {
         match self.held(code) {
-            Some(held) if held.holding.state == State::Real => held.share,
+            Some(held) if held.holding.state == State::Real => held.bytes,
             _ => &[],
         }
     }

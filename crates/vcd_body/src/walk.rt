@@ -11,26 +11,26 @@ ghost use Rattle.vcd_body.specs.Walk.{MayTakeMark, MayTakeNext, MayTakeUpTo, Sta
 ghost use Rattle.vcd_body.specs.declared.item.Form.{Form};
 ghost use Rattle.vcd_body.specs.declared.item.Item.TheVariants as item;
 ghost use Rattle.vcd_body.specs.declared.item.Regs.{Regs};
-ghost use Rattle.vcd_body.specs.declared.words.First.TheVariants as first;
+ghost use Rattle.vcd_body.specs.declared.words.PhraseKind.TheVariants as kind;
 
 use crate::ahead::{
-    Opening, Plain, VectorTokens, has_run, has_short_run, mark_ahead, near_mark, opening_ahead,
-    real_ahead, scalar_ahead, short_ahead, time_ahead, vector_ahead, vector_bits,
+    Opening, Plain, VectorTokens, line_mark, mark_ahead, opening_ahead, real_ahead, scalar_ahead,
+    short_ahead, short_lines_come, time_ahead, two_short_lines_come, vector_ahead, vector_bits,
     vector_tokens_ahead,
 };
 use crate::item::Regs;
-use crate::words::First;
+use crate::words::PhraseKind;
 use vcd_text::{Ahead, Sink, WriteFailed};
 use vcd_view::HeadView;
 
-/// What the view of a header is made from, where it is used.
+/// The view of a header, or a small value that makes it.
 // A view made once a walk: `merge` of 27,505 codes takes 220 an item, with one made for each item
 // 308. Handed to `take_lines` as a view, scalars take 121.1, as it is 116.8.
 pub trait Viewed: Copy {
     // Whether this is such a view.
     ghost shows: { Self → HeadView → Type 0 };
 
-    /// Returns the view of the header.
+    /// Returns the view of the header. A loop over items calls it once, before its first item.
     fn view(&self) -> HeadView<'_>
         ensures { shows self.now result };
 }
@@ -77,7 +77,7 @@ pub trait Visit<C>: Drop {
     fn is_over(&self) -> bool
         ensures { result ≡ over self.now };
 
-    /// Takes a time mark that lies here. The registers are those before it.
+    /// Takes a time mark, which lies at `extent`. The registers are those before it.
     fn take_mark(
         &mut self,
         command: &mut C,
@@ -98,8 +98,8 @@ pub trait Visit<C>: Drop {
         ensures stands { stands self.new command.new (bytes_of extent.entry.to)
             (regs_after regs mark.entry.item) };
 
-    /// Takes a change that lies here, and puts what is due with it. The registers are those after
-    /// it, as before it.
+    /// Takes a change, which lies at `extent`, and puts what is due with it. The registers are those
+    /// after it, as before it.
     fn take_change<W: Sink>(
         &mut self,
         command: &mut C,
@@ -207,7 +207,7 @@ fn take_mark<'a, C, V: Visit<C>>(
 ) -> Option<()>
     requires stands { V.stands visit.old command.old (bytes_of ahead.old) regs.old }
     requires opens { Opens ahead.old to opening }
-    requires first { opening.first ≡ first.Mark }
+    requires kind { opening.kind ≡ kind.Mark }
     ensures { MayTakeMark V.takes V.stands view.entry
         (stage_at ahead.old regs.old visit.old command.old)
         (stage_at ahead.new regs.new visit.new command.new) result }
@@ -224,11 +224,11 @@ fn take_mark<'a, C, V: Visit<C>>(
     Some(())
 }
 
-/// Takes the change that the tokens of a vector are, which lies here, and returns that it was no
-/// mark. None where they are no such change, and then nothing has changed.
+/// Takes the change that the tokens of a vector are, which lies at `extent`, and returns that it was
+/// no mark. None where they are no such change, and then nothing has changed.
 // Whether the digits have a number is asked once: what is done with it follows in each arm. The arm
-// for digits of a known number takes 5 % off `merge` of 27,505 codes and of Verilator's, and adds 6
-// % to `check`.
+// for digits of a known number takes 5 % off `merge` of 27,505 codes and of Verilator's. To `check`
+// it adds 6 %.
 #[inline(always)]
 fn take_vector<C, V: Visit<C>, W: Sink>(
     command: &mut C,
@@ -282,27 +282,27 @@ fn take_next<C, V: Visit<C>, W: Sink>(
     let from = *ahead;
     let mut to = from;
     let opening = opening_ahead(&mut to)?;
-    let taken = match opening.first {
-        First::Bit | First::Scalar => {
+    let taken = match opening.kind {
+        PhraseKind::Bit | PhraseKind::Scalar => {
             let change = scalar_ahead(opening, to, view)?;
             let extent = Extent { from, to };
             take_change(command, visit, view, *regs, change, extent, out)
         }
-        First::Vector => {
+        PhraseKind::Vector => {
             let tokens = vector_tokens_ahead(opening, &mut to)?;
             let extent = Extent { from, to };
             take_vector(command, visit, view, *regs, tokens, extent, out)?
         }
-        First::Mark => {
+        PhraseKind::Mark => {
             take_mark(command, visit, view, opening, regs, ahead, to)?;
             return Some(Ok(true));
         }
-        First::Real => {
+        PhraseKind::Real => {
             let change = real_ahead(opening, &mut to, view)?;
             let extent = Extent { from, to };
             take_change(command, visit, view, *regs, change, extent, out)
         }
-        First::Other => return None,
+        PhraseKind::Other => return None,
     };
     *ahead = to;
     Some(taken)
@@ -370,7 +370,7 @@ fn take_shorts<'a, C, V: Visit<C>, H: Viewed, W: Sink>(
 /// Takes the next item that lies ahead, where it is a time mark on a line of its own. None where it
 /// takes none, and then nothing has changed.
 #[inline(always)]
-fn take_near<C, V: Visit<C>>(
+fn take_line_mark<C, V: Visit<C>>(
     command: &mut C,
     visit: &mut V,
     view: HeadView<'_>,
@@ -383,7 +383,7 @@ fn take_near<C, V: Visit<C>>(
         (stage_at ahead.new regs.new visit.new command.new) result }
 {
     let mut to = *ahead;
-    let opening = near_mark(&mut to)?;
+    let opening = line_mark(&mut to)?;
     take_mark(command, visit, view, opening, regs, ahead, to)
 }
 
@@ -418,15 +418,15 @@ fn take_lines<'a, C, V: Visit<C>, H: Viewed, W: Sink>(
         return Walked::until(ahead, regs, visit, Ok(false));
     }
     ahead.forget();
-    'runs: loop {
-        let run = take_shorts(command, visit, head, regs, ahead, out);
-        if !run.can_go_on() {
-            return run;
+    'lines: loop {
+        let shorts = take_shorts(command, visit, head, regs, ahead, out);
+        if !shorts.can_go_on() {
+            return shorts;
         }
-        ahead = run.ahead;
-        regs = run.regs;
-        visit = run.visit;
-        let Some(()) = take_near(command, &mut visit, view, &mut regs, &mut ahead) else {
+        ahead = shorts.ahead;
+        regs = shorts.regs;
+        visit = shorts.visit;
+        let Some(()) = take_line_mark(command, &mut visit, view, &mut regs, &mut ahead) else {
             return Walked::until(ahead, regs, visit, Ok(false));
         };
         if visit.is_over() {
@@ -453,7 +453,7 @@ fn begin_lines<'a, C, V: Visit<C>, H: Viewed, W: Sink>(
         (stage_at ahead.entry regs visit command.old (W.device out.old))
         (stage_at result.ahead result.regs result.visit command.new (W.device out.new)) result.ended }
 {
-    if !visit.is_over() && has_short_run(ahead) {
+    if !visit.is_over() && short_lines_come(ahead) {
         return take_lines(command, visit, head, regs, ahead, out);
     }
     Walked::until(ahead, regs, visit, Ok(false))
@@ -500,14 +500,14 @@ pub fn walk_ahead<'a, C, V: Visit<C>, H: Viewed, W: Sink>(
         if visit.is_over() {
             return Walked::until(ahead, regs, visit, Ok(true));
         }
-        if was_mark && has_run(ahead) {
-            let run = take_lines(command, visit, head, regs, ahead, out);
-            if !run.can_go_on() {
-                return run;
+        if was_mark && two_short_lines_come(ahead) {
+            let more = take_lines(command, visit, head, regs, ahead, out);
+            if !more.can_go_on() {
+                return more;
             }
-            ahead = run.ahead;
-            regs = run.regs;
-            visit = run.visit;
+            ahead = more.ahead;
+            regs = more.regs;
+            visit = more.visit;
         }
     }
 }

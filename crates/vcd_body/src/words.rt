@@ -9,7 +9,7 @@ use vcd_view::{Keyword, keyword_of};
 
 /// What a phrase begins with, by the token's first byte.
 #[derive(Clone, Copy, PartialEq, Eq, Debug)]
-pub enum First {
+pub enum PhraseKind {
     /// `#`: a time mark.
     Mark,
     /// The digit `0` or `1` of a value, with its code right after it.
@@ -36,12 +36,12 @@ pub(crate) enum KeywordUse {
 
 /// Returns what the token begins.
 #[inline(always)]
-pub(crate) fn first_of(token: &[u8]) -> First
+pub(crate) fn kind_of(token: &[u8]) -> PhraseKind
     ensures { Begins token.now result }
 {
     match token.split_first() {
-        Some((byte, _)) => first_by(*byte),
-        None => First::Other,
+        Some((byte, _)) => kind_by(*byte),
+        None => PhraseKind::Other,
     }
 }
 
@@ -50,21 +50,21 @@ pub(crate) fn first_of(token: &[u8]) -> First
 // Verilator takes 100 and 134 an item; with x and z asked before `b`, and each token whether it is
 // empty, 106 and 144.
 #[inline(always)]
-pub(crate) fn first_by(byte: u8) -> First
+pub(crate) fn kind_by(byte: u8) -> PhraseKind
     ensures { (rest : List ℕ) → Begins (byte ∷ rest) result }
 {
     if byte == b'0' || byte == b'1' {
-        First::Bit
+        PhraseKind::Bit
     } else if byte == b'b' || byte == b'B' {
-        First::Vector
+        PhraseKind::Vector
     } else if byte == b'#' {
-        First::Mark
+        PhraseKind::Mark
     } else if is_value_digit(byte) {
-        First::Scalar
+        PhraseKind::Scalar
     } else if byte == b'r' || byte == b'R' {
-        First::Real
+        PhraseKind::Real
     } else {
-        First::Other
+        PhraseKind::Other
     }
 }
 
@@ -174,12 +174,12 @@ fn are_binary_at(bytes: &[u8], at: usize, n: usize) -> bool
 fn are_few_binary(digits: &[u8]) -> bool
     ensures { result ≡ true → list_all is_digit digits.now ≡ true }
 {
-    let mut most = 0;
+    let mut largest = 0;
     for digit in digits {
         let above = digit.wrapping_sub(b'0');
-        most = if most < above { above } else { most };
+        largest = if largest < above { above } else { largest };
     }
-    most <= 1
+    largest <= 1
 }
 
 /// Returns true only where the digits are `0` and `1` alone. It looks at 32 at a time where there

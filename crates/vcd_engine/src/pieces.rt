@@ -16,7 +16,7 @@ pub(crate) struct InPlace<'a> {
 }
 
 impl<'a> InPlace<'a> {
-    /// Returns the change that lies here ahead.
+    /// Returns the change that lies at this extent.
     #[inline(always)]
     pub(crate) fn of(plain: Plain<'a>, extent: Extent<'a>) -> InPlace<'a>
         ensures plain { result.plain ≡ plain.entry }

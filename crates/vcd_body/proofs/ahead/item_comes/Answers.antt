@@ -7,15 +7,15 @@ use Rattle.vcd_text.specs.Passed.{Passed, line_ahead}
 use Rattle.vcd_text.specs.declared.ahead.Ahead.{Ahead}
 use Rattle.vcd_body.specs.Whole.{HoldsItem, IsAlone}
 use Rattle.vcd_body.specs.Words.{Begins, is_comment}
-use Rattle.vcd_body.specs.declared.words.First.{First}
-use Rattle.vcd_body.specs.declared.words.First.TheVariants.{Mark, Bit, Scalar, Vector, Real, Other}
+use Rattle.vcd_body.specs.declared.words.PhraseKind.{PhraseKind}
+use Rattle.vcd_body.specs.declared.words.PhraseKind.TheVariants.{Mark, Bit, Scalar, Vector, Real, Other}
 use Rattle.vcd_body.proofs.ahead.item_comes.Goals as goal
 
 -- a token that is whole ahead
 abbrev taken : Ahead → Ahead → List ℕ → Token
 taken a a' token = record { bytes = token; line = line_ahead 0 (bytes_of a) (start_of a' token) }
 
-one : (a a' : Ahead) (token : List ℕ) (first : First) → passed_of a ≡ 0 → TakesToken a a' token → Begins token first → IsAlone first token → HoldsItem (longest_of a) (bytes_of a)
+one : (a a' : Ahead) (token : List ℕ) (first : PhraseKind) → passed_of a ≡ 0 → TakesToken a a' token → Begins token first → IsAlone first token → HoldsItem (longest_of a) (bytes_of a)
 one a a' token first none t begins alone = record { tokens = taken a a' token ∷ []; n = passed_of a'; passed = t.gives 0 [] none; whole = (first, begins, alone) }
 
 two : (a b c : Ahead) (token next : List ℕ) → passed_of a ≡ 0 → TakesToken a b token → TakesToken b c next → Begins token Vector ⊎ Begins token Real → HoldsItem (longest_of a) (bytes_of a)
@@ -30,31 +30,31 @@ two a b c token next none t u begins =
       whole = begins;
     }
 
-alone : (first : First) (token : List ℕ) → (first ≡ Bit) ⊎ (first ≡ Scalar) ⊎ (first ≡ Mark) → IsAlone first token
-alone first token (inl e) = subst (λ (f : First). IsAlone f token) (sym e) tt
-alone first token (inr (inl e)) = subst (λ (f : First). IsAlone f token) (sym e) tt
-alone first token (inr (inr e)) = subst (λ (f : First). IsAlone f token) (sym e) tt
+alone : (first : PhraseKind) (token : List ℕ) → (first ≡ Bit) ⊎ (first ≡ Scalar) ⊎ (first ≡ Mark) → IsAlone first token
+alone first token (inl e) = subst (λ (f : PhraseKind). IsAlone f token) (sym e) tt
+alone first token (inr (inl e)) = subst (λ (f : PhraseKind). IsAlone f token) (sym e) tt
+alone first token (inr (inr e)) = subst (λ (f : PhraseKind). IsAlone f token) (sym e) tt
 
-either : (first : First) (token : List ℕ) → Begins token first → (first ≡ Vector) ⊎ (first ≡ Real) → Begins token Vector ⊎ Begins token Real
+either : (first : PhraseKind) (token : List ℕ) → Begins token first → (first ≡ Vector) ⊎ (first ≡ Real) → Begins token Vector ⊎ Begins token Real
 either first token begins (inl e) = inl (subst (Begins token) e begins)
 either first token begins (inr e) = inr (subst (Begins token) e begins)
 
 pub returns-in-Bit : goal.returns-in-Bit
-returns-in-Bit c = λ _. one c.args.ahead c.next_slowly.new.self c.in-Some.token.now c.first_of.result c.requires c.in-Some.ensures.takes c.first_of.ensures (alone c.first_of.result c.in-Some.token.now c.in-Bit.is)
+returns-in-Bit c = λ _. one c.args.ahead c.next_slowly.new.self c.in-Some.token.now c.kind_of.result c.requires c.in-Some.ensures.takes c.kind_of.ensures (alone c.kind_of.result c.in-Some.token.now c.in-Bit.is)
 
 pub returns-in-Vector : goal.returns-in-Vector
 returns-in-Vector c = λ some. by_next c.next_slowly-in-Vector.result (sym c.is_some.ensures ∙ some) c.next_slowly-in-Vector.ensures.takes
   where
     by_next : (o : Option (Bor (List ℕ))) → is_some o ≡ true → IfSome o (λ token. TakesToken c.next_slowly.new.self c.next_slowly-in-Vector.new.self token.now) → HoldsItem (longest_of c.args.ahead) (bytes_of c.args.ahead)
     by_next None e t = cc
-    by_next (Some next) e t = two c.args.ahead c.next_slowly.new.self c.next_slowly-in-Vector.new.self c.in-Some.token.now next.now c.requires c.in-Some.ensures.takes t (either c.first_of.result c.in-Some.token.now c.first_of.ensures c.in-Vector.is)
+    by_next (Some next) e t = two c.args.ahead c.next_slowly.new.self c.next_slowly-in-Vector.new.self c.in-Some.token.now next.now c.requires c.in-Some.ensures.takes t (either c.kind_of.result c.in-Some.token.now c.kind_of.ensures c.in-Vector.is)
 
-other : (first : First) (token : List ℕ) (b : Bool) → first ≡ Other → b ≡ is_comment token → not b ≡ true → IsAlone first token
-other first token b e is no_comment = subst (λ (f : First). IsAlone f token) (sym e) (sym is ∙ by_case b no_comment)
+other : (first : PhraseKind) (token : List ℕ) (b : Bool) → first ≡ Other → b ≡ is_comment token → not b ≡ true → IsAlone first token
+other first token b e is no_comment = subst (λ (f : PhraseKind). IsAlone f token) (sym e) (sym is ∙ by_case b no_comment)
   where
     by_case : (c : Bool) → not c ≡ true → c ≡ false
     by_case true e = cc
     by_case false e = refl
 
 pub returns-in-Other : goal.returns-in-Other
-returns-in-Other c = λ told. one c.args.ahead c.next_slowly.new.self c.in-Some.token.now c.first_of.result c.requires c.in-Some.ensures.takes c.first_of.ensures (other c.first_of.result c.in-Some.token.now c.is_comment.result c.in-Other.is c.is_comment.ensures told)
+returns-in-Other c = λ told. one c.args.ahead c.next_slowly.new.self c.in-Some.token.now c.kind_of.result c.requires c.in-Some.ensures.takes c.kind_of.ensures (other c.kind_of.result c.in-Some.token.now c.is_comment.result c.in-Other.is c.is_comment.ensures told)

@@ -4,7 +4,7 @@ use Rattle.vcd_body.proofs.WordLemmas.{scalar_begins}
 use Rattle.vcd_body.proofs.ahead.short_ahead.Goals as goal
 
 pub short_code-requires : goal.short_code-requires
-short_code-requires c = record { begins = scalar_begins c.in_ok-opening.opening.token.now c.in_ok-opening.opening.first (inl c.in-Bit.is) c.in_ok-opening.ensures.opens.begins }
+short_code-requires c = record { begins = scalar_begins c.in_ok-opening.opening.token.now c.in_ok-opening.opening.kind (inl c.in-Bit.is) c.in_ok-opening.ensures.opens.begins }
 
 pub returns-clause-takes : goal.returns-clause-takes
 returns-clause-takes c = λ r.

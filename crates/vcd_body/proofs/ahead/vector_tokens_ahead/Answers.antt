@@ -9,7 +9,7 @@ returns c = record {
       record {
         middle = c.args.ahead.now;
         token = o.token;
-        begins = subst (Begins token) c.requires.first o.begins;
+        begins = subst (Begins token) c.requires.kind o.begins;
         code = c.in_ok-code.ensures.takes;
         at = c.begin_of-at.ensures;
         code_at = c.begin_of-code_at.ensures;

@@ -4,13 +4,13 @@ use Rattle.vcd_body.specs.Stored.{len_of}
 use Rattle.vcd_body.proofs.BinaryLemmas.{binary_at, binary_past}
 use Rattle.vcd_body.proofs.bits.binary_digit.Goals as goal
 
-pub returns-then-place-count : goal.returns-then-place-count
-returns-then-place-count c = sym (binary_past (count_in (len_of c.args.holding)) (number_in (len_of c.args.holding)) c.args.place (omega (arith, c.count_in-count.ensures, c.if-place-count.true)))
+pub returns-then-index-count : goal.returns-then-index-count
+returns-then-index-count c = sym (binary_past (count_in (len_of c.args.holding)) (number_in (len_of c.args.holding)) c.args.index (omega (arith, c.count_in-count.ensures, c.if-index-count.true)))
 
 pub returns : goal.returns
 returns c =
     let n = c.number_in.result in
-    let place = c.args.place in
+    let place = c.args.index in
     ap (λ k. Some (48 + n / 2 ^ (k - 1 - place) % 2)) c.count_in-count.ensures
     ∙ ap (λ k. Some (48 + k / 2 ^ (count_in (len_of c.args.holding) - 1 - place) % 2)) c.number_in.ensures
-    ∙ sym (binary_at (count_in (len_of c.args.holding)) (number_in (len_of c.args.holding)) place (omega (arith, c.count_in-count.ensures, c.if-place-count.false)))
+    ∙ sym (binary_at (count_in (len_of c.args.holding)) (number_in (len_of c.args.holding)) place (omega (arith, c.count_in-count.ensures, c.if-index-count.false)))

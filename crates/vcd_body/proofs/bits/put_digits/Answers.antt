@@ -6,6 +6,6 @@ use Rattle.vcd_body.proofs.bits.put_digits.Goals as goal
 
 pub returns : goal.returns
 returns c =
-    let long = c.loop-place.auto.to in
+    let long = c.loop-index.auto.to in
     let count = length_binary c.args.bits.len c.args.bits.number in
-    same_number_lists c.loop-place.to (binary_digits c.args.bits.len c.args.bits.number) (omega (arith, long, count, c.requires)) (λ k few. c.loop-place.invariant k (omega (arith, long, few)))
+    same_number_lists c.loop-index.to (binary_digits c.args.bits.len c.args.bits.number) (omega (arith, long, count, c.requires)) (λ k few. c.loop-index.invariant k (omega (arith, long, few)))

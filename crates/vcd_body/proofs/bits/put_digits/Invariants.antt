@@ -3,5 +3,5 @@ use Rattle.std.specs.Prelude.{get_or}
 use Rattle.vcd_body.specs.Binary.{binary_digits}
 use Rattle.vcd_body.proofs.bits.put_digits.Given as goal
 
-abbrev pub invariant-loop-place : goal.invariant-loop-place
-invariant-loop-place l = (k : ℕ) → k < l.place → get_or l.to k 0 ≡ get_or (binary_digits l.bits.len l.bits.number) k 0
+abbrev pub invariant-loop-index : goal.invariant-loop-index
+invariant-loop-index l = (k : ℕ) → k < l.index → get_or l.to k 0 ≡ get_or (binary_digits l.bits.len l.bits.number) k 0

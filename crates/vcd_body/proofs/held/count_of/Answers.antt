@@ -6,10 +6,10 @@ use Rattle.vcd_body.proofs.BinaryLemmas.{length_binary}
 use Rattle.vcd_body.proofs.HeldLemmas.{count_held}
 use Rattle.vcd_body.proofs.held.count_of.Goals as goal
 
-pub returns-in-Digits : goal.returns-in-Digits
-returns-in-Digits c = c.len.ensures ∙ count_held c.args.held.holding.state (len_of c.args.held.holding) c.args.held.share.now c.in-Digits.is c.args.held.fits
+pub returns-in-Packed : goal.returns-in-Packed
+returns-in-Packed c = c.len.ensures ∙ count_held c.args.held.holding.state (len_of c.args.held.holding) c.args.held.bytes.now c.in-Packed.is c.args.held.fits
 
 pub returns-in-Bits : goal.returns-in-Bits
 returns-in-Bits c =
     let len = (len_of c.args.held.holding) in
-    c.count_in.ensures ∙ sym (length_binary (count_in len) (number_in len)) ∙ sym (ap (λ (s : State). length (digits_held (held_by s len c.args.held.share.now))) c.in-Bits.is)
+    c.count_in.ensures ∙ sym (length_binary (count_in len) (number_in len)) ∙ sym (ap (λ (s : State). length (digits_held (held_by s len c.args.held.bytes.now))) c.in-Bits.is)

@@ -4,18 +4,18 @@ use Rattle.vcd_body.proofs.HeldLemmas.{no_digits, shown_before, shown_behind}
 use Rattle.vcd_body.proofs.held.digit_shown.Goals as goal
 
 pub returns-in_err-first : goal.returns-in_err-first
-returns-in_err-first c = c.from_residual.ensures ∙ sym (no_digits c.args.held.holding.state (len_of c.args.held.holding) c.args.size c.args.place c.args.held.share.now c.args.held.fits c.args.held.some (sym c.digit_held.ensures ∙ c.in_err-first.was))
+returns-in_err-first c = c.from_residual.ensures ∙ sym (no_digits c.args.held.holding.state (len_of c.args.held.holding) c.args.size c.args.index c.args.held.bytes.now c.args.held.fits c.args.held.some (sym c.digit_held.ensures ∙ c.in_err-first.was))
 
-pub returns-then-place-missing : goal.returns-then-place-missing
-returns-then-place-missing c =
-    let h = held_by c.args.held.holding.state (len_of c.args.held.holding) c.args.held.share.now in
-    sym (shown_before h c.args.size c.args.place c.in_ok-first.first (sym c.digit_held.ensures ∙ c.in_ok-first.was) (omega (arith, c.if-place-missing.true, c.saturating_sub-missing.ensures, c.count_of.ensures)) ∙ ap (λ d. Some d) (sym c.extension_of.ensures))
+pub returns-then-index-missing : goal.returns-then-index-missing
+returns-then-index-missing c =
+    let h = held_by c.args.held.holding.state (len_of c.args.held.holding) c.args.held.bytes.now in
+    sym (shown_before h c.args.size c.args.index c.in_ok-first.first (sym c.digit_held.ensures ∙ c.in_ok-first.was) (omega (arith, c.if-index-missing.true, c.saturating_sub-missing.ensures, c.count_of.ensures)) ∙ ap (λ d. Some d) (sym c.extension_of.ensures))
 
 pub returns : goal.returns
 returns c =
-    let h = held_by c.args.held.holding.state (len_of c.args.held.holding) c.args.held.share.now in
+    let h = held_by c.args.held.holding.state (len_of c.args.held.holding) c.args.held.bytes.now in
     let size = c.args.size in
-    let place = c.args.place in
+    let place = c.args.index in
     let same : place - c.saturating_sub-missing.result ≡ place - (size - length (digits_held h)) = omega (arith, c.saturating_sub-missing.ensures, c.count_of.ensures) in
     c.digit_held-2.ensures ∙ ap (slice_get (digits_held h)) same
-    ∙ sym (shown_behind h size place c.in_ok-first.first (sym c.digit_held.ensures ∙ c.in_ok-first.was) (omega (arith, c.if-place-missing.false, c.saturating_sub-missing.ensures, c.count_of.ensures)))
+    ∙ sym (shown_behind h size place c.in_ok-first.first (sym c.digit_held.ensures ∙ c.in_ok-first.was) (omega (arith, c.if-index-missing.false, c.saturating_sub-missing.ensures, c.count_of.ensures)))

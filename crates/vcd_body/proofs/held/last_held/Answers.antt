@@ -4,30 +4,30 @@ use Rattle.vcd_body.specs.Kept.{last_digit_in, value_at_size}
 use Rattle.vcd_body.specs.Stored.{held_by, some_by, used_by, len_of}
 use Rattle.vcd_body.specs.declared.slot.State.{State}
 use Rattle.vcd_body.proofs.BinaryLemmas.{proper, proper_count}
-use Rattle.vcd_body.proofs.CompareLemmas.{last_number, last_of_state, last_packed, last_plain}
+use Rattle.vcd_body.proofs.CompareLemmas.{last_number, last_of_state, last_packed, last_unpacked}
 use Rattle.vcd_body.proofs.held.last_held.Goals as goal
 
-pub returns-in-Plain : goal.returns-in-Plain
-returns-in-Plain c size =
+pub returns-in-Unpacked : goal.returns-in-Unpacked
+returns-in-Unpacked c size =
     let len = (len_of c.args.held.holding) in
-    let bytes = c.args.held.share.now in
-    let used = subst (λ (s : State). used_by s len ≤ length bytes) c.in-Plain.is c.args.held.fits in
-    let some = subst (λ (s : State). 1 ≤ some_by s len) c.in-Plain.is c.args.held.some in
+    let bytes = c.args.held.bytes.now in
+    let used = subst (λ (s : State). used_by s len ≤ length bytes) c.in-Unpacked.is c.args.held.fits in
+    let some = subst (λ (s : State). 1 ≤ some_by s len) c.in-Unpacked.is c.args.held.some in
     let one : length bytes ≡ suc (length bytes - 1) = omega (arith, used, some) in
-    c.plain_digit_at.ensures
-    ∙ sym (last_plain len bytes size (length bytes - 1) one)
-    ∙ sym (ap (λ (s : State). last_digit_in (value_at_size size (held_by s len bytes))) c.in-Plain.is)
+    c.unpacked_digit_at.ensures
+    ∙ sym (last_unpacked len bytes size (length bytes - 1) one)
+    ∙ sym (ap (λ (s : State). last_digit_in (value_at_size size (held_by s len bytes))) c.in-Unpacked.is)
 
-pub returns-in-Digits : goal.returns-in-Digits
-returns-in-Digits c size =
+pub returns-in-Packed : goal.returns-in-Packed
+returns-in-Packed c size =
     let len = (len_of c.args.held.holding) in
-    let bytes = c.args.held.share.now in
-    let used = subst (λ (s : State). used_by s len ≤ length bytes) c.in-Digits.is c.args.held.fits in
-    let some = subst (λ (s : State). 1 ≤ some_by s len) c.in-Digits.is c.args.held.some in
+    let bytes = c.args.held.bytes.now in
+    let used = subst (λ (s : State). used_by s len ≤ length bytes) c.in-Packed.is c.args.held.fits in
+    let some = subst (λ (s : State). 1 ≤ some_by s len) c.in-Packed.is c.args.held.some in
     let one : len ≡ suc (len - 1) = omega (arith, some) in
-    (rw (c.len.ensures, c.len-in-Digits.ensures) at c.digit_at.ensures)
+    (rw (c.len.ensures, c.len-in-Packed.ensures) at c.digit_at.ensures)
     ∙ sym (last_packed len bytes size (len - 1) used one)
-    ∙ sym (ap (λ (s : State). last_digit_in (value_at_size size (held_by s len bytes))) c.in-Digits.is)
+    ∙ sym (ap (λ (s : State). last_digit_in (value_at_size size (held_by s len bytes))) c.in-Packed.is)
 
 pub last_binary-requires : goal.last_binary-requires
 last_binary-requires c =
@@ -37,7 +37,7 @@ last_binary-requires c =
 pub returns-in-Bits : goal.returns-in-Bits
 returns-in-Bits c size =
     let len = (len_of c.args.held.holding) in
-    let bytes = c.args.held.share.now in
+    let bytes = c.args.held.bytes.now in
     let some = subst (λ (s : State). 1 ≤ some_by s len) c.in-Bits.is c.args.held.some in
     let count = proper_count len (proper len some) in
     let one : count_in len ≡ suc (count_in len - 1) = omega (arith, count) in
@@ -46,4 +46,4 @@ returns-in-Bits c size =
     ∙ sym (ap (λ (s : State). last_digit_in (value_at_size size (held_by s len bytes))) c.in-Bits.is)
 
 pub returns-in_default : goal.returns-in_default
-returns-in_default c size = c.digit_of_state.ensures ∙ last_of_state c.args.held.holding.state (len_of c.args.held.holding) c.args.held.share.now size c.in_default.not-Plain c.in_default.not-Digits c.in_default.not-Bits
+returns-in_default c size = c.digit_of_state.ensures ∙ last_of_state c.args.held.holding.state (len_of c.args.held.holding) c.args.held.bytes.now size c.in_default.not-Unpacked c.in_default.not-Packed c.in_default.not-Bits

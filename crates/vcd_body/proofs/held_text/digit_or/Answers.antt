@@ -5,4 +5,4 @@ use Rattle.vcd_body.specs.Held.{digits_of}
 use Rattle.vcd_body.proofs.held_text.digit_or.Goals as goal
 
 pub returns : goal.returns
-returns c = c.unwrap_or.ensures ∙ ap (λ (o : Option ℕ). unwrap_or o 0) c.digit_held.ensures ∙ unwrap_or-slice_get (digits_of c.args.held) c.args.place 0
+returns c = c.unwrap_or.ensures ∙ ap (λ (o : Option ℕ). unwrap_or o 0) c.digit_held.ensures ∙ unwrap_or-slice_get (digits_of c.args.held) c.args.index 0

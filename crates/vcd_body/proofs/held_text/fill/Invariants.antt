@@ -3,5 +3,5 @@ use Rattle.std.specs.Prelude.{get_or}
 use Rattle.vcd_body.specs.Stored.{digits_with}
 use Rattle.vcd_body.proofs.held_text.fill.Given as goal
 
-abbrev pub invariant-loop-place : goal.invariant-loop-place
-invariant-loop-place l = (k : ℕ) → k < l.place → get_or l.to k 0 ≡ get_or (digits_with l.held.holding l.held.share.now) (l.from + k) 0
+abbrev pub invariant-loop-index : goal.invariant-loop-index
+invariant-loop-index l = (k : ℕ) → k < l.index → get_or l.to k 0 ≡ get_or (digits_with l.held.holding l.held.bytes.now) (l.from + k) 0

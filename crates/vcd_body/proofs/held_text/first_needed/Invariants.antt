@@ -4,7 +4,7 @@ use Rattle.vcd_body.proofs.HeldShort.{Serves}
 use Rattle.vcd_body.proofs.held_text.first_needed.Given as goal
 
 abbrev pub invariant-digits : goal.invariant-digits
-invariant-digits l = Serves l.from (digits_with l.held.holding l.held.share.now)
+invariant-digits l = Serves l.from (digits_with l.held.holding l.held.bytes.now)
 
 abbrev pub decreases-digits : goal.decreases-digits
 decreases-digits l = l.count - l.from

@@ -10,7 +10,7 @@ use Rattle.vcd_body.proofs.held_text.put_extended.Goals as goal
 pub returns-in_err-put_repeated : goal.returns-in_err-put_repeated
 returns-in_err-put_repeated g c =
     let p = err_from_is_err_and c.from_residual.result c.from_residual.ensures.1 in
-    let ds = digits_with c.args.held.holding c.args.held.share.now in
+    let ds = digits_with c.args.held.holding c.args.held.bytes.now in
     let m = c.args.size - length ds in
     let count : c.saturating_sub-missing.result ≡ m = omega (arith, c.saturating_sub-missing.ensures, c.count_of.ensures) in
     let digit = c.extension_of.ensures ∙ ap (λ d. extension (d ∷ [])) c.digit_or.ensures ∙ sym (extension_at ds 0 c.requires.some) in
@@ -19,7 +19,7 @@ returns-in_err-put_repeated g c =
 
 pub returns : goal.returns
 returns g c =
-    let ds = digits_with c.args.held.holding c.args.held.share.now in
+    let ds = digits_with c.args.held.holding c.args.held.bytes.now in
     let m = c.args.size - length ds in
     let count : c.saturating_sub-missing.result ≡ m = omega (arith, c.saturating_sub-missing.ensures, c.count_of.ensures) in
     let digit = c.extension_of.ensures ∙ ap (λ d. extension (d ∷ [])) c.digit_or.ensures ∙ sym (extension_at ds 0 c.requires.some) in

@@ -9,7 +9,7 @@ pub returns-in_err-put : goal.returns-in_err-put
 returns-in_err-put g c =
     let p = err_from_is_err_and c.from_residual.result c.from_residual.ensures.1 in
     let i = c.loop-at.invariant.1 in
-    let ds = digits_with c.args.held.holding c.args.held.share.now in
+    let ds = digits_with c.args.held.holding c.args.held.bytes.now in
     let some = c.min-some.result in
     let size : length (take some c.loop-at.block) ≡ some = length-take-le some c.loop-at.block (omega (arith, c.min-some.ensures, c.min-some.array_long)) in
     let part = front_part c.fill.new.to (drop some c.loop-at.block) some (c.fill.auto.to ∙ size) ∙ c.fill.ensures ∙ ap (λ n. take n (drop c.loop-at.at ds)) size ∙ ap (λ a. take some (drop a ds)) i.1 ∙ sym (ap (take some) (drop-drop i.0 c.args.from ds)) in
@@ -21,7 +21,7 @@ returns-in_err-put g c =
 pub loop-at-preserved : goal.loop-at-preserved
 loop-at-preserved g c =
     let i = c.loop-at.invariant.1 in
-    let ds = digits_with c.args.held.holding c.args.held.share.now in
+    let ds = digits_with c.args.held.holding c.args.held.bytes.now in
     let some = c.min-some.result in
     let size : length (take some c.loop-at.block) ≡ some = length-take-le some c.loop-at.block (omega (arith, c.min-some.ensures, c.min-some.array_long)) in
     let part = front_part c.fill.new.to (drop some c.loop-at.block) some (c.fill.auto.to ∙ size) ∙ c.fill.ensures ∙ ap (λ n. take n (drop c.loop-at.at ds)) size ∙ ap (λ a. take some (drop a ds)) i.1 ∙ sym (ap (take some) (drop-drop i.0 c.args.from ds)) in

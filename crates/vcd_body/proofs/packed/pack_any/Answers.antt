@@ -9,7 +9,7 @@ loop-at-preserved c = λ j less. elim (cases_lt j c.loop-at.at) [
   | inr late ↦
       let at = c.loop-at.at in
       let back : at + (j - at) ≡ j = omega arith in
-      subst (λ i. get_or c.pack_16.new.share i 0 ≡ four_codes c.args.text.now c.args.quarter i) back (c.pack_16.ensures.packed (j - at) (omega arith))
+      subst (λ i. get_or c.pack_16.new.bytes i 0 ≡ four_codes c.args.text.now c.args.quarter i) back (c.pack_16.ensures.packed (j - at) (omega arith))
 ]
 
 pub returns : goal.returns
@@ -18,5 +18,5 @@ returns c = λ j less. elim (cases_lt j (c.args.quarter - 16)) [
   | inr late ↦
       let last = c.args.quarter - 16 in
       let back : last + (j - last) ≡ j = omega arith in
-      subst (λ i. get_or c.pack_16-2.new.share i 0 ≡ four_codes c.args.text.now c.args.quarter i) back (c.pack_16-2.ensures.packed (j - last) (omega (arith, c.requires.many)))
+      subst (λ i. get_or c.pack_16-2.new.bytes i 0 ≡ four_codes c.args.text.now c.args.quarter i) back (c.pack_16-2.ensures.packed (j - last) (omega (arith, c.requires.many)))
 ]

@@ -12,7 +12,7 @@ loop-at-preserved c = (
         let at = c.loop-at.at in
         let back : at + (j - at) ≡ j = omega arith in
         let here = c.either-seen.ensures.each (j - at) (omega arith) (few (j - at) (omega arith)) in
-        subst (λ i. get_or c.pack_bits_16.new.share i 0 ≡ four_codes c.args.text.now c.args.quarter i) back (c.pack_bits_16.ensures.packed (j - at) (omega arith) here.1)
+        subst (λ i. get_or c.pack_bits_16.new.bytes i 0 ≡ four_codes c.args.text.now c.args.quarter i) back (c.pack_bits_16.ensures.packed (j - at) (omega arith) here.1)
   ],
 )
 
@@ -24,5 +24,5 @@ returns c = λ all j less. elim (cases_lt j (c.args.quarter - 16)) [
       let back : last + (j - last) ≡ j = omega (arith, late) in
       let k : j - last < 16 = omega (arith, less, late, c.requires.many) in
       let here = c.either.ensures.each (j - last) k (c.are_bits.ensures all (j - last) k) in
-      subst (λ i. get_or c.pack_bits_16-2.new.share i 0 ≡ four_codes c.args.text.now c.args.quarter i) back (c.pack_bits_16-2.ensures.packed (j - last) k here.1)
+      subst (λ i. get_or c.pack_bits_16-2.new.bytes i 0 ≡ four_codes c.args.text.now c.args.quarter i) back (c.pack_bits_16-2.ensures.packed (j - last) k here.1)
 ]

@@ -26,8 +26,8 @@ returns-clause-packed c = λ k less few.
     let f2 = c.with_4_times.ensures.each k less (omega (arith, e2, e3, s2, s3)) in
     let f1 = c.with_4_times-both.ensures.each k less (omega (arith, e1, f2, e2, e3, s1, s2, s3)) in
     let f0 = c.with_4_times-2.ensures.each k less (omega (arith, e0, f1, f2, e1, e2, e3, s0, s1, s2, s3)) in
-    get_or-put_chunk_at at c.args.share.now c.with_4_times-2.result k 0 (omega (arith, c.with_4_times-2.ensures.long, less)) (omega (arith, c.with_4_times-2.ensures.long, low, c.requires.room))
+    get_or-put_chunk_at at c.args.bytes.now c.with_4_times-2.result k 0 (omega (arith, c.with_4_times-2.ensures.long, less)) (omega (arith, c.with_4_times-2.ensures.long, low, c.requires.room))
     ∙ omega (arith, e0, e1, e2, e3, f0, f1, f2)
 
 pub returns-clause-before : goal.returns-clause-before
-returns-clause-before c = λ place before. get_or-put_chunk_below c.args.at c.args.share.now c.with_4_times-2.result place 0 before
+returns-clause-before c = λ place before. get_or-put_chunk_below c.args.at c.args.bytes.now c.with_4_times-2.result place 0 before

@@ -6,7 +6,7 @@ use Rattle.vcd_body.proofs.WordLemmas.{scalar_begins}
 use Rattle.vcd_body.proofs.read.read_phrase.Goals as goal
 
 pub scalar_code-requires : goal.scalar_code-requires
-scalar_code-requires g c = record { begins = scalar_begins c.token-token.result.now c.first_of.result c.in-Bit.is c.first_of.ensures }
+scalar_code-requires g c = record { begins = scalar_begins c.token-token.result.now c.kind_of.result c.in-Bit.is c.kind_of.ensures }
 
 pub returns-in_err-next_token-clause-reads : goal.returns-in_err-next_token-clause-reads
 returns-in_err-next_token-clause-reads g c =

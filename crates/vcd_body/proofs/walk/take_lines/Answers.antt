@@ -5,34 +5,34 @@ use Rattle.vcd_body.proofs.walk.take_lines.Goals as goal
 pub returns-then-is_empty : goal.returns-then-is_empty
 returns-then-is_empty g c = rw c.until.ensures (come_begins _ _ _ _ _ c.requires.stands c.requires.within)
 
-pub runs-init : goal.runs-init
-runs-init g c = record { come = come_again _ _ _ _ _ _ _ (come_begins _ _ _ _ _ c.requires.stands c.requires.within) c.forget.ensures; on = c.requires.on }
+pub lines-init : goal.lines-init
+lines-init g c = record { come = come_again _ _ _ _ _ _ _ (come_begins _ _ _ _ _ c.requires.stands c.requires.within) c.forget.ensures; on = c.requires.on }
 
 pub returns-then-not-can_go_on : goal.returns-then-not-can_go_on
-returns-then-not-can_go_on g c = walks_further _ _ _ _ _ _ _ _ c.runs.invariant.come c.take_shorts-run.ensures
+returns-then-not-can_go_on g c = walks_further _ _ _ _ _ _ _ _ c.lines.invariant.come c.take_shorts-shorts.ensures
 
 pub returns-in_default : goal.returns-in_default
 returns-in_default g c =
-    let ended : c.take_shorts-run.result.ended ≡ Ok false = search rules in
-    let none = c.in_default.ensures (g.W.Sink.device c.take_shorts-run.new.out) in
-    rw (c.until-in_default.ensures, none) (walks_further _ _ _ _ _ _ _ (Ok false) c.runs.invariant.come (rw ended at c.take_shorts-run.ensures))
+    let ended : c.take_shorts-shorts.result.ended ≡ Ok false = search rules in
+    let none = c.in_default.ensures (g.W.Sink.device c.take_shorts-shorts.new.out) in
+    rw (c.until-in_default.ensures, none) (walks_further _ _ _ _ _ _ _ (Ok false) c.lines.invariant.come (rw ended at c.take_shorts-shorts.ensures))
 
 pub returns-then-is_over : goal.returns-then-is_over
 returns-then-is_over g c =
-    let ended : c.take_shorts-run.result.ended ≡ Ok false = search rules in
-    rw c.until-then-is_over.ensures (_, walks_further _ _ _ _ _ _ _ (Ok false) c.runs.invariant.come (rw ended at c.take_shorts-run.ensures), (_, c.view-view.ensures, c.in-Some.ensures _), sym c.is_over.ensures ∙ c.if-is_over.true)
+    let ended : c.take_shorts-shorts.result.ended ≡ Ok false = search rules in
+    rw c.until-then-is_over.ensures (_, walks_further _ _ _ _ _ _ _ (Ok false) c.lines.invariant.come (rw ended at c.take_shorts-shorts.ensures), (_, c.view-view.ensures, c.in-Some.ensures _), sym c.is_over.ensures ∙ c.if-is_over.true)
 
-pub runs-preserved : goal.runs-preserved
-runs-preserved g c =
-    let ended : c.take_shorts-run.result.ended ≡ Ok false = search rules in
+pub lines-preserved : goal.lines-preserved
+lines-preserved g c =
+    let ended : c.take_shorts-shorts.result.ended ≡ Ok false = search rules in
     let on = sym c.is_over.ensures ∙ c.if-is_over.false in
-    record { come = come_on _ _ _ _ _ _ _ (walks_further _ _ _ _ _ _ _ (Ok false) c.runs.invariant.come (rw ended at c.take_shorts-run.ensures)) (_, c.view-view.ensures, c.in-Some.ensures _) on; on = on }
+    record { come = come_on _ _ _ _ _ _ _ (walks_further _ _ _ _ _ _ _ (Ok false) c.lines.invariant.come (rw ended at c.take_shorts-shorts.ensures)) (_, c.view-view.ensures, c.in-Some.ensures _) on; on = on }
 
-pub runs-smaller : goal.runs-smaller
-runs-smaller g c =
-    let ended : c.take_shorts-run.result.ended ≡ Ok false = search rules in
-    let first = rw ended at c.take_shorts-run.ensures in
-    let n = c.in-Some.ensures (g.W.Sink.device c.take_shorts-run.new.out) in
+pub lines-smaller : goal.lines-smaller
+lines-smaller g c =
+    let ended : c.take_shorts-shorts.result.ended ≡ Ok false = search rules in
+    let first = rw ended at c.take_shorts-shorts.ensures in
+    let n = c.in-Some.ensures (g.W.Sink.device c.take_shorts-shorts.new.out) in
     let long = ap length (n.item.same.0 ∙ first.same) in
     let within = n.item.within in
     let more = n.item.further in

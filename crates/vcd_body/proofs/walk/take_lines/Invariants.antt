@@ -3,11 +3,11 @@ use Rattle.vcd_text.specs.Ahead.{bytes_of, passed_of}
 use Rattle.vcd_body.specs.Walk.{HasCome, stage_at}
 use Rattle.vcd_body.proofs.walk.take_lines.Given as goal
 
-abbrev pub invariant-runs : goal.invariant-runs
-invariant-runs g l = record {
+abbrev pub invariant-lines : goal.invariant-lines
+invariant-lines g l = record {
   come : HasCome g.V.Visit.takes g.V.Visit.stands g.V.Visit.over (g.H.Viewed.shows l.fn.head) (stage_at l.fn.ahead l.fn.regs l.fn.visit l.fn.command (g.W.Sink.device l.fn.out)) (stage_at l.ahead l.regs l.visit l.command (g.W.Sink.device l.out));
   on : g.V.Visit.over l.visit ≡ false;
 }
 
-abbrev pub decreases-runs : goal.decreases-runs
-decreases-runs g l = length (bytes_of l.ahead) - passed_of l.ahead
+abbrev pub decreases-lines : goal.decreases-lines
+decreases-lines g l = length (bytes_of l.ahead) - passed_of l.ahead

@@ -19,10 +19,10 @@ items-preserved g c = record { come = come_on _ _ _ _ _ _ _ c.items.invariant.co
 pub returns-then-not-can_go_on-2 : goal.returns-then-not-can_go_on-2
 returns-then-not-can_go_on-2 g c =
     let w = come_on _ _ _ _ _ _ _ c.items.invariant.come (_, c.view-view.ensures, rw c.in-Ok.is at c.in-Some.ensures.next) (sym c.is_over.ensures ∙ c.if-is_over.false) in
-    walks_further _ _ _ _ _ _ _ _ w c.take_lines-run.ensures
+    walks_further _ _ _ _ _ _ _ _ w c.take_lines-more.ensures
 
-pub items-preserved-then-has_run : goal.items-preserved-then-has_run
-items-preserved-then-has_run g c =
+pub items-preserved-then-two_short_lines_come : goal.items-preserved-then-two_short_lines_come
+items-preserved-then-two_short_lines_come g c =
     let w = come_on _ _ _ _ _ _ _ c.items.invariant.come (_, c.view-view.ensures, rw c.in-Ok.is at c.in-Some.ensures.next) (sym c.is_over.ensures ∙ c.if-is_over.false) in
-    let ended : c.take_lines-run.result.ended ≡ Ok false = search rules in
-    record { come = walks_further _ _ _ _ _ _ _ (Ok false) w (rw ended at c.take_lines-run.ensures) }
+    let ended : c.take_lines-more.result.ended ≡ Ok false = search rules in
+    record { come = walks_further _ _ _ _ _ _ _ (Ok false) w (rw ended at c.take_lines-more.ensures) }

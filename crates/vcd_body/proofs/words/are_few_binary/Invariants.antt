@@ -4,4 +4,4 @@ use Rattle.vcd_model.specs.BodyPhrases.{is_value_digit as is_digit}
 use Rattle.vcd_body.proofs.words.are_few_binary.Given as goal
 
 abbrev pub invariant-loop-digit : goal.invariant-loop-digit
-invariant-loop-digit l = l.most ≤ 1 → list_all is_digit (take l.digit-index l.digits) ≡ true
+invariant-loop-digit l = l.largest ≤ 1 → list_all is_digit (take l.digit-index l.digits) ≡ true

@@ -9,11 +9,11 @@ returns-in_err-held c = λ laid.
     let declared = c.in_ok-declared.declared in
     let value = value_there c.args.view c.args.self.now c.args.code declared (sym c.code_at.ensures ∙ c.in_ok-declared.was) in
     c.from_residual-in_err-held.ensures
-    ∙ sym (ap (λ (o : Option Value). digit_in o c.args.place) (value ∙ ap (λ (h : Held). value_at_size declared.size h) (c.in_err-held.ensures laid)))
+    ∙ sym (ap (λ (o : Option Value). digit_in o c.args.index) (value ∙ ap (λ (h : Held). value_at_size declared.size h) (c.in_err-held.ensures laid)))
 
 pub returns : goal.returns
 returns c = λ laid.
     let declared = c.in_ok-declared.declared in
     let value = value_there c.args.view c.args.self.now c.args.code declared (sym c.code_at.ensures ∙ c.in_ok-declared.was) in
     c.digit_shown.ensures
-    ∙ sym (ap (λ (o : Option Value). digit_in o c.args.place) (value ∙ ap (λ (h : Held). value_at_size declared.size h) (c.in_ok-held.ensures laid)))
+    ∙ sym (ap (λ (o : Option Value). digit_in o c.args.index) (value ∙ ap (λ (h : Held). value_at_size declared.size h) (c.in_ok-held.ensures laid)))

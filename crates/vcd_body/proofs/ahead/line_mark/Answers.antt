@@ -1,7 +1,7 @@
 use Rattle.std.proofs.Common.{drop, subst}
 use Rattle.vcd_body.specs.Words.{Begins}
 use Rattle.vcd_body.proofs.WordLemmas.{first_rest}
-use Rattle.vcd_body.proofs.ahead.near_mark.Goals as goal
+use Rattle.vcd_body.proofs.ahead.line_mark.Goals as goal
 
 pub returns-clause-opens : goal.returns-clause-opens
 returns-clause-opens c =
@@ -9,5 +9,5 @@ returns-clause-opens c =
     let token = c.in_ok-token.token.now in
     record {
       token = n.takes;
-      begins = subst (λ t. Begins t c.first_by-first.result) (first_rest token n.takes.some) (c.first_by-first.ensures (drop 1 token));
+      begins = subst (λ t. Begins t c.kind_by-kind.result) (first_rest token n.takes.some) (c.kind_by-kind.ensures (drop 1 token));
     }

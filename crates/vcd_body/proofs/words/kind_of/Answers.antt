@@ -1,9 +1,9 @@
 use Rattle.std.proofs.Common.{List, ℕ, sym, subst}
 use Rattle.std.specs.List.{IsFirstAndRest}
 use Rattle.vcd_body.specs.Words.{Begins}
-use Rattle.vcd_body.proofs.words.first_of.Goals as goal
+use Rattle.vcd_body.proofs.words.kind_of.Goals as goal
 
 pub returns-in-Some : goal.returns-in-Some
 returns-in-Some c =
     let parts : IsFirstAndRest c.args.token.now c.in-Some.byte.now c.in-Some.field-0-1.now = c.in-Some.ensures.cases in
-    subst (λ (t : List ℕ). Begins t c.first_by.result) (sym parts.0) (c.first_by.ensures c.in-Some.field-0-1.now)
+    subst (λ (t : List ℕ). Begins t c.kind_by.result) (sym parts.0) (c.kind_by.ensures c.in-Some.field-0-1.now)
