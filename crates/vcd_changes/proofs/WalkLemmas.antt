@@ -30,7 +30,7 @@ module _ (v : HeadView) (stands : Collecting → Rows → List ℕ → Regs → 
     over_on = (n.item.same.1 ∙ came.over.0, n.item.same.0 ∙ came.over.1)
 
     same_on : SameRows s c
-    same_on = record { place = n.same.place ∙ came.same.place; loan = n.same.loan ∙ came.same.loan }
+    same_on = record { index = n.same.index ∙ came.same.index; loan = n.same.loan ∙ came.same.loan }
 
     -- once the rows are full, nothing is added
     came_full : is_full b.visit ≡ true → Came v s c
@@ -53,16 +53,16 @@ module _ (v : HeadView) (stands : Collecting → Rows → List ℕ → Regs → 
         }
 
     -- else the item adds its row
-    adds_row : is_full b.visit ≡ false → (h : Header) (lines : ℕ) (items : List BodyItem) (code : IdCode) → IsViewOf v h → AreRegsAfter items s.regs → slice_get h.codes s.visit.place ≡ Some code → Added s h lines items code c
+    adds_row : is_full b.visit ≡ false → (h : Header) (lines : ℕ) (items : List BodyItem) (code : IdCode) → IsViewOf v h → AreRegsAfter items s.regs → slice_get h.codes s.visit.index ≡ Some code → Added s h lines items code c
     adds_row e h lines items code views known at =
         let a = came.adds h lines items code views known at in
         let gave = subst (λ (k : ℕ). GaveAhead h.codes (longest_of s.ahead) lines (bytes_of s.ahead) k items a.more) (all_passed b e) a.gave in
         let one = n.item.gives h (longest_of s.ahead) lines (bytes_of s.ahead) items a.more views came.over a.known gave in
         let after = subst (AreRegsAfter (items ++ (a.more ++ one.0 ∷ []))) (sym n.regs) one.3 in
         let time = subst (λ (l : List BodyItem). c.regs.time ≡ time_after l) (sym (append_assoc items a.more (one.0 ∷ []))) after.time_is in
-        let here = subst (λ (k : ℕ). slice_get h.codes k ≡ Some code) (sym came.same.place) at in
-        let row : List ChangeRow = row_added b.visit.place c.regs.time n.plain.text.now n.plain.item in
-        let more = row_more h.codes _ views.index b.visit.place code here n.plain.text.now c.regs (items ++ a.more) n.plain.item one.0 one.1 time in record {
+        let here = subst (λ (k : ℕ). slice_get h.codes k ≡ Some code) (sym came.same.index) at in
+        let row : List ChangeRow = row_added b.visit.index c.regs.time n.plain.text.now n.plain.item in
+        let more = row_more h.codes _ views.index b.visit.index code here n.plain.text.now c.regs (items ++ a.more) n.plain.item one.0 one.1 time in record {
           more = a.more ++ one.0 ∷ [];
           added = a.added ++ row;
           gave = subst (λ (k : ℕ). GaveAhead h.codes (longest_of s.ahead) lines (bytes_of s.ahead) k items (a.more ++ one.0 ∷ [])) (sym (n.end e)) one.2;
@@ -89,7 +89,7 @@ module _ (v : HeadView) (stands : Collecting → Rows → List ℕ → Regs → 
     begins =
         let none : 0 ≡ passed_at s = sym (all_passed s room ∙ new) in record {
           over = (refl, refl);
-          same = record { place = refl; loan = refl };
+          same = record { index = refl; loan = refl };
           room = most;
           passed = λ lines. ([], subst (λ (k : ℕ). Passed (longest_of s.ahead) lines (bytes_of s.ahead) k []) none refl);
           adds = λ h lines items code views known at. record {
@@ -110,7 +110,7 @@ module _ (v : HeadView) (stands : Collecting → Rows → List ℕ → Regs → 
         let here : passed_at b ≡ passed_with there b.visit = ap (λ (k : ℕ). cond (is_full b.visit) b.visit.end k) (sym same.0) in
         rw is (record {
           over = (same.2 ∙ so.over.0, same.1 ∙ so.over.1);
-          same = record { place = so.same.place; loan = so.same.loan };
+          same = record { index = so.same.index; loan = so.same.loan };
           room = so.room;
           passed = λ lines. let p = so.passed lines in (p.0, subst (λ (k : ℕ). Passed (longest_of s.ahead) lines (bytes_of s.ahead) k p.0) here p.1);
           adds = λ h lines items code views known at.
@@ -134,7 +134,7 @@ module _ (v : HeadView) (stands : Collecting → Rows → List ℕ → Regs → 
 pub came_by : (v : HeadView) (s z : RowStage) → Came v s z → Came v (rows_at s.ahead s.regs s.visit s.command) (rows_at z.ahead z.regs z.visit z.command)
 came_by v s z came = record {
   over = came.over;
-  same = record { place = came.same.place; loan = came.same.loan };
+  same = record { index = came.same.index; loan = came.same.loan };
   room = came.room;
   passed = came.passed;
   adds = λ h lines items code views known at.

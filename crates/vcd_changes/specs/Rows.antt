@@ -43,9 +43,9 @@ abbrev pub rows_of : List ℕ → List BodyItem → List ChangeRow
 rows_of code items = filter_map (row_in code) (entries items)
 
 -- the row that an item adds, where it is a change of the code at this index
-abbrev pub row_added : (place time : ℕ) → List ℕ → Item → List ChangeRow
-row_added place time text (item.Change code form) = cond (code == place) (row_of time (model_form form) text ∷ []) []
-row_added place time text other = []
+abbrev pub row_added : (index time : ℕ) → List ℕ → Item → List ChangeRow
+row_added index time text (item.Change code form) = cond (code == index) (row_of time (model_form form) text ∷ []) []
+row_added index time text other = []
 
 module _ {X : Type 0} {g : Ghosts X} (codes : List IdCode) (i : Input) (front : List Token) where
   -- after these items others were given, whose changes of this code have the rows that were added

@@ -43,7 +43,7 @@ filled s = take s.visit.count s.command.rows.now
 
 -- the rows are the same loan, for the same code
 pub record SameRows (s t : RowStage) : Type 0 where
-  pub place : t.visit.place ≡ s.visit.place
+  pub index : t.visit.index ≡ s.visit.index
   pub loan : t.command.rows.ghost_name ≡ s.command.rows.ghost_name
 
 -- One item more was taken ahead. Once the rows are full, it is a change, and nothing is done with
@@ -56,7 +56,7 @@ pub record TakesRow (v : HeadView) (s t : RowStage) (result : Result (Unit {0}) 
   pub room : HasRoom t.visit t.command
   pub regs : t.regs ≡ regs_after s.regs plain.item
   pub full : is_full s.visit ≡ true → (t.visit ≡ s.visit) × (filled t ≡ filled s) × (t.regs ≡ s.regs)
-  pub added : is_full s.visit ≡ false → filled t ≡ filled s ++ row_added s.visit.place t.regs.time plain.text.now plain.item
+  pub added : is_full s.visit ≡ false → filled t ≡ filled s ++ row_added s.visit.index t.regs.time plain.text.now plain.item
   pub end : is_full s.visit ≡ false → passed_with t.ahead t.visit ≡ passed_of t.ahead
 
 -- where it is, whatever the output is, to which nothing is written
@@ -81,4 +81,4 @@ pub record Came (v : HeadView) (s z : RowStage) : Type 0 where
   pub same : SameRows s z
   pub room : HasRoom z.visit z.command
   pub passed : (lines : ℕ) → (ts : List Token) × Passed (longest_of s.ahead) lines (bytes_of s.ahead) (passed_at z) ts
-  pub adds : (h : Header) (lines : ℕ) (items : List BodyItem) (code : IdCode) → IsViewOf v h → AreRegsAfter items s.regs → slice_get h.codes s.visit.place ≡ Some code → Added s h lines items code z
+  pub adds : (h : Header) (lines : ℕ) (items : List BodyItem) (code : IdCode) → IsViewOf v h → AreRegsAfter items s.regs → slice_get h.codes s.visit.index ≡ Some code → Added s h lines items code z

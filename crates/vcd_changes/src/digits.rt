@@ -11,7 +11,7 @@ pub(crate) struct Digits {
     pub known: u64,
 }
 
-/// Returns whether the digit is 0 or 1.
+/// Returns whether a digit is 0 or 1.
 fn is_known(digit: u8) -> bool
     ensures { result ≡ is_known digit }
 {
@@ -26,7 +26,7 @@ fn last_of(digits: &[u8]) -> &[u8]
     &digits[digits.len().saturating_sub(64)..]
 }
 
-/// Returns whether these digits are extended on the left by a 0 or 1.
+/// Returns whether a value with these digits is extended on the left by a 0 or 1.
 fn extends_known(digits: &[u8]) -> bool
     ensures { result ≡ is_known (extension digits.now) }
 {
@@ -36,7 +36,8 @@ fn extends_known(digits: &[u8]) -> bool
     }
 }
 
-/// Returns which of 64 digits are 0 or 1 before these, by which a value is extended on the left.
+/// Returns a bit for each of 64 digits by which these are extended on the left: 1 where it is 0 or
+/// 1.
 fn known_before(digits: &[u8]) -> u64
     requires { length digits.now ≤ 64 }
     ensures { result ≡ cond (is_known (extension digits.now)) (2 ^ 64 - 2 ^ length digits.now) 0 }
@@ -48,7 +49,7 @@ fn known_before(digits: &[u8]) -> u64
     }
 }
 
-/// Returns a number with one binary digit more.
+/// Returns a number with one binary digit more, on the right.
 fn with_digit(number: u64, digit: bool) -> u64
     requires { number < 2 ^ 63 }
     ensures { result ≡ 2 * number + cond digit 1 0 }
@@ -56,7 +57,8 @@ fn with_digit(number: u64, digit: bool) -> u64
     if digit { 2 * number + 1 } else { 2 * number }
 }
 
-/// Returns which of 64 digits are 0 or 1, from those which are among these, which are extended.
+/// Returns a bit for each of 64 digits, these extended on the left: 1 where it is 0 or 1. `known`
+/// has the bits of these.
 fn known_in_all(digits: &[u8], known: u64) -> u64
     requires most { length digits.now ≤ 64 }
     requires known { known ≡ number_where is_known digits.now }

@@ -38,10 +38,10 @@ pub const NO_CODE: u8 = 2;
 /// The status where memory ran out.
 pub const NO_MEMORY: u8 = 3;
 
-/// The status where the rows are full, and the next call goes on.
+/// The status where the rows are full, and the next call continues.
 pub const FULL: u8 = 4;
 
-/// The status where no call has left such a place.
+/// The status where no call can have left this `Place`.
 pub const BAD_PLACE: u8 = 5;
 
 /// Returns the status of a reading that has met no fault.
@@ -54,12 +54,12 @@ fn status_of(filled: Filled) -> u8
     }
 }
 
-/// Reads on, fills the rows with the changes of the code at this index among the header's, and
-/// returns the status.
+/// Fills the rows with the next changes of the code at `index` among the header's, notes them in
+/// the reading, and returns the status.
 fn read_on(
     feed: &mut Feed<'_, '_, '_, '_, Bytes<'_>>,
     view: HeadView<'_>,
-    place: usize,
+    index: usize,
     regs: Regs,
     reading: &mut Reading,
     rows: &mut [ChangeRow],
@@ -68,13 +68,13 @@ fn read_on(
     ensures finds { (h : Header) (dump : List ℕ) (front : List Token) (items : List BodyItem)
         (code : IdCode) → IsViewOf view.entry h
         → GaveItems h.codes (whole dump) front items feed.old regs
-        → slice_get h.codes place ≡ Some code
+        → slice_get h.codes index ≡ Some code
         → Finds h.codes (whole dump) front items code.text reading.new rows.new result }
     ensures most { reading.new.count ≤ length rows.new }
 {
     let mut regs = regs;
     let mut count = 0;
-    let ended = collect(feed, view, place, &mut regs, rows, &mut count);
+    let ended = collect(feed, view, index, &mut regs, rows, &mut count);
     reading.count = count as u64;
     match ended {
         Ok(filled) => {
@@ -89,12 +89,13 @@ fn read_on(
     }
 }
 
-/// Reads on in a dump from the place of the reading, after the header that is shown.
+/// Makes a feed at the reading's `Place`, fills the rows as `read_on` does, and returns the status.
+/// Fails where memory runs out.
 fn go_on(
     alloc: Global,
     dump: &[u8],
     view: HeadView<'_>,
-    place: usize,
+    index: usize,
     reading: &mut Reading,
     rows: &mut [ChangeRow],
 ) -> Result<u8, AllocError>
@@ -102,7 +103,7 @@ fn go_on(
     ensures finds { (h : Header) (front : List Token) (items : List BodyItem) (code : IdCode)
         → IsViewOf view.entry h
         → IsAfter h.codes (whole dump.now) front items reading.old.place
-        → slice_get h.codes place ≡ Some code
+        → slice_get h.codes index ≡ Some code
         → IfOk result (Finds h.codes (whole dump.now) front items code.text reading.new rows.new) }
     ensures most { reading.new.count ≤ length rows.new }
     ensures none { IfErr result (λ _. reading.new.count ≡ 0) }
@@ -115,12 +116,12 @@ fn go_on(
         rest: after(dump, from.offset.bytes),
     };
     match Feed::at(&mut source, &mut chunk, &mut token, &mut value, from.offset) {
-        Some(mut feed) => Ok(read_on(&mut feed, view, place, regs_of(from), reading, rows)),
+        Some(mut feed) => Ok(read_on(&mut feed, view, index, regs_of(from), reading, rows)),
         None => Ok(BAD_PLACE),
     }
 }
 
-/// Returns the bytes after the first n; none where there are fewer.
+/// Returns the bytes after the first `n`: none where there are fewer.
 fn after(dump: &[u8], n: u64) -> &[u8]
     ensures { result.now ≡ drop n dump.now }
 {
@@ -130,7 +131,7 @@ fn after(dump: &[u8], n: u64) -> &[u8]
     &dump[n as usize..]
 }
 
-/// Notes the fault of a header at this line, and that there are no rows, and returns the status.
+/// Notes the fault of a header in the reading, with no rows, and returns the status.
 fn refused(fault: HeadFault, line: u64, reading: &mut Reading) -> u8
     ensures { Refused fault line reading.new result }
 {
@@ -143,7 +144,8 @@ fn refused(fault: HeadFault, line: u64, reading: &mut Reading) -> u8
     FAULT
 }
 
-/// Reads the header of a dump, and then on from the place of the reading.
+/// Reads the header of a dump, fills the rows from the reading's `Place` on, and returns the
+/// status. Fails where memory runs out.
 fn read_changes<B: BuildHasher>(
     alloc: Global,
     dump: &[u8],
@@ -168,21 +170,20 @@ fn read_changes<B: BuildHasher>(
         Err(fault) => return Ok(refused(fault, feed.line(), reading)),
     };
     let shown = head.view();
-    let Some(place) = find(shown, code) else {
+    let Some(index) = find(shown, code) else {
         return Ok(NO_CODE);
     };
     if reading.place.begun == 0 {
-        return Ok(read_on(&mut feed, shown, place, Regs::new(), reading, rows));
+        return Ok(read_on(&mut feed, shown, index, Regs::new(), reading, rows));
     }
-    go_on(alloc, dump, shown, place, reading, rows)
+    go_on(alloc, dump, shown, index, reading, rows)
 }
 
-/// Fills the rows with the changes of the variables with this identifier code, from the place of
-/// the reading on, and returns the status: `DONE`, `FAULT`, `NO_CODE`, `NO_MEMORY`, `FULL` or
-/// `BAD_PLACE`. Each call reads the header anew, and then goes on in the body. Identifier codes are
-/// hashed by numbers that the hasher gives; what is found is the same by each. No more rows are
-/// counted than there are, whatever the place is; none with `NO_CODE` and `NO_MEMORY`, and where
-/// the header has a fault.
+/// Fills the rows with the changes of the variables with this identifier code, from `reading.place`
+/// on, and returns the status: `DONE`, `FAULT`, `NO_CODE`, `NO_MEMORY`, `FULL` or `BAD_PLACE`. Each
+/// call reads the header anew, and then continues in the body. Identifier codes are hashed by
+/// numbers that the hasher gives; the rows are the same by each. `reading.count` is at most the
+/// number of rows; 0 with `NO_CODE` and `NO_MEMORY`, and where the header has a fault.
 pub fn changes<B: BuildHasher>(
     alloc: Global,
     dump: &[u8],

@@ -8,9 +8,9 @@
 //!
 //! - `dump`: from a dump to rows and a status
 //! - `rows`: the loop over the items of the body
-//! - `walk`: those that lie whole ahead
+//! - `walk`: the items that are whole in the chunk
 //! - `row`: `ChangeRow`, a change as numbers
-//! - `reading`: where a reading goes on, as numbers
+//! - `reading`: where the next call continues, as numbers
 //! - `digits`: the digits of a value as numbers
 //!
 //! In `specs/`: `Digits`; `Rows`; `Walk`; `Reading`, which has what a call finds.

@@ -1,21 +1,21 @@
-//! Where a reading of changes goes on, and what a call of it found.
+//! Where the next call continues to read changes, and what the last call found.
 ghost use Rattle.std.specs.Prelude.{◌≡◌};
 ghost use Rattle.vcd_changes.specs.Reading.{place_of, regs_of, section_at, section_number};
 
 use vcd_body::{Regs, Section};
 use vcd_text::Offset;
 
-/// Where a reading goes on: numbers that a call leaves for the next one. All are 0 at first.
+/// Where the next call continues: numbers that a call leaves for it. All are 0 at first.
 #[repr(C)]
 #[derive(Clone, Copy, PartialEq, Eq, Debug)]
 pub struct Place {
     /// 0 before the first call.
     pub begun: u64,
-    /// How far the dump was read.
+    /// The bytes and lines of the dump that were read.
     pub offset: Offset,
-    /// The last time mark; 0 where there was none.
+    /// The last timestamp; 0 where there was none.
     pub time: u64,
-    /// 1 where there was a time mark, else 0.
+    /// 1 where there was a timestamp, else 0.
     pub marked: u64,
     /// The section that is open: 1 to 4 for `$dumpvars`, `$dumpoff`, `$dumpon` and `$dumpall`, 0
     /// for none.
@@ -26,13 +26,13 @@ pub struct Place {
 #[repr(C)]
 #[derive(Clone, Copy, PartialEq, Eq, Debug)]
 pub struct Reading {
-    /// Where the next call goes on.
+    /// Where the next call continues.
     pub place: Place,
     /// How many changes the last call found.
     pub count: u64,
-    /// The number of the dump's fault, where there is one.
+    /// The number of the dump's fault, where the status is `FAULT`.
     pub fault: u64,
-    /// The line of the fault.
+    /// The line of that fault, from 1.
     pub line: u64,
 }
 
@@ -49,7 +49,7 @@ fn section_number(section: Option<Section>) -> u64
     }
 }
 
-/// Returns the section with this number.
+/// Returns the section with this number; `None` for 0 and above 4.
 fn section_at(number: u64) -> Option<Section>
     ensures { result ≡ section_at number }
 {
@@ -62,7 +62,7 @@ fn section_at(number: u64) -> Option<Section>
     }
 }
 
-/// Returns the place of a reading that has come so far.
+/// Returns where the next call continues, by the feed's offset and the registers there.
 pub(crate) fn place_of(offset: Offset, regs: Regs) -> Place
     ensures { result ≡ place_of offset regs }
 {
@@ -75,7 +75,7 @@ pub(crate) fn place_of(offset: Offset, regs: Regs) -> Place
     }
 }
 
-/// Returns what is known of the items before this place.
+/// Returns the registers with which the next call continues.
 pub(crate) fn regs_of(place: Place) -> Regs
     ensures { result ≡ regs_of place }
 {

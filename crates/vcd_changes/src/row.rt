@@ -19,7 +19,7 @@ pub struct ChangeRow {
     pub known: u64,
 }
 
-/// Returns the row of a change.
+/// Returns the row of a change at `time` with this text.
 // Not inlined: few of the changes of a dump are those of one code.
 #[inline(never)]
 pub(crate) fn row_of(time: u64, form: Form, text: &[u8]) -> ChangeRow

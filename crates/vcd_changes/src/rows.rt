@@ -28,23 +28,23 @@ pub(crate) enum Filled {
     Full,
 }
 
-/// Puts the row of the item that was read last after the first `count` rows, where it is a change
-/// of the code at this index, and returns how many rows there are then.
+/// Returns how many rows are filled once the item that was read last is added to the first `count`:
+/// it is, where it is a change of the code at `index`.
 fn put_row<S: Source>(
     feed: &Feed<'_, '_, '_, '_, S>,
     item: Item,
-    place: usize,
+    index: usize,
     time: u64,
     rows: &mut [ChangeRow],
     count: usize,
 ) -> usize
     requires { count < length rows.old }
     ensures rows { take result rows.new
-        ≡ take count rows.old ++ row_added place time (item_text feed.now item) item }
+        ≡ take count rows.old ++ row_added index time (item_text feed.now item) item }
     ensures most { result ≤ length rows.new }
 {
     match item {
-        Item::Change { code, form } if code == place => {
+        Item::Change { code, form } if code == index => {
             rows[count] = row_of(time, form, change_text(feed, form));
             count + 1
         }
@@ -52,12 +52,12 @@ fn put_row<S: Source>(
     }
 }
 
-/// Reads on, fills the rows with the changes of the code at this index, until they are full or the
-/// body ends, and counts them; or returns the body's fault, after the rows before it.
+/// Fills the rows with the next changes of the code at `index`, until they are full or the body
+/// ends, and counts them in `count`. Fails with the body's fault, after the rows before it.
 pub(crate) fn collect<S: Source>(
     feed: &mut Feed<'_, '_, '_, '_, S>,
     view: HeadView<'_>,
-    place: usize,
+    index: usize,
     regs: &mut Regs,
     rows: &mut [ChangeRow],
     count: &mut usize,
@@ -65,14 +65,14 @@ pub(crate) fn collect<S: Source>(
     requires { S.failures (source_of feed.old) < 2 ^ 64 - 1 }
     ensures reads { (h : Header) (i : Input) (front : List Token) (items : List BodyItem)
         (code : IdCode) → IsViewOf view.entry h → GaveItems h.codes i front items feed.old regs.old
-        → slice_get h.codes place ≡ Some code
+        → slice_get h.codes index ≡ Some code
         → Collects h.codes i front items code.text feed.new regs.new count.new rows.new result }
     ensures most { count.new ≤ length rows.new }
     ensures advances { Advances S.failures feed.old feed.new (call_end result) }
 {
     *count = 0;
     'items: loop {
-        *count = take_ahead(feed, view, place, regs, rows, *count);
+        *count = take_ahead(feed, view, index, regs, rows, *count);
         if *count == rows.len() {
             return Ok(Filled::Full);
         }
@@ -80,6 +80,6 @@ pub(crate) fn collect<S: Source>(
         if item == Item::Finish {
             return Ok(Filled::All);
         }
-        *count = put_row(feed, item, place, regs.time, rows, *count);
+        *count = put_row(feed, item, index, regs.time, rows, *count);
     }
 }

@@ -1,4 +1,4 @@
-//! The changes of a code among the items that lie whole ahead in a feed's chunk.
+//! The changes of a code among the items that are whole in a feed's chunk.
 ghost use Rattle.std.specs.Prelude.{◌≡◌, ◌-◌, ◌^◌, ◌<◌, ◌≤◌, List, Some, false, length, slice_get, take};
 ghost use Rattle.vcd_body.specs.Reads.{GaveItems};
 ghost use Rattle.vcd_body.specs.declared.item.Regs.{Regs};
@@ -20,7 +20,7 @@ use vcd_body::{Extent, Item, Plain, Regs, Visit, Walked, keyword_comes, pass_ite
 use vcd_head::HeadView;
 use vcd_text::{Ahead, Feed, Sink, Source, Watch, WriteFailed};
 
-/// The rows that a walk over the items ahead fills.
+/// The rows that a walk over these items fills.
 #[derive(Drop)]
 struct Rows<'r> {
     rows: &'r mut [ChangeRow],
@@ -37,13 +37,13 @@ impl<'r> Rows<'r> {
     }
 }
 
-/// What such a walk has at hand: how many rows are filled, and how many there are.
+/// What such a walk keeps, as numbers: how many rows are filled, and how many there are.
 #[derive(Clone, Copy)]
 struct Collecting {
     count: usize,
     room: usize,
-    // The place of the code among the header's.
-    place: usize,
+    // The index of the code among the header's.
+    index: usize,
     // How many bytes are passed with the change of the last row.
     end: usize,
 }
@@ -59,7 +59,7 @@ impl Collecting {
         self.room <= self.count
     }
 
-    /// Returns how many bytes ahead are passed: none after the change of the last row.
+    /// Returns how many bytes of the chunk are passed: none after the change of the last row.
     #[inline(always)]
     fn passed(&self, ahead: Ahead<'_>) -> usize
         ensures { result ≡ passed_with ahead.entry self.now }
@@ -72,8 +72,8 @@ impl Collecting {
     }
 }
 
-// A walk is not over before a mark. So once the rows are full, it leaves the next mark, and takes
-// the changes before it in vain.
+// A walk is over at a timestamp alone. So once the rows are full, it leaves the next one, and takes
+// the changes before that in vain.
 impl<'r> Visit<Rows<'r>> for Collecting {
     ghost use Rattle.std.specs.Prelude.{false};
     ghost use Rattle.vcd_changes.specs.Walk.{HasRoom, TakesRow, is_full};
@@ -122,7 +122,7 @@ impl<'r> Visit<Rows<'r>> for Collecting {
         let Item::Change { code, form } = change.item else {
             return Ok(());
         };
-        if code == self.place && !self.is_full() {
+        if code == self.index && !self.is_full() {
             rows.rows[self.count] = row_of(regs.time, form, change.text);
             self.count += 1;
             self.end = extent.to.passed();
@@ -131,8 +131,8 @@ impl<'r> Visit<Rows<'r>> for Collecting {
     }
 }
 
-/// Takes the items that lie ahead, one after the other, and fills the rows with the changes of the
-/// code, until they are full.
+/// Takes the items that are whole in the chunk, and fills the rows with the changes of the code,
+/// until they are full.
 // Not inlined, so that the loop has all registers.
 #[inline(never)]
 fn walk_rows<'a>(
@@ -153,13 +153,13 @@ fn walk_rows<'a>(
     walk_ahead(rows, collecting, view, regs, ahead, &mut out)
 }
 
-/// Takes the items that lie whole ahead in the feed's chunk, until the rows are full, fills those
-/// after the first `count` with the changes of the code at this index, and returns how many there
-/// are then. Where a keyword comes, none is taken.
+/// Returns how many rows are filled once the items that are whole in the feed's chunk are taken:
+/// those after the first `count` get the changes of the code at `index`, until all are full. Where
+/// a keyword is next, no item is taken.
 pub(crate) fn take_ahead<S: Source>(
     feed: &mut Feed<'_, '_, '_, '_, S>,
     view: HeadView<'_>,
-    place: usize,
+    index: usize,
     regs: &mut Regs,
     rows: &mut [ChangeRow],
     count: usize,
@@ -167,7 +167,7 @@ pub(crate) fn take_ahead<S: Source>(
     requires { count ≤ length rows.old }
     ensures reads { (h : Header) (i : Input) (front : List Token) (items : List BodyItem)
         (code : IdCode) → IsViewOf view.entry h → GaveItems h.codes i front items feed.old regs.old
-        → slice_get h.codes place ≡ Some code
+        → slice_get h.codes index ≡ Some code
         → GaveRows h.codes i front items code.text feed.new regs.new
         (take count rows.old) (take result rows.new) }
     ensures most { result ≤ length rows.new }
@@ -181,7 +181,7 @@ pub(crate) fn take_ahead<S: Source>(
     let collecting = Collecting {
         count,
         room: rows.len(),
-        place,
+        index,
         end: 0,
     };
     let mut lent = Rows::new(rows);

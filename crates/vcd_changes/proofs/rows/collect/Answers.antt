@@ -51,9 +51,9 @@ items-preserved g c = (
       let a = c.items.invariant.2 h i front items code views gave at in
       let s = filled_ahead code.text h.codes i front items a.0 _ _ _ _ a.2 (c.take_ahead.ensures.reads h i front (items ++ a.0) code views a.1 at) in
       let gives = c.in_ok-item.ensures.reads h i front (items ++ s.0) views s.1 in
-      let t = taken h.codes _ views.index c.args.place code at i front (items ++ s.0) c.next_item.new.feed c.next_item.new.regs c.in_ok-item.item gives (λ is. let same : c.eq.result ≡ true = search rules in not_both c.eq.result same c.if-eq.false) in (
+      let t = taken h.codes _ views.index c.args.index code at i front (items ++ s.0) c.next_item.new.feed c.next_item.new.regs c.in_ok-item.item gives (λ is. let same : c.eq.result ≡ true = search rules in not_both c.eq.result same c.if-eq.false) in (
         s.0 ++ t.0 ∷ [],
         subst (λ (l : List BodyItem). GaveItems h.codes i front l c.next_item.new.feed c.next_item.new.regs) (append_assoc items s.0 (t.0 ∷ [])) t.1,
-        filled_more code.text items s.0 (t.0 ∷ []) (take c.take_ahead.result c.take_ahead.new.rows) (row_added c.args.place c.next_item.new.regs.time (item_text c.next_item.new.feed c.in_ok-item.item) c.in_ok-item.item) s.2 t.2 ∙ ap (λ l. rows_of code.text items ++ l) (sym c.put_row.ensures.rows),
+        filled_more code.text items s.0 (t.0 ∷ []) (take c.take_ahead.result c.take_ahead.new.rows) (row_added c.args.index c.next_item.new.regs.time (item_text c.next_item.new.feed c.in_ok-item.item) c.in_ok-item.item) s.2 t.2 ∙ ap (λ l. rows_of code.text items ++ l) (sym c.put_row.ensures.rows),
       ),
 )

@@ -14,10 +14,10 @@ returns-clause-takes c = λ out.
       plain = mark;
       item = c.requires.item;
       done = refl;
-      same = record { place = refl; loan = refl };
+      same = record { index = refl; loan = refl };
       room = c.requires.stands;
       regs = refl;
       full = λ e. absurd (not_both _ e c.requires.left);
-      added = λ e. subst (λ (i : Item). rows ≡ rows ++ row_added own.place (regs_after c.args._regs mark.item).time mark.text.now i) (sym c.requires.time) (sym (append-nil rows));
+      added = λ e. subst (λ (i : Item). rows ≡ rows ++ row_added own.index (regs_after c.args._regs mark.item).time mark.text.now i) (sym c.requires.time) (sym (append-nil rows));
       end = λ e. rw e refl;
     }
