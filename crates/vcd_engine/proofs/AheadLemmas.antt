@@ -1,4 +1,4 @@
--- Items that a machine takes ahead in a feed's chunk, one after the other.
+-- Items that a task's state takes ahead in a feed's chunk, one after the other.
 use Rattle.std.proofs.Common.{◌≡◌, ℕ, ◌+◌, ◌^◌, ◌<◌, ◌≤◌, false, List, [], ◌∷◌, ◌++◌, length, sym, ap, subst, ◌∙◌, append-nil, append_assoc, arith, Bool, true, Result, Ok, Err, inl, inr, ◌⊎◌, ◌||◌, refl}
 use Rattle.std.specs.List.{list_any}
 use Rattle.std.proofs.lemmas.List.{length-append}
@@ -26,10 +26,10 @@ use Rattle.vcd_engine.specs.Ahead.{StandsAhead}
 use Rattle.vcd_body.specs.Device.{Grows, GrowsSome}
 use Rattle.vcd_engine.specs.Engine.{CanRun, Keeps, Runs, last_of, request_of_engine}
 use Rattle.vcd_engine.specs.declared.engine.Engine.{Engine}
-use Rattle.vcd_engine.specs.declared.machine.Machine.{Machine}
+use Rattle.vcd_engine.specs.declared.task_state.TaskState.{TaskState}
 use Rattle.vcd_engine.specs.Ahead.{RunsAhead}
 use Rattle.vcd_engine.specs.Several.{TakesSeveral}
-use Rattle.vcd_engine.specs.Pieces.{GrowsBut, held_in}
+use Rattle.vcd_engine.specs.Pieces.{GrowsBut, pending_in}
 use Rattle.vcd_engine.specs.declared.pieces.Pieces.{Pieces}
 use Rattle.vcd_body.proofs.AskedLemmas.{split_last}
 use Rattle.vcd_engine.proofs.PieceLemmas.{but_some, but_written}
@@ -54,13 +54,13 @@ pub some_written : (begin out new : Device) (text more : List ℕ) → Writes be
 some_written begin out new text more w due = subst (WritesSome begin new) (sym due.1) (some-behind begin out new text due.0 w due.2)
 
 module _ (t : Request) (h : Header) (limit lines : ℕ) (bytes : List ℕ) (before : List BodyItem) where
-  module _ (n : ℕ) (items : List BodyItem) (m : Machine) (r : Regs) (s : StandsAhead t h limit lines bytes before n items m r) where
+  module _ (n : ℕ) (items : List BodyItem) (m : TaskState) (r : Regs) (s : StandsAhead t h limit lines bytes before n items m r) where
     -- there are fewer items than a counter can count
     pub few_ahead : n ≤ length bytes → length before + length bytes < 2 ^ 63 → length (before ++ items) < 2 ^ 63
     few_ahead within few = let each = s.gave.few in omega (arith, length-append before items)
 
     -- one item more, after which the run goes on
-    pub stands_on : (n' : ℕ) (m' : Machine) (r' : Regs) (text : List ℕ) (item : Item) (x : BodyItem) → IsItem h.codes text item x → GaveAhead h.codes limit lines bytes n' before (items ++ x ∷ []) → AreRegsAfter (before ++ (items ++ x ∷ [])) r' → r' ≡ regs_after r item
+    pub stands_on : (n' : ℕ) (m' : TaskState) (r' : Regs) (text : List ℕ) (item : Item) (x : BodyItem) → IsItem h.codes text item x → GaveAhead h.codes limit lines bytes n' before (items ++ x ∷ []) → AreRegsAfter (before ++ (items ++ x ∷ [])) r' → r' ≡ regs_after r item
         → Keeps m' h ((before ++ items) ++ x ∷ []) → ends_early t x ≡ false → StandsAhead t h limit lines bytes before n' (items ++ x ∷ []) m' r'
     stands_on n' m' r' text item x is gave known regs keeps stays =
         let e = append_assoc before items (x ∷ []) in
@@ -85,43 +85,43 @@ none_first test (y ∷ p) q h = by_first (test y) (none_first test p q) h
 none_behind : (text due : List ℕ) → text ≡ text ++ due → length due ≡ 0
 none_behind text due e = omega (arith, length-append text due, ap length e)
 
-module _ (t : Request) (h : Header) (limit lines : ℕ) (bytes : List ℕ) (before : List BodyItem) (p : Pieces) (out mid out' : Device) {A E : Type 0} (result : Result A E) (some : IfErr result (λ _. 0 < length (held_in bytes p))) (puts : Puts mid out' (held_in bytes p) result) where
+module _ (t : Request) (h : Header) (limit lines : ℕ) (bytes : List ℕ) (before : List BodyItem) (p : Pieces) (out mid out' : Device) {A E : Type 0} (result : Result A E) (some : IfErr result (λ _. 0 < length (pending_in bytes p))) (puts : Puts mid out' (pending_in bytes p) result) where
   abbrev Stands : ℕ → Regs → List BodyItem → Type 0
-  Stands n r l = GaveAhead h.codes limit lines bytes n before l × AreRegsAfter (before ++ l) r × (list_any (ends_early t) (before ++ l) ≡ false) × GrowsBut out mid (held_in bytes p) (open_text t h before) (open_text t h (before ++ l))
+  Stands n r l = GaveAhead h.codes limit lines bytes n before l × AreRegsAfter (before ++ l) r × (list_any (ends_early t) (before ++ l) ≡ false) × GrowsBut out mid (pending_in bytes p) (open_text t h before) (open_text t h (before ++ l))
 
-  -- how the items end where no other is taken, and what is held is written
-  pub ends_before : (n : ℕ) (items : List BodyItem) (m : Machine) (r : Regs) → StandsAhead t h limit lines bytes before n items m r → GrowsBut out mid (held_in bytes p) (open_text t h before) (open_text t h (before ++ items)) → RunsAhead t h limit lines bytes before n m r out out' result
+  -- how the items end where no other is taken, and what is pending is written
+  pub ends_before : (n : ℕ) (items : List BodyItem) (m : TaskState) (r : Regs) → StandsAhead t h limit lines bytes before n items m r → GrowsBut out mid (pending_in bytes p) (open_text t h before) (open_text t h (before ++ items)) → RunsAhead t h limit lines bytes before n m r out out' result
   ends_before n items m r s g = by_result result some puts
     where
-      by_last : (e : E) → WritesSome mid out' (held_in bytes p) → 0 < length (held_in bytes p) → (items ≡ []) ⊎ ((front : List BodyItem) × (x : BodyItem) × (items ≡ front ++ x ∷ [])) → RunsAhead t h limit lines bytes before {A = A} n m r out out' (Err e)
+      by_last : (e : E) → WritesSome mid out' (pending_in bytes p) → 0 < length (pending_in bytes p) → (items ≡ []) ⊎ ((front : List BodyItem) × (x : BodyItem) × (items ≡ front ++ x ∷ [])) → RunsAhead t h limit lines bytes before {A = A} n m r out out' (Err e)
       by_last e w more (inl none) =
           let none_is = subst (Stands n r) none (s.gave, s.known, s.on, g) in
           let grown = none_is.3 in
-          let long : length (grown.0 ++ held_in bytes p) ≡ 0 = none_behind (open_text t h before) (grown.0 ++ held_in bytes p) (ap (open_text t h) (sym (append-nil before)) ∙ grown.1) in
-          absurd (omega (arith, long, length-append grown.0 (held_in bytes p), more))
+          let long : length (grown.0 ++ pending_in bytes p) ≡ 0 = none_behind (open_text t h before) (grown.0 ++ pending_in bytes p) (ap (open_text t h) (sym (append-nil before)) ∙ grown.1) in
+          absurd (omega (arith, long, length-append grown.0 (pending_in bytes p), more))
       by_last e w more (inr l) =
           let front = l.0 in
           let x = l.1 in
           let all = subst (Stands n r) l.2 (s.gave, s.known, s.on, g) in
           let assoc = append_assoc before front (x ∷ []) in
           let on = none_first (ends_early t) (before ++ front) (x ∷ []) (subst (λ l. list_any (ends_early t) l ≡ false) (sym assoc) all.2) in
-          let due = but_some out mid out' (held_in bytes p) (open_text t h before) (open_text t h (before ++ (front ++ x ∷ []))) all.3 w in
+          let due = but_some out mid out' (pending_in bytes p) (open_text t h before) (open_text t h (before ++ (front ++ x ∷ []))) all.3 w in
           record { more = front; on = on; last = (x, record { gave = all.0; known = all.1 }, subst (λ l. GrowsSome out out' (open_text t h before) (open_text t h l)) (sym assoc) due) }
 
-      by_result : (q : Result A E) → IfErr q (λ _. 0 < length (held_in bytes p)) → Puts mid out' (held_in bytes p) q → RunsAhead t h limit lines bytes before n m r out out' q
-      by_result (Ok v) some puts = record { more = items; on = s.on; last = (s, but_written out mid out' (held_in bytes p) (open_text t h before) (open_text t h (before ++ items)) g puts) }
+      by_result : (q : Result A E) → IfErr q (λ _. 0 < length (pending_in bytes p)) → Puts mid out' (pending_in bytes p) q → RunsAhead t h limit lines bytes before n m r out out' q
+      by_result (Ok v) some puts = record { more = items; on = s.on; last = (s, but_written out mid out' (pending_in bytes p) (open_text t h before) (open_text t h (before ++ items)) g puts) }
       by_result (Err e) some puts = by_last e puts some (split_last items)
 
 -- at first none is taken
 pub stands_first : {X : Type 0} {g : Ghosts X} (e : Engine) (h : Header) (i : Input) (front : List Token) (items : List BodyItem) (f : Feed X g) (limit lines : ℕ) (bytes : List ℕ) → Runs e h i front items f
-    → StandsAhead (request_of_engine e) h limit lines bytes items 0 [] e.machine e.regs
+    → StandsAhead (request_of_engine e) h limit lines bytes items 0 [] e.task_state e.regs
 stands_first e h i front items f limit lines bytes s =
     let nil = sym (append-nil items) in
     record {
       gave = gave_none_ahead h.codes limit lines bytes items;
       known = subst (λ l. AreRegsAfter l e.regs) nil s.holds.known;
       last = subst (λ l. last_of e.regs ≡ last_mark l) nil s.holds.last;
-      keeps = subst (Keeps e.machine h) nil s.holds.keeps;
+      keeps = subst (Keeps e.task_state h) nil s.holds.keeps;
       on = subst (λ l. list_any (ends_early (request_of_engine e)) l ≡ false) nil s.on;
     }
 
@@ -145,7 +145,7 @@ gave_over codes limit limit' lines bytes bytes' n before items l b s = subst (λ
 
 module _ {X : Type 0} {g : Ghosts X} (h : Header) (i : Input) (front : List Token) (items : List BodyItem) (e e' : Engine) (old new : Feed X g) (limit lines : ℕ) (bytes : List ℕ) (n : ℕ) (s : Runs e h i front items old) where
   -- it goes on
-  pub runs_behind : (more : List BodyItem) → StandsAhead (request_of_engine e) h limit lines bytes items n more e'.machine e'.regs → GaveItems h.codes i front (items ++ more) new e'.regs → e'.view ≡ e.view → request_of_engine e' ≡ request_of_engine e → seen new ≡ seen old + n
+  pub runs_behind : (more : List BodyItem) → StandsAhead (request_of_engine e) h limit lines bytes items n more e'.task_state e'.regs → GaveItems h.codes i front (items ++ more) new e'.regs → e'.view ≡ e.view → request_of_engine e' ≡ request_of_engine e → seen new ≡ seen old + n
       → Runs e' h i front (items ++ more) new
   runs_behind more stands gave view same looked = record {
     holds = record {

@@ -19,7 +19,7 @@ use Rattle.vcd_body.specs.declared.item.Regs.{Regs}
 use Rattle.vcd_engine.specs.Check.{AreCounted}
 use Rattle.vcd_engine.specs.Engine.{last_of}
 use Rattle.vcd_engine.specs.Report.{opens_scope, declares_variable}
-use Rattle.vcd_engine.specs.declared.machine.check.Check.{Check}
+use Rattle.vcd_engine.specs.declared.task_state.check.Check.{Check}
 use Rattle.vcd_engine.proofs.EngineLemmas.{marks_push, marks_stay}
 
 -- ---- the counts

@@ -28,7 +28,7 @@ use Rattle.vcd_body.specs.Given.{IsItem}
 use Rattle.vcd_engine.specs.Quiet.{TakesQuietly}
 use Rattle.vcd_engine.specs.ItemText.{HasWritten, LastTells, times_with}
 use Rattle.vcd_engine.specs.Values.{AreHeld, HasValues}
-use Rattle.vcd_engine.specs.declared.machine.cut.Cut.{Cut}
+use Rattle.vcd_engine.specs.declared.task_state.cut.Cut.{Cut}
 use Rattle.vcd_engine.specs.declared.item_text.ItemText.{ItemText}
 use Rattle.vcd_view.specs.Shown.{parts}
 use Rattle.vcd_view.specs.Views.{IsViewOf, Views}

@@ -18,7 +18,7 @@ use Rattle.vcd_body.specs.Ahead.{GaveLast}
 use Rattle.vcd_body.specs.declared.item.Regs.{Regs}
 use Rattle.vcd_text.specs.Device.{Device, Supply, Writes, WritesSome}
 use Rattle.vcd_engine.specs.Engine.{CanRun}
-use Rattle.vcd_engine.specs.Run.{Belongs, Follows, IsRefused, is_early}
+use Rattle.vcd_engine.specs.TaskRun.{Belongs, Follows, IsRefused, is_early}
 use Rattle.vcd_body.proofs.AskedLemmas.{read_to_item}
 use Rattle.vcd_body.specs.declared.answer.Done.{Done}
 use Rattle.vcd_body.specs.declared.answer.Done.TheVariants.{Early}

@@ -88,7 +88,7 @@ module _ {X : Type 0} {g : Ghosts X} (h : Header) (i : Input) (front : List Toke
   few_items e old s further bounded = let n = s.few in omega arith
 
   -- an engine that has taken it, and goes on
-  pub runs_on : (e e' : Engine) (old : Feed X g) (item : Item) (x : BodyItem) → Runs e h i front items old → AsItem h.codes new item x → GaveItems h.codes i front (items ++ x ∷ []) new (regs_after e.regs item) → Keeps e'.machine h (items ++ x ∷ [])
+  pub runs_on : (e e' : Engine) (old : Feed X g) (item : Item) (x : BodyItem) → Runs e h i front items old → AsItem h.codes new item x → GaveItems h.codes i front (items ++ x ∷ []) new (regs_after e.regs item) → Keeps e'.task_state h (items ++ x ∷ [])
       → ends_early (request_of_engine e) x ≡ false → request_of_engine e' ≡ request_of_engine e → seen old < seen new → e'.view ≡ e.view → e'.regs ≡ regs_after e.regs item → Runs e' h i front (items ++ x ∷ []) new
   runs_on e e' old item x s is gave keeps stays same further view regs = record {
     holds = record {
@@ -119,7 +119,7 @@ all_given codes i front items f r x is given = subst (GivesItem codes i front it
 
 -- an engine that has ended with these registers
 abbrev pub ended_with : Engine → Regs → Engine
-ended_with e r = record { view = e.view; regs = r; machine = e.machine; going = false }
+ended_with e r = record { view = e.view; regs = r; task_state = e.task_state; going = false }
 
 -- it holds what it held
 pub holds_still : (e : Engine) (h : Header) (items : List BodyItem) (r : Regs) (x : Item) → x ≡ Finish → r ≡ regs_after e.regs x → Holds e h items → Holds (ended_with e r) h items

@@ -21,17 +21,17 @@ use Rattle.vcd_engine.specs.Ahead.{GaveOneAhead, StandsAhead}
 use Rattle.vcd_engine.specs.Cut.{IsNoMark}
 use Rattle.vcd_engine.specs.Engine.{Keeps, request_in}
 use Rattle.vcd_engine.specs.Next.{TakesMore, TakesNext, Walk}
-use Rattle.vcd_engine.specs.Pieces.{GrowsBut, PutsOn, held_in}
+use Rattle.vcd_engine.specs.Pieces.{GrowsBut, PutsOn, pending_in}
 use Rattle.vcd_engine.specs.Quiet.{TakesQuietly}
-use Rattle.vcd_engine.specs.declared.machine.Machine.{Machine}
+use Rattle.vcd_engine.specs.declared.task_state.TaskState.{TaskState}
 use Rattle.vcd_engine.specs.declared.pieces.Pieces.{Pieces}
 use Rattle.vcd_engine.proofs.AheadLemmas.{few_ahead, stands_on}
 use Rattle.vcd_engine.proofs.PieceLemmas.{but_failed, but_on, none_on}
 use Rattle.vcd_engine.proofs.SampleLemmas.{no_marks}
 
 -- an item with which nothing is due
-pub more_quietly : {A E : Type 0} (v : A) (holds : Type 0) (task : Request) (h : Header) (items : List BodyItem) (x : BodyItem) (held : List ℕ) (out : Device) → TakesQuietly holds task h items x → TakesMore {A = A} {E = E} (λ due. PutsOn {A = A} {E = E} held held out out due (Ok v)) holds task h items x (Ok v)
-more_quietly v holds task h items x held out q = record { due = ([], q.due, none_on held out); on = q.on; keeps = q.keeps }
+pub more_quietly : {A E : Type 0} (v : A) (holds : Type 0) (task : Request) (h : Header) (items : List BodyItem) (x : BodyItem) (pending : List ℕ) (out : Device) → TakesQuietly holds task h items x → TakesMore {A = A} {E = E} (λ due. PutsOn {A = A} {E = E} pending pending out out due (Ok v)) holds task h items x (Ok v)
+more_quietly v holds task h items x pending out q = record { due = ([], q.due, none_on pending out); on = q.on; keeps = q.keeps }
 
 -- an item that is no mark ends no run
 other_goes_on : (t : Request) (x : BodyItem) → marks (x ∷ []) ≡ [] → ends_early t x ≡ false
@@ -49,7 +49,7 @@ other_goes_on Request.Merge x none = refl
 pub goes_on_item : (t : Request) (codes : List IdCode) (text : List ℕ) (item : Item) (x : BodyItem) → IsNoMark item → IsItem codes text item x → ends_early t x ≡ false
 goes_on_item t codes text item x none is = other_goes_on t x (no_marks codes text item x is none)
 
-module _ {A E : Type 0} (t : Request) (h : Header) (limit lines : ℕ) (bytes : List ℕ) (before : List BodyItem) (v : HeadView) (views : IsViewOf v h) (few : length before + length bytes < 2 ^ 63) (w w' : Walk) (p p' : Pieces) (out out' : Device) (m m' : Machine) (result : Result A E) (n : TakesNext v w w' p p' out out' m m' result)
+module _ {A E : Type 0} (t : Request) (h : Header) (limit lines : ℕ) (bytes : List ℕ) (before : List BodyItem) (v : HeadView) (views : IsViewOf v h) (few : length before + length bytes < 2 ^ 63) (w w' : Walk) (p p' : Pieces) (out out' : Device) (m m' : TaskState) (result : Result A E) (n : TakesNext v w w' p p' out out' m m' result)
     (items : List BodyItem) (over : LooksOver limit bytes w.ahead) (same : request_in m ≡ t) (within : passed_of w.ahead ≤ length bytes) (s : StandsAhead t h limit lines bytes before (passed_of w.ahead) items m w.regs) where
   pub one : (x : BodyItem) × IsItem h.codes n.plain.text.now n.plain.item x × GaveAhead h.codes limit lines bytes (passed_of w'.ahead) before (items ++ x ∷ []) × AreRegsAfter (before ++ (items ++ x ∷ [])) (regs_after w.regs n.plain.item)
   one = n.item.gives h limit lines bytes before items views over s.known s.gave
@@ -57,8 +57,8 @@ module _ {A E : Type 0} (t : Request) (h : Header) (limit lines : ℕ) (bytes : 
   abbrev pub next : BodyItem
   next = one.0
 
-  taken : TakesMore (λ due. PutsOn (held_in (bytes_of w.ahead) p) (held_in (bytes_of w.ahead) p') out out' due result) (Keeps m' h ((before ++ items) ++ next ∷ [])) t h (before ++ items) next result
-  taken = subst (λ (q : Request). TakesMore (λ due. PutsOn (held_in (bytes_of w.ahead) p) (held_in (bytes_of w.ahead) p') out out' due result) (Keeps m' h ((before ++ items) ++ next ∷ [])) q h (before ++ items) next result) same (n.one h (before ++ items) next views s.known one.1 (few_ahead t h limit lines bytes before (passed_of w.ahead) items m w.regs s within few) s.keeps)
+  taken : TakesMore (λ due. PutsOn (pending_in (bytes_of w.ahead) p) (pending_in (bytes_of w.ahead) p') out out' due result) (Keeps m' h ((before ++ items) ++ next ∷ [])) t h (before ++ items) next result
+  taken = subst (λ (q : Request). TakesMore (λ due. PutsOn (pending_in (bytes_of w.ahead) p) (pending_in (bytes_of w.ahead) p') out out' due result) (Keeps m' h ((before ++ items) ++ next ∷ [])) q h (before ++ items) next result) same (n.one h (before ++ items) next views s.known one.1 (few_ahead t h limit lines bytes before (passed_of w.ahead) items m w.regs s within few) s.keeps)
 
   -- it was given
   pub next_given : GaveOneAhead t h limit lines bytes before (passed_of w'.ahead) items next w'.regs
@@ -71,18 +71,18 @@ module _ {A E : Type 0} (t : Request) (h : Header) (limit lines : ℕ) (bytes : 
       stands_on t h limit lines bytes before (passed_of w.ahead) items m w.regs s (passed_of w'.ahead) m' w'.regs n.plain.text.now n.plain.item next one.1 one.2 next_given.known n.regs keeps taken.on
 
   -- what is due with it
-  due : DueBy (λ due. PutsOn (held_in bytes p) (held_in bytes p') out out' due result) (open_text t h (before ++ items)) (open_text t h ((before ++ items) ++ next ∷ []))
-  due = subst (λ (bs : List ℕ). DueBy (λ due. PutsOn (held_in bs p) (held_in bs p') out out' due result) (open_text t h (before ++ items)) (open_text t h ((before ++ items) ++ next ∷ []))) over.1 taken.due
+  due : DueBy (λ due. PutsOn (pending_in bytes p) (pending_in bytes p') out out' due result) (open_text t h (before ++ items)) (open_text t h ((before ++ items) ++ next ∷ []))
+  due = subst (λ (bs : List ℕ). DueBy (λ due. PutsOn (pending_in bs p) (pending_in bs p') out out' due result) (open_text t h (before ++ items)) (open_text t h ((before ++ items) ++ next ∷ []))) over.1 taken.due
 
-  module _ (begin : Device) (grown : GrowsBut begin out (held_in bytes p) (open_text t h before) (open_text t h (before ++ items))) where
+  module _ (begin : Device) (grown : GrowsBut begin out (pending_in bytes p) (open_text t h before) (open_text t h (before ++ items))) where
     -- was put
-    pub next_grows : (a : A) → result ≡ Ok a → GrowsBut begin out' (held_in bytes p') (open_text t h before) (open_text t h (before ++ (items ++ next ∷ [])))
+    pub next_grows : (a : A) → result ≡ Ok a → GrowsBut begin out' (pending_in bytes p') (open_text t h before) (open_text t h (before ++ (items ++ next ∷ [])))
     next_grows a e =
-        let put = subst (λ (q : Result A E). PutsOn (held_in bytes p) (held_in bytes p') out out' due.0 q) e due.2 in
-        subst (λ l. GrowsBut begin out' (held_in bytes p') (open_text t h before) (open_text t h l)) (append_assoc before items (next ∷ [])) (but_on begin out out' (held_in bytes p) (open_text t h before) (open_text t h (before ++ items)) grown (held_in bytes p') due.0 _ due.1 put)
+        let put = subst (λ (q : Result A E). PutsOn (pending_in bytes p) (pending_in bytes p') out out' due.0 q) e due.2 in
+        subst (λ l. GrowsBut begin out' (pending_in bytes p') (open_text t h before) (open_text t h l)) (append_assoc before items (next ∷ [])) (but_on begin out out' (pending_in bytes p) (open_text t h before) (open_text t h (before ++ items)) grown (pending_in bytes p') due.0 _ due.1 put)
 
     -- or a write failed
     pub next_fails : (f : E) → result ≡ Err f → GrowsSome begin out' (open_text t h before) (open_text t h ((before ++ items) ++ next ∷ []))
     next_fails f e =
-        let put = subst (λ (q : Result A E). PutsOn (held_in bytes p) (held_in bytes p') out out' due.0 q) e due.2 in
-        but_failed begin out out' (held_in bytes p) (open_text t h before) (open_text t h (before ++ items)) grown due.0 _ due.1 put
+        let put = subst (λ (q : Result A E). PutsOn (pending_in bytes p) (pending_in bytes p') out out' due.0 q) e due.2 in
+        but_failed begin out out' (pending_in bytes p) (open_text t h before) (open_text t h (before ++ items)) grown due.0 _ due.1 put

@@ -22,7 +22,7 @@ use Rattle.vcd_body.specs.Given.{IsItem}
 use Rattle.vcd_engine.specs.ItemText.{HasWritten, LastTells, times_with}
 use Rattle.vcd_engine.specs.Pick.{ArePicked, is_event_at, is_kept, names_in}
 use Rattle.vcd_engine.specs.declared.item_text.ItemText.{ItemText}
-use Rattle.vcd_engine.specs.declared.machine.pick.Pick.{Pick}
+use Rattle.vcd_engine.specs.declared.task_state.pick.Pick.{Pick}
 use Rattle.vcd_engine.proofs.ItemTextLemmas.{section_is}
 
 and_swap : (a b : Bool) → (a && b) ≡ (b && a)

@@ -1,4 +1,4 @@
--- What is written and what is held, where text is due.
+-- What is written and what is pending, where text is due.
 use Rattle.std.proofs.Common.{◌≡◌, ℕ, ◌+◌, ◌-◌, ◌≤◌, length, refl, List, [], ◌++◌, slice_range, Result, Ok, Err, sym, ap, subst, ◌∙◌, append-nil, append_assoc, arith, take, drop, IfOk}
 use Rattle.std.proofs.lemmas.List.{take-take}
 use Rattle.vcd_text.specs.Device.{Device, Puts, Writes, WritesSome, failures_after}
@@ -19,7 +19,7 @@ use Rattle.vcd_body.specs.declared.item.Item.{Item}
 use Rattle.vcd_body.specs.declared.item.Item.TheVariants.{Time, Change}
 use Rattle.vcd_body.specs.declared.item.Regs.{Regs}
 use Rattle.vcd_engine.specs.Cut.{IsNoMark}
-use Rattle.vcd_engine.specs.Pieces.{GrowsBut, IsLine, IsInPlace, PutsAll, PutsBehind, PutsOn, IsPart, held_in}
+use Rattle.vcd_engine.specs.Pieces.{GrowsBut, IsLine, IsSpanned, PutsAll, PutsBehind, PutsOn, IsPart, pending_in}
 use Rattle.vcd_engine.specs.declared.pieces.Pieces.{Pieces}
 use Rattle.vcd_body.proofs.Results.{writes-none}
 
@@ -33,11 +33,11 @@ joined bytes a b from to le e on =
 pub none_between : (bytes : List ℕ) (from to : ℕ) → to ≤ from → slice_range bytes from to ≡ []
 none_between bytes from to e = let none : to - from ≡ 0 = omega arith in ap (λ n. take n (drop from bytes)) none
 
--- ---- what is held
+-- ---- what is pending
 
 -- how long it is
-pub held_long : (bytes : List ℕ) (p : Pieces) → IsPart bytes p → length (held_in bytes p) ≡ p.to - p.from
-held_long bytes p part = length-ahead bytes p.from p.to part.1
+pub pending_long : (bytes : List ℕ) (p : Pieces) → IsPart bytes p → length (pending_in bytes p) ≡ p.to - p.from
+pending_long bytes p part = length-ahead bytes p.from p.to part.1
 
 -- it begins the rest of these bytes
 pub front_is : (bytes : List ℕ) (from to : ℕ) → to ≤ length bytes → take (to - from) (slice_range bytes from (length bytes)) ≡ slice_range bytes from to
@@ -45,81 +45,81 @@ front_is bytes from to le = take-take (to - from) (length bytes - from) (drop fr
 
 -- ---- one call
 
--- nothing is written, and what is held grows
-pub held_on : (held held' due : List ℕ) (out : Device) → held ++ due ≡ held' → PutsAll held held' out out due
-held_on held held' due out e = ([], e, writes-none out)
+-- nothing is written, and what is pending grows
+pub pending_on : (pending pending' due : List ℕ) (out : Device) → pending ++ due ≡ pending' → PutsAll pending pending' out out due
+pending_on pending pending' due out e = ([], e, writes-none out)
 
 -- nothing is due
-pub none_on : (held : List ℕ) (out : Device) → PutsAll held held out out []
-none_on held out = held_on held held [] out (append-nil held)
+pub none_on : (pending : List ℕ) (out : Device) → PutsAll pending pending out out []
+none_on pending out = pending_on pending pending [] out (append-nil pending)
 
--- what was held was written, and then nothing is held; then this was put
-pub put_on : {A E : Type 0} (held held' due : List ℕ) (out mid out' : Device) (r : Result A E) → Writes out mid held → held' ≡ [] → Puts mid out' due r → PutsOn held held' out out' due r
-put_on held held' due out mid out' (Ok v) w e puts = (held ++ due, sym (ap (λ l. (held ++ due) ++ l) e ∙ append-nil (held ++ due)), both-written out mid out' held due w puts)
-put_on held held' due out mid out' (Err v) w e puts = some-behind out mid out' held due w puts
+-- what was pending was written, and then nothing is pending; then this was put
+pub put_on : {A E : Type 0} (pending pending' due : List ℕ) (out mid out' : Device) (r : Result A E) → Writes out mid pending → pending' ≡ [] → Puts mid out' due r → PutsOn pending pending' out out' due r
+put_on pending pending' due out mid out' (Ok v) w e puts = (pending ++ due, sym (ap (λ l. (pending ++ due) ++ l) e ∙ append-nil (pending ++ due)), both-written out mid out' pending due w puts)
+put_on pending pending' due out mid out' (Err v) w e puts = some-behind out mid out' pending due w puts
 
--- what was held was written, and what is due is held
-pub begun_on : (held due : List ℕ) (out out' : Device) → Writes out out' held → PutsAll held due out out' due
-begun_on held due out out' w = (held, refl, w)
+-- what was pending was written, and what is due is pending
+pub begun_on : (pending due : List ℕ) (out out' : Device) → Writes out out' pending → PutsAll pending due out out' due
+begun_on pending due out out' w = (pending, refl, w)
 
 -- ---- two calls
 
 -- the first one failed
-pub first_on : (held a b : List ℕ) (out out' : Device) → WritesSome out out' (held ++ a) → WritesSome out out' (held ++ (a ++ b))
-first_on held a b out out' some = subst (WritesSome out out') (append_assoc held a b) (some-first out out' (held ++ a) b some)
+pub first_on : (pending a b : List ℕ) (out out' : Device) → WritesSome out out' (pending ++ a) → WritesSome out out' (pending ++ (a ++ b))
+first_on pending a b out out' some = subst (WritesSome out out') (append_assoc pending a b) (some-first out out' (pending ++ a) b some)
 
 -- one text is due, and then another
-pub twice_on : {A E : Type 0} (held mid held' a b : List ℕ) (out between out' : Device) (r : Result A E) → PutsAll held mid out between a → PutsOn mid held' between out' b r → PutsOn held held' out out' (a ++ b) r
-twice_on held mid held' a b out between out' (Ok w) first then =
-    (first.0 ++ then.0, sym (append_assoc held a b) ∙ ap (λ l. l ++ b) first.1 ∙ append_assoc first.0 mid b ∙ ap (λ l. first.0 ++ l) then.1 ∙ sym (append_assoc first.0 then.0 held'), both-written out between out' first.0 then.0 first.2 then.2)
-twice_on held mid held' a b out between out' (Err f) first then =
-    subst (WritesSome out out') (sym (append_assoc first.0 mid b) ∙ sym (ap (λ l. l ++ b) first.1) ∙ append_assoc held a b) (some-behind out between out' first.0 (mid ++ b) first.2 then)
+pub twice_on : {A E : Type 0} (pending mid pending' a b : List ℕ) (out between out' : Device) (r : Result A E) → PutsAll pending mid out between a → PutsOn mid pending' between out' b r → PutsOn pending pending' out out' (a ++ b) r
+twice_on pending mid pending' a b out between out' (Ok w) first then =
+    (first.0 ++ then.0, sym (append_assoc pending a b) ∙ ap (λ l. l ++ b) first.1 ∙ append_assoc first.0 mid b ∙ ap (λ l. first.0 ++ l) then.1 ∙ sym (append_assoc first.0 then.0 pending'), both-written out between out' first.0 then.0 first.2 then.2)
+twice_on pending mid pending' a b out between out' (Err f) first then =
+    subst (WritesSome out out') (sym (append_assoc first.0 mid b) ∙ sym (ap (λ l. l ++ b) first.1) ∙ append_assoc pending a b) (some-behind out between out' first.0 (mid ++ b) first.2 then)
 
 pub twice_behind : {A B E : Type 0} (bytes : List ℕ) (p q p' : Pieces) (a b : List ℕ) (out mid out' : Device) (v : B) (r : Result A E) → PutsBehind {A = B} {E = E} bytes p q out mid a (Ok v) → PutsBehind bytes q p' mid out' b r → PutsBehind bytes p p' out out' (a ++ b) r
 twice_behind {A} {B} {E} bytes p q p' a b out mid out' v r first then = record {
-  puts = twice_on (held_in bytes p) (held_in bytes q) (held_in bytes p') a b out mid out' r first.puts then.puts;
+  puts = twice_on (pending_in bytes p) (pending_in bytes q) (pending_in bytes p') a b out mid out' r first.puts then.puts;
   counts = subst (λ n. out'.failures ≡ failures_after n r) first.counts then.counts;
   part = then.part;
 }
 
 -- ---- several calls, of which the text is some text with each item
 
-module _ (out mid out' : Device) (held text some : List ℕ) (g : GrowsBut out mid held text some) where
+module _ (out mid out' : Device) (pending text some : List ℕ) (g : GrowsBut out mid pending text some) where
   -- one more
-  pub but_on : (held' due more : List ℕ) → more ≡ some ++ due → PutsAll held held' mid out' due → GrowsBut out out' held' text more
-  but_on held' due more is p = (
+  pub but_on : (pending' due more : List ℕ) → more ≡ some ++ due → PutsAll pending pending' mid out' due → GrowsBut out out' pending' text more
+  but_on pending' due more is p = (
     g.0 ++ p.0,
-    is ∙ ap (λ l. l ++ due) g.1 ∙ append_assoc text (g.0 ++ held) due ∙ ap (λ l. text ++ l) (append_assoc g.0 held due ∙ ap (λ l. g.0 ++ l) p.1 ∙ sym (append_assoc g.0 p.0 held')),
+    is ∙ ap (λ l. l ++ due) g.1 ∙ append_assoc text (g.0 ++ pending) due ∙ ap (λ l. text ++ l) (append_assoc g.0 pending due ∙ ap (λ l. g.0 ++ l) p.1 ∙ sym (append_assoc g.0 p.0 pending')),
     both-written out mid out' g.0 p.0 g.2 p.2,
   )
 
   -- a write failed
-  pub but_failed : (due more : List ℕ) → more ≡ some ++ due → WritesSome mid out' (held ++ due) → GrowsSome out out' text more
+  pub but_failed : (due more : List ℕ) → more ≡ some ++ due → WritesSome mid out' (pending ++ due) → GrowsSome out out' text more
   but_failed due more is p = (
-    g.0 ++ (held ++ due),
-    is ∙ ap (λ l. l ++ due) g.1 ∙ append_assoc text (g.0 ++ held) due ∙ ap (λ l. text ++ l) (append_assoc g.0 held due),
-    some-behind out mid out' g.0 (held ++ due) g.2 p,
+    g.0 ++ (pending ++ due),
+    is ∙ ap (λ l. l ++ due) g.1 ∙ append_assoc text (g.0 ++ pending) due ∙ ap (λ l. text ++ l) (append_assoc g.0 pending due),
+    some-behind out mid out' g.0 (pending ++ due) g.2 p,
   )
 
-  -- what is held was written
-  pub but_written : Writes mid out' held → Grows out out' text some
-  but_written w = (g.0 ++ held, g.1, both-written out mid out' g.0 held g.2 w)
+  -- what is pending was written
+  pub but_written : Writes mid out' pending → Grows out out' text some
+  but_written w = (g.0 ++ pending, g.1, both-written out mid out' g.0 pending g.2 w)
 
   -- or a prefix of it
-  pub but_some : WritesSome mid out' held → GrowsSome out out' text some
-  but_some w = (g.0 ++ held, g.1, some-behind out mid out' g.0 held g.2 w)
+  pub but_some : WritesSome mid out' pending → GrowsSome out out' text some
+  but_some w = (g.0 ++ pending, g.1, some-behind out mid out' g.0 pending g.2 w)
 
--- nothing is held
-pub but_none : (out : Device) (held text : List ℕ) → held ≡ [] → GrowsBut out out held text text
-but_none out held text e = ([], sym (ap (λ l. text ++ l) e ∙ append-nil text), writes-none out)
+-- nothing is pending
+pub but_none : (out : Device) (pending text : List ℕ) → pending ≡ [] → GrowsBut out out pending text text
+but_none out pending text e = ([], sym (ap (λ l. text ++ l) e ∙ append-nil text), writes-none out)
 
--- of no bytes nothing is held: what is due was written
-pub none_held : (bytes : List ℕ) (p p' : Pieces) (out out' : Device) (due : List ℕ) → bytes ≡ [] → IsPart bytes p → IsPart bytes p' → PutsAll (held_in bytes p) (held_in bytes p') out out' due → Appends out.held out'.held due
+-- of no bytes nothing is pending: what is due was written
+pub none_held : (bytes : List ℕ) (p p' : Pieces) (out out' : Device) (due : List ℕ) → bytes ≡ [] → IsPart bytes p → IsPart bytes p' → PutsAll (pending_in bytes p) (pending_in bytes p') out out' due → Appends out.held out'.held due
 none_held bytes p p' out out' due e part part' puts =
     let all : due ≡ puts.0 = sym (ap (λ l. l ++ due) (empty p part)) ∙ puts.1 ∙ ap (λ l. puts.0 ++ l) (empty p' part') ∙ append-nil puts.0 in
     subst (Appends out.held out'.held) (sym all) puts.2.0
   where
-    empty : (q : Pieces) → IsPart bytes q → held_in bytes q ≡ []
+    empty : (q : Pieces) → IsPart bytes q → pending_in bytes q ≡ []
     empty q here = let le = subst (λ (bs : List ℕ). q.to ≤ length bs) e here.1 in none_between bytes q.from q.to (omega (arith, le))
 
 -- ---- the line of a time
@@ -143,7 +143,7 @@ module _ (v : HeadView) (a a' : Ahead) (r : Regs) (p : Plain) (bytes : Bor (List
       subst (λ (bs : List ℕ). HasSpelled v bs from to p.at p.code_at p.text.now p.item) (sym (e ∙ item.same.0))
       (subst (λ n. HasSpelled v (bytes_of a) n to p.at p.code_at p.text.now p.item) (sym f) (subst (λ n. HasSpelled v (bytes_of a) (passed_of a) n p.at p.code_at p.text.now p.item) (sym g) item.spelled))
 
-  pub placed_there : (place : ℕ) × (form : Form) × (p.item ≡ Change place form) → IsInPlace v (record { plain = p; bytes = bytes; from = from; to = to })
+  pub placed_there : (place : ℕ) × (form : Form) × (p.item ≡ Change place form) → IsSpanned v (record { plain = p; bytes = bytes; from = from; to = to })
   placed_there change =
       let further = item.further in
       let within = item.within in

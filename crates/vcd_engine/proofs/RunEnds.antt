@@ -21,7 +21,7 @@ use Rattle.vcd_body.specs.Answer.{IsLeft}
 use Rattle.vcd_text.specs.Device.{Device, Supply, Writes, WritesSome}
 use Rattle.vcd_model.proofs.MergeSoFar.{fault_output}
 use Rattle.vcd_engine.specs.Engine.{CanRun}
-use Rattle.vcd_engine.specs.Run.{Belongs, Follows, IsRefused, is_early}
+use Rattle.vcd_engine.specs.TaskRun.{Belongs, Follows, IsRefused, is_early}
 use Rattle.vcd_body.proofs.AskedLemmas.{read_to_end, read_to_stop}
 use Rattle.vcd_engine.specs.Step.{StepGives}
 use Rattle.vcd_body.specs.declared.answer.Done.{Done}

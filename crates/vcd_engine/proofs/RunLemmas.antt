@@ -17,7 +17,7 @@ use Rattle.vcd_body.specs.Answer.{EndsAtRead, reads_failed}
 use Rattle.vcd_text.specs.Device.{Device, Supply, Writes}
 use Rattle.vcd_body.specs.Device.{Grows}
 use Rattle.vcd_engine.specs.Engine.{CanRun, Holds, Runs, request_of_engine}
-use Rattle.vcd_engine.specs.Run.{Follows}
+use Rattle.vcd_engine.specs.TaskRun.{Follows}
 use Rattle.vcd_body.proofs.CallerLemmas.{last_given}
 use Rattle.vcd_engine.proofs.AheadLemmas.{grows_on, some_on}
 use Rattle.vcd_body.proofs.AskedLemmas.{read_to_item}

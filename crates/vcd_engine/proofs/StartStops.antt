@@ -11,7 +11,7 @@ use Rattle.vcd_text.specs.declared.feed.Feed.{Feed}
 use Rattle.vcd_text.proofs.Writes.{AppendsSome, appends-first}
 use Rattle.vcd_text.specs.Device.{Device, Supply, Writes}
 use Rattle.vcd_engine.specs.Engine.{StopsAtStart}
-use Rattle.vcd_engine.specs.Run.{Belongs, Follows, IsRefused}
+use Rattle.vcd_engine.specs.TaskRun.{Belongs, Follows, IsRefused}
 use Rattle.vcd_body.specs.declared.answer.Stop.{Stop}
 use Rattle.vcd_body.specs.declared.answer.Stop.TheVariants.{Dump, Read, Write, Unmatched}
 use Rattle.vcd_engine.proofs.BodyOutcomes.{over_matched, over_unmatched, begins_with}

@@ -24,7 +24,7 @@ use Rattle.vcd_body.specs.declared.answer.Stop.{Stop}
 use Rattle.vcd_body.specs.declared.answer.Stop.TheVariants.{Write}
 use Rattle.vcd_body.specs.declared.item.Regs.{Regs}
 use Rattle.vcd_engine.specs.Engine.{CanRun, Runs, request_of_engine}
-use Rattle.vcd_engine.specs.Run.{Follows}
+use Rattle.vcd_engine.specs.TaskRun.{Follows}
 use Rattle.vcd_engine.specs.Step.{StepsGive}
 use Rattle.vcd_engine.specs.Several.{TakesSeveral}
 use Rattle.vcd_engine.specs.Waits.{StepsOrStops, StopsAfter, StopsOn}

@@ -1,4 +1,4 @@
--- What is left where a machine takes items that lie ahead in a feed's chunk, one after the other.
+-- What is left where a task's state takes items that lie ahead in a feed's chunk, one after the other.
 use Rattle.std.specs.Prelude.{◌≡◌, ℕ, ◌+◌, ◌<◌, ◌^◌, false, List, [], ◌∷◌, ◌++◌, length, Result, Ok, Err}
 use Rattle.std.specs.List.{list_any}
 use Rattle.vcd_model.specs.Header.{Header}
@@ -19,13 +19,13 @@ use Rattle.vcd_body.specs.Device.{Grows, GrowsSome}
 use Rattle.vcd_engine.specs.Engine.{Keeps, last_of, request_in}
 use Rattle.vcd_engine.specs.Room.{SameTask}
 use Rattle.vcd_engine.specs.Several.{TakesSeveral}
-use Rattle.vcd_engine.specs.declared.machine.Machine.{Machine}
-use Rattle.vcd_engine.specs.declared.machine.walk.WalkEnd.{WalkEnd}
+use Rattle.vcd_engine.specs.declared.task_state.TaskState.{TaskState}
+use Rattle.vcd_engine.specs.declared.task_state.walk.WalkEnd.{WalkEnd}
 
 module _ (task : Request) (h : Header) (limit lines : ℕ) (bytes : List ℕ) (before : List BodyItem) where
   -- after the items before, these lie in the first n bytes ahead; none of them ends the run, and
-  -- machine and registers are those after them
-  pub record StandsAhead (n : ℕ) (items : List BodyItem) (m : Machine) (r : Regs) : Type 0 where
+  -- the task's state and registers are those after them
+  pub record StandsAhead (n : ℕ) (items : List BodyItem) (m : TaskState) (r : Regs) : Type 0 where
     pub gave : GaveAhead h.codes limit lines bytes n before items
     pub known : AreRegsAfter (before ++ items) r
     pub last : last_of r ≡ last_mark (before ++ items)
@@ -39,17 +39,17 @@ module _ (task : Request) (h : Header) (limit lines : ℕ) (bytes : List ℕ) (b
 
   -- how that ends after these items: no other was taken; or a write of what is due with these or
   -- with one more failed
-  abbrev pub EndsAhead : {A E : Type 0} → ℕ → Machine → Regs → Device → Device → Result A E → List BodyItem → Type 0
+  abbrev pub EndsAhead : {A E : Type 0} → ℕ → TaskState → Regs → Device → Device → Result A E → List BodyItem → Type 0
   EndsAhead n m r out out' (Ok v) items = StandsAhead n items m r × Grows out out' (open_text task h before) (open_text task h (before ++ items))
   EndsAhead n m r out out' (Err e) items = (x : BodyItem) × GaveOneAhead n items x r × GrowsSome out out' (open_text task h before) (open_text task h ((before ++ items) ++ x ∷ []))
 
   -- some of the items were taken, and what is due with them was written, or a prefix of it where a
   -- write failed
-  abbrev pub RunsAhead : {A E : Type 0} → ℕ → Machine → Regs → Device → Device → Result A E → Type 0
+  abbrev pub RunsAhead : {A E : Type 0} → ℕ → TaskState → Regs → Device → Device → Result A E → Type 0
   RunsAhead n m r out out' result = TakesSeveral task before (EndsAhead n m r out out' result)
 
--- what a machine leaves that takes the items which lie ahead from a position on
-pub record RunsOver (v : HeadView) (a : Ahead) (r : Regs) (m m' : Machine) (out out' : Device) (t : WalkEnd) : Type 0 where
+-- what a task's state leaves that takes the items which lie ahead from a position on
+pub record RunsOver (v : HeadView) (a : Ahead) (r : Regs) (m m' : TaskState) (out out' : Device) (t : WalkEnd) : Type 0 where
   pub gives : (h : Header) (lines : ℕ) (before : List BodyItem) → IsViewOf v h → length before + length (bytes_of a) < 2 ^ 63 → StandsAhead (request_in m) h (longest_of a) lines (bytes_of a) before (passed_of a) [] m r
       → RunsAhead (request_in m) h (longest_of a) lines (bytes_of a) before t.passed m' t.regs out out' t.written
   pub passes : (lines : ℕ) (ts : List Token) → Passed (longest_of a) lines (bytes_of a) (passed_of a) ts → (more : List Token) × Passed (longest_of a) lines (bytes_of a) t.passed (ts ++ more)

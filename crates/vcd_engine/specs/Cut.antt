@@ -18,7 +18,7 @@ use Rattle.vcd_body.specs.declared.item.Regs.{Regs}
 use Rattle.vcd_engine.specs.ItemText.{HasWritten}
 use Rattle.vcd_engine.specs.Pick.{is_event_at}
 use Rattle.vcd_engine.specs.Values.{AreHeld, HasValues}
-use Rattle.vcd_engine.specs.declared.machine.cut.Cut.{Cut}
+use Rattle.vcd_engine.specs.declared.task_state.cut.Cut.{Cut}
 use Rattle.vcd_view.specs.Views.{IsViewOf}
 use Rattle.vcd_body.specs.declared.table.Table.{Table}
 
@@ -36,7 +36,7 @@ abbrev pub may_be_kept : HeadView → Regs → Item → Bool
 may_be_kept v r (Time t) = false
 may_be_kept v r (Begin s) = true
 may_be_kept v r End = true
-may_be_kept v r (Change place form) = not (is_some r.section && is_event_at v place)
+may_be_kept v r (Change index form) = not (is_some r.section && is_event_at v index)
 may_be_kept v r Finish = false
 
 -- the item is no time mark

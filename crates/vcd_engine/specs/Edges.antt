@@ -9,7 +9,7 @@ use Rattle.vcd_head.specs.Marks.{marks_of}
 use Rattle.vcd_body.specs.Contents.{bytes_in, codes_in, counts_at}
 use Rattle.vcd_body.specs.declared.table.Table.{Table}
 use Rattle.vcd_engine.specs.Values.{AreHeld}
-use Rattle.vcd_engine.specs.declared.machine.edges.Edges.{Edges}
+use Rattle.vcd_engine.specs.declared.task_state.edges.Edges.{Edges}
 use Rattle.vcd_body.specs.Items.{model_form}
 use Rattle.vcd_body.specs.declared.item.Form.{Form}
 
@@ -23,13 +23,13 @@ numbers n = n.changes ∷ n.rises ∷ n.falls ∷ []
 -- counts
 pub record AreTallied (t : Table) (h : Header) (items : List BodyItem) : Type 0 where
   pub held : AreHeld t h items
-  pub counted : (place : ℕ) (c : IdCode) → slice_get h.codes place ≡ Some c → counts_at t place ≡ numbers (counts_for items c)
+  pub counted : (index : ℕ) (c : IdCode) → slice_get h.codes index ≡ Some c → counts_at t index ≡ numbers (counts_for items c)
 
 -- a change of a code to this text
 abbrev pub change_to : IdCode → Form → List ℕ → BodyItem
 change_to c form text = BodyItem.Changes (record { code = c; form = model_form form; text = text })
 
--- ---- what the machine keeps
+-- ---- what the task's state keeps
 
 -- the names that were asked for
 abbrev pub names_counted : Edges → List (List ℕ)

@@ -31,8 +31,8 @@ use Rattle.vcd_body.specs.declared.answer.Stop.{Stop}
 use Rattle.vcd_body.specs.declared.answer.Stop.TheVariants.{Write, Unmatched}
 use Rattle.vcd_engine.specs.declared.engine.Begun.{Begun}
 use Rattle.vcd_engine.specs.declared.engine.Engine.{Engine}
-use Rattle.vcd_engine.specs.declared.machine.Machine.{Machine}
-use Rattle.vcd_engine.specs.declared.machine.Machine.TheVariants as machine
+use Rattle.vcd_engine.specs.declared.task_state.TaskState.{TaskState}
+use Rattle.vcd_engine.specs.declared.task_state.TaskState.TheVariants as task_state
 use Rattle.vcd_engine.specs.declared.task.Task.{Task}
 use Rattle.vcd_engine.specs.declared.task.Task.TheVariants as task
 
@@ -46,31 +46,31 @@ request_of (task.Cut from to) = Request.Cut from to
 request_of (task.Sample times names) = Request.Sample times.now (map string_bytes names.now)
 request_of (task.Edges names) = Request.Edges (map string_bytes names.now)
 
--- the request that a machine works on
-abbrev pub request_in : Machine → Request
-request_in (machine.Check c) = Request.Check
-request_in (machine.Pick p) = Request.Pick (names_in p)
-request_in (machine.Cut m) = span_in m
-request_in (machine.Sample s) = asked_in s
-request_in (machine.Edges e) = Request.Edges (names_counted e)
+-- the request that a task's state works on
+abbrev pub request_in : TaskState → Request
+request_in (task_state.Check c) = Request.Check
+request_in (task_state.Pick p) = Request.Pick (names_in p)
+request_in (task_state.Cut m) = span_in m
+request_in (task_state.Sample s) = asked_in s
+request_in (task_state.Edges e) = Request.Edges (names_counted e)
 
--- what a machine keeps over this header and after these items
-abbrev pub Keeps : Machine → Header → List BodyItem → Type 0
-Keeps (machine.Check c) h items = AreCounted items c
-Keeps (machine.Pick p) h items = ArePicked p h items
-Keeps (machine.Cut m) h items = AreCut m h items
-Keeps (machine.Sample s) h items = AreSampled s h items
-Keeps (machine.Edges e) h items = AreEdges e h items
+-- what a task's state keeps over this header and after these items
+abbrev pub Keeps : TaskState → Header → List BodyItem → Type 0
+Keeps (task_state.Check c) h items = AreCounted items c
+Keeps (task_state.Pick p) h items = ArePicked p h items
+Keeps (task_state.Cut m) h items = AreCut m h items
+Keeps (task_state.Sample s) h items = AreSampled s h items
+Keeps (task_state.Edges e) h items = AreEdges e h items
 
 -- ---- requests
 
 -- the request of a task that has begun
 abbrev pub request_of_begun : Begun → Request
-request_of_begun b = request_in b.machine
+request_of_begun b = request_in b.task_state
 
 -- the request that an engine runs
 abbrev pub request_of_engine : Engine → Request
-request_of_engine e = request_in e.machine
+request_of_engine e = request_in e.task_state
 
 -- a time mark may end the run
 abbrev pub may_end_early : Request → Bool
@@ -94,13 +94,13 @@ pub record CanRun (task : Request) (h : Header) : Type 0 where
 -- a run that stops at its begin has a failed write, or a name that selects nothing
 abbrev pub StopsUnread : Stop → Type 0
 StopsUnread Write = Unit {0}
-StopsUnread (Unmatched place) = Unit {0}
+StopsUnread (Unmatched index) = Unit {0}
 StopsUnread stop = ⊥
 
 -- and this is what it leaves
 abbrev pub StopsAtStart : Request → Header → Device → Device → Stop → Type 0
 StopsAtStart task h out out' Write = CanRun task h × WritesSome out out' (open_text task h [])
-StopsAtStart task h out out' (Unmatched place) = (first_unmatched (names_of task) h.declarations ≡ Some place) × Writes out out' []
+StopsAtStart task h out out' (Unmatched index) = (first_unmatched (names_of task) h.declarations ≡ Some index) × Writes out out' []
 StopsAtStart task h out out' stop = ⊥
 
 -- one write failed where the answer is that, and none where it is not
@@ -155,7 +155,7 @@ AtClose v r holds = (h : Header) (items : List BodyItem) → IsViewOf v h → Ar
 
 -- a task has begun over this header
 abbrev pub HasBegun : Begun → Header → Type 0
-HasBegun b h = Keeps b.machine h []
+HasBegun b h = Keeps b.task_state h []
 
 -- the engine has begun, and no step of it has ended the run
 abbrev pub is_going : Engine → Bool
@@ -167,7 +167,7 @@ pub record Holds (e : Engine) (h : Header) (items : List BodyItem) : Type 0 wher
   pub can : CanRun (request_of_engine e) h
   pub known : AreRegsAfter items e.regs
   pub last : last_of e.regs ≡ last_mark items
-  pub keeps : Keeps e.machine h items
+  pub keeps : Keeps e.task_state h items
 
 -- after these tokens, those of the header, the feed has given these items, and the engine holds
 -- them

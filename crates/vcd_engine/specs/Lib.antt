@@ -1,6 +1,6 @@
 pub mod Choice
 pub mod Room
-pub mod Run
+pub mod TaskRun
 pub mod ItemText
 pub mod Selection
 pub mod Values

@@ -50,11 +50,11 @@ pub use Rattle.vcd_engine.specs.Engine.{AtClose, AtItem, CanRun, ClosesOver, Cou
 pub use Rattle.vcd_engine.specs.ItemText.{HasWritten, LastTells, PutsEntry, times_with}
 pub use Rattle.vcd_engine.specs.Leads.{AnySampled, HaveNoLine, IsSelectedAt, LeadOn, rows_on}
 pub use Rattle.vcd_engine.specs.Pick.{ArePicked, flags_in, is_kept, names_in}
-pub use Rattle.vcd_engine.specs.Pieces.{held_in, IsInPlace, IsLine, IsPart, LiesBetween, PutsBehind, PutsOn, PutsPieces}
+pub use Rattle.vcd_engine.specs.Pieces.{pending_in, IsSpanned, IsLine, IsPart, LiesBetween, PutsBehind, PutsOn, PutsPieces}
 pub use Rattle.vcd_engine.specs.Report.{declares_variable, named_line, opens_scope}
 pub use Rattle.vcd_engine.specs.Room.{AnyRoom, AreWithinBound, BeginsAs, HasRoomFor, IsWithin, IsWithinEachBound, KeepsBound, marks_for, room_in, room_of, room_of_begun, room_size, SameHold, SameTask, slots_for, values_for, view_in}
 pub use Rattle.vcd_engine.specs.Rows.{AtRow}
-pub use Rattle.vcd_engine.specs.Run.{CountsOn, EndsAsAsked, Finishes, MayRun, RunsTask, RunsWhole, SameWindows}
+pub use Rattle.vcd_engine.specs.TaskRun.{CountsOn, EndsAsAsked, Finishes, MayRun, RunsTask, RunsWhole, SameWindows}
 pub use Rattle.vcd_engine.specs.Sample.{AreSampled, asked_in, is_due, lent_to as lent_to_sample, SameSample}
 pub use Rattle.vcd_engine.specs.Selection.{AreSelected, ChoosesMore, IsFirstUnmatched, IsUnmatched}
 pub use Rattle.vcd_engine.specs.Step.{MayStep, Steps, StepsAhead, StepsOn, StepsOver}

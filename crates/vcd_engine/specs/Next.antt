@@ -15,11 +15,11 @@ use Rattle.vcd_body.specs.Taken.{TakesItem}
 use Rattle.vcd_body.specs.declared.ahead.Plain.{Plain}
 use Rattle.vcd_body.specs.declared.item.Regs.{Regs}
 use Rattle.vcd_engine.specs.Engine.{AtItem, Keeps, request_in}
-use Rattle.vcd_engine.specs.Pieces.{IsLine, IsPart, PutsOn, held_in}
+use Rattle.vcd_engine.specs.Pieces.{IsLine, IsPart, PutsOn, pending_in}
 use Rattle.vcd_engine.specs.Quiet.{TakesQuietly}
 use Rattle.vcd_engine.specs.Room.{SameTask}
-use Rattle.vcd_engine.specs.declared.machine.Machine.{Machine}
-use Rattle.vcd_engine.specs.declared.pieces.InPlace.{InPlace}
+use Rattle.vcd_engine.specs.declared.task_state.TaskState.{TaskState}
+use Rattle.vcd_engine.specs.declared.pieces.SpannedItem.{SpannedItem}
 use Rattle.vcd_engine.specs.declared.pieces.Pieces.{Pieces}
 
 -- how far the loop has come: the position, the registers after the items so far, and from where up
@@ -37,13 +37,13 @@ abbrev pub HasLine : Walk → Type 0
 HasLine w = IsLine (bytes_of w.ahead) w.line w.regs.time
 
 -- a mark with which nothing is due was taken
-abbrev pub TakesMark : ℕ → Machine → Machine → Type 0
+abbrev pub TakesMark : ℕ → TaskState → TaskState → Type 0
 TakesMark time m m' = (h : Header) (items : List BodyItem) → length items < 2 ^ 63 → Keeps m h items → TakesQuietly (Keeps m' h (items ++ BodyItem.Time time ∷ [])) (request_in m) h items (BodyItem.Time time)
 
--- an item was taken, and what is due with it put after the text that is held
-abbrev pub PutsItem : {A E : Type 0} → HeadView → Regs → InPlace → Pieces → Pieces → Device → Device → Machine → Machine → Result A E → Type 0
+-- an item was taken, and what is due with it put after the text that is pending
+abbrev pub PutsItem : {A E : Type 0} → HeadView → Regs → SpannedItem → Pieces → Pieces → Device → Device → TaskState → TaskState → Result A E → Type 0
 PutsItem v r c p p' out out' m m' result = AtItem v r c.plain.item c.plain.text.now (λ h items x. Keeps m h items
-    → DueBy (λ due. PutsOn (held_in c.bytes.now p) (held_in c.bytes.now p') out out' due result) (open_text (request_in m) h items) (open_text (request_in m) h (items ++ x ∷ [])) × IfOk result (λ _. Keeps m' h (items ++ x ∷ [])))
+    → DueBy (λ due. PutsOn (pending_in c.bytes.now p) (pending_in c.bytes.now p') out out' due result) (open_text (request_in m) h items) (open_text (request_in m) h (items ++ x ∷ [])) × IfOk result (λ _. Keeps m' h (items ++ x ∷ [])))
 
 -- what is due with one item more was taken so; the item does not end the run, and then this holds
 pub record TakesMore {A E : Type 0} (takes : List ℕ → Type 0) (holds : Type 0) (task : Request) (h : Header) (items : List BodyItem) (x : BodyItem) (result : Result A E) : Type 0 where
@@ -51,14 +51,14 @@ pub record TakesMore {A E : Type 0} (takes : List ℕ → Type 0) (holds : Type 
   pub on : ends_early task x ≡ false
   pub keeps : IfOk result (λ _. holds)
 
--- one item more was taken ahead, and what is due with it was put after the text that is held
-pub record TakesNext {A E : Type 0} (v : HeadView) (w w' : Walk) (p p' : Pieces) (out out' : Device) (m m' : Machine) (result : Result A E) : Type 0 where
+-- one item more was taken ahead, and what is due with it was put after the text that is pending
+pub record TakesNext {A E : Type 0} (v : HeadView) (w w' : Walk) (p p' : Pieces) (out out' : Device) (m m' : TaskState) (result : Result A E) : Type 0 where
   pub plain : Plain
   pub item : TakesItem v w.ahead w'.ahead w.regs plain
   pub regs : w'.regs ≡ regs_after w.regs plain.item
   pub line : HasLine w'
   pub one : (h : Header) (items : List BodyItem) (x : BodyItem) → IsViewOf v h → AreRegsAfter items w.regs → IsItem h.codes plain.text.now plain.item x → length items < 2 ^ 63 → Keeps m h items
-      → TakesMore (λ due. PutsOn (held_in (bytes_of w.ahead) p) (held_in (bytes_of w.ahead) p') out out' due result) (Keeps m' h (items ++ x ∷ [])) (request_in m) h items x result
+      → TakesMore (λ due. PutsOn (pending_in (bytes_of w.ahead) p) (pending_in (bytes_of w.ahead) p') out out' due result) (Keeps m' h (items ++ x ∷ [])) (request_in m) h items x result
   pub counts : Counts out out' result
   pub part : IfOk result (λ _. IsPart (bytes_of w.ahead) p')
   pub same : SameTask m m'

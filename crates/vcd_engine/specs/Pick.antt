@@ -11,7 +11,7 @@ use Rattle.vcd_body.specs.declared.item.Item.TheVariants.{Time, Begin, End, Chan
 use Rattle.vcd_body.specs.declared.item.Regs.{Regs}
 use Rattle.vcd_engine.specs.ItemText.{HasWritten}
 use Rattle.vcd_engine.specs.Selection.{AreChosen}
-use Rattle.vcd_engine.specs.declared.machine.pick.Pick.{Pick}
+use Rattle.vcd_engine.specs.declared.task_state.pick.Pick.{Pick}
 
 -- the names that were asked for
 abbrev pub names_in : Pick → List (List ℕ)
@@ -29,7 +29,7 @@ pub record ArePicked (p : Pick) (h : Header) (items : List BodyItem) : Type 0 wh
 
 -- the variables of the code at an index are events
 abbrev pub is_event_at : HeadView → ℕ → Bool
-is_event_at v place = unwrap_or (option_map (λ (c : Code). c.event) (slice_get v.codes.now place)) false
+is_event_at v index = unwrap_or (option_map (λ (c : Code). c.event) (slice_get v.codes.now index)) false
 
 -- an item, after which the registers are these, is kept: a section's begin or end, or a change of a
 -- chosen code that is no event inside a section
@@ -37,5 +37,5 @@ abbrev pub is_kept : List ℕ → HeadView → Regs → Item → Bool
 is_kept flags v r (Time t) = false
 is_kept flags v r (Begin s) = true
 is_kept flags v r End = true
-is_kept flags v r (Change place form) = is_chosen flags place && not (is_some r.section && is_event_at v place)
+is_kept flags v r (Change index form) = is_chosen flags index && not (is_some r.section && is_event_at v index)
 is_kept flags v r Finish = false

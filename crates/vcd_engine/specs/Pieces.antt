@@ -9,11 +9,11 @@ use Rattle.vcd_body.specs.Given.{HasGoodText}
 use Rattle.vcd_body.specs.Ahead.{HasBits, IsSizedItem}
 use Rattle.vcd_body.specs.Spelled.{HasSpelled}
 use Rattle.vcd_engine.specs.Cut.{IsNoMark}
-use Rattle.vcd_engine.specs.declared.pieces.InPlace.{InPlace}
+use Rattle.vcd_engine.specs.declared.pieces.SpannedItem.{SpannedItem}
 use Rattle.vcd_engine.specs.declared.pieces.Pieces.{Pieces}
 
 -- an item that is no time mark; where its size is known, it lies at an offset of these bytes
-pub record IsInPlace (v : HeadView) (l : InPlace) : Type 0 where
+pub record IsSpanned (v : HeadView) (l : SpannedItem) : Type 0 where
   pub none : IsNoMark l.plain.item
   pub within : (l.from ≤ l.to) × (l.to ≤ length l.bytes.now)
   pub good : HasGoodText v.codes.now l.plain.text.now l.plain.item
@@ -22,7 +22,7 @@ pub record IsInPlace (v : HeadView) (l : InPlace) : Type 0 where
   pub spelled : l.plain.most ≢ 0 → HasSpelled v l.bytes.now l.from l.to l.plain.at l.plain.code_at l.plain.text.now l.plain.item
 
 -- a change lies from one offset ahead up to another
-pub record LiesBetween (a a' : Ahead) (l : InPlace) : Type 0 where
+pub record LiesBetween (a a' : Ahead) (l : SpannedItem) : Type 0 where
   pub bytes : l.bytes.now ≡ bytes_of a'
   pub from : l.from ≡ passed_of a
   pub to : l.to ≡ passed_of a'
@@ -35,29 +35,29 @@ IsLine bytes line time = line.0 < line.1 → (line.1 ≤ length bytes) × (slice
 abbrev pub IsPart : List ℕ → Pieces → Type 0
 IsPart bytes p = (p.from ≤ p.to) × (p.to ≤ length bytes)
 
--- the text that is held: the last piece
-abbrev pub held_in : List ℕ → Pieces → List ℕ
-held_in bytes p = slice_range bytes p.from p.to
+-- the text that is pending: the last piece
+abbrev pub pending_in : List ℕ → Pieces → List ℕ
+pending_in bytes p = slice_range bytes p.from p.to
 
--- what was written and what is held make the text that was held and then what is due
+-- what was written and what is pending make the text that was pending and then what is due
 abbrev pub PutsAll : List ℕ → List ℕ → Device → Device → List ℕ → Type 0
-PutsAll held held' out out' due = (written : List ℕ) × (held ++ due ≡ written ++ held') × Writes out out' written
+PutsAll pending pending' out out' due = (written : List ℕ) × (pending ++ due ≡ written ++ pending') × Writes out out' written
 
 -- so it is; or, where a write failed, a prefix of that text was written
 abbrev pub PutsOn : {A E : Type 0} → List ℕ → List ℕ → Device → Device → List ℕ → Result A E → Type 0
-PutsOn held held' out out' due (Ok v) = PutsAll held held' out out' due
-PutsOn held held' out out' due (Err e) = WritesSome out out' (held ++ due)
+PutsOn pending pending' out out' due (Ok v) = PutsAll pending pending' out out' due
+PutsOn pending pending' out out' due (Err e) = WritesSome out out' (pending ++ due)
 
--- so, where what is held are the pieces of these bytes
+-- so, where what is pending are the pieces of these bytes
 abbrev pub PutsPieces : {A E : Type 0} → List ℕ → Pieces → Pieces → Device → Device → List ℕ → Result A E → Type 0
-PutsPieces bytes p p' out out' due result = PutsOn (held_in bytes p) (held_in bytes p') out out' due result
+PutsPieces bytes p p' out out' due result = PutsOn (pending_in bytes p) (pending_in bytes p') out out' due result
 
--- this text was put after what is held
+-- this text was put after what is pending
 pub record PutsBehind {A E : Type 0} (bytes : List ℕ) (p p' : Pieces) (out out' : Device) (due : List ℕ) (result : Result A E) : Type 0 where
-  pub puts : PutsOn (held_in bytes p) (held_in bytes p') out out' due result
+  pub puts : PutsOn (pending_in bytes p) (pending_in bytes p') out out' due result
   pub counts : Counts out out' result
   pub part : IfOk result (λ _. IsPart bytes p')
 
--- what one text has more than the other was written, but for what is held at its end
+-- what one text has more than the other was written, but for what is pending at its end
 abbrev pub GrowsBut : Device → Device → List ℕ → List ℕ → List ℕ → Type 0
-GrowsBut out out' held text more = (due : List ℕ) × (more ≡ text ++ (due ++ held)) × Writes out out' due
+GrowsBut out out' pending text more = (due : List ℕ) × (more ≡ text ++ (due ++ pending)) × Writes out out' due

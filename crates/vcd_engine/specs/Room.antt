@@ -13,8 +13,8 @@ use Rattle.vcd_view.specs.Views.{IsViewOf}
 use Rattle.vcd_engine.specs.Pick.{flags_in}
 use Rattle.vcd_engine.specs.declared.engine.Begun.{Begun}
 use Rattle.vcd_engine.specs.declared.engine.Engine.{Engine}
-use Rattle.vcd_engine.specs.declared.machine.Machine.{Machine}
-use Rattle.vcd_engine.specs.declared.machine.Machine.TheVariants as machine
+use Rattle.vcd_engine.specs.declared.task_state.TaskState.{TaskState}
+use Rattle.vcd_engine.specs.declared.task_state.TaskState.TheVariants as task_state
 use Rattle.vcd_view.specs.declared.view.HeadView.{HeadView}
 use Rattle.vcd_view.specs.declared.view.Need.{Need}
 use Rattle.vcd_engine.specs.declared.task.Room.{Room}
@@ -68,16 +68,16 @@ AnyRoom need Holds = (r : Room) → need.values ≤ length r.values.now → need
 abbrev pub room_size : Room → RoomSize
 room_size r = record { values = length r.values.now; slots = max (length r.slots.now) (length r.shares.now); marks = length r.marks.now }
 
--- those of the room that a machine holds
-abbrev pub room_of : Machine → RoomSize
-room_of (machine.Check c) = no_room
-room_of (machine.Pick p) = record { values = flags_in p; slots = 0; marks = 0 }
-room_of (machine.Cut m) = lent_to m
-room_of (machine.Sample s) = lent_to_sample s
-room_of (machine.Edges e) = room_in_edges e
+-- those of the room that a task's state holds
+abbrev pub room_of : TaskState → RoomSize
+room_of (task_state.Check c) = no_room
+room_of (task_state.Pick p) = record { values = flags_in p; slots = 0; marks = 0 }
+room_of (task_state.Cut m) = lent_to m
+room_of (task_state.Sample s) = lent_to_sample s
+room_of (task_state.Edges e) = room_in_edges e
 
--- a machine goes on with the same request, and holds the same room
-abbrev pub SameTask : Machine → Machine → Type 0
+-- a task's state goes on with the same request, and holds the same room
+abbrev pub SameTask : TaskState → TaskState → Type 0
 SameTask m m' = (request_in m' ≡ request_in m) × (room_of m' ≡ room_of m)
 
 -- what an engine holds beside its registers: a view, and room
@@ -85,10 +85,10 @@ abbrev pub view_in : Engine → HeadView
 view_in e = e.view
 
 abbrev pub room_of_begun : Begun → RoomSize
-room_of_begun b = room_of b.machine
+room_of_begun b = room_of b.task_state
 
 abbrev pub room_in : Engine → RoomSize
-room_in e = room_of e.machine
+room_in e = room_of e.task_state
 
 -- it still holds them
 abbrev pub SameHold : Engine → Engine → Type 0

@@ -10,7 +10,7 @@ use Rattle.vcd_model.specs.Sample.{is_settled}
 use Rattle.vcd_body.specs.Contents.{bytes_in, codes_in}
 use Rattle.vcd_engine.specs.Leads.{LeadOn}
 use Rattle.vcd_engine.specs.Values.{AreHeld}
-use Rattle.vcd_engine.specs.declared.machine.sample.Sample.{Sample}
+use Rattle.vcd_engine.specs.declared.task_state.sample.Sample.{Sample}
 
 -- the names that were asked for
 abbrev pub names_in : Sample → List (List ℕ)

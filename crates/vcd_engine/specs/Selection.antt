@@ -10,11 +10,11 @@ use Rattle.vcd_body.specs.declared.answer.Stop.TheVariants.{Unmatched}
 
 -- of the codes those of the variables that these names select are chosen, and no others
 abbrev pub AreChosen : List (List ℕ) → Header → List ℕ → Type 0
-AreChosen names h t = (place : ℕ) (c : IdCode) → slice_get h.codes place ≡ Some c → is_chosen t place ≡ selects_code (selected names h.declarations) c
+AreChosen names h t = (index : ℕ) (c : IdCode) → slice_get h.codes index ≡ Some c → is_chosen t index ≡ selects_code (selected names h.declarations) c
 
 -- so they are, beside those that were chosen before
 abbrev pub ChoosesMore : List (List ℕ) → Header → (old new : List ℕ) → Type 0
-ChoosesMore names h old new = (place : ℕ) (c : IdCode) → slice_get h.codes place ≡ Some c → is_chosen new place ≡ (is_chosen old place || selects_code (selected names h.declarations) c)
+ChoosesMore names h old new = (index : ℕ) (c : IdCode) → slice_get h.codes index ≡ Some c → is_chosen new index ≡ (is_chosen old index || selects_code (selected names h.declarations) c)
 
 -- each name selects something, and the selected variables are marked, and their codes chosen
 pub record AreSelected (names : List (List ℕ)) (h : Header) (marks : List ℕ) (t : List ℕ) : Type 0 where
@@ -24,10 +24,10 @@ pub record AreSelected (names : List (List ℕ)) (h : Header) (marks : List ℕ)
 
 -- the answer is that some name selects nothing
 abbrev pub IsUnmatched : Stop → Type 0
-IsUnmatched (Unmatched place) = Unit {0}
+IsUnmatched (Unmatched index) = Unit {0}
 IsUnmatched stop = ⊥
 
 -- and it is the first such
 abbrev pub IsFirstUnmatched : List (List ℕ) → Header → Stop → Type 0
-IsFirstUnmatched names h (Unmatched place) = first_unmatched names h.declarations ≡ Some place
+IsFirstUnmatched names h (Unmatched index) = first_unmatched names h.declarations ≡ Some index
 IsFirstUnmatched names h stop = ⊥

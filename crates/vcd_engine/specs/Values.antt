@@ -19,11 +19,11 @@ table_bytes v = min (sum_by value_bytes v.codes.now) (2 ^ 64 - 1)
 -- of each code that is no event the table holds this value
 pub record HasValues (t : Table) (h : Header) (value : IdCode → Option Value) : Type 0 where
   pub laid : IsLaidOut t
-  pub each : (place : ℕ) (c : IdCode) → slice_get h.codes place ≡ Some c → c.event ≡ false → value_at_size c.size (held_at t place) ≡ value c
+  pub each : (index : ℕ) (c : IdCode) → slice_get h.codes index ≡ Some c → c.event ≡ false → value_at_size c.size (held_at t index) ≡ value c
 
 -- each code has room for all values that it may have
 abbrev pub HasShares : Table → Header → Type 0
-HasShares t h = (place : ℕ) (c : IdCode) → slice_get h.codes place ≡ Some c → (k : Kept) × (kept_at t place ≡ Some k) × (share_of c.size ≤ k.room)
+HasShares t h = (index : ℕ) (c : IdCode) → slice_get h.codes index ≡ Some c → (k : Kept) × (kept_at t index ≡ Some k) × (share_of c.size ≤ k.room)
 
 -- the table holds the value of each code that is no event after these items, and has room for its
 -- next ones

@@ -16,15 +16,15 @@ use Rattle.vcd_body.specs.declared.item.Regs.{Regs}
 use Rattle.vcd_engine.specs.Ahead.{StandsAhead}
 use Rattle.vcd_engine.specs.Engine.{request_in}
 use Rattle.vcd_engine.specs.Next.{HasLine, TakesNext, Walk, walk_at}
-use Rattle.vcd_engine.specs.Pieces.{GrowsBut, IsLine, IsPart, held_in}
+use Rattle.vcd_engine.specs.Pieces.{GrowsBut, IsLine, IsPart, pending_in}
 use Rattle.vcd_engine.specs.Room.{SameTask}
-use Rattle.vcd_engine.specs.declared.machine.Machine.{Machine}
-use Rattle.vcd_engine.specs.declared.machine.walk.WalkState.{WalkState}
+use Rattle.vcd_engine.specs.declared.task_state.TaskState.{TaskState}
+use Rattle.vcd_engine.specs.declared.task_state.walk.WalkState.{WalkState}
 use Rattle.vcd_engine.specs.declared.pieces.Pieces.{Pieces}
 
 -- from a position on some of the items that lie ahead were taken, and what is due with them was
--- written, but for what is held
-pub record HasWalked (v : HeadView) (a : Ahead) (r : Regs) (m : Machine) (begin : Device) (w : Walk) (p : Pieces) (out : Device) (m' : Machine) : Type 0 where
+-- written, but for what is pending
+pub record HasWalked (v : HeadView) (a : Ahead) (r : Regs) (m : TaskState) (begin : Device) (w : Walk) (p : Pieces) (out : Device) (m' : TaskState) : Type 0 where
   pub over : LooksOver (longest_of a) (bytes_of a) w.ahead
   pub within : passed_of w.ahead ≤ length (bytes_of w.ahead)
   pub failures : out.failures ≡ begin.failures
@@ -33,18 +33,18 @@ pub record HasWalked (v : HeadView) (a : Ahead) (r : Regs) (m : Machine) (begin 
   pub line : HasLine w
   pub stands : (h : Header) (lines : ℕ) (before : List BodyItem) → IsViewOf v h → length before + length (bytes_of a) < 2 ^ 63 → StandsAhead (request_in m) h (longest_of a) lines (bytes_of a) before (passed_of a) [] m r
       → (items : List BodyItem) × StandsAhead (request_in m) h (longest_of a) lines (bytes_of a) before (passed_of w.ahead) items m' w.regs
-      × GrowsBut begin out (held_in (bytes_of a) p) (open_text (request_in m) h before) (open_text (request_in m) h (before ++ items))
+      × GrowsBut begin out (pending_in (bytes_of a) p) (open_text (request_in m) h before) (open_text (request_in m) h (before ++ items))
 
 -- where a walk is, by what it has at hand
 abbrev pub walk_of : {L C : Type 0} → (L → ℕ × ℕ) → Stage (WalkState L) C → Walk
 walk_of line s = walk_at s.ahead s.regs (line s.visit.line)
 
 -- the walk of a command can go on in these bytes, with these registers
-pub record CanTake {L C : Type 0} (line_of : L → ℕ × ℕ) (is_ready : C → Bool) (held : WalkState L) (command : C) (bytes : List ℕ) (r : Regs) : Type 0 where
+pub record CanTake {L C : Type 0} (line_of : L → ℕ × ℕ) (is_ready : C → Bool) (state : WalkState L) (command : C) (bytes : List ℕ) (r : Regs) : Type 0 where
   pub ready : is_ready command ≡ true
-  pub part : IsPart bytes held.pieces
-  pub line : IsLine bytes (line_of held.line) r.time
+  pub part : IsPart bytes state.pieces
+  pub line : IsLine bytes (line_of state.line) r.time
 
 -- one item more was taken ahead by a command
-abbrev pub TakesHeld : {L C E : Type 0} → (L → ℕ × ℕ) → (C → Machine) → HeadView → Stage (WalkState L) C → Stage (WalkState L) C → Result (Unit {0}) E → Type 0
-TakesHeld line machine v s t result = TakesNext v (walk_of line s) (walk_of line t) s.visit.pieces t.visit.pieces s.out t.out (machine s.command) (machine t.command) result
+abbrev pub TakesByTask : {L C E : Type 0} → (L → ℕ × ℕ) → (C → TaskState) → HeadView → Stage (WalkState L) C → Stage (WalkState L) C → Result (Unit {0}) E → Type 0
+TakesByTask line task_state v s t result = TakesNext v (walk_of line s) (walk_of line t) s.visit.pieces t.visit.pieces s.out t.out (task_state s.command) (task_state t.command) result

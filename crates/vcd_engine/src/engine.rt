@@ -5,8 +5,8 @@ ghost use Rattle.vcd_engine.specs.Waits.{StepsOrStops};
 ghost use Rattle.vcd_body.specs.Whole.{IsPrompt};
 ghost use Rattle.vcd_text.specs.Feed.{source_of};
 
-use crate::machine::Machine;
 use crate::task::{Room, Task};
+use crate::task_state::TaskState;
 use vcd_body::{
     Done, Item, More, Regs, Stop, change_text, keyword_comes, next_item, pass_items, pass_on,
 };
@@ -19,7 +19,7 @@ use vcd_view::HeadView;
 pub struct Engine<'v, 'n, 'r> {
     view: HeadView<'v>,
     regs: Regs,
-    machine: Machine<'n, 'r>,
+    task_state: TaskState<'n, 'r>,
     going: bool,
 }
 
@@ -48,7 +48,7 @@ fn text_of_item<'f, S: Source>(feed: &'f Feed<'_, '_, '_, '_, S>, item: Item) ->
 /// A task that has begun. With its view it is an engine.
 #[derive(Drop)]
 pub struct Begun<'n, 'r> {
-    machine: Machine<'n, 'r>,
+    task_state: TaskState<'n, 'r>,
 }
 
 impl<'n, 'r> Begun<'n, 'r> {
@@ -69,8 +69,8 @@ impl<'n, 'r> Begun<'n, 'r> {
         ensures begins { BeginsAs request_of_begun room_of_begun (request_of task.entry)
             (room_size room.entry) (W.device out.old) (W.device out.new) result }
     {
-        let machine = Machine::start(task, view, room, out)?;
-        Ok(Begun { machine })
+        let task_state = TaskState::start(task, view, room, out)?;
+        Ok(Begun { task_state })
     }
 }
 
@@ -87,7 +87,7 @@ impl<'v, 'n, 'r> Engine<'v, 'n, 'r> {
         Engine {
             view,
             regs: Regs::new(),
-            machine: begun.machine,
+            task_state: begun.task_state,
             going: true,
         }
     }
@@ -128,7 +128,7 @@ impl<'v, 'n, 'r> Engine<'v, 'n, 'r> {
             return Ok(More::Ended(Done::Whole));
         }
         let text = text_of_item(feed, item);
-        match self.machine.take(view, self.regs, item, text, out) {
+        match self.task_state.take(view, self.regs, item, text, out) {
             Ok(false) => Ok(More::Again),
             Ok(true) => {
                 self.going = false;
@@ -165,7 +165,9 @@ impl<'v, 'n, 'r> Engine<'v, 'n, 'r> {
         ensures holds { SameHold self.old self.new }
         ensures view { parts self.new.view ≡ parts self.old.view }
     {
-        let taken = self.machine.take_ahead(view, self.regs, feed.ahead(), out);
+        let taken = self
+            .task_state
+            .take_ahead(view, self.regs, feed.ahead(), out);
         self.regs = taken.regs;
         pass_items(feed, taken.passed);
         match taken.written {
@@ -263,7 +265,7 @@ impl<'v, 'n, 'r> Engine<'v, 'n, 'r> {
             (close_text (request_of_engine self.now) h items) result }
         ensures counts { Counts (W.device out.old) (W.device out.new) result }
     {
-        self.machine.close(self.view, self.regs, out)
+        self.task_state.close(self.view, self.regs, out)
     }
 
     /// Takes all items that are left, to the end of the run.

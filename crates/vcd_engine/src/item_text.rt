@@ -1,10 +1,10 @@
 //! The text of kept items: each as its line, after the line of its time unless that was written
 //! already.
 ghost use Rattle.std.specs.Prelude.{◌≡◌, ℕ, ◌-◌, ◌^◌, ◌<◌, ◌∷◌, [], List, Some, IfOk};
-ghost use Rattle.vcd_engine.specs.Names.{as_line, BodyItem, closing, Counts, Entry, HasGoodText, HasWritten, Header, IsInPlace, IsItem, IsLine, IsPart, IsViewOf, item_line, keyword_text, LastTells, model_section, PutsBehind, PutsEntry, PutsPieces, PutsWhere, section_keyword, TakenBy, Takes, time_due, times_with};
+ghost use Rattle.vcd_engine.specs.Names.{as_line, BodyItem, closing, Counts, Entry, HasGoodText, HasWritten, Header, IsSpanned, IsItem, IsLine, IsPart, IsViewOf, item_line, keyword_text, LastTells, model_section, PutsBehind, PutsEntry, PutsPieces, PutsWhere, section_keyword, TakenBy, Takes, time_due, times_with};
 
-use crate::machine::walk::Copying;
-use crate::pieces::{InPlace, Pieces};
+use crate::pieces::{Pieces, SpannedItem};
+use crate::task_state::walk::Copying;
 use vcd_body::{Id, Item, Section, put_change, put_time_unless};
 use vcd_text::{Sink, WriteFailed, put};
 use vcd_view::HeadView;
@@ -92,20 +92,20 @@ impl ItemText {
         put_item(view, item, text, out)
     }
 
-    /// Writes an item as an entry at this time, after what is held. If its bytes are its line, they
+    /// Writes an item as an entry at this time, after what is pending. If its bytes are its line, they
     /// are held, and so is the line of the time, if that is in the chunk.
     #[inline(always)]
-    pub(crate) fn put_in_place<W: Sink>(
+    pub(crate) fn put_spanned<W: Sink>(
         &mut self,
         view: HeadView<'_>,
         time: u64,
-        item: InPlace<'_>,
+        item: SpannedItem<'_>,
         line: &Copying,
         pieces: &mut Pieces,
         out: &mut W,
     ) -> Result<(), WriteFailed>
         requires failures { (W.device out.old).failures < 2 ^ 64 - 1 }
-        requires place { IsInPlace view item }
+        requires span { IsSpanned view item }
         requires line { IsLine item.bytes.now (line.now.from, line.now.to) time }
         requires part { IsPart item.bytes.now pieces.old }
         ensures text { PutsEntry (λ due. PutsPieces item.entry.bytes.now pieces.old pieces.new
@@ -118,13 +118,13 @@ impl ItemText {
             pieces.flush(item.bytes, out)?;
             return self.put(view, time, item.plain.item, item.plain.text, out);
         };
-        self.hold_time(time, item.bytes, line, pieces, out)?;
+        self.add_time(time, item.bytes, line, pieces, out)?;
         pieces.append_parts(item.bytes, item.from, item.to, n, out)
     }
 
-    /// Writes the line of a time, unless it was written last, after what is held.
+    /// Writes the line of a time, unless it was written last, after what is pending.
     #[inline(always)]
-    fn hold_time<W: Sink>(
+    fn add_time<W: Sink>(
         &mut self,
         time: u64,
         bytes: &[u8],

@@ -21,7 +21,7 @@
 //!
 //! - `task`: `Task`, `Room`, `Task::need`
 //! - `engine`: `Begun`, `Engine`, and `run_task`, the one loop over items. It names no command
-//! - `machine`, and under it `check`, `pick`, `cut`, `sample`, `edges`: what each task keeps
+//! - `task_state`, and under it `check`, `pick`, `cut`, `sample`, `edges`: what each task keeps
 //!   between items, and what it does at the begin, with an item and at the end; `walk`:
 //!   `AheadTask`, what a task does with items that are whole in the chunk, and the one loop over
 //!   these
@@ -36,7 +36,7 @@
 //! - `sample_lines`: the lines of a sample; `leads`: the flags that lead from one row with a line
 //!   to the next
 //!
-//! In `specs/` callers read `Run` (`MayRun`, `RunsTask`, `Follows`), `Engine`, `Step` (`MayStep`,
+//! In `specs/` callers read `TaskRun` (`MayRun`, `RunsTask`, `Follows`), `Engine`, `Step` (`MayStep`,
 //! `Steps`, `StepsOver`) and `Room` (`BeginsAs`). How a run ends, `Done`, `More` and `Stop`, is of
 //! `vcd_body`. `Names` brings what the clauses cite under one path.
 //!
@@ -54,7 +54,6 @@ mod commands;
 mod engine;
 mod item_text;
 mod leads;
-mod machine;
 mod pieces;
 mod report;
 mod rows;
@@ -62,6 +61,7 @@ mod sample_lines;
 mod selection;
 mod tally;
 mod task;
+mod task_state;
 mod values;
 
 pub use commands::{check, cut, edges, pick, sample};

@@ -1,6 +1,6 @@
 //! Text that is due and is in the chunk already: pieces of it that follow each other are one.
 ghost use Rattle.std.specs.Prelude.{◌≡◌, ℕ, ◌+◌, ◌-◌, ◌^◌, ◌<◌, ◌≤◌, List, [], length, slice_range, IfErr, IfOk, IfSome};
-ghost use Rattle.vcd_engine.specs.Names.{BodyItem, bytes_without, HasGoodText, Header, HeadView, held_in, IsInPlace, IsItem, IsLine, IsNoMark, IsPart, IsViewOf, item_line, LiesBetween, Puts, PutsBehind, time_line};
+ghost use Rattle.vcd_engine.specs.Names.{BodyItem, bytes_without, HasGoodText, Header, HeadView, pending_in, IsSpanned, IsItem, IsLine, IsNoMark, IsPart, IsViewOf, item_line, LiesBetween, Puts, PutsBehind, time_line};
 
 use vcd_body::{Extent, Item, Plain, left_out, put_time};
 use vcd_text::{Sink, WriteFailed, put_front};
@@ -8,21 +8,21 @@ use vcd_text::{Sink, WriteFailed, put_front};
 /// An item that is no time mark, as a command takes it. A change ahead has the bytes from `from` up
 /// to `to`; an item that the feed gave has none, and no size.
 #[derive(Clone, Copy)]
-pub(crate) struct InPlace<'a> {
+pub(crate) struct SpannedItem<'a> {
     pub(crate) plain: Plain<'a>,
     pub(crate) bytes: &'a [u8],
     pub(crate) from: usize,
     pub(crate) to: usize,
 }
 
-impl<'a> InPlace<'a> {
+impl<'a> SpannedItem<'a> {
     /// Returns the change that lies at this extent.
     #[inline(always)]
-    pub(crate) fn of(plain: Plain<'a>, extent: Extent<'a>) -> InPlace<'a>
+    pub(crate) fn of(plain: Plain<'a>, extent: Extent<'a>) -> SpannedItem<'a>
         ensures plain { result.plain ≡ plain.entry }
-        ensures place { LiesBetween extent.entry.from extent.entry.to result }
+        ensures span { LiesBetween extent.entry.from extent.entry.to result }
     {
-        InPlace {
+        SpannedItem {
             plain,
             bytes: extent.to.bytes(),
             from: extent.from.passed(),
@@ -32,12 +32,12 @@ impl<'a> InPlace<'a> {
 
     /// Returns an item that the feed gave with this text.
     #[inline(always)]
-    pub(crate) fn given(item: Item, text: &'a [u8]) -> InPlace<'a>
+    pub(crate) fn given(item: Item, text: &'a [u8]) -> SpannedItem<'a>
         ensures item { result.plain.item ≡ item }
         ensures text { result.plain.text ≡ text.entry }
         ensures bytes { result.bytes.now ≡ [] }
-        ensures place { (view : HeadView) → HasGoodText view.codes.now text.now item
-            → IsNoMark item → IsInPlace view result }
+        ensures span { (view : HeadView) → HasGoodText view.codes.now text.now item
+            → IsNoMark item → IsSpanned view result }
     {
         let plain = Plain {
             item,
@@ -47,7 +47,7 @@ impl<'a> InPlace<'a> {
             code_at: 0,
             bits: None,
         };
-        InPlace {
+        SpannedItem {
             plain,
             bytes: &[],
             from: 0,
@@ -59,9 +59,9 @@ impl<'a> InPlace<'a> {
     /// line. With none its bytes may be the line all the same, or the feed gave it.
     #[inline(always)]
     pub(crate) fn left_out(self) -> Option<usize>
-        requires { (view : HeadView) × IsInPlace view self }
+        requires { (view : HeadView) × IsSpanned view self }
         ensures { IfSome result (λ k. (self.entry.from + 1 + k ≤ self.entry.to)
-            × ((view : HeadView) (h : Header) (x : BodyItem) → IsInPlace view self.entry
+            × ((view : HeadView) (h : Header) (x : BodyItem) → IsSpanned view self.entry
             → IsViewOf view h → IsItem h.codes self.entry.plain.text.now self.entry.plain.item x
             → bytes_without self.entry.bytes.now self.entry.from self.entry.to k ≡ item_line x)) }
     {
@@ -92,24 +92,24 @@ pub(crate) struct Pieces {
 }
 
 impl Pieces {
-    /// Returns pieces of which none is held.
+    /// Returns pieces of which none is pending.
     #[inline(always)]
     pub(crate) fn new() -> Pieces
         ensures part { (bytes : List ℕ) → IsPart bytes result }
-        ensures held { (bytes : List ℕ) → held_in bytes result ≡ [] }
+        ensures pending { (bytes : List ℕ) → pending_in bytes result ≡ [] }
     {
         Pieces { from: 0, to: 0 }
     }
 
-    /// Writes what is held.
+    /// Writes what is pending.
     #[inline(always)]
     pub(crate) fn flush<W: Sink>(&mut self, bytes: &[u8], out: &mut W) -> Result<(), WriteFailed>
         requires failures { (W.device out.old).failures < 2 ^ 64 - 1 }
         requires part { IsPart bytes.now self.old }
-        ensures puts { Puts (W.device out.old) (W.device out.new) (held_in bytes.now self.old) result }
-        ensures held { IfOk result
-            (λ _. (held_in bytes.now self.new ≡ []) × IsPart bytes.now self.new) }
-        ensures some { IfErr result (λ _. 0 < length (held_in bytes.now self.old)) }
+        ensures puts { Puts (W.device out.old) (W.device out.new) (pending_in bytes.now self.old) result }
+        ensures pending { IfOk result
+            (λ _. (pending_in bytes.now self.new ≡ []) × IsPart bytes.now self.new) }
+        ensures some { IfErr result (λ _. 0 < length (pending_in bytes.now self.old)) }
     {
         if self.from < self.to {
             put_part(bytes, self.from, self.to, out)?;
@@ -118,8 +118,8 @@ impl Pieces {
         Ok(())
     }
 
-    /// Takes the part of the bytes that is due next: where it follows what is held, that grows, and
-    /// nothing is written. Else what was held is written.
+    /// Takes the part of the bytes that is due next: where it follows what is pending, that grows, and
+    /// nothing is written. Else what was pending is written.
     #[inline(always)]
     pub(crate) fn append<W: Sink>(
         &mut self,
@@ -169,7 +169,7 @@ impl Pieces {
     }
 
     /// Takes the line of a time, which is due next. If the bytes from `from` up to `to` are that
-    /// line, they are held; else that part is empty, and the line is written after what is held.
+    /// line, they are pending; else that part is empty, and the line is written after what is pending.
     #[inline(always)]
     pub(crate) fn append_time<W: Sink>(
         &mut self,

@@ -10,7 +10,7 @@ part_len n xs = length xs / n
 
 -- the part of the input at an index, where each has `len`
 abbrev pub part : ℕ → ℕ → List ℕ → List ℕ
-part len place xs = take len (drop (place * len) xs)
+part len index xs = take len (drop (index * len) xs)
 
 -- the windows are in n equal parts, and none of them is empty
 pub record AreParts (n : ℕ) (chunks tokens values : List ℕ) : Type 0 where
@@ -36,6 +36,6 @@ spot_of None rest chunk token = None
 
 -- what belongs to the input at an index, if there is one
 abbrev pub spot_at : {X : Type 0} → (X → Option (List ℕ)) → List Seat → List X → List ℕ → List ℕ → ℕ → Option Spot
-spot_at rest seats sources chunks tokens place =
-    spot_of (slice_get seats place) (option_map rest (slice_get sources place))
-    (part (part_len (length seats) chunks) place chunks) (part (part_len (length seats) tokens) place tokens)
+spot_at rest seats sources chunks tokens index =
+    spot_of (slice_get seats index) (option_map rest (slice_get sources index))
+    (part (part_len (length seats) chunks) index chunks) (part (part_len (length seats) tokens) index tokens)

@@ -51,7 +51,7 @@ Belongs o names out out' (Ok Early) = ⊥
 Belongs o names out out' (Err (Faulty input line fault)) = (o ≡ fault_outcome o.output (name_at names input) (record { number = fault; line = line })) × ((fault == 31) ≡ false) × Writes out out' o.output
 Belongs o names out out' (Err (Read input)) = ((line : ℕ) × (o ≡ fault_outcome o.output (name_at names input) (record { number = 31; line = line }))) × Writes out out' o.output
 Belongs o names out out' (Err Write) = WritesSome out out' o.output
-Belongs o names out out' (Err (Unmatched place)) = ⊥
+Belongs o names out out' (Err (Unmatched index)) = ⊥
 
 -- After these headers and their tokens, a merge over these inputs has this outcome; `old` and `new`
 -- are their sources before and after it. Of each of them no more was read than what settles the

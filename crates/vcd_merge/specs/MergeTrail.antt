@@ -117,7 +117,7 @@ GoOn ds seats ds' seats' = (k : ℕ) (d' : Dump) (s' : Seat) → slice_get ds' k
 
 -- no other input that has not finished comes before this index of the input number k
 abbrev pub IsReached : List Header → List Dump → List Seat → ℕ → Key → Type 0
-IsReached hs ds seats k place = (j : ℕ) (d : Dump) (s : Seat) → j ≢ k → slice_get ds j ≡ Some d → slice_get seats j ≡ Some s → s.finished ≡ false → key_lt place (key_after (factor hs d.header) j d.items) ≡ true
+IsReached hs ds seats k key = (j : ℕ) (d : Dump) (s : Seat) → j ≢ k → slice_get ds j ≡ Some d → slice_get seats j ≡ Some s → s.finished ≡ false → key_lt key (key_after (factor hs d.header) j d.items) ≡ true
 
 -- of the input number k, of which this is left, was read on its turn, no more than a chunk past a
 -- token that came after these items

@@ -4,7 +4,7 @@ ghost use Rattle.vcd_merge.specs.Names.{AllWait, AreBegun, AreMarked, AreParts, 
 
 use crate::beginning::set_seats;
 use crate::merge_state::Merge;
-use crate::merging::run_of;
+use crate::merging::resume_turn;
 use crate::order::{Turn, TurnOrder};
 use crate::seat::Seat;
 use crate::windows::Windows;
@@ -34,44 +34,44 @@ fn greatest_time(seats: &[Seat]) -> Option<u64>
 #[inline(always)]
 fn run_turn<S: Source, W: Sink>(
     heads: &[Head],
-    run: Turn,
+    turn: Turn,
     seats: &mut [Seat],
     sources: &mut [S],
     windows: &mut Windows<'_>,
     written: &mut Option<u64>,
     out: &mut W,
 ) -> Result<(), Stop>
-    requires input { run.input < length seats.old }
+    requires input { turn.input < length seats.old }
     requires reads { All (λ s. S.failures s < 2 ^ 64 - 1) sources.old }
     requires out_failures { (W.device out.old).failures < 2 ^ 64 - 1 }
     requires ready { IsReady (standing heads.now seats.old written.old sources.old windows.old) }
-    requires unfinished { (s : Seat) → slice_get seats.old run.input ≡ Some s → s.finished ≡ false }
+    requires unfinished { (s : Seat) → slice_get seats.old turn.input ≡ Some s → s.finished ≡ false }
     ensures turns { (scale first : ℕ) (l : Lane) (items : List BodyItem) (h : Head) (s : Spot)
-        → slice_get heads.now run.input ≡ Some h → Views (shown h) l.header
-        → spot_at S.rest seats.old sources.old windows.old.chunks.now windows.old.tokens.now run.input
+        → slice_get heads.now turn.input ≡ Some h → Views (shown h) l.header
+        → spot_at S.rest seats.old sources.old windows.old.chunks.now windows.old.tokens.now turn.input
         ≡ Some s → AtSeat scale first l items s
-        → (s' : Spot) × (spot_at S.rest seats.new sources.new windows.new.chunks.now windows.new.tokens.now run.input ≡ Some s')
-        × TurnsAt S.rest S.failures sources.old run.input scale first l run.before items written.old written.new s s'
+        → (s' : Spot) × (spot_at S.rest seats.new sources.new windows.new.chunks.now windows.new.tokens.now turn.input ≡ Some s')
+        × TurnsAt S.rest S.failures sources.old turn.input scale first l turn.before items written.old written.new s s'
         (W.device out.old) (W.device out.new) result }
     ensures touches { Touches S.rest S.failures
         (standing heads.now seats.old written.old sources.old windows.old)
         (standing heads.now seats.new written.new sources.new windows.new)
-        (W.device out.old) (W.device out.new) run.input result }
+        (W.device out.old) (W.device out.new) turn.input result }
     ensures last { EndsAtReadOf (map S.last_failed sources.new) result }
-    ensures kept { (j : ℕ) → j ≢ run.input → slice_get seats.new j ≡ slice_get seats.old j }
+    ensures kept { (j : ℕ) → j ≢ turn.input → slice_get seats.new j ≡ slice_get seats.old j }
     ensures sources { length sources.new ≡ length sources.old }
     ensures seated { IfOk result
         (λ _. AreSeated windows.new.chunks.now windows.new.tokens.now seats.new) }
     ensures left { IfOk result (λ _. left_of seats.new < left_of seats.old) }
 {
-    let input = run.input;
+    let input = turn.input;
     let chunk = windows.chunks.len() / seats.len();
     let limit = windows.tokens.len() / seats.len();
     let chunk_at = input * chunk;
     let token_at = input * limit;
-    run_of(
+    resume_turn(
         &heads[input],
-        run,
+        turn,
         &mut sources[input],
         &mut windows.chunks[chunk_at..chunk_at + chunk],
         &mut windows.tokens[token_at..token_at + limit],
@@ -156,7 +156,7 @@ fn run_next<S: Source, W: Sink>(
     requires ready { IsReady (standing heads.now seats.old written.old sources.old windows.old) }
     requires few { length seats.old ≤ 64 }
     requires order { AllWait seats.old order.old.inputs order.old.len }
-    ensures runs { Runs S.rest S.failures order.old.most
+    ensures runs { Runs S.rest S.failures order.old.until
         (standing heads.now seats.old written.old sources.old windows.old)
         (standing heads.now seats.new written.new sources.new windows.new)
         (W.device out.old) (W.device out.new) result }
@@ -189,7 +189,7 @@ fn run_step<S: Source, W: Sink>(
     requires out_failures { (W.device out.old).failures < 2 ^ 64 - 1 }
     requires ready { IsReady (standing_of merge.old sources.old windows.old) }
     requires order { AllWait merge.old.seats.now order.old.inputs order.old.len }
-    ensures runs { Runs S.rest S.failures order.old.most
+    ensures runs { Runs S.rest S.failures order.old.until
         (standing_of merge.old sources.old windows.old)
         (standing_of merge.new sources.new windows.new)
         (W.device out.old) (W.device out.new) result }
@@ -215,13 +215,13 @@ fn run_step<S: Source, W: Sink>(
 /// Returns the order of these inputs, whose seats stay as they are. Their runs end at this time at
 /// the latest.
 // They come as a `&mut`: of what a shared borrow of a field reads a proof learns nothing.
-fn order_of(seats: &mut [Seat], most: u64) -> TurnOrder
+fn order_of(seats: &mut [Seat], until: u64) -> TurnOrder
     requires { length seats.old ≤ 64 }
     ensures order { AllWait seats.old result.inputs result.len }
-    ensures most { result.most ≡ most }
+    ensures until { result.until ≡ until }
     ensures stay { seats.new ≡ seats.old }
 {
-    TurnOrder::of(seats, most)
+    TurnOrder::of(seats, until)
 }
 
 /// Takes the next item of the input whose turn it is, and writes what is due after it; at the end

@@ -52,7 +52,7 @@ fn put_due_time<W: Sink>(
 #[cold]
 #[inline(never)]
 fn put_unsized<W: Sink>(
-    place: usize,
+    code: usize,
     form: Form,
     text: &[u8],
     codes: &[Code],
@@ -63,21 +63,21 @@ fn put_unsized<W: Sink>(
     out: &mut W,
 ) -> Result<(), WriteFailed>
     requires failures { (W.device out.old).failures < 2 ^ 64 - 1 }
-    requires sound { IsGoodText codes.now place form text.now }
+    requires sound { IsGoodText codes.now code form text.now }
     ensures takes { (r : Regs) → inside ≡ is_some r.section
-        → PutsDue codes.now text.now (item.Change place form) r time first
+        → PutsDue codes.now text.now (item.Change code form) r time first
         written.old written.new (W.device out.old) (W.device out.new) result }
     ensures counts { Counts (W.device out.old) (W.device out.new) result }
 {
-    let Some(code) = code_in(codes, place) else {
+    let Some(declared) = code_in(codes, code) else {
         return Ok(());
     };
-    if is_left_out(code.event, inside) {
+    if is_left_out(declared.event, inside) {
         return Ok(());
     }
     put_due_time(time, written, out)?;
-    let number = first.saturating_add(place as u64);
-    put_renamed(code.size, code.event, form, text, number, out)
+    let number = first.saturating_add(code as u64);
+    put_renamed(declared.size, declared.event, form, text, number, out)
 }
 
 /// What a walk over the items of an input has at hand.
@@ -293,9 +293,9 @@ fn take_item<S: Source, W: Sink>(
 /// on before more is read.
 // Most items so cost no look at the seats and no new feed.
 #[inline(always)]
-fn take_run<S: Source, W: Sink>(
+fn take_turn<S: Source, W: Sink>(
     head: &Head,
-    run: Turn,
+    turn: Turn,
     feed: &mut Feed<'_, '_, '_, '_, S>,
     seat: &mut Seat,
     written: &mut Option<u64>,
@@ -307,22 +307,22 @@ fn take_run<S: Source, W: Sink>(
     requires open { HasNotFailed feed.old }
     ensures turns { (scale first : ℕ) (l : Lane) (items : List BodyItem)
         → Views (shown head.now) l.header → AtSeat scale first l items (spot_with seat.old feed.old)
-        → RunTurns S.rest S.failures run.input scale first l run.before
+        → RunTurns S.rest S.failures turn.input scale first l turn.before
         (stage_with items written.old seat.old feed.old (W.device out.old))
         written.new (spot_with seat.new feed.new) (W.device out.new) result }
     ensures moved { Moved S.failures feed.old feed.new seat.new result }
     ensures parked { seat.new.parked ≡ seat.old.parked }
     ensures same { SameSeat seat.old seat.new }
-    ensures named { NamesInput run.input result }
+    ensures named { NamesInput turn.input result }
     ensures writes { CountsWrites (W.device out.old) (W.device out.new) result }
 {
     'items: loop {
-        if take_ahead(head, run.before, feed, seat, written, out)? {
+        if take_ahead(head, turn.before, feed, seat, written, out)? {
             return Ok(());
         }
         pass_on(feed, out)?;
-        take_item(head, run.input, feed, seat, written, out)?;
-        if seat.finished || seat.time >= run.before {
+        take_item(head, turn.input, feed, seat, written, out)?;
+        if seat.finished || seat.time >= turn.before {
             return Ok(());
         }
     }
@@ -332,9 +332,9 @@ fn take_run<S: Source, W: Sink>(
 /// parked, takes an item, and those that follow while the time of the input is before the run's
 /// end, and is parked again.
 #[inline(always)]
-pub(crate) fn run_of<S: Source, W: Sink>(
+pub(crate) fn resume_turn<S: Source, W: Sink>(
     head: &Head,
-    run: Turn,
+    turn: Turn,
     source: &mut S,
     chunk: &mut [u8],
     token: &mut [u8],
@@ -352,7 +352,7 @@ pub(crate) fn run_of<S: Source, W: Sink>(
     requires unfinished { seat.old.finished ≡ false }
     ensures turns { (scale first : ℕ) (l : Lane) (items : List BodyItem) → Views (shown head.now) l.header
         → AtSeat scale first l items (spot seat.old (S.rest source.old) chunk.old token.old)
-        → RunTurns S.rest S.failures run.input scale first l run.before
+        → RunTurns S.rest S.failures turn.input scale first l turn.before
         (stage items written.old seat.old source.old chunk.old token.old (W.device out.old))
         written.new (spot seat.new (S.rest source.new) chunk.new token.new)
         (W.device out.new) result }
@@ -360,7 +360,7 @@ pub(crate) fn run_of<S: Source, W: Sink>(
     ensures same { SameSeat seat.old seat.new }
     ensures reads { S.failures source.new ≡ S.failures source.old + reads_failed result }
     ensures last { EndsAtRead (S.last_failed source.new) result }
-    ensures named { NamesInput run.input result }
+    ensures named { NamesInput turn.input result }
     ensures writes { CountsWrites (W.device out.old) (W.device out.new) result }
     ensures progress { IfOk result
         (λ _. seat.new.finished ≡ false
@@ -368,7 +368,7 @@ pub(crate) fn run_of<S: Source, W: Sink>(
     ensures bounded { parked_seen seat.new.parked < 2 ^ 63 }
 {
     let mut feed = Feed::resume(source, chunk, token, value, seat.parked);
-    let answer = take_run(head, run, &mut feed, seat, written, out);
+    let answer = take_turn(head, turn, &mut feed, seat, written, out);
     seat.parked = feed.parked();
     answer
 }

@@ -51,7 +51,7 @@ pub(crate) struct TurnOrder {
     inputs: [u8; 64],
     len: usize,
     /// No run goes on once the time of its input is this one.
-    most: u64,
+    until: u64,
     ghost within: { len ≤ 64 },
 }
 
@@ -61,7 +61,7 @@ impl TurnOrder {
     /// Returns the index at which an input that is not in the order goes: from there on all come
     /// before it, and below it none.
     #[inline(always)]
-    fn place_for(&self, input: usize, seats: &[Seat]) -> usize
+    fn index_for(&self, input: usize, seats: &[Seat]) -> usize
         requires input { input < length seats.now }
         requires order { MayJoin seats.now input self.now.inputs self.now.len }
         ensures within { result ≤ self.now.len }
@@ -98,12 +98,12 @@ impl TurnOrder {
         ensures last { IsOrder seats.now input input self.old.inputs self.old.len
             → IsOrder seats.now (input + 1) (input + 1) self.new.inputs self.new.len }
         ensures one { self.new.len ≡ self.old.len + 1 }
-        ensures most { self.new.most ≡ self.old.most }
+        ensures until { self.new.until ≡ self.old.until }
     {
-        let place = self.place_for(input, seats);
+        let index = self.index_for(input, seats);
         let old = self.inputs;
-        self.inputs[place + 1..self.len + 1].copy_from_slice(&old[place..self.len]);
-        self.inputs[place] = input as u8;
+        self.inputs[index + 1..self.len + 1].copy_from_slice(&old[index..self.len]);
+        self.inputs[index] = input as u8;
         self.len += 1;
     }
 
@@ -119,7 +119,7 @@ impl TurnOrder {
         ensures last { IsOrder seats.now input input self.old.inputs self.old.len
             → IsOrder seats.now (input + 1) (input + 1) self.new.inputs self.new.len }
         ensures few { self.new.len ≤ self.old.len + 1 }
-        ensures most { self.new.most ≡ self.old.most }
+        ensures until { self.new.until ≡ self.old.until }
     {
         if !seats[input].finished {
             self.insert(input, seats);
@@ -127,15 +127,15 @@ impl TurnOrder {
     }
 
     /// Returns all inputs that have not finished, whose runs end at this time at the latest.
-    pub(crate) fn of(seats: &[Seat], most: u64) -> TurnOrder
+    pub(crate) fn of(seats: &[Seat], until: u64) -> TurnOrder
         requires { length seats.now ≤ 64 }
         ensures order { AllWait seats.now result.inputs result.len }
-        ensures most { result.most ≡ most }
+        ensures until { result.until ≡ until }
     {
         let mut order = TurnOrder {
             inputs: [0; 64],
             len: 0,
-            most,
+            until,
         };
         for input in 0..seats.len() {
             order.put(input, seats);
@@ -152,17 +152,17 @@ impl TurnOrder {
         self.len == 0
     }
 
-    /// Returns the time before which an input comes before the first `places` that wait.
+    /// Returns the time before which an input comes before the first `count` that wait.
     #[inline(always)]
-    fn end_of(&self, input: usize, places: usize, seats: &[Seat]) -> u64
-        requires places { places ≤ self.now.len }
-        requires order { IsOrder seats.now (length seats.now) input self.now.inputs places }
+    fn end_of(&self, input: usize, count: usize, seats: &[Seat]) -> u64
+        requires count { count ≤ self.now.len }
+        requires order { IsOrder seats.now (length seats.now) input self.now.inputs count }
         ensures { IsFirstBefore seats.now input result }
     {
-        if places == 0 {
+        if count == 0 {
             return u64::MAX;
         }
-        end_before(seats, input, self.inputs[places - 1] as usize)
+        end_before(seats, input, self.inputs[count - 1] as usize)
     }
 
     /// Takes out the next input: it is its turn. None where all have finished.
@@ -172,7 +172,7 @@ impl TurnOrder {
         ensures run { MatchOption result (All (λ (s : Seat). s.finished ≡ true) seats.now)
             (λ run. IsNext seats.now run.input × IsFirstBefore seats.now run.input run.before
             × IsOrder seats.now (length seats.now) run.input self.new.inputs self.new.len) }
-        ensures most { IfSome result (λ run. run.before ≤ self.old.most) }
+        ensures until { IfSome result (λ run. run.before ≤ self.old.until) }
         ensures room { IfSome result (λ _. self.new.len < 64) }
     {
         if self.len == 0 {
@@ -180,7 +180,7 @@ impl TurnOrder {
         }
         self.len -= 1;
         let input = self.inputs[self.len] as usize;
-        let before = self.end_of(input, self.len, seats).min(self.most);
+        let before = self.end_of(input, self.len, seats).min(self.until);
         Some(Turn { input, before })
     }
 }

@@ -7,7 +7,7 @@ pub use Rattle.vcd_body.specs.declared.answer.Stop
 -- the commands over one dump
 pub use Rattle.vcd_engine.specs.Engine
 pub use Rattle.vcd_engine.specs.Room
-pub use Rattle.vcd_engine.specs.Run
+pub use Rattle.vcd_engine.specs.TaskRun
 pub use Rattle.vcd_engine.specs.Step
 pub use Rattle.vcd_engine.specs.declared.task.Task
 -- a merge

@@ -23,7 +23,7 @@ use Rattle.vcd_text.specs.Feed.{HasGiven, limit_of}
 use Rattle.vcd_text.specs.declared.device.Source.{Ghosts}
 use Rattle.vcd_text.specs.declared.feed.Feed.{Feed}
 use Rattle.vcd_text.proofs.Writes.{appends-none}
-use Rattle.vcd_engine.specs.Run.{Belongs, Follows, IsRefused, is_early}
+use Rattle.vcd_engine.specs.TaskRun.{Belongs, Follows, IsRefused, is_early}
 use Rattle.vcd_body.specs.Answer.{EndsAtRead as EndsAtStop, reads_failed, writes_failed}
 use Rattle.vcd_body.specs.declared.answer.Done.{Done}
 use Rattle.vcd_body.specs.declared.answer.Stop.{Stop}

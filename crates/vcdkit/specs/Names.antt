@@ -14,7 +14,7 @@ pub use Rattle.vcd_body.specs.declared.answer.Stop.TheVariants.{Write}
 pub use Rattle.vcd_words.specs.Job.{HasTicks, is_asked, is_merge, model_want, names_asked}
 pub use Rattle.vcd_engine.specs.Engine.{request_of as request_of_task}
 pub use Rattle.vcd_engine.specs.Room.{AnyRoom, AreWithinBound, KeepsBound, room_size}
-pub use Rattle.vcd_engine.specs.Run.{Does}
+pub use Rattle.vcd_engine.specs.TaskRun.{Does}
 pub use Rattle.vcd_merge.specs.MergeParts.{SameLengths}
 pub use Rattle.vcdkit.specs.Calls.{AreReaders, EndsSo, FailOnce, InputEnds, JobEnds, MayFailOnce, Merges, RunsJob, WantEnds}
 pub use Rattle.vcdkit.specs.Failure.{CountsAt, CountsReadsOf, CountsWrites, end_of, EndsAtRead, EndsAtReadOf, failure_of, head_failure, merge_end, stop_failure, writes_failed}

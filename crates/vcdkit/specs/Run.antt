@@ -12,7 +12,7 @@ use Rattle.vcd_model.specs.SettledMerge.{Seen, is_settled_merge}
 use Rattle.vcd_text.specs.Answer.{whole}
 use Rattle.vcd_text.specs.Device.{Device, Supply, Writes, WritesSome}
 use Rattle.vcd_text.specs.ReadAhead.{ReadsAsNeeded}
-use Rattle.vcd_engine.specs.Run.{Belongs}
+use Rattle.vcd_engine.specs.TaskRun.{Belongs}
 use Rattle.vcd_body.specs.Answer.{IsLeft}
 use Rattle.vcd_body.specs.declared.answer.Done.{Done}
 use Rattle.vcd_body.specs.declared.answer.Stop.TheVariants.{Dump, Read, Write, Unmatched}

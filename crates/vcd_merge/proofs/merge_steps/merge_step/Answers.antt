@@ -3,7 +3,7 @@ use Rattle.vcd_merge.proofs.MergeTrails.{one_step}
 use Rattle.vcd_merge.proofs.merge_steps.merge_step.Goals as goal
 
 pub returns-clause-gives : goal.returns-clause-gives
-returns-clause-gives g c = rw (sym c.order_of-order.ensures.stay) (λ hs lanes ds holds. one_step g.S.Source.rest g.S.Source.failures hs lanes ds _ _ _ _ _ (c.run_step.ensures.runs.gives true hs lanes ds (λ e. c.order_of-order.ensures.most) holds))
+returns-clause-gives g c = rw (sym c.order_of-order.ensures.stay) (λ hs lanes ds holds. one_step g.S.Source.rest g.S.Source.failures hs lanes ds _ _ _ _ _ (c.run_step.ensures.runs.gives true hs lanes ds (λ e. c.order_of-order.ensures.until) holds))
 
 pub returns-clause-ready : goal.returns-clause-ready
 returns-clause-ready g c = c.run_step.ensures.runs.leaves.ready

@@ -16,16 +16,16 @@ returns-clause-turns g c = λ scale first l items h s there views at is.
     let seats = c.args.seats.now in
     let chunks = c.args.windows.now.chunks.now in
     let tokens = c.args.windows.now.tokens.now in
-    let h2 : c.args.run.input < length c.args.sources.now = omega arith in
-    let lc = c.run_of.auto.chunk ∙ lent_len (part_len (length seats) chunks) (length seats) c.args.run.input chunks c.requires.ready.parts.chunks_are c.requires.input in
-    let lt = c.run_of.auto.token ∙ lent_len (part_len (length seats) tokens) (length seats) c.args.run.input tokens c.requires.ready.parts.tokens_are c.requires.input in
-    let e = spot_lent g.S.Source.rest seats c.args.sources.now chunks tokens c.args.run.input s c.index-sources-input.result _ at c.requires.input h2 c.index-sources-input.is in
+    let h2 : c.args.turn.input < length c.args.sources.now = omega arith in
+    let lc = c.resume_turn.auto.chunk ∙ lent_len (part_len (length seats) chunks) (length seats) c.args.turn.input chunks c.requires.ready.parts.chunks_are c.requires.input in
+    let lt = c.resume_turn.auto.token ∙ lent_len (part_len (length seats) tokens) (length seats) c.args.turn.input tokens c.requires.ready.parts.tokens_are c.requires.input in
+    let e = spot_lent g.S.Source.rest seats c.args.sources.now chunks tokens c.args.turn.input s c.index-sources-input.result _ at c.requires.input h2 c.index-sources-input.is in
     let old = subst (AtSeat scale first l items) e is in
-    let same : shown c.index-heads-input.result ≡ shown h = ap shown (c.index-heads-input.is ∙ get_or_from_slice_get c.args.heads.now c.args.run.input h c.index-heads-input.result there) in
-    let told = c.run_of.ensures.turns scale first l items (subst (λ (x : HeadShown). Views x l.header) (sym same) views) old in (
+    let same : shown c.index-heads-input.result ≡ shown h = ap shown (c.index-heads-input.is ∙ get_or_from_slice_get c.args.heads.now c.args.turn.input h c.index-heads-input.result there) in
+    let told = c.resume_turn.ensures.turns scale first l items (subst (λ (x : HeadShown). Views x l.header) (sym same) views) old in (
       _,
-      spot_put g.S.Source.rest seats c.args.sources.now chunks tokens c.args.run.input c.run_of.new.seat c.run_of.new.source c.run_of.new.chunk c.run_of.new.token c.requires.input h2 c.requires.ready.parts.chunks_are c.requires.ready.parts.tokens_are lc lt,
-      record { seat = _; source = _; chunk = _; token = _; spot_is = e; source_at = slice_get-get_or c.args.sources.now c.args.run.input c.index-sources-input.result h2; turns = told },
+      spot_put g.S.Source.rest seats c.args.sources.now chunks tokens c.args.turn.input c.resume_turn.new.seat c.resume_turn.new.source c.resume_turn.new.chunk c.resume_turn.new.token c.requires.input h2 c.requires.ready.parts.chunks_are c.requires.ready.parts.tokens_are lc lt,
+      record { seat = _; source = _; chunk = _; token = _; spot_is = e; source_at = slice_get-get_or c.args.sources.now c.args.turn.input c.index-sources-input.result h2; turns = told },
     )
 
 pub returns-clause-touches : goal.returns-clause-touches
@@ -35,24 +35,24 @@ returns-clause-touches g c =
     let tokens = c.args.windows.now.tokens.now in
     let values = c.args.windows.now.values.now in
     let parts = c.requires.ready.parts in
-    let k = c.args.run.input in
+    let k = c.args.turn.input in
     let f = g.S.Source.failures in
     let h2 : k < length c.args.sources.now = omega arith in
     let all = parts.tokens_are ∙ sym parts.values_are in
-    let lc = c.run_of.auto.chunk ∙ lent_len (part_len (length seats) chunks) (length seats) k chunks parts.chunks_are c.requires.input in
-    let lt = c.run_of.auto.token ∙ lent_len (part_len (length seats) tokens) (length seats) k tokens parts.tokens_are c.requires.input in
-    let lv = c.run_of.auto.value ∙ lent_len (part_len (length seats) tokens) (length seats) k values all c.requires.input in
+    let lc = c.resume_turn.auto.chunk ∙ lent_len (part_len (length seats) chunks) (length seats) k chunks parts.chunks_are c.requires.input in
+    let lt = c.resume_turn.auto.token ∙ lent_len (part_len (length seats) tokens) (length seats) k tokens parts.tokens_are c.requires.input in
+    let lv = c.resume_turn.auto.value ∙ lent_len (part_len (length seats) tokens) (length seats) k values all c.requires.input in
     record {
       seats = search rules;
-      chunks = len_put (part_len (length seats) chunks) (length seats) k chunks c.run_of.new.chunk parts.chunks_are c.requires.input lc;
-      tokens = len_put (part_len (length seats) tokens) (length seats) k tokens c.run_of.new.token parts.tokens_are c.requires.input lt;
-      values = len_put (part_len (length seats) tokens) (length seats) k values c.run_of.new.value all c.requires.input lv;
-      reads = map_set f c.args.sources.now k c.run_of.new.source
-          ∙ ap (slice_set (map f c.args.sources.now) k) (c.run_of.ensures.reads ∙ ap (λ n. n + reads_failed c.run_of.result) (ap f (sym c.index-sources-input.is) ∙ sym (get_map_or f c.args.sources.now k c.index-sources-input.result c.index-sources-input.is h2)));
-      named = c.run_of.ensures.named;
-      others = spot_other g.S.Source.rest seats c.args.sources.now chunks tokens k c.run_of.new.seat c.run_of.new.source c.run_of.new.chunk c.run_of.new.token c.requires.input h2 parts.chunks_are parts.tokens_are lc lt;
-      untouched = λ j other. (get_other c.args.sources.now k j c.run_of.new.source other, part_other (part_len (length seats) tokens) (length seats) k values c.run_of.new.value all c.requires.input lv j other);
-      writes = c.run_of.ensures.writes;
+      chunks = len_put (part_len (length seats) chunks) (length seats) k chunks c.resume_turn.new.chunk parts.chunks_are c.requires.input lc;
+      tokens = len_put (part_len (length seats) tokens) (length seats) k tokens c.resume_turn.new.token parts.tokens_are c.requires.input lt;
+      values = len_put (part_len (length seats) tokens) (length seats) k values c.resume_turn.new.value all c.requires.input lv;
+      reads = map_set f c.args.sources.now k c.resume_turn.new.source
+          ∙ ap (slice_set (map f c.args.sources.now) k) (c.resume_turn.ensures.reads ∙ ap (λ n. n + reads_failed c.resume_turn.result) (ap f (sym c.index-sources-input.is) ∙ sym (get_map_or f c.args.sources.now k c.index-sources-input.result c.index-sources-input.is h2)));
+      named = c.resume_turn.ensures.named;
+      others = spot_other g.S.Source.rest seats c.args.sources.now chunks tokens k c.resume_turn.new.seat c.resume_turn.new.source c.resume_turn.new.chunk c.resume_turn.new.token c.requires.input h2 parts.chunks_are parts.tokens_are lc lt;
+      untouched = λ j other. (get_other c.args.sources.now k j c.resume_turn.new.source other, part_other (part_len (length seats) tokens) (length seats) k values c.resume_turn.new.value all c.requires.input lv j other);
+      writes = c.resume_turn.ensures.writes;
     }
 
 pub returns-clause-last : goal.returns-clause-last
@@ -68,15 +68,15 @@ returns-clause-seated g c =
     let seats = c.args.seats.now in
     let chunks = c.args.windows.now.chunks.now in
     let tokens = c.args.windows.now.tokens.now in
-    let h2 : c.args.run.input < length c.args.sources.now = omega arith in
-    let kc = lent_len (part_len (length seats) chunks) (length seats) c.args.run.input chunks c.requires.ready.parts.chunks_are c.requires.input in
-    let kt = lent_len (part_len (length seats) tokens) (length seats) c.args.run.input tokens c.requires.ready.parts.tokens_are c.requires.input in
-    if_ok_more c.run_of.result _ _ (λ own. seated_put g.S.Source.rest seats c.args.sources.now chunks tokens c.args.run.input c.run_of.new.seat c.run_of.new.source c.run_of.new.chunk c.run_of.new.token c.requires.input h2 c.requires.ready.parts.chunks_are c.requires.ready.parts.tokens_are
-    (c.run_of.auto.chunk ∙ kc) (c.run_of.auto.token ∙ kt) (rw (kc, kt) at own) c.requires.ready.seated) c.run_of.ensures.seated
+    let h2 : c.args.turn.input < length c.args.sources.now = omega arith in
+    let kc = lent_len (part_len (length seats) chunks) (length seats) c.args.turn.input chunks c.requires.ready.parts.chunks_are c.requires.input in
+    let kt = lent_len (part_len (length seats) tokens) (length seats) c.args.turn.input tokens c.requires.ready.parts.tokens_are c.requires.input in
+    if_ok_more c.resume_turn.result _ _ (λ own. seated_put g.S.Source.rest seats c.args.sources.now chunks tokens c.args.turn.input c.resume_turn.new.seat c.resume_turn.new.source c.resume_turn.new.chunk c.resume_turn.new.token c.requires.input h2 c.requires.ready.parts.chunks_are c.requires.ready.parts.tokens_are
+    (c.resume_turn.auto.chunk ∙ kc) (c.resume_turn.auto.token ∙ kt) (rw (kc, kt) at own) c.requires.ready.seated) c.resume_turn.ensures.seated
 
 pub returns-clause-left : goal.returns-clause-left
 returns-clause-left g c =
-    if_ok_more c.run_of.result _ _ (λ moved. left_moved c.args.seats.now c.args.run.input _ c.run_of.new.seat _ _ c.requires.input c.requires.ready.seated c.requires.unfinished c.run_of.ensures.bounded moved) c.run_of.ensures.progress
+    if_ok_more c.resume_turn.result _ _ (λ moved. left_moved c.args.seats.now c.args.turn.input _ c.resume_turn.new.seat _ _ c.requires.input c.requires.ready.seated c.requires.unfinished c.resume_turn.ensures.bounded moved) c.resume_turn.ensures.progress
 
 pub returns-clause-kept : goal.returns-clause-kept
-returns-clause-kept g c = λ j other. get_other c.args.seats.now c.args.run.input j _ other
+returns-clause-kept g c = λ j other. get_other c.args.seats.now c.args.turn.input j _ other

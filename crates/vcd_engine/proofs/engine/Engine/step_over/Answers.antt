@@ -46,7 +46,7 @@ returns-in-Ok-false-clause-gives g c = λ h i front items s.
     let no = c.in-Ok-false.field-0-test in
     let gave = subst (λ (q : Regs). GaveItems h.codes i front (items ++ x.0 ∷ []) new q) regs x.2.gave in (
       x.0,
-      runs_on h i front items new e (record { view = e.view; regs = r; machine = c.take.new.self; going = e.going }) c.args.feed.now c.in-Ok.item x.0 s x.1 gave (t.keeps (ap (λ b. Ok b) no)) (sym t.ends ∙ no) c.in-Ok-false.ensures.same.0 more refl regs,
+      runs_on h i front items new e (record { view = e.view; regs = r; task_state = c.take.new.self; going = e.going }) c.args.feed.now c.in-Ok.item x.0 s x.1 gave (t.keeps (ap (λ b. Ok b) no)) (sym t.ends ∙ no) c.in-Ok-false.ensures.same.0 more refl regs,
       (due.0, due.1, (due.2, c.in-Ok-false.ensures.counts)),
       x.2,
     )

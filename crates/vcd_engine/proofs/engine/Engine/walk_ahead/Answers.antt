@@ -26,12 +26,12 @@ returns-in-Ok-clause-gives g c = λ h i front items s.
     let lines = lines_of f in
     let bounded = subst (λ bs. seen f + length bs < 2 ^ 63) (sym a.bytes) a.bounded in
     let few : length items + length (bytes_of ahead) < 2 ^ 63 = let each = s.few in omega arith in
-    let first = subst (λ n. StandsAhead (request_of_engine e) h (longest_of ahead) lines (bytes_of ahead) items n [] e.machine e.regs) (sym a.passed) (stands_first e h i front items f (longest_of ahead) lines (bytes_of ahead) s) in
+    let first = subst (λ n. StandsAhead (request_of_engine e) h (longest_of ahead) lines (bytes_of ahead) items n [] e.task_state e.regs) (sym a.passed) (stands_first e h i front items f (longest_of ahead) lines (bytes_of ahead) s) in
     let r = subst (λ q. RunsAhead (request_of_engine e) h (longest_of ahead) lines (bytes_of ahead) items {E = WriteFailed} c.take_ahead-taken.result.passed c.take_ahead-taken.new.self c.take_ahead-taken.result.regs (g.W.Sink.device c.args.out.now) (g.W.Sink.device c.take_ahead-taken.new.out) q)
     c.in-Ok.is (c.take_ahead-taken.ensures.gives h lines items v few first) in
     let stands = r.last.0 in
     let over = gave_over h.codes (longest_of ahead) (limit_of f) lines (bytes_of ahead) (ahead_of f) c.take_ahead-taken.result.passed items r.more a.limit a.bytes stands.gave in
-    let e' : Engine = record { view = e.view; regs = c.take_ahead-taken.result.regs; machine = c.take_ahead-taken.new.self; going = e.going } in
+    let e' : Engine = record { view = e.view; regs = c.take_ahead-taken.result.regs; task_state = c.take_ahead-taken.new.self; going = e.going } in
     record {
       more = r.more;
       on = r.on;
@@ -53,7 +53,7 @@ returns-in-Err-clause-gives g c = λ h i front items s.
     let lines = lines_of f in
     let bounded = subst (λ bs. seen f + length bs < 2 ^ 63) (sym a.bytes) a.bounded in
     let few : length items + length (bytes_of ahead) < 2 ^ 63 = let each = s.few in omega arith in
-    let first = subst (λ n. StandsAhead (request_of_engine e) h (longest_of ahead) lines (bytes_of ahead) items n [] e.machine e.regs) (sym a.passed) (stands_first e h i front items f (longest_of ahead) lines (bytes_of ahead) s) in
+    let first = subst (λ n. StandsAhead (request_of_engine e) h (longest_of ahead) lines (bytes_of ahead) items n [] e.task_state e.regs) (sym a.passed) (stands_first e h i front items f (longest_of ahead) lines (bytes_of ahead) s) in
     let r = subst (λ q. RunsAhead (request_of_engine e) h (longest_of ahead) lines (bytes_of ahead) items {E = WriteFailed} c.take_ahead-taken.result.passed c.take_ahead-taken.new.self c.take_ahead-taken.result.regs (g.W.Sink.device c.args.out.now) (g.W.Sink.device c.take_ahead-taken.new.out) q)
     c.in-Err.is (c.take_ahead-taken.ensures.gives h lines items v few first) in
     let x = r.last.0 in

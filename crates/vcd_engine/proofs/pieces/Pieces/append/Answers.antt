@@ -1,7 +1,7 @@
 use Rattle.std.proofs.Common.{◌≡◌, Err, arith, refl, rules}
 use Rattle.vcd_text.proofs.Writes.{some-first}
-use Rattle.vcd_engine.specs.Pieces.{held_in}
-use Rattle.vcd_engine.proofs.PieceLemmas.{begun_on, held_on, joined}
+use Rattle.vcd_engine.specs.Pieces.{pending_in}
+use Rattle.vcd_engine.proofs.PieceLemmas.{begun_on, pending_on, joined}
 use Rattle.vcd_engine.proofs.pieces.Pieces.append.Goals as goal
 
 pub returns-then-from-self : goal.returns-then-from-self
@@ -11,7 +11,7 @@ returns-then-from-self g c =
     let part = c.requires.part.0 in
     let e = c.if-from-self.true in
     record {
-      puts = held_on (held_in c.args.bytes.now p) _ _ (g.W.Sink.device c.args.out.now) (joined c.args.bytes.now p.from p.to c.args.from c.args.to part e on);
+      puts = pending_on (pending_in c.args.bytes.now p) _ _ (g.W.Sink.device c.args.out.now) (joined c.args.bytes.now p.from p.to c.args.from c.args.to part e on);
       counts = refl;
       part = (omega (arith, e, on, part), c.requires.within.1);
     }

@@ -12,7 +12,7 @@ returns-in_err-flush g c =
 
 pub returns : goal.returns
 returns g c = record {
-  puts = put_on _ _ _ _ _ _ c.put_time.result c.in_ok-flush.ensures.puts c.in_ok-flush.ensures.held.0 c.put_time.ensures;
+  puts = put_on _ _ _ _ _ _ c.put_time.result c.in_ok-flush.ensures.puts c.in_ok-flush.ensures.pending.0 c.put_time.ensures;
   counts = subst (λ n. (g.W.Sink.device c.put_time.new.out).failures ≡ failures_after n c.put_time.result) c.in_ok-flush.ensures.puts.1 c.put_time.ensures.1;
-  part = if_ok c.put_time.result _ c.in_ok-flush.ensures.held.1;
+  part = if_ok c.put_time.result _ c.in_ok-flush.ensures.pending.1;
 }

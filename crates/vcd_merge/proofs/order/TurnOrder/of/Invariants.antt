@@ -6,5 +6,5 @@ abbrev pub invariant-loop-input : goal.invariant-loop-input
 invariant-loop-input l = record {
   order : IsOrder l.seats l.input l.input l.order.inputs l.order.len;
   few : l.order.len ≤ l.input;
-  most : l.order.most ≡ l.fn.most;
+  until : l.order.until ≡ l.fn.until;
 }

@@ -1,0 +1,55 @@
+use Rattle.std.proofs.Common.{◌≡◌, ◌++◌, ◌∷◌, [], Err, rules, sym, subst}
+use Rattle.vcd_model.specs.ItemText.{item_line, time_due}
+use Rattle.vcd_text.proofs.Writes.{some-first}
+use Rattle.vcd_engine.specs.ItemText.{HasWritten}
+use Rattle.vcd_engine.specs.Pieces.{PutsOn, pending_in}
+use Rattle.vcd_engine.proofs.ItemTextLemmas.{text_with, written_with}
+use Rattle.vcd_engine.proofs.PieceLemmas.{first_on, put_on, twice_behind}
+use Rattle.vcd_body.specs.Spelled.{bytes_without}
+use Rattle.vcd_body.proofs.Results.{if_ok}
+use Rattle.vcd_engine.proofs.item_text.ItemText.put_spanned.Goals as goal
+
+pub left_out-requires : goal.left_out-requires
+left_out-requires g c = (c.args.view, c.requires.span)
+
+pub returns-in_err-add_time : goal.returns-in_err-add_time
+returns-in_err-add_time g c =
+    let e : c.from_residual-in_err-add_time.result ≡ Err c.in_err-add_time.field-0.0 = search rules in
+    let time = c.in_err-add_time.ensures.puts in
+    rw e (record {
+      text = λ h before kept e views is at has tells.
+          let t = c.args.self.now in
+          ((time_due t.written c.args.time ++ item_line e.item, text_with before kept e c.args.time t at has tells, first_on (pending_in c.args.item.bytes.now c.args.pieces.now) (time_due t.written c.args.time) (item_line e.item) _ _ time.puts), tt);
+      counts = time.counts;
+      part = tt;
+    })
+
+pub returns : goal.returns
+returns g c =
+    let l = c.args.item in
+    let bytes = l.bytes.now in
+    let both = twice_behind bytes c.args.pieces.now c.add_time.new.pieces c.append_parts.new.self _ (bytes_without bytes l.from l.to c.in-Some.n) _ _ _ _ c.append_parts.result c.in_ok-add_time.ensures.puts c.append_parts.ensures in
+    record {
+      text = λ h before kept e views is at has tells.
+          let t = c.args.self.now in
+          let line = c.in-Some.ensures.1 c.args.view h e.item c.requires.span views is in
+          let puts = subst (λ k. PutsOn (pending_in bytes c.args.pieces.now) (pending_in bytes c.append_parts.new.self) (g.W.Sink.device c.args.out.now) (g.W.Sink.device c.append_parts.new.out) (time_due t.written c.args.time ++ k) c.append_parts.result) line both.puts in (
+            (time_due t.written c.args.time ++ item_line e.item, text_with before kept e c.args.time t at has tells, puts),
+            if_ok c.append_parts.result _ (subst (λ o. HasWritten before (kept ++ e ∷ []) (record { written = o })) (sym c.in_ok-add_time.ensures.written) (written_with before kept e c.args.time at)),
+          );
+      counts = both.counts;
+      part = both.part;
+    }
+
+pub returns-in_err-flush-clause-text : goal.returns-in_err-flush-clause-text
+returns-in_err-flush-clause-text g c = λ h before kept e views is at has tells.
+    let t = c.args.self.now in
+    let failed : c.from_residual.result ≡ Err c.in_err-flush.field-0.0 = search rules in
+    rw failed ((time_due t.written c.args.time ++ item_line e.item, text_with before kept e c.args.time t at has tells, some-first _ _ _ _ c.in_err-flush.ensures.puts), tt)
+
+pub returns-in_default-clause-text : goal.returns-in_default-clause-text
+returns-in_default-clause-text g c = λ h before kept e views is at has tells.
+    let one = c.put.ensures.text h before kept e views is at has tells in (
+      (one.0.0, one.0.1, put_on _ _ _ _ _ _ c.put.result c.in_ok-flush.ensures.puts c.in_ok-flush.ensures.pending.0 (one.0.2, c.put.ensures.counts)),
+      one.1,
+    )

@@ -1,0 +1,17 @@
+use Rattle.std.proofs.Common.{◌≡◌, Err, inl, refl, arith, rules}
+use Rattle.vcd_engine.proofs.task_state.cut.Cut.begin_by.Goals as goal
+
+pub returns-in_err-put_section-clause-begins : goal.returns-in_err-put_section-clause-begins
+returns-in_err-put_section-clause-begins g c = λ h items views has.
+    let e : c.from_residual.result ≡ Err c.in_err-put_section.field-0.0 = search rules in
+    rw e (c.if-self.false, omega (arith, c.if-time-self.false), (c.in_err-put_section.ensures.takes h items views (has c.if-self.false), c.in_err-put_section.ensures.counts))
+
+pub returns-clause-begins : goal.returns-clause-begins
+returns-clause-begins g c = λ h items views has.
+    inl (record {
+      due = c.if-self.false;
+      come = omega (arith, c.if-time-self.false);
+      stands = refl;
+      text = c.after-self.ensures;
+      section = c.in_ok-put_section.ensures.takes h items views (has c.if-self.false);
+    })

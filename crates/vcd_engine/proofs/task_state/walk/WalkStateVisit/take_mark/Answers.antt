@@ -1,0 +1,47 @@
+use Rattle.std.proofs.Common.{◌≡◌, List, ℕ, ap, refl, subst, sym}
+use Rattle.vcd_model.specs.Items.{BodyItem}
+use Rattle.vcd_text.specs.Ahead.{bytes_of, passed_of}
+use Rattle.vcd_body.specs.Given.{IsItem}
+use Rattle.vcd_body.specs.Items.{regs_after}
+use Rattle.vcd_body.specs.Spelled.{HasMark, HasSpelled}
+use Rattle.vcd_body.specs.declared.item.Item.{Item}
+use Rattle.vcd_engine.specs.Pieces.{IsLine, IsPart}
+use Rattle.vcd_engine.proofs.NextLemmas.{more_quietly}
+use Rattle.vcd_engine.proofs.PieceLemmas.{next_line_is}
+use Rattle.vcd_engine.proofs.task_state.walk.WalkStateVisit.take_mark.Goals as goal
+
+pub after_mark-self-requires : goal.after_mark-self-requires
+after_mark-self-requires g c =
+    let n = c.requires.item in
+    (c.args.time, rw (c.passed-from.ensures.passed, c.passed.ensures.passed, c.bytes.ensures, n.same.0) (subst (λ (i : Item). HasSpelled c.args._view (bytes_of c.args.extent.from) (passed_of c.args.extent.from) (passed_of c.args.extent.to) c.args.mark.at c.args.mark.code_at c.args.mark.text.now i) c.requires.time n.spelled))
+
+pub returns-clause-takes : goal.returns-clause-takes
+returns-clause-takes g c = λ out.
+    let n = c.requires.item in
+    let mark = c.args.mark in
+    let r = c.args._regs in
+    let marked : HasMark c.bytes.result.now c.passed-from.result c.passed.result mark.at c.args.time = rw (c.passed-from.ensures.passed, c.passed.ensures.passed, c.bytes.ensures, n.same.0) (subst (λ (i : Item). HasSpelled c.args._view (bytes_of c.args.extent.from) (passed_of c.args.extent.from) (passed_of c.args.extent.to) mark.at mark.code_at mark.text.now i) c.requires.time n.spelled) in
+    record {
+      plain = mark;
+      item = n;
+      regs = refl;
+      line = next_line_is _ _ _ _ _ _ c.bytes.ensures refl (sym (ap (λ (i : Item). (regs_after r i).time) c.requires.time)) (c.after_mark-self.ensures c.args.time marked);
+      one = λ h items x views known is few keeps.
+          let e : x ≡ BodyItem.Time c.args.time = subst (λ (i : Item). IsItem h.codes mark.text.now i x) c.requires.time is in
+          rw e (more_quietly _ _ _ h items _ _ _ (c.note_time.ensures.takes h items few keeps));
+      counts = refl;
+      part = c.requires.stands.part;
+      same = c.note_time.ensures.same;
+    }
+
+pub returns-clause-stands : goal.returns-clause-stands
+returns-clause-stands g c =
+    let n = c.requires.item in
+    let mark = c.args.mark in
+    let r = c.args._regs in
+    let marked : HasMark c.bytes.result.now c.passed-from.result c.passed.result mark.at c.args.time = rw (c.passed-from.ensures.passed, c.passed.ensures.passed, c.bytes.ensures, n.same.0) (subst (λ (i : Item). HasSpelled c.args._view (bytes_of c.args.extent.from) (passed_of c.args.extent.from) (passed_of c.args.extent.to) mark.at mark.code_at mark.text.now i) c.requires.time n.spelled) in
+    record {
+      ready = c.note_time.ensures.ready;
+      part = subst (λ (bs : List ℕ). IsPart bs c.args.self.now.pieces) (sym n.same.0) c.requires.stands.part;
+      line = next_line_is _ _ _ _ _ _ c.bytes.ensures refl (sym (ap (λ (i : Item). (regs_after r i).time) c.requires.time)) (c.after_mark-self.ensures c.args.time marked);
+    }

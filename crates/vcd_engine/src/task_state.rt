@@ -1,0 +1,154 @@
+//! What each task keeps between items, and what it does with an item.
+ghost use Rattle.std.specs.Prelude.{◌≡◌, ◌-◌, ◌^◌, ◌<◌, ◌≤◌, [], length, true, IfOk};
+ghost use Rattle.vcd_engine.specs.Names.{AtClose, BeginsAs, bytes_of, close_text, Counts, HasGoodText, HasRoomFor, IsValid, Keeps, last_of, may_end_early, passed_of, request_in, request_of, room_of, room_size, RunsOver, SameTask, StartsOver, Takes, TakesEach};
+
+pub(crate) mod check;
+pub(crate) mod cut;
+pub(crate) mod edges;
+pub(crate) mod pick;
+pub(crate) mod sample;
+pub(crate) mod walk;
+
+use crate::task::{Room, Task};
+use crate::task_state::walk::{Copying, Keeping, WalkEnd, take_each, take_given};
+use vcd_body::{Item, Regs, Stop};
+use vcd_text::{Ahead, Sink, WriteFailed};
+use vcd_view::HeadView;
+
+/// What a task keeps between items.
+#[derive(Drop)]
+pub(crate) enum TaskState<'n, 'r> {
+    Check(check::Check),
+    Pick(pick::Pick<'n, 'r>),
+    Cut(cut::Cut<'r>),
+    Sample(sample::Sample<'n, 'r>),
+    Edges(edges::Edges<'n, 'r>),
+}
+
+/// Returns the last time mark.
+pub(crate) fn last_of(regs: Regs) -> Option<u64>
+    ensures { result ≡ last_of regs }
+{
+    if regs.marked {
+        return Some(regs.time);
+    }
+    None
+}
+
+impl<'n, 'r> TaskState<'n, 'r> {
+    /// Begins a task, and writes what comes before all items. A name that selects nothing is
+    /// refused, and then nothing is written.
+    pub(crate) fn start<W: Sink>(
+        task: Task<'n>,
+        view: HeadView<'_>,
+        room: Room<'r>,
+        out: &mut W,
+    ) -> Result<TaskState<'n, 'r>, Stop>
+        requires failures { (W.device out.old).failures < 2 ^ 64 - 1 }
+        requires valid { IsValid (request_of task) }
+        requires room { HasRoomFor task view room }
+        ensures starts { StartsOver view.entry (λ m h. Keeps m h []) (request_of task.entry)
+            (W.device out.old) (W.device out.new) result }
+        ensures begins { BeginsAs request_in room_of (request_of task.entry)
+            (room_size room.entry) (W.device out.old) (W.device out.new) result }
+    {
+        match task {
+            Task::Check => Ok(TaskState::Check(check::Check::start())),
+            Task::Pick(names) => Ok(TaskState::Pick(pick::Pick::start(view, room, names, out)?)),
+            Task::Cut { from, to } => Ok(TaskState::Cut(cut::Cut::start(
+                view, room, from, to, out,
+            )?)),
+            Task::Sample { times, names } => {
+                Ok(TaskState::Sample(sample::Sample::start(view, room, times, names)?))
+            }
+            Task::Edges(names) => Ok(TaskState::Edges(edges::Edges::start(view, room, names)?)),
+        }
+    }
+
+    /// Takes an item with its text, writes what is due after it, and returns whether it ended the
+    /// run. The text is that of a change, and any bytes for other items; the registers are those
+    /// after the item.
+    #[inline(always)]
+    pub(crate) fn take<W: Sink>(
+        &mut self,
+        view: HeadView<'_>,
+        regs: Regs,
+        item: Item,
+        text: &[u8],
+        out: &mut W,
+    ) -> Result<bool, WriteFailed>
+        requires failures { (W.device out.old).failures < 2 ^ 64 - 1 }
+        requires sound { HasGoodText view.codes.now text.now item }
+        ensures takes { TakesEach view.entry regs item text.now (Keeps self.old) (Keeps self.new)
+            (request_in self.old) (W.device out.old) (W.device out.new) result }
+        ensures counts { Counts (W.device out.old) (W.device out.new) result }
+        ensures same { SameTask self.old self.new }
+        ensures early { IfOk result
+            (λ ended. ended ≡ true → may_end_early (request_in self.old) ≡ true) }
+    {
+        match self {
+            TaskState::Check(check) => {
+                take_given::<Keeping, _, _>(check, view, regs, item, text, out)
+            }
+            TaskState::Pick(pick) => take_given::<Copying, _, _>(pick, view, regs, item, text, out),
+            TaskState::Cut(cut) => cut.take(view, regs, item, text, out),
+            TaskState::Sample(sample) => sample.take(view, regs, item, text, out),
+            TaskState::Edges(edges) => {
+                take_given::<Keeping, _, _>(edges, view, regs, item, text, out)
+            }
+        }
+    }
+
+    /// Takes the items that lie ahead, one after the other, and writes what is due after each.
+    // A loop for each task, so that none asks for each item what the task is.
+    pub(crate) fn take_ahead<W: Sink>(
+        &mut self,
+        view: HeadView<'_>,
+        regs: Regs,
+        ahead: Ahead<'_>,
+        out: &mut W,
+    ) -> WalkEnd
+        requires failures { (W.device out.old).failures < 2 ^ 64 - 1 }
+        requires within { passed_of ahead ≤ length (bytes_of ahead) }
+        ensures { RunsOver view.entry ahead.entry regs self.old self.new
+            (W.device out.old) (W.device out.new) result }
+    {
+        match self {
+            TaskState::Check(check) => { take_each::<Keeping, _, _>(check, view, regs, ahead, out) }
+            TaskState::Pick(pick) => { take_each::<Copying, _, _>(pick, view, regs, ahead, out) }
+            TaskState::Cut(cut) => {
+                if cut.has_begun() {
+                    take_each::<Copying, _, _>(cut, view, regs, ahead, out)
+                } else {
+                    take_each::<Keeping, _, _>(cut, view, regs, ahead, out)
+                }
+            }
+            TaskState::Sample(sample) => {
+                take_each::<Keeping, _, _>(sample, view, regs, ahead, out)
+            }
+            TaskState::Edges(edges) => { take_each::<Keeping, _, _>(edges, view, regs, ahead, out) }
+        }
+    }
+
+    /// Writes what is due at the clean end of a body after which the registers are these.
+    pub(crate) fn close<W: Sink>(
+        &self,
+        view: HeadView<'_>,
+        regs: Regs,
+        out: &mut W,
+    ) -> Result<(), WriteFailed>
+        requires { (W.device out.old).failures < 2 ^ 64 - 1 }
+        ensures takes { AtClose view.entry regs (λ h items. Keeps self.now h items
+            → Takes (W.device out.old) (W.device out.new)
+            (close_text (request_in self.now) h items) result) }
+        ensures counts { Counts (W.device out.old) (W.device out.new) result }
+    {
+        match self {
+            TaskState::Check(check) => check.close(view, regs, out),
+            TaskState::Pick(pick) => pick.close(regs, out),
+            TaskState::Cut(cut) => cut.close(view, regs, out),
+            TaskState::Sample(sample) => sample.close(view, out),
+            TaskState::Edges(edges) => edges.close(view, out),
+        }
+    }
+}

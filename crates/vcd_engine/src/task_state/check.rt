@@ -1,0 +1,98 @@
+//! `check`: counts what a dump has.
+ghost use Rattle.std.specs.Prelude.{◌≡◌, ◌-◌, ◌^◌, ◌<◌, [], List, true, false};
+ghost use Rattle.vcd_engine.specs.Names.{AreCounted, BodyItem, check_close, Counts, Header, IsViewOf, last_mark, last_of, Takes};
+
+use crate::pieces::{Pieces, SpannedItem};
+use crate::report::{declared_in, put_report};
+use crate::task_state::last_of;
+use crate::task_state::walk::{AheadTask, Keeping};
+use vcd_body::{Item, Regs};
+use vcd_text::{Sink, WriteFailed};
+use vcd_view::HeadView;
+
+/// How many time marks, sections and changes there were.
+#[derive(Clone, Copy)]
+pub(crate) struct Check {
+    times: u64,
+    sections: u64,
+    changes: u64,
+}
+
+impl Check {
+    /// Returns the counts before all items.
+    pub(crate) fn start() -> Check
+        ensures { AreCounted [] result }
+    {
+        Check {
+            times: 0,
+            sections: 0,
+            changes: 0,
+        }
+    }
+
+    /// Writes the report.
+    pub(crate) fn close<W: Sink>(
+        &self,
+        view: HeadView<'_>,
+        regs: Regs,
+        out: &mut W,
+    ) -> Result<(), WriteFailed>
+        requires { (W.device out.old).failures < 2 ^ 64 - 1 }
+        ensures takes { (h : Header) (items : List BodyItem) → IsViewOf view.entry h
+            → last_of regs ≡ last_mark items → AreCounted items self.now
+            → Takes (W.device out.old) (W.device out.new) (check_close h items) result }
+        ensures counts { Counts (W.device out.old) (W.device out.new) result }
+    {
+        let declared = declared_in(view.rows);
+        let counts = [
+            ("scopes", declared.scopes as u64),
+            ("variables", declared.variables as u64),
+            ("codes", view.codes.len() as u64),
+            ("times", self.times),
+            ("sections", self.sections),
+            ("changes", self.changes),
+        ];
+        put_report(out, &counts, last_of(regs))
+    }
+}
+
+// An input is shorter than 2^63 bytes, so no count wraps.
+impl AheadTask<Keeping> for Check {
+    ghost use Rattle.vcd_engine.specs.declared.task_state.TaskState.TheVariants as task_state;
+
+    ghost task_state = { λ command. task_state.Check command };
+
+    ghost is_ready = { λ _. true };
+
+    ghost is_left = { λ _ _. false };
+
+    #[inline(always)]
+    fn leaves(&self, _time: u64) -> bool {
+        false
+    }
+
+    #[inline(always)]
+    fn note_time(&mut self, _time: u64) {
+        self.times = self.times.wrapping_add(1);
+    }
+
+    #[inline(always)]
+    fn take_item<W: Sink>(
+        &mut self,
+        _view: HeadView<'_>,
+        _regs: Regs,
+        item: SpannedItem<'_>,
+        _line: &Keeping,
+        _pieces: &mut Pieces,
+        _out: &mut W,
+    ) -> Result<(), WriteFailed> {
+        match item.plain.item {
+            Item::Begin(_) => self.sections = self.sections.wrapping_add(1),
+            Item::Change { .. } => self.changes = self.changes.wrapping_add(1),
+            Item::Time(_) => {}
+            Item::End => {}
+            Item::Finish => {}
+        }
+        Ok(())
+    }
+}

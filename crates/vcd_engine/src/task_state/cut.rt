@@ -1,0 +1,269 @@
+//! `cut`: the values before a time, and the items from then up to another time.
+ghost use Rattle.std.specs.Prelude.{◌≡◌, false, ◌≤◌, ◌-◌, ◌^◌, ◌<◌, [], List, true, not, nat_le, nat_lt};
+ghost use Rattle.vcd_engine.specs.Names.{AreCut, AtClose, BeginsAs, BeginsBy, BodyItem, Counts, cut_close, HasGoodText, HasRoomFor, HasValues, Header, IsViewOf, lent_to, may_be_kept, PutsStart, Request, room_size, SameSpan, span_in, StartsOver, Takes, TakesEach, TakesTime, value_before};
+ghost use Rattle.vcd_engine.specs.declared.task.Task.TheVariants as task;
+
+use crate::item_text::ItemText;
+use crate::pieces::{Pieces, SpannedItem};
+use crate::task::Room;
+use crate::task_state::last_of;
+use crate::task_state::walk::{AheadTask, Copying, Keeping, take_given};
+use crate::values::set_item;
+use vcd_body::{Item, Regs, Stop, Table, put_short, put_time};
+use vcd_head::{put_head, select};
+use vcd_text::{Sink, WriteFailed, put};
+use vcd_view::HeadView;
+
+/// The values until the start section is written, and from then on the text of what was kept.
+#[derive(Drop)]
+pub(crate) struct Cut<'r> {
+    from: u64,
+    to: u64,
+    table: Table<'r>,
+    text: ItemText,
+    started: bool,
+}
+
+/// Writes the start section of a cut from this time on: the line of each code that is no event and
+/// has a value.
+#[inline(never)]
+fn put_section<W: Sink>(
+    table: &Table<'_>,
+    view: HeadView<'_>,
+    from: u64,
+    out: &mut W,
+) -> Result<(), WriteFailed>
+    requires { (W.device out.old).failures < 2 ^ 64 - 1 }
+    ensures takes { PutsStart view.entry table.now from (W.device out.old) (W.device out.new) result }
+    ensures counts { Counts (W.device out.old) (W.device out.new) result }
+{
+    put_time(from, out)?;
+    put(out, b"$dumpvars\n")?;
+    for (code, declared) in view.codes.iter().enumerate() {
+        if !declared.event {
+            put_short(view, table, code, out)?;
+        }
+    }
+    put(out, b"$end\n")
+}
+
+/// Returns whether an item may be kept, after which the registers are these: a section's begin or
+/// end, or a change that is no event's inside a section.
+#[inline(always)]
+fn may_keep(view: HeadView<'_>, regs: Regs, item: Item) -> bool
+    ensures { result ≡ may_be_kept view.entry regs item }
+{
+    match item {
+        Item::Time(_) | Item::Finish => false,
+        Item::Begin(_) | Item::End => true,
+        Item::Change { code, .. } => !(regs.section.is_some() && view.is_event(code)),
+    }
+}
+
+impl<'r> Cut<'r> {
+    /// Writes the header, and the start section where nothing is before it. The first time is not
+    /// above the last.
+    pub(crate) fn start<W: Sink>(
+        view: HeadView<'_>,
+        room: Room<'r>,
+        from: u64,
+        to: u64,
+        out: &mut W,
+    ) -> Result<Cut<'r>, Stop>
+        requires failures { (W.device out.old).failures < 2 ^ 64 - 1 }
+        requires order { from ≤ to }
+        requires room { HasRoomFor (task.Cut from to) view room }
+        ensures starts { StartsOver view.entry (λ m h. AreCut m h []) (Request.Cut from to)
+            (W.device out.old) (W.device out.new) result }
+        ensures begins { BeginsAs span_in lent_to (Request.Cut from to) (room_size room.entry)
+            (W.device out.old) (W.device out.new) result }
+    {
+        let marks = room.marks;
+        let marks = &mut marks[..view.rows.len()];
+        if let Err(name) = select(view, &[], marks) {
+            return Err(Stop::Unmatched { name });
+        }
+        put_head(view, marks, out)?;
+        let mut cut = Cut {
+            from,
+            to,
+            table: Table::new(view, room.values, room.slots, room.shares),
+            text: ItemText::new(),
+            started: false,
+        };
+        cut.begin_by(view, 0, out)?;
+        Ok(cut)
+    }
+
+    /// Writes the start section, after which kept items follow, if it is not written yet and this
+    /// time has come.
+    fn begin_by<W: Sink>(
+        &mut self,
+        view: HeadView<'_>,
+        time: u64,
+        out: &mut W,
+    ) -> Result<(), WriteFailed>
+        requires { (W.device out.old).failures < 2 ^ 64 - 1 }
+        ensures begins { (h : Header) (items : List BodyItem) → IsViewOf view.entry h
+            → (self.old.started ≡ false → HasValues self.old.table h
+            (λ c. value_before items c self.old.from))
+            → BeginsBy h items time self.old self.new (W.device out.old) (W.device out.new) result }
+        ensures counts { Counts (W.device out.old) (W.device out.new) result }
+        ensures same { SameSpan self.old self.new }
+    {
+        if self.started || time < self.from {
+            return Ok(());
+        }
+        put_section(&self.table, view, self.from, out)?;
+        self.text = ItemText::after(self.from);
+        self.started = true;
+        Ok(())
+    }
+
+    /// Returns whether the start section is written.
+    #[inline(always)]
+    pub(crate) fn has_begun(&self) -> bool
+        ensures { result ≡ self.now.started }
+    {
+        self.started
+    }
+
+    /// Takes a time mark: writes the start section where its time has come, and where it is above
+    /// the span the line of the span's end. Returns whether it is.
+    fn take_time<W: Sink>(
+        &mut self,
+        view: HeadView<'_>,
+        time: u64,
+        out: &mut W,
+    ) -> Result<bool, WriteFailed>
+        requires { (W.device out.old).failures < 2 ^ 64 - 1 }
+        ensures takes { TakesTime view.entry time (AreCut self.old) (AreCut self.new)
+            (span_in self.old) (W.device out.old) (W.device out.new) result }
+        ensures counts { Counts (W.device out.old) (W.device out.new) result }
+        ensures same { SameSpan self.old self.new }
+    {
+        self.begin_by(view, time, out)?;
+        if time <= self.to {
+            return Ok(false);
+        }
+        self.text.close(Some(self.to), out)?;
+        Ok(true)
+    }
+
+    /// Takes an item with its text, and returns whether it ended the run: before the start section
+    /// keeps the value that the item gives, then writes the item where it is kept. The registers
+    /// are those after it.
+    #[inline(never)]
+    pub(crate) fn take<W: Sink>(
+        &mut self,
+        view: HeadView<'_>,
+        regs: Regs,
+        item: Item,
+        text: &[u8],
+        out: &mut W,
+    ) -> Result<bool, WriteFailed>
+        requires failures { (W.device out.old).failures < 2 ^ 64 - 1 }
+        requires sound { HasGoodText view.codes.now text.now item }
+        ensures takes { TakesEach view.entry regs item text.now (AreCut self.old) (AreCut self.new)
+            (span_in self.old) (W.device out.old) (W.device out.new) result }
+        ensures counts { Counts (W.device out.old) (W.device out.new) result }
+        ensures same { SameSpan self.old self.new }
+    {
+        if let Item::Time(time) = item {
+            return self.take_time(view, time, out);
+        }
+        if self.started {
+            return take_given::<Copying, _, _>(self, view, regs, item, text, out);
+        }
+        take_given::<Keeping, _, _>(self, view, regs, item, text, out)
+    }
+
+    /// Writes the start section if it is not written yet, and the line of the last time mark.
+    pub(crate) fn close<W: Sink>(
+        &self,
+        view: HeadView<'_>,
+        regs: Regs,
+        out: &mut W,
+    ) -> Result<(), WriteFailed>
+        requires { (W.device out.old).failures < 2 ^ 64 - 1 }
+        ensures takes { AtClose view.entry regs (λ h items. AreCut self.now h items
+            → Takes (W.device out.old) (W.device out.new)
+            (cut_close h self.now.from self.now.to items) result) }
+        ensures counts { Counts (W.device out.old) (W.device out.new) result }
+    {
+        if !self.started {
+            return put_section(&self.table, view, self.from, out);
+        }
+        self.text.close(last_of(regs), out)
+    }
+}
+
+// Before the start section is written.
+impl<'r> AheadTask<Keeping> for Cut<'r> {
+    ghost use Rattle.vcd_engine.specs.declared.task_state.TaskState.TheVariants as task_state;
+
+    ghost task_state = { λ command. task_state.Cut command };
+
+    ghost is_ready = { λ command. not command.started };
+
+    ghost is_left = { λ command time. nat_le command.from time };
+
+    #[inline(always)]
+    fn leaves(&self, time: u64) -> bool {
+        self.from <= time
+    }
+
+    #[inline(always)]
+    fn note_time(&mut self, _time: u64) {}
+
+    #[inline(always)]
+    fn take_item<W: Sink>(
+        &mut self,
+        _view: HeadView<'_>,
+        _regs: Regs,
+        item: SpannedItem<'_>,
+        _line: &Keeping,
+        _pieces: &mut Pieces,
+        _out: &mut W,
+    ) -> Result<(), WriteFailed> {
+        let plain = item.plain;
+        set_item(&mut self.table, plain.item, plain.text, plain.bits);
+        Ok(())
+    }
+}
+
+// Once the start section is written.
+impl<'r> AheadTask<Copying> for Cut<'r> {
+    ghost use Rattle.vcd_engine.specs.declared.task_state.TaskState.TheVariants as task_state;
+
+    ghost task_state = { λ command. task_state.Cut command };
+
+    ghost is_ready = { λ command. command.started };
+
+    ghost is_left = { λ command time. nat_lt command.to time };
+
+    #[inline(always)]
+    fn leaves(&self, time: u64) -> bool {
+        self.to < time
+    }
+
+    #[inline(always)]
+    fn note_time(&mut self, _time: u64) {}
+
+    #[inline(always)]
+    fn take_item<W: Sink>(
+        &mut self,
+        view: HeadView<'_>,
+        regs: Regs,
+        item: SpannedItem<'_>,
+        line: &Copying,
+        pieces: &mut Pieces,
+        out: &mut W,
+    ) -> Result<(), WriteFailed> {
+        if !may_keep(view, regs, item.plain.item) {
+            return Ok(());
+        }
+        self.text
+            .put_spanned(view, regs.time, item, line, pieces, out)
+    }
+}

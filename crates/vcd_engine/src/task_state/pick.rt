@@ -1,0 +1,119 @@
+//! `pick`: the dump of the selected variables.
+ghost use Rattle.std.specs.Prelude.{◌≡◌, ◌-◌, ◌^◌, ◌<◌, map, string_bytes, IfOk, MatchResult, [], List, length, true, false};
+ghost use Rattle.vcd_engine.specs.Names.{ArePicked, AreRegsAfter, BodyItem, Counts, CountsStop, flags_in, HasRoomFor, Header, is_kept, last_mark, last_of, names_in, pick_close, Request, StartsOver, StopsUnread, Takes};
+ghost use Rattle.vcd_engine.specs.declared.task.Task.TheVariants as task;
+
+use crate::choice::is_chosen;
+use crate::item_text::ItemText;
+use crate::pieces::{Pieces, SpannedItem};
+use crate::selection::select_codes;
+use crate::task::Room;
+use crate::task_state::last_of;
+use crate::task_state::walk::{AheadTask, Copying};
+use vcd_body::{Item, Regs, Stop};
+use vcd_head::put_head;
+use vcd_text::{Sink, WriteFailed};
+use vcd_view::HeadView;
+
+/// The names that were asked for, the codes of the variables that they select, and the text of what
+/// was kept.
+#[derive(Drop)]
+pub(crate) struct Pick<'n, 'r> {
+    names: &'n [String],
+    flags: &'r mut [u8],
+    text: ItemText,
+}
+
+impl<'n, 'r> Pick<'n, 'r> {
+    /// Selects the variables, and writes their header.
+    pub(crate) fn start<W: Sink>(
+        view: HeadView<'_>,
+        room: Room<'r>,
+        names: &'n [String],
+        out: &mut W,
+    ) -> Result<Pick<'n, 'r>, Stop>
+        requires failures { (W.device out.old).failures < 2 ^ 64 - 1 }
+        requires room { HasRoomFor (task.Pick names) view room }
+        ensures starts { StartsOver view.entry (λ p h. ArePicked p h [])
+            (Request.Pick (map string_bytes names.entry.now))
+            (W.device out.old) (W.device out.new) result }
+        ensures names { MatchResult result
+            (λ p. names_in p ≡ map string_bytes names.entry.now) StopsUnread }
+        ensures room { IfOk result (λ p. flags_in p ≡ length view.entry.codes.now) }
+        ensures failures { CountsStop (W.device out.old) (W.device out.new) result }
+    {
+        let marks = room.marks;
+        let marks = &mut marks[..view.rows.len()];
+        let flags = room.values;
+        let flags = &mut flags[..view.codes.len()];
+        select_codes(view, names, marks, flags)?;
+        put_head(view, marks, out)?;
+        Ok(Pick {
+            names,
+            flags,
+            text: ItemText::new(),
+        })
+    }
+
+    /// Returns whether an item is written, after which the registers are these: a section's begin
+    /// or end, or a change of a chosen code that is no event inside a section.
+    #[inline(always)]
+    fn keeps(&self, view: HeadView<'_>, regs: Regs, item: Item) -> bool
+        ensures { result ≡ is_kept self.now.flags.now view.entry regs item }
+    {
+        match item {
+            Item::Time(_) | Item::Finish => false,
+            Item::Begin(_) | Item::End => true,
+            Item::Change { code, .. } => {
+                is_chosen(self.flags, code) && !(regs.section.is_some() && view.is_event(code))
+            }
+        }
+    }
+
+    /// Writes the line of the last time mark, unless that was written already.
+    pub(crate) fn close<W: Sink>(&self, regs: Regs, out: &mut W) -> Result<(), WriteFailed>
+        requires { (W.device out.old).failures < 2 ^ 64 - 1 }
+        ensures takes { (h : Header) (items : List BodyItem) → AreRegsAfter items regs
+            → last_of regs ≡ last_mark items → ArePicked self.now h items
+            → Takes (W.device out.old) (W.device out.new)
+            (pick_close h (names_in self.now) items) result }
+        ensures counts { Counts (W.device out.old) (W.device out.new) result }
+    {
+        self.text.close(last_of(regs), out)
+    }
+}
+
+impl<'n, 'r> AheadTask<Copying> for Pick<'n, 'r> {
+    ghost use Rattle.vcd_engine.specs.declared.task_state.TaskState.TheVariants as task_state;
+
+    ghost task_state = { λ command. task_state.Pick command };
+
+    ghost is_ready = { λ _. true };
+
+    ghost is_left = { λ _ _. false };
+
+    #[inline(always)]
+    fn leaves(&self, _time: u64) -> bool {
+        false
+    }
+
+    #[inline(always)]
+    fn note_time(&mut self, _time: u64) {}
+
+    #[inline(always)]
+    fn take_item<W: Sink>(
+        &mut self,
+        view: HeadView<'_>,
+        regs: Regs,
+        item: SpannedItem<'_>,
+        line: &Copying,
+        pieces: &mut Pieces,
+        out: &mut W,
+    ) -> Result<(), WriteFailed> {
+        if !self.keeps(view, regs, item.plain.item) {
+            return Ok(());
+        }
+        self.text
+            .put_spanned(view, regs.time, item, line, pieces, out)
+    }
+}

@@ -1,0 +1,164 @@
+//! `sample`: the values of selected variables at some times.
+ghost use Rattle.std.specs.Prelude.{◌≡◌, ◌≢◌, ◌-◌, ◌^◌, ◌<◌, [], nat_le, None, true, IfOk, MatchResult, map, string_bytes};
+ghost use Rattle.vcd_engine.specs.Names.{AreSampled, asked_in, close_text, ClosesOver, Counts, first_unmatched, HasGoodText, HasRoomFor, Header, is_due, IsFirstUnmatched, IsStrictlyIncreasing, IsUnmatched, IsViewOf, IsWithin, lent_to_sample, position_or_len, Request, room_size, SameSample, TakesEach, TakesTime};
+ghost use Rattle.vcd_engine.specs.declared.task.Task.TheVariants as task;
+
+use crate::leads::lead_on;
+use crate::pieces::{Pieces, SpannedItem};
+use crate::sample_lines::put_samples;
+use crate::task::Room;
+use crate::task_state::walk::{AheadTask, Keeping, take_given};
+use crate::values::set_item;
+use vcd_body::{Item, Regs, Stop, Table};
+use vcd_head::select;
+use vcd_text::{Sink, WriteFailed};
+use vcd_view::HeadView;
+
+/// The times and names that were asked for, the times that are not settled, the current values, and
+/// the flags that lead from one row with a line to the next.
+#[derive(Drop)]
+pub(crate) struct Sample<'n, 'r> {
+    times: &'n [u64],
+    names: &'n [String],
+    rest: &'n [u64],
+    table: Table<'r>,
+    marks: &'r [u8],
+}
+
+/// Returns how many times come before the first that is not below this one.
+#[inline(always)]
+fn count_below(times: &[u64], time: u64) -> usize
+    ensures { result ≡ position_or_len (λ due. nat_le time due) times.now }
+{
+    times
+        .iter()
+        .position(|due| *due >= time)
+        .unwrap_or(times.len())
+}
+
+impl<'n, 'r> Sample<'n, 'r> {
+    /// Selects the variables. Nothing is written. There is a time, and each is above the one before
+    /// it.
+    pub(crate) fn start(
+        view: HeadView<'_>,
+        room: Room<'r>,
+        times: &'n [u64],
+        names: &'n [String],
+    ) -> Result<Sample<'n, 'r>, Stop>
+        requires some { times.now ≢ [] }
+        requires rising { IsStrictlyIncreasing times.now }
+        requires room { HasRoomFor (task.Sample times names) view room }
+        ensures starts { (h : Header) → IsViewOf view.entry h
+            → MatchResult result (λ s. AreSampled s h []
+            × (first_unmatched (map string_bytes names.now) h.declarations ≡ None))
+            (IsFirstUnmatched (map string_bytes names.now) h) }
+        ensures asked { MatchResult result (λ s. asked_in s
+            ≡ Request.Sample times.now (map string_bytes names.now)) IsUnmatched }
+        ensures room { IfOk result (λ s. IsWithin (lent_to_sample s) (room_size room.entry)) }
+    {
+        let marks = room.marks;
+        let marks = &mut marks[..view.rows.len()];
+        if let Err(name) = select(view, names, marks) {
+            return Err(Stop::Unmatched { name });
+        }
+        lead_on(view, marks);
+        Ok(Sample {
+            times,
+            names,
+            rest: times,
+            table: Table::new(view, room.values, room.slots, room.shares),
+            marks,
+        })
+    }
+
+    /// Takes a time mark: writes the lines of the times below it that are left. Returns whether it
+    /// is above them all.
+    fn take_time<W: Sink>(
+        &mut self,
+        view: HeadView<'_>,
+        time: u64,
+        out: &mut W,
+    ) -> Result<bool, WriteFailed>
+        requires { (W.device out.old).failures < 2 ^ 64 - 1 }
+        ensures takes { TakesTime view.entry time (AreSampled self.old) (AreSampled self.new)
+            (asked_in self.old) (W.device out.old) (W.device out.new) result }
+        ensures counts { Counts (W.device out.old) (W.device out.new) result }
+        ensures same { SameSample self.old self.new }
+    {
+        let (due, rest) = self.rest.split_at(count_below(self.rest, time));
+        put_samples(&self.table, view, self.marks, due, out)?;
+        self.rest = rest;
+        Ok(rest.is_empty())
+    }
+
+    /// Takes an item with its text: keeps the value of a change, and at a time mark writes the
+    /// lines of the times below it. Returns whether it ended the run. The registers are those after
+    /// it.
+    #[inline(always)]
+    pub(crate) fn take<W: Sink>(
+        &mut self,
+        view: HeadView<'_>,
+        regs: Regs,
+        item: Item,
+        text: &[u8],
+        out: &mut W,
+    ) -> Result<bool, WriteFailed>
+        requires failures { (W.device out.old).failures < 2 ^ 64 - 1 }
+        requires sound { HasGoodText view.codes.now text.now item }
+        ensures takes { TakesEach view.entry regs item text.now (AreSampled self.old)
+            (AreSampled self.new) (asked_in self.old) (W.device out.old) (W.device out.new) result }
+        ensures counts { Counts (W.device out.old) (W.device out.new) result }
+        ensures same { SameSample self.old self.new }
+    {
+        if let Item::Time(time) = item {
+            return self.take_time(view, time, out);
+        }
+        take_given::<Keeping, _, _>(self, view, regs, item, text, out)
+    }
+
+    /// Writes the lines of the times that are left.
+    pub(crate) fn close<W: Sink>(&self, view: HeadView<'_>, out: &mut W) -> Result<(), WriteFailed>
+        requires { (W.device out.old).failures < 2 ^ 64 - 1 }
+        ensures takes { ClosesOver view.entry (AreSampled self.now)
+            (close_text (asked_in self.now)) (W.device out.old) (W.device out.new) result }
+        ensures counts { Counts (W.device out.old) (W.device out.new) result }
+    {
+        put_samples(&self.table, view, self.marks, self.rest, out)
+    }
+}
+
+impl<'n, 'r> AheadTask<Keeping> for Sample<'n, 'r> {
+    ghost use Rattle.vcd_engine.specs.declared.task_state.TaskState.TheVariants as task_state;
+
+    ghost task_state = { λ command. task_state.Sample command };
+
+    ghost is_ready = { λ _. true };
+
+    ghost is_left = { λ command time. is_due command.rest.now time };
+
+    #[inline(always)]
+    fn leaves(&self, time: u64) -> bool {
+        match self.rest {
+            [first, ..] => *first < time,
+            [] => true,
+        }
+    }
+
+    #[inline(always)]
+    fn note_time(&mut self, _time: u64) {}
+
+    #[inline(always)]
+    fn take_item<W: Sink>(
+        &mut self,
+        _view: HeadView<'_>,
+        _regs: Regs,
+        item: SpannedItem<'_>,
+        _line: &Keeping,
+        _pieces: &mut Pieces,
+        _out: &mut W,
+    ) -> Result<(), WriteFailed> {
+        let plain = item.plain;
+        set_item(&mut self.table, plain.item, plain.text, plain.bits);
+        Ok(())
+    }
+}
