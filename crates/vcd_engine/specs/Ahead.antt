@@ -1,4 +1,4 @@
--- What is left where a task's state takes items that lie ahead in a feed's chunk, one after the other.
+-- What is left where a task takes items that are whole in a feed's chunk.
 use Rattle.std.specs.Prelude.{◌≡◌, ℕ, ◌+◌, ◌<◌, ◌^◌, false, List, [], ◌∷◌, ◌++◌, length, Result, Ok, Err}
 use Rattle.std.specs.List.{list_any}
 use Rattle.vcd_model.specs.Header.{Header}
@@ -24,7 +24,7 @@ use Rattle.vcd_engine.specs.declared.task_state.walk.WalkEnd.{WalkEnd}
 
 module _ (task : Request) (h : Header) (limit lines : ℕ) (bytes : List ℕ) (before : List BodyItem) where
   -- after the items before, these lie in the first n bytes ahead; none of them ends the run, and
-  -- the task's state and registers are those after them
+  -- task's state and registers are those after them
   pub record StandsAhead (n : ℕ) (items : List BodyItem) (m : TaskState) (r : Regs) : Type 0 where
     pub gave : GaveAhead h.codes limit lines bytes n before items
     pub known : AreRegsAfter (before ++ items) r
@@ -48,7 +48,7 @@ module _ (task : Request) (h : Header) (limit lines : ℕ) (bytes : List ℕ) (b
   abbrev pub RunsAhead : {A E : Type 0} → ℕ → TaskState → Regs → Device → Device → Result A E → Type 0
   RunsAhead n m r out out' result = TakesSeveral task before (EndsAhead n m r out out' result)
 
--- what a task's state leaves that takes the items which lie ahead from a position on
+-- what a task leaves that takes the items which are whole in the chunk from a position on
 pub record RunsOver (v : HeadView) (a : Ahead) (r : Regs) (m m' : TaskState) (out out' : Device) (t : WalkEnd) : Type 0 where
   pub gives : (h : Header) (lines : ℕ) (before : List BodyItem) → IsViewOf v h → length before + length (bytes_of a) < 2 ^ 63 → StandsAhead (request_in m) h (longest_of a) lines (bytes_of a) before (passed_of a) [] m r
       → RunsAhead (request_in m) h (longest_of a) lines (bytes_of a) before t.passed m' t.regs out out' t.written

@@ -71,7 +71,7 @@ BeginsBy h items time m m' out out' (Err e) = (m.started ≡ false) × (m.from �
 abbrev pub lent_to : Cut → RoomSize
 lent_to m = record { values = bytes_in m.table; slots = codes_in m.table; marks = 0 }
 
--- it goes on with the same span and room
+-- span and room stay
 abbrev pub SameSpan : Cut → Cut → Type 0
 SameSpan m m' = (span_in m' ≡ span_in m) × (lent_to m' ≡ lent_to m)
 

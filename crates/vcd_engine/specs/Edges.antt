@@ -29,7 +29,7 @@ pub record AreTallied (t : Table) (h : Header) (items : List BodyItem) : Type 0 
 abbrev pub change_to : IdCode → Form → List ℕ → BodyItem
 change_to c form text = BodyItem.Changes (record { code = c; form = model_form form; text = text })
 
--- ---- what the task's state keeps
+-- ---- what a task's state keeps
 
 -- the names that were asked for
 abbrev pub names_counted : Edges → List (List ℕ)
@@ -39,7 +39,7 @@ names_counted e = map string_bytes e.names.now
 abbrev pub room_in_edges : Edges → RoomSize
 room_in_edges e = record { values = bytes_in e.table; slots = codes_in e.table; marks = length e.marks.now }
 
--- it goes on with the same names and room
+-- names and room stay
 abbrev pub SameEdges : Edges → Edges → Type 0
 SameEdges e e' = (names_counted e' ≡ names_counted e) × (room_in_edges e' ≡ room_in_edges e)
 

@@ -72,7 +72,7 @@ request_of_begun b = request_in b.task_state
 abbrev pub request_of_engine : Engine → Request
 request_of_engine e = request_in e.task_state
 
--- a time mark may end the run
+-- a timestamp may end the run
 abbrev pub may_end_early : Request → Bool
 may_end_early (Request.Cut from to) = true
 may_end_early (Request.Sample times names) = true
@@ -91,7 +91,7 @@ pub record CanRun (task : Request) (h : Header) : Type 0 where
 
 -- ---- the begin
 
--- a run that stops at its begin has a failed write, or a name that selects nothing
+-- a run that stops at its start has a failed write, or a name that selects nothing
 abbrev pub StopsUnread : Stop → Type 0
 StopsUnread Write = Unit {0}
 StopsUnread (Unmatched index) = Unit {0}
@@ -137,7 +137,7 @@ abbrev pub AtItem : HeadView → Regs → Item → List ℕ → (Header → List
 AtItem v r item text holds = (h : Header) (items : List BodyItem) (before : Regs) (x : BodyItem) → IsViewOf v h → AreRegsAfter items before → r ≡ regs_after before item → IsItem h.codes text item x → length items < 2 ^ 63 → holds h items x
 
 -- what is due with an item of any header, after any items of which the first holds, was written;
--- the second holds of all of them, where the run goes on
+-- the second holds of all of them, where the item does not end the run
 abbrev pub TakesEach : {E : Type 0} → HeadView → Regs → Item → List ℕ → (holds after : Header → List BodyItem → Type 0) → Request → Device → Device → Result Bool E → Type 0
 TakesEach v r item text holds after task out out' result = AtItem v r item text (λ h items x. holds h items → TakesOne (after h (items ++ x ∷ [])) task h items x out out' result)
 

@@ -76,7 +76,7 @@ room_of (task_state.Cut m) = lent_to m
 room_of (task_state.Sample s) = lent_to_sample s
 room_of (task_state.Edges e) = room_in_edges e
 
--- a task's state goes on with the same request, and holds the same room
+-- the request of a task's state and the room that it holds stay
 abbrev pub SameTask : TaskState → TaskState → Type 0
 SameTask m m' = (request_in m' ≡ request_in m) × (room_of m' ≡ room_of m)
 

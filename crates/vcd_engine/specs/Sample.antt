@@ -24,7 +24,7 @@ asked_in s = Request.Sample s.times.now (names_in s)
 abbrev pub lent_to : Sample → RoomSize
 lent_to s = record { values = bytes_in s.table; slots = codes_in s.table; marks = length s.marks.now }
 
--- it goes on with the same request and room
+-- request and room stay
 abbrev pub SameSample : Sample → Sample → Type 0
 SameSample s s' = (asked_in s' ≡ asked_in s) × (lent_to s' ≡ lent_to s)
 

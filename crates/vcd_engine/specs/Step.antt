@@ -76,7 +76,7 @@ StepsOn e e' f f' out out' result = (h : Header) (i : Input) (front : List Token
 abbrev pub StepsAhead : {X A E : Type 0} {g : Ghosts X} → Engine → Engine → Feed X g → Feed X g → Device → Device → Result A E → Type 0
 StepsAhead e e' f f' out out' result = (h : Header) (i : Input) (front : List Token) (items : List BodyItem) → Runs e h i front items f → TakesAhead (request_of_engine e) h i front items e' f' out out' result
 
--- a step ends the run early only where a mark may end it
+-- a step ends the run early only where a timestamp may end it
 abbrev pub MayEnd : Request → Result More Stop → Type 0
 MayEnd task result = IfOk result (λ more. more ≡ Ended Early → may_end_early task ≡ true)
 
@@ -96,8 +96,9 @@ pub record MayStep {X : Type 0} {g : Ghosts X} (failures : X → ℕ) (e : Engin
   pub going : is_going e ≡ true
   pub bound : FitsBound f (view_in e) (room_in e)
 
--- what a step leaves beside items and output: the feed has gone on, a write that failed is counted,
--- and the engine has the same task, view and room, and goes on where the answer is `Again` alone
+-- what a step leaves beside items and output: the feed has advanced, a write that failed is
+-- counted, and the engine has the same task, view and room, and has not ended where the answer is
+-- `Again`
 pub record StepsOver {X : Type 0} {g : Ghosts X} (failures : X → ℕ) (e e' : Engine) (f f' : Feed X g) (out out' : Device) (result : Result More Stop) : Type 0 where
   pub advances : Advances failures f f' (step_end result)
   pub progress : result ≡ Ok Again → seen f < seen f'

@@ -36,7 +36,7 @@ Belongs task o name out out' (Err (Read input)) = (input ≡ 0) × ((line : ℕ)
 Belongs task o name out out' (Err Write) = WritesSome out out' o.output
 Belongs task o name out out' (Err (Unmatched index)) = (o ≡ unmatched_outcome (name_at (names_of task) index)) × Writes out out' o.output
 
--- a time mark ended the run
+-- a timestamp ended the run
 abbrev pub is_early : Done → Bool
 is_early Whole = false
 is_early Early = true

@@ -39,7 +39,7 @@ pub record HasWalked (v : HeadView) (a : Ahead) (r : Regs) (m : TaskState) (begi
 abbrev pub walk_of : {L C : Type 0} → (L → ℕ × ℕ) → Stage (WalkState L) C → Walk
 walk_of line s = walk_at s.ahead s.regs (line s.visit.line)
 
--- the walk of a command can go on in these bytes, with these registers
+-- a walk of a task may take more of these bytes, with these registers
 pub record CanTake {L C : Type 0} (line_of : L → ℕ × ℕ) (is_ready : C → Bool) (state : WalkState L) (command : C) (bytes : List ℕ) (r : Regs) : Type 0 where
   pub ready : is_ready command ≡ true
   pub part : IsPart bytes state.pieces

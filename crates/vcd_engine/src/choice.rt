@@ -1,4 +1,4 @@
-//! Which codes of a header are chosen: a byte a code, so that a look at one is fast for many codes.
+//! Which codes of a header are chosen: a byte for each code.
 ghost use Rattle.std.specs.Prelude.{◌≡◌, ℕ, ◌<◌, ◌==◌, ◌||◌, false, length};
 ghost use Rattle.vcd_engine.specs.Names.{is_chosen};
 
@@ -10,7 +10,7 @@ pub(crate) fn choose_none(flags: &mut [u8])
     flags.fill(0);
 }
 
-/// Chooses the code at an index.
+/// Chooses the code at index `code`.
 pub(crate) fn choose(flags: &mut [u8], code: usize)
     requires { code < length flags.old }
     ensures codes { length flags.new ≡ length flags.old }
@@ -20,10 +20,9 @@ pub(crate) fn choose(flags: &mut [u8], code: usize)
     flags[code] = 1;
 }
 
-/// Returns whether the code at an index is chosen; where there is no code, none is. It takes the
-/// same time for every choice.
-// A flag in a record of 48 bytes misses the L1 cache: `pick` of 27,505 codes took nearly 50 % more
-// time with it.
+/// Returns whether the code at index `code` is chosen; false where there is no such code.
+// A byte a code: against a flag in a record of 48 bytes, which misses the L1 cache, it saves `pick`
+// of 27,505 codes a third of its time.
 #[inline]
 pub(crate) fn is_chosen(flags: &[u8], code: usize) -> bool
     ensures { result ≡ is_chosen flags.now code }

@@ -67,9 +67,9 @@ pub fn edges<S: Source, W: Sink>(
     run_task(Task::Edges(names), view, feed, room, out)
 }
 
-/// Writes the header of all variables and, from the first time mark of at least `from` on, a
+/// Writes the header of all variables and, from the first timestamp of at least `from` on, a
 /// section with the values just before `from`, and the items from then up to `to`, each after the
-/// line of its time. Times are in ticks. A time mark above `to` ends the run. Fails at the first
+/// line of its time. Times are in ticks. A timestamp above `to` ends the run. Fails at the first
 /// fault of the body, at a failed read, and where a write failed.
 pub fn cut<S: Source, W: Sink>(
     view: HeadView<'_>,
@@ -91,7 +91,7 @@ pub fn cut<S: Source, W: Sink>(
 /// Writes, for each of the times, the lines of the variables that the names select: the time, the
 /// path and the value, in full. There is a time, in ticks, and each is above the one before it. A
 /// name that selects nothing is refused before anything is read or written. Fails at the first
-/// fault of the body, at a failed read, and where a write failed. A time mark above the last of the
+/// fault of the body, at a failed read, and where a write failed. A timestamp above the last of the
 /// times ends the run.
 pub fn sample<S: Source, W: Sink>(
     view: HeadView<'_>,

@@ -1,4 +1,4 @@
-//! A run over the items of a body, one item a step. It names no command.
+//! A run of a task over the items of a body. It names no command.
 ghost use Rattle.std.specs.Prelude.{◌≡◌, ◌≢◌, ◌-◌, ◌^◌, ◌<◌, [], List, true, false, MatchBool, Ok, MatchResult};
 ghost use Rattle.vcd_engine.specs.Names.{Advances, Again, BeginsAs, BodyItem, CallEnd, CanRun, close_text, Counts, CountsOn, Early, EndsAsAsked, EndsAtRead, Finish, Finishes, HasBegun, HasRoomFor, Header, Holds, is_going, IsValid, IsViewOf, IsWithinEachBound, item_text, MayRun, MayStep, parts, request_of, request_of_begun, request_of_engine, room_in, room_of_begun, room_size, RunsTask, SameHold, SameWindows, seen, StartsOver, Steps, StepsAhead, StepsOver, Takes, view_in};
 ghost use Rattle.vcd_engine.specs.Waits.{StepsOrStops};
@@ -13,7 +13,7 @@ use vcd_body::{
 use vcd_text::{Feed, Sink, Source, WriteFailed};
 use vcd_view::HeadView;
 
-/// A task that goes on over a body.
+/// A task between two items of a body: its header's view, the registers, and what it keeps.
 #[derive(Drop)]
 // Each loan has a lifetime of its own, as in a feed.
 pub struct Engine<'v, 'n, 'r> {
@@ -23,7 +23,7 @@ pub struct Engine<'v, 'n, 'r> {
     going: bool,
 }
 
-/// Returns whether the body has no item any more.
+/// Returns whether this is the end of the body.
 #[inline(always)]
 fn is_finish(item: Item) -> bool
     ensures { MatchBool result (item ≡ Finish) (item ≢ Finish) }
@@ -34,7 +34,7 @@ fn is_finish(item: Item) -> bool
     }
 }
 
-/// Returns the text of the item that was read last; a change alone has one.
+/// Returns the text of the item that the feed gave last: empty, unless it is a change.
 #[inline(always)]
 fn text_of_item<'f, S: Source>(feed: &'f Feed<'_, '_, '_, '_, S>, item: Item) -> &'f [u8]
     ensures { result.now ≡ item_text feed.now item }
@@ -45,15 +45,20 @@ fn text_of_item<'f, S: Source>(feed: &'f Feed<'_, '_, '_, '_, S>, item: Item) ->
     }
 }
 
-/// A task that has begun. With its view it is an engine.
+/// A task that has begun: `Engine::new` makes its engine, over a view of the same header.
 #[derive(Drop)]
 pub struct Begun<'n, 'r> {
     task_state: TaskState<'n, 'r>,
 }
 
 impl<'n, 'r> Begun<'n, 'r> {
-    /// Begins a task, whose times are in order, over the header that is shown, and writes what
-    /// comes before all items. A name that selects nothing is refused, and then nothing is written.
+    /// Begins a task over the header that is shown, and writes what comes before all items. The
+    /// task's times are in order.
+    ///
+    /// # Errors
+    ///
+    /// `Stop::Unmatched` at a name that selects nothing: nothing was written. `Stop::Write` where a
+    /// write failed, after a prefix.
     pub fn start<W: Sink>(
         task: Task<'n>,
         view: HeadView<'_>,
@@ -92,7 +97,7 @@ impl<'v, 'n, 'r> Engine<'v, 'n, 'r> {
         }
     }
 
-    /// Returns whether the run goes on: neither the body nor a step has ended it.
+    /// Returns whether a step may be taken: neither the body nor an earlier step has ended the run.
     #[inline]
     pub fn going(&self) -> bool
         ensures { result ≡ is_going self.now }
@@ -100,8 +105,9 @@ impl<'v, 'n, 'r> Engine<'v, 'n, 'r> {
         self.going
     }
 
-    /// Takes a step over a header that the caller gives, so that a loop over steps need not fetch
-    /// it for each.
+    /// Takes the next item from the feed, and writes what is due with it or at the end of the body.
+    /// `view` is the engine's, from the caller, so that a loop over steps does not load it again.
+    /// Fails as `step` does.
     #[inline(always)]
     fn step_over<S: Source, W: Sink>(
         &mut self,
@@ -141,8 +147,8 @@ impl<'v, 'n, 'r> Engine<'v, 'n, 'r> {
         }
     }
 
-    /// Takes the items that lie whole ahead in the feed's chunk, and writes what is due after each:
-    /// nothing else is looked at, and the feed moves past them in one call.
+    /// Takes the items that are whole in the feed's chunk, and writes what is due with each. The
+    /// feed moves past them in one call, and nothing is read. Fails where a write does.
     #[inline(never)]
     fn walk_ahead<S: Source, W: Sink>(
         &mut self,
@@ -179,8 +185,8 @@ impl<'v, 'n, 'r> Engine<'v, 'n, 'r> {
         }
     }
 
-    /// Takes the items that lie whole ahead, as `walk_ahead` does. Where a keyword comes there is
-    /// none, and the loop over them does not begin.
+    /// Takes the items that are whole in the chunk, as `walk_ahead` does, unless a keyword is next:
+    /// then there is none. Fails where a write does.
     #[inline(always)]
     fn take_ahead<S: Source, W: Sink>(
         &mut self,
@@ -209,8 +215,8 @@ impl<'v, 'n, 'r> Engine<'v, 'n, 'r> {
         self.walk_ahead(view, feed, out)
     }
 
-    /// Takes the next item, as `step_over` does. A read of it may wait: by then nothing is kept
-    /// back of what is due.
+    /// Takes the next item, as `step_over` does. It may wait for a read, so by then `out` keeps
+    /// nothing back.
     #[inline(always)]
     fn read_on<S: Source, W: Sink>(
         &mut self,
@@ -228,8 +234,8 @@ impl<'v, 'n, 'r> Engine<'v, 'n, 'r> {
         self.step_over(view, feed, out)
     }
 
-    /// Takes the items that lie whole ahead, and then the next one, which may need more of the
-    /// input: before that all that is due is passed on.
+    /// Takes the items that are whole in the chunk, and then the next one, which may need a read:
+    /// before that `out` passes on all that it keeps back.
     #[inline(always)]
     fn advance<S: Source, W: Sink>(
         &mut self,
@@ -255,8 +261,8 @@ impl<'v, 'n, 'r> Engine<'v, 'n, 'r> {
         self.read_on(view, feed, out)
     }
 
-    /// Writes what is due at the clean end. It is no part of the loop over steps, so that the loop
-    /// lends no view for it.
+    /// Writes what is due at the end of a body without fault. Fails where a write does.
+    // Not inlined, so that the loop over steps lends no view for it.
     #[inline(never)]
     fn close<W: Sink>(&self, out: &mut W) -> Result<(), WriteFailed>
         requires { (W.device out.old).failures < 2 ^ 64 - 1 }
@@ -268,7 +274,7 @@ impl<'v, 'n, 'r> Engine<'v, 'n, 'r> {
         self.task_state.close(self.view, self.regs, out)
     }
 
-    /// Takes all items that are left, to the end of the run.
+    /// Takes all items that are left, to the end of the run. Fails where a step does.
     fn finish<S: Source, W: Sink>(
         &mut self,
         feed: &mut Feed<'_, '_, '_, '_, S>,
@@ -294,8 +300,12 @@ impl<'v, 'n, 'r> Engine<'v, 'n, 'r> {
     }
 }
 
-/// Takes the next item, and writes what is due after it; at the end of the body, what is due there.
-/// Nothing is written where the body has a fault. After any answer but `Again` the run is over.
+/// Takes the next item, and writes what is due with it, or at the end of the body. After any answer
+/// but `Again` the run is over.
+///
+/// # Errors
+///
+/// The fault of the body or a failed read: nothing was written. `Stop::Write` where a write failed.
 #[inline(always)]
 pub fn step<S: Source, W: Sink>(
     engine: &mut Engine<'_, '_, '_>,
@@ -310,8 +320,13 @@ pub fn step<S: Source, W: Sink>(
     engine.step_over(engine.view, feed, out)
 }
 
-/// Runs a task, whose times are in order, over the body after the header that is shown: the one
-/// loop over items. A name that selects nothing is refused before anything is read or written.
+/// Runs a task over the body after the header that is shown, to its end. The task's times are in
+/// order.
+///
+/// # Errors
+///
+/// `Stop::Unmatched` at a name that selects nothing, before anything is read or written; the first
+/// fault of the body; a failed read; `Stop::Write` where a write failed.
 pub fn run_task<S: Source, W: Sink>(
     task: Task<'_>,
     view: HeadView<'_>,

@@ -1,5 +1,4 @@
-//! The text of kept items: each as its line, after the line of its time unless that was written
-//! already.
+//! The text of kept items: the line of each, after the line of its time where that is due.
 ghost use Rattle.std.specs.Prelude.{◌≡◌, ℕ, ◌-◌, ◌^◌, ◌<◌, ◌∷◌, [], List, Some, IfOk};
 ghost use Rattle.vcd_engine.specs.Names.{as_line, BodyItem, closing, Counts, Entry, HasGoodText, HasWritten, Header, IsSpanned, IsItem, IsLine, IsPart, IsViewOf, item_line, keyword_text, LastTells, model_section, PutsBehind, PutsEntry, PutsPieces, PutsWhere, section_keyword, TakenBy, Takes, time_due, times_with};
 
@@ -9,13 +8,13 @@ use vcd_body::{Id, Item, Section, put_change, put_time_unless};
 use vcd_text::{Sink, WriteFailed, put};
 use vcd_view::HeadView;
 
-/// The text of kept items, as far as it goes on from here: the time whose line was written last.
+/// The state of the text of kept items: the time whose line was written last.
 #[derive(Clone, Copy)]
 pub(crate) struct ItemText {
     written: Option<u64>,
 }
 
-/// Returns the keyword that begins a section, as its line.
+/// Returns the line that begins a section: its keyword.
 fn begin_line(section: Section) -> &'static [u8]
     ensures { result.now ≡ as_line (keyword_text (section_keyword (model_section section))) }
 {
@@ -27,7 +26,8 @@ fn begin_line(section: Section) -> &'static [u8]
     }
 }
 
-/// Writes an item with its text as its line; a time mark has none of its own.
+/// Writes the line of an item that has this text; a timestamp has none here. Fails where a write
+/// does.
 #[inline(always)]
 fn put_item<W: Sink>(
     view: HeadView<'_>,
@@ -62,7 +62,7 @@ impl ItemText {
         ItemText { written: None }
     }
 
-    /// Returns the state after the line of this time.
+    /// Returns the state after the line of `time`.
     pub(crate) fn after(time: u64) -> ItemText
         ensures { HasWritten (time ∷ []) [] result }
     {
@@ -71,7 +71,8 @@ impl ItemText {
         }
     }
 
-    /// Writes an item with its text as an entry at this time. A time mark has no line of its own.
+    /// Writes the line of `time`, where it is due, and the line of an item. Fails where a write
+    /// does.
     #[inline(always)]
     fn put<W: Sink>(
         &mut self,
@@ -92,8 +93,9 @@ impl ItemText {
         put_item(view, item, text, out)
     }
 
-    /// Writes an item as an entry at this time, after what is pending. If its bytes are its line, they
-    /// are held, and so is the line of the time, if that is in the chunk.
+    /// Adds the line of `time`, where it is due, and the line of an item, after the pending text.
+    /// What the chunk has as such a line becomes pending; else it is written. Fails where a write
+    /// does.
     #[inline(always)]
     pub(crate) fn put_spanned<W: Sink>(
         &mut self,
@@ -122,7 +124,8 @@ impl ItemText {
         pieces.append_parts(item.bytes, item.from, item.to, n, out)
     }
 
-    /// Writes the line of a time, unless it was written last, after what is pending.
+    /// Adds the line of `time`, unless it was the last such line, after the pending text. Fails
+    /// where a write does.
     #[inline(always)]
     fn add_time<W: Sink>(
         &mut self,
@@ -146,8 +149,8 @@ impl ItemText {
         pieces.append_time(time, bytes, line.from, line.to, out)
     }
 
-    /// Writes what closes the text where this is the last time mark: its line, unless that was
-    /// written already.
+    /// Writes the line of the last timestamp, where there is one and it is due. Fails where a write
+    /// does.
     pub(crate) fn close<W: Sink>(&self, last: Option<u64>, out: &mut W) -> Result<(), WriteFailed>
         requires { (W.device out.old).failures < 2 ^ 64 - 1 }
         ensures takes { (before : List ℕ) (kept : List Entry) → HasWritten before kept self.now

@@ -1,11 +1,11 @@
-//! Marks that lead from one row with a line in a sample to the next, so that a time costs no look
-//! at each row.
+//! Flags that lead from one row with a line in a sample to the next, so that a time costs its lines
+//! and no pass over all rows.
 ghost use Rattle.std.specs.Prelude.{◌≡◌, ◌≢◌, ◌<◌, ◌≤◌, ℕ, List, length, get_or, MatchBool};
 ghost use Rattle.vcd_engine.specs.Names.{HaveNoLine, Header, IsSelectedAt, IsViewOf, LeadOn, marks_of, rows_on};
 
 use vcd_view::{HeadView, Kind};
 
-/// Returns whether the row with this mark has a line in a sample: it is a marked variable's that is
+/// Returns whether a row has a line in a sample: its flag `mark` is 1, and it is a variable that is
 /// no event.
 fn has_line(view: HeadView<'_>, row: usize, mark: u8) -> bool
     requires { row < length view.rows.now }
@@ -20,8 +20,8 @@ fn has_line(view: HeadView<'_>, row: usize, mark: u8) -> bool
     }
 }
 
-/// Returns the mark of the first of `count` rows without a line, 1 or more: 2 plus the binary
-/// logarithm of how many rows to pass, which are more than half of them.
+/// Returns the flag of the first of `count` rows without a line: 2 + log2(`count`), rounded down.
+/// It skips more than half of them. `count` is 1 or more.
 fn mark_over(count: usize) -> u8
     requires { 0 < count }
     ensures other { result ≢ 1 }
@@ -30,7 +30,7 @@ fn mark_over(count: usize) -> u8
     2 + count.ilog2() as u8
 }
 
-/// Returns how many rows a mark passes, a power of two.
+/// Returns how many rows a flag skips, a power of two: 1 for the flags 0 to 2.
 pub(crate) fn rows_on(mark: u8) -> usize
     ensures passes { result ≡ rows_on mark }
     ensures some { 0 < result }
@@ -38,10 +38,10 @@ pub(crate) fn rows_on(mark: u8) -> usize
     1 << mark.saturating_sub(2).min(63)
 }
 
-/// Changes the flags of what names select to flags that lead on: 1 where a row has a line in a
-/// sample, elsewhere how many rows without one to pass.
-// A `sample` of one variable of 200,000 at 20,000 times takes 0.12 s; with a look at each row it
-// took 15.7 s.
+/// Turns the flags of selected rows into flags that lead on: 1 where a row has a line in a sample,
+/// elsewhere how many rows without one to skip (`rows_on`).
+// Against a look at each row it saves a `sample` of one variable of 200,000 at 20,000 times 99 % of
+// its time.
 pub(crate) fn lead_on(view: HeadView<'_>, marks: &mut [u8])
     requires { length marks.old ≡ length view.rows.now }
     ensures leads { (h : Header) (names : List (List ℕ)) → IsViewOf view.entry h

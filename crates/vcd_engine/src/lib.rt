@@ -3,8 +3,8 @@
 //! `list` writes a line for each variable of a view. The other commands over one dump are each a
 //! `Task`: `run_task` does it over the items of the body, in a `Room` of the lengths that
 //! `Task::need` says; `check`, `pick`, `cut`, `sample` and `edges` are one call of it each. An
-//! `Engine`, of a task that has `Begun`, is the same run in parts, for callers that have more to do
-//! between items: `step` takes one item. None of them takes memory.
+//! `Engine` is the same run in parts, for callers that have more to do between items:
+//! `Begun::start` begins its task, and each `step` takes one item. None of them takes memory.
 //!
 //! # The relations
 //!
@@ -22,13 +22,12 @@
 //! - `task`: `Task`, `Room`, `Task::need`
 //! - `engine`: `Begun`, `Engine`, and `run_task`, the one loop over items. It names no command
 //! - `task_state`, and under it `check`, `pick`, `cut`, `sample`, `edges`: what each task keeps
-//!   between items, and what it does at the begin, with an item and at the end; `walk`:
-//!   `AheadTask`, what a task does with items that are whole in the chunk, and the one loop over
-//!   these
+//!   between items, and what it does at the start, with an item and at the end; `walk`:
+//!   `AheadTask`, what a task does with items that are whole in the chunk, and the loop over these
 //! - `commands`: `check`, `pick`, `cut`, `sample`, `edges`
 //! - `choice`: which codes are chosen, a byte a code
 //! - `item_text`: kept items as lines, each after the line of its time
-//! - `pieces`: text that is due and is in the chunk already, which is written piece by piece
+//! - `pieces`: pending text, due and in the chunk already, which is written piece by piece
 //! - `selection`: the variables that names select, as flags and as chosen codes
 //! - `report`, `rows`, `tally`: the seven lines of `check`; `list`; the counters of `edges`, and
 //!   its rows
@@ -36,9 +35,9 @@
 //! - `sample_lines`: the lines of a sample; `leads`: the flags that lead from one row with a line
 //!   to the next
 //!
-//! In `specs/` callers read `TaskRun` (`MayRun`, `RunsTask`, `Follows`), `Engine`, `Step` (`MayStep`,
-//! `Steps`, `StepsOver`) and `Room` (`BeginsAs`). How a run ends, `Done`, `More` and `Stop`, is of
-//! `vcd_body`. `Names` brings what the clauses cite under one path.
+//! In `specs/` callers read `TaskRun` (`MayRun`, `RunsTask`, `Follows`), `Engine`, `Step`
+//! (`MayStep`, `Steps`, `StepsOver`) and `Room` (`BeginsAs`). How a run ends, `Done`, `More` and
+//! `Stop`, is of `vcd_body`. `Names` brings what the clauses cite under one path.
 //!
 //! # Limits
 //!

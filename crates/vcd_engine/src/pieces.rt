@@ -1,12 +1,12 @@
-//! Text that is due and is in the chunk already: pieces of it that follow each other are one.
+//! Pending text: due, not written yet, and in the chunk already. Adjoining pieces are one write.
 ghost use Rattle.std.specs.Prelude.{◌≡◌, ℕ, ◌+◌, ◌-◌, ◌^◌, ◌<◌, ◌≤◌, List, [], length, slice_range, IfErr, IfOk, IfSome};
 ghost use Rattle.vcd_engine.specs.Names.{BodyItem, bytes_without, HasGoodText, Header, HeadView, pending_in, IsSpanned, IsItem, IsLine, IsNoMark, IsPart, IsViewOf, item_line, LiesBetween, Puts, PutsBehind, time_line};
 
 use vcd_body::{Extent, Item, Plain, left_out, put_time};
 use vcd_text::{Sink, WriteFailed, put_front};
 
-/// An item that is no time mark, as a command takes it. A change ahead has the bytes from `from` up
-/// to `to`; an item that the feed gave has none, and no size.
+/// An item that is no timestamp, with its span: a change in the chunk has the bytes from `from` up
+/// to `to`. An item that the feed gave has an empty span, and no size (`most` is 0).
 #[derive(Clone, Copy)]
 pub(crate) struct SpannedItem<'a> {
     pub(crate) plain: Plain<'a>,
@@ -16,7 +16,7 @@ pub(crate) struct SpannedItem<'a> {
 }
 
 impl<'a> SpannedItem<'a> {
-    /// Returns the change that lies at this extent.
+    /// Returns the change that has the bytes of this extent.
     #[inline(always)]
     pub(crate) fn of(plain: Plain<'a>, extent: Extent<'a>) -> SpannedItem<'a>
         ensures plain { result.plain ≡ plain.entry }
@@ -30,7 +30,7 @@ impl<'a> SpannedItem<'a> {
         }
     }
 
-    /// Returns an item that the feed gave with this text.
+    /// Returns an item that the feed gave, with its text.
     #[inline(always)]
     pub(crate) fn given(item: Item, text: &'a [u8]) -> SpannedItem<'a>
         ensures item { result.plain.item ≡ item }
@@ -55,8 +55,8 @@ impl<'a> SpannedItem<'a> {
         }
     }
 
-    /// Returns how many bytes after the first one to leave out, so that the others are the item's
-    /// line. With none its bytes may be the line all the same, or the feed gave it.
+    /// Returns how many bytes after the first one to drop, so that the rest of the span is the
+    /// item's line. `None` where that is not known, or the feed gave the item.
     #[inline(always)]
     pub(crate) fn left_out(self) -> Option<usize>
         requires { (view : HeadView) × IsSpanned view self }
@@ -72,7 +72,7 @@ impl<'a> SpannedItem<'a> {
     }
 }
 
-/// Writes a part of the bytes.
+/// Writes the bytes from `from` up to `to`. Fails where a write does.
 // Not inlined, so that a loop in which the piece grows has all registers.
 #[inline(never)]
 fn put_part<W: Sink>(bytes: &[u8], from: usize, to: usize, out: &mut W) -> Result<(), WriteFailed>
@@ -83,8 +83,8 @@ fn put_part<W: Sink>(bytes: &[u8], from: usize, to: usize, out: &mut W) -> Resul
     put_front(out, &bytes[from..], to - from)
 }
 
-/// The text that is due and not yet written: a part of the chunk. It holds numbers alone, so that a
-/// loop keeps it out of memory.
+/// The pending text: the bytes of the chunk from `from` up to `to`.
+// Numbers alone, so that a loop keeps them in registers.
 #[derive(Clone, Copy)]
 pub(crate) struct Pieces {
     from: usize,
@@ -92,7 +92,7 @@ pub(crate) struct Pieces {
 }
 
 impl Pieces {
-    /// Returns pieces of which none is pending.
+    /// Returns pieces with nothing pending.
     #[inline(always)]
     pub(crate) fn new() -> Pieces
         ensures part { (bytes : List ℕ) → IsPart bytes result }
@@ -101,7 +101,7 @@ impl Pieces {
         Pieces { from: 0, to: 0 }
     }
 
-    /// Writes what is pending.
+    /// Writes the pending text. Fails where a write does.
     #[inline(always)]
     pub(crate) fn flush<W: Sink>(&mut self, bytes: &[u8], out: &mut W) -> Result<(), WriteFailed>
         requires failures { (W.device out.old).failures < 2 ^ 64 - 1 }
@@ -118,8 +118,8 @@ impl Pieces {
         Ok(())
     }
 
-    /// Takes the part of the bytes that is due next: where it follows what is pending, that grows, and
-    /// nothing is written. Else what was pending is written.
+    /// Adds the bytes from `from` up to `to`, which are due next. Where they adjoin the pending
+    /// text, it grows; else it is written first. Fails where a write does.
     #[inline(always)]
     pub(crate) fn append<W: Sink>(
         &mut self,
@@ -144,8 +144,8 @@ impl Pieces {
         Ok(())
     }
 
-    /// Appends the bytes from `from` to `to` without the `n` after the first, as one piece or two.
-    /// Where nothing is left out, the last piece grows.
+    /// Adds the bytes from `from` up to `to` without the `n` after the first, as one piece or two.
+    /// Fails where a write does.
     #[inline(always)]
     pub(crate) fn append_parts<W: Sink>(
         &mut self,
@@ -168,8 +168,9 @@ impl Pieces {
         self.append(bytes, from + 1 + n, to, out)
     }
 
-    /// Takes the line of a time, which is due next. If the bytes from `from` up to `to` are that
-    /// line, they are pending; else that part is empty, and the line is written after what is pending.
+    /// Adds the line of a time, which is due next. The bytes from `from` up to `to` are that line,
+    /// and become pending; or there are none, and the line is written after the pending text. Fails
+    /// where a write does.
     #[inline(always)]
     pub(crate) fn append_time<W: Sink>(
         &mut self,

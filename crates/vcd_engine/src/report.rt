@@ -1,4 +1,4 @@
-// The report of `check`: seven lines.
+//! The report of `check`: seven lines.
 ghost use Rattle.std.specs.Prelude.{◌≡◌, ◌++◌, ◌-◌, ◌^◌, ◌<◌, decimal, flat_map, codes, count_by};
 ghost use Rattle.vcd_engine.specs.Names.{count_line, declares_variable, named_line, number_or_dash, opens_scope, Puts, PutsTo};
 
@@ -12,8 +12,8 @@ pub(crate) struct Declared {
     pub(crate) variables: usize,
 }
 
-/// Returns how many scopes are opened, and how many variables are declared, in one pass: the rows
-/// are memory that no cache holds.
+/// Returns how many scopes and variables the rows declare.
+// One pass: the rows of a large header are in no cache.
 pub(crate) fn declared_in(rows: &[Row]) -> Declared
     ensures scopes { result.scopes ≡ count_by (λ r. opens_scope r.kind) rows.now }
     ensures variables { result.variables ≡ count_by (λ r. declares_variable r.kind) rows.now }
@@ -31,7 +31,7 @@ pub(crate) fn declared_in(rows: &[Row]) -> Declared
     Declared { scopes, variables }
 }
 
-/// Writes a name and a number as a line.
+/// Writes a line with a name and a number. Fails where a write does.
 fn put_count<W: Sink>(out: &mut W, name: &str, number: u64) -> Result<(), WriteFailed>
     requires { (W.device out.old).failures < 2 ^ 64 - 1 }
     ensures { PutsTo W.device out.old out.new (count_line name.now (decimal number)) result }
@@ -42,7 +42,7 @@ fn put_count<W: Sink>(out: &mut W, name: &str, number: u64) -> Result<(), WriteF
     put(out, b"\n")
 }
 
-/// Writes names and numbers as lines.
+/// Writes a line for each name and its number. Fails where a write does.
 fn put_counts<W: Sink>(out: &mut W, counts: &[(&str, u64)]) -> Result<(), WriteFailed>
     requires { (W.device out.old).failures < 2 ^ 64 - 1 }
     ensures { Puts (W.device out.old) (W.device out.new) (flat_map named_line counts.now) result }
@@ -53,7 +53,8 @@ fn put_counts<W: Sink>(out: &mut W, counts: &[(&str, u64)]) -> Result<(), WriteF
     Ok(())
 }
 
-/// Writes the report: these counts, and the last time mark, `-` where there is none.
+/// Writes the report: these counts, and the last timestamp, `-` where there is none. Fails where a
+/// write does.
 pub(crate) fn put_report<W: Sink>(
     out: &mut W,
     counts: &[(&str, u64)],

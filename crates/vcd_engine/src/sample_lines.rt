@@ -8,8 +8,8 @@ use vcd_head::put_path;
 use vcd_text::{Sink, WriteFailed, put, put_number};
 use vcd_view::HeadView;
 
-/// Writes the line of a variable at a time that no item so far is later than: the time, its path
-/// and its value. An event has none.
+/// Writes the line of the variable in a row: `time`, its path and its value. An event has none. No
+/// item so far is later than `time`. Fails where a write does.
 fn put_line<W: Sink>(
     table: &Table<'_>,
     view: HeadView<'_>,
@@ -36,8 +36,8 @@ fn put_line<W: Sink>(
     put(out, b"\n")
 }
 
-/// Writes the lines of a time that no item so far is later than: one for each row whose flag is 1.
-/// Any other flag leads past rows that have none.
+/// Writes the lines of a time: one for each row whose flag is 1. Any other flag skips rows. No item
+/// so far is later than `time`. Fails where a write does.
 fn put_lines<W: Sink>(
     table: &Table<'_>,
     view: HeadView<'_>,
@@ -61,7 +61,7 @@ fn put_lines<W: Sink>(
     Ok(())
 }
 
-/// Writes the lines of these times; no item so far is later than they.
+/// Writes the lines of these times. No item so far is later than any. Fails where a write does.
 pub(crate) fn put_samples<W: Sink>(
     table: &Table<'_>,
     view: HeadView<'_>,

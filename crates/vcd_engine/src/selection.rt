@@ -1,4 +1,4 @@
-//! The variables that names select: their marks and their codes.
+//! The variables that names select: a flag for each row, and for each code.
 ghost use Rattle.std.specs.Prelude.{◌≡◌, ℕ, ◌≤◌, List, length, map, string_bytes, MatchResult};
 ghost use Rattle.vcd_engine.specs.Names.{AreSelected, ChoosesMore, Header, is_marked, IsFirstUnmatched, IsUnmatched, IsViewOf, marks_of};
 
@@ -7,14 +7,14 @@ use vcd_body::Stop;
 use vcd_head::select;
 use vcd_view::{HeadView, Kind};
 
-/// Returns whether a row is marked.
+/// Returns whether the flag of a row is set; false where there is no such row.
 pub(crate) fn is_marked(marks: &[u8], row: usize) -> bool
     ensures { result ≡ is_marked marks.now row }
 {
     marks.get(row).copied().unwrap_or(0) == 1
 }
 
-/// Chooses the codes of the marked variables.
+/// Chooses the codes of the variables whose flag in `marks` is set.
 fn choose_marked(view: HeadView<'_>, marks: &[u8], flags: &mut [u8])
     requires codes { length view.codes.now ≤ length flags.old }
     ensures codes { length flags.new ≡ length flags.old }
@@ -29,9 +29,9 @@ fn choose_marked(view: HeadView<'_>, marks: &[u8], flags: &mut [u8])
     }
 }
 
-/// Marks the variables that the names select, all where there are no names, and the scopes around
-/// them, and chooses the codes of these variables and no others. The first name that selects
-/// nothing is refused, by its index.
+/// Sets the flags of the variables that the names select, all where there are no names, and of the
+/// scopes around them, and chooses the codes of these variables and no others. Fails with
+/// `Stop::Unmatched` at the first name that selects nothing; flags are unspecified then.
 pub(crate) fn select_codes(
     view: HeadView<'_>,
     names: &[String],

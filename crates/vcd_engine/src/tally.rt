@@ -8,9 +8,9 @@ use vcd_head::put_path;
 use vcd_text::{Sink, WriteFailed, put, put_number};
 use vcd_view::{HeadView, Kind};
 
-/// Sets the value of the code at an index, which has this size and is no event, by the text of a
-/// change, and counts it where it differs from the one before it. The number of the text's digits
-/// may be known.
+/// Sets the value of a code that is no event by the text of a change, and counts a change, rise or
+/// fall where it differs from the value before. `size` is the code's, in bits; `bits` the text as a
+/// number, where it is known.
 #[inline(always)]
 pub(crate) fn take_value(
     table: &mut Table<'_>,
@@ -34,7 +34,7 @@ pub(crate) fn take_value(
     }
 }
 
-/// Counts a trigger of the event at an index.
+/// Counts a trigger of an event, unless it is inside a section.
 #[inline(always)]
 pub(crate) fn count_trigger(table: &mut Table<'_>, code: usize, inside: bool)
     ensures takes { (view : HeadView) (h : Header) (items : List BodyItem) (c : IdCode) (d : Change)
@@ -57,7 +57,7 @@ fn put_counter<W: Sink>(number: u64, out: &mut W) -> Result<(), WriteFailed>
     put_number(out, number)
 }
 
-/// Writes the row of a variable: its path, and how often its value changes, rises and falls.
+/// Writes the line of a variable: its path, and how often its value changes, rises and falls.
 fn put_row<W: Sink>(
     table: &Table<'_>,
     view: HeadView<'_>,
@@ -79,8 +79,8 @@ fn put_row<W: Sink>(
     put(out, b"\n")
 }
 
-/// Writes a line of `edges` for each marked variable, in order of declaration. Fails where a write
-/// does. `marks` has a byte for each row of the view: 1 at a selected variable.
+/// Writes a line for each selected variable, in order of declaration. `marks` has a byte for each
+/// row of the view, 1 at a selected variable. Fails where a write does.
 pub(crate) fn put_rows<W: Sink>(
     table: &Table<'_>,
     view: HeadView<'_>,

@@ -1,4 +1,4 @@
-//! What is done with the items of a body, and the slices that it works in.
+//! A task, what is done with the items of a body, and the slices that it works in.
 ghost use Rattle.std.specs.Prelude.{◌≡◌};
 ghost use Rattle.vcd_engine.specs.Names.{AnyRoom, FitsEachInput, HasRoomFor, KeepsBound, marks_for, slots_for, values_for};
 
@@ -29,8 +29,8 @@ pub enum Task<'n> {
     Edges(&'n [String]),
 }
 
-/// What a run is lent beside its windows, of lengths at least as `Task::need` returns for its
-/// header. No memory is taken beyond it.
+/// The slices that a task works in beside the windows of its feed, of at least the lengths that
+/// `Task::need` returns. No memory is taken beyond them.
 #[derive(Drop)]
 pub struct Room<'r> {
     /// Bytes for the values of codes; `pick` has a flag of one byte for each code there.
@@ -44,7 +44,7 @@ pub struct Room<'r> {
 }
 
 impl<'n> Task<'n> {
-    /// Returns the room that the task works in over the header that is shown.
+    /// Returns the lengths of the slices that the task needs over the header that is shown.
     pub fn need(&self, view: HeadView<'_>) -> Need
         ensures lengths { (result.values ≡ values_for self.now view.entry)
             × (result.slots ≡ slots_for self.now view.entry)

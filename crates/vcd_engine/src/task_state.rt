@@ -25,7 +25,7 @@ pub(crate) enum TaskState<'n, 'r> {
     Edges(edges::Edges<'n, 'r>),
 }
 
-/// Returns the last time mark.
+/// Returns the time of the last timestamp; `None` where there was none.
 pub(crate) fn last_of(regs: Regs) -> Option<u64>
     ensures { result ≡ last_of regs }
 {
@@ -36,8 +36,12 @@ pub(crate) fn last_of(regs: Regs) -> Option<u64>
 }
 
 impl<'n, 'r> TaskState<'n, 'r> {
-    /// Begins a task, and writes what comes before all items. A name that selects nothing is
-    /// refused, and then nothing is written.
+    /// Begins a task, and writes what comes before all items.
+    ///
+    /// # Errors
+    ///
+    /// `Stop::Unmatched` at a name that selects nothing: nothing was written. `Stop::Write` where a
+    /// write failed.
     pub(crate) fn start<W: Sink>(
         task: Task<'n>,
         view: HeadView<'_>,
@@ -65,9 +69,9 @@ impl<'n, 'r> TaskState<'n, 'r> {
         }
     }
 
-    /// Takes an item with its text, writes what is due after it, and returns whether it ended the
-    /// run. The text is that of a change, and any bytes for other items; the registers are those
-    /// after the item.
+    /// Takes an item that the feed gave, writes what is due with it, and returns whether it ended
+    /// the run. `text` is a change's text, and any bytes for other items; `regs` are the registers
+    /// after the item. Fails where a write does.
     #[inline(always)]
     pub(crate) fn take<W: Sink>(
         &mut self,
@@ -99,8 +103,8 @@ impl<'n, 'r> TaskState<'n, 'r> {
         }
     }
 
-    /// Takes the items that lie ahead, one after the other, and writes what is due after each.
-    // A loop for each task, so that none asks for each item what the task is.
+    /// Takes the items that are whole in the chunk, and writes what is due with each.
+    // A loop for each task: none matches on the task for each item.
     pub(crate) fn take_ahead<W: Sink>(
         &mut self,
         view: HeadView<'_>,
@@ -130,7 +134,7 @@ impl<'n, 'r> TaskState<'n, 'r> {
         }
     }
 
-    /// Writes what is due at the clean end of a body after which the registers are these.
+    /// Writes what is due at the end of a body without fault. `regs` are the registers there.
     pub(crate) fn close<W: Sink>(
         &self,
         view: HeadView<'_>,

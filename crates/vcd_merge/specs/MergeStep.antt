@@ -187,9 +187,9 @@ module _ {X : Type 0} (rest : X → Option (List ℕ)) (hs : List Header) (lanes
     pub writes : WritesSome out out' []
     pub unread : (j : ℕ) → option_map rest (slice_get s'.sources j) ≡ option_map rest (slice_get s.sources j)
 
-  -- What a step from s after these items returns, by what it leaves. Where the merge goes on, an
-  -- item was taken, or an input has finished that had not. A write fails with an item, at the end,
-  -- or before a read.
+  -- What a step from s after these items returns, by what it leaves. Where the merge has not ended,
+  -- an item was taken, or an input has finished that had not. A write fails with an item, at the
+  -- end, or before a read.
   abbrev pub Gives : List Dump → Standing X → Standing X → Device → Device → Result More Stop → Type 0
   Gives ds s s' out out' (Ok Again) =
       ((k : ℕ) × (d : Dump) × (x : BodyItem) × Takes ds s' k d x × (s'.written ≡ last_written (merged_items (with_item ds k d x)))

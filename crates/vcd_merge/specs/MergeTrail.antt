@@ -82,7 +82,7 @@ pub record RunTurns {X A : Type 0} (rest : X → Option (List ℕ)) (failures : 
   pub trail : Trail rest failures scale first l before a mid
   pub last : Turns k scale first l mid.items mid.written written s mid.out out result ⊎ StaysBack rest mid s out result
 
--- what the items that lie ahead leave: all of them were taken; or, with the last of them, the run
+-- what the items that lie ahead leave: all of them were taken; or, with the last of them, the turn
 -- has ended, or a write failed
 abbrev pub AheadTurns : {X E : Type 0} {g : Ghosts X} → (X → Option (List ℕ)) → (X → ℕ) → (k scale first : ℕ) → Lane → ℕ → Stage X → Option ℕ → Seat → Feed X g → Device → Result Bool E → Type 0
 AheadTurns rest failures k scale first l before a written s f out (Ok false) = (xs : List BodyItem) × AtSeat scale first l xs (spot_with s f) × Reaches rest failures scale first l before a (stage_with xs written s f out)
@@ -115,7 +115,7 @@ pub record GoesOn (ds : List Dump) (seats : List Seat) (k : ℕ) (d' : Dump) : T
 abbrev pub GoOn : (ds : List Dump) (seats : List Seat) → (ds' : List Dump) (seats' : List Seat) → Type 0
 GoOn ds seats ds' seats' = (k : ℕ) (d' : Dump) (s' : Seat) → slice_get ds' k ≡ Some d' → slice_get seats' k ≡ Some s' → s'.finished ≡ false → GoesOn ds seats k d'
 
--- no other input that has not finished comes before this index of the input number k
+-- no other input that has not finished comes before this key of the input number k
 abbrev pub IsReached : List Header → List Dump → List Seat → ℕ → Key → Type 0
 IsReached hs ds seats k key = (j : ℕ) (d : Dump) (s : Seat) → j ≢ k → slice_get ds j ≡ Some d → slice_get seats j ≡ Some s → s.finished ≡ false → key_lt key (key_after (factor hs d.header) j d.items) ≡ true
 
@@ -127,7 +127,7 @@ pub record ReadInTurn (limit chunk : ℕ) (hs : List Header) (ds : List Dump) (s
   pub reached : IsReached hs ds seats k (key_after (factor hs l.header) k items)
   pub no_more : ReadsNoMore limit chunk l items left rest
 
--- What a run of steps of one input leaves: it has gone on for some items, to `mid`, and the last
+-- What a turn of one input leaves: it has taken some items, to `mid`, and the last
 -- step gives this. With one item alone there is that step and no other.
 pub record RunGives {X : Type 0} (rest : X → Option (List ℕ)) (failures : X → ℕ) (hs : List Header) (lanes : List Lane) (alone : Bool) (ds : List Dump) (s s' : Standing X) (out out' : Device) (result : Result More Stop) : Type 0 where
   pub dumps : List Dump
@@ -149,7 +149,7 @@ pub record RunGives {X : Type 0} (rest : X → Option (List ℕ)) (failures : X 
   pub last : Gives rest hs lanes dumps mid s' between out' result
   pub by_one : alone ≡ true → (dumps ≡ ds) × (mid ≡ s) × (between ≡ out)
 
--- What the run of an input leaves whatever the inputs are: it alone was touched, the lengths stay,
+-- What the turn of an input leaves whatever the inputs are: it alone was touched, the lengths stay,
 -- and its failed calls are counted.
 pub record Touches {X A : Type 0} (rest : X → Option (List ℕ)) (failures : X → ℕ) (s s' : Standing X) (out out' : Device) (k : ℕ) (result : Result A Stop) : Type 0 where
   pub seats : length s'.seats ≡ length s.seats
@@ -163,16 +163,16 @@ pub record Touches {X A : Type 0} (rest : X → Option (List ℕ)) (failures : X
   pub writes : out'.failures ≡ out.failures + writes_failed result
 
 -- What a step of a merge leaves whatever the inputs are: the input whose turn it was was touched,
--- and where the merge goes on, less is left to be looked at.
+-- and where the merge has not ended, less is left to be looked at.
 pub record RunLeaves {X : Type 0} (rest : X → Option (List ℕ)) (failures : X → ℕ) (s s' : Standing X) (out out' : Device) (k : ℕ) (result : Result More Stop) : Type 0 where
   pub ready : result ≡ Ok Again → IsReady s'
   pub touches : Touches rest failures s s' out out' k result
   pub left : result ≡ Ok Again → left_of s'.seats < left_of s.seats
 
--- What a run of steps of the input whose turn it is gives and leaves, where each run ends at this
+-- What the turn of the next input gives and leaves, where each turn ends at this
 -- time at the latest.
-pub record Runs {X : Type 0} (rest : X → Option (List ℕ)) (failures : X → ℕ) (most : ℕ) (s s' : Standing X) (out out' : Device) (result : Result More Stop) : Type 0 where
-  pub gives : (alone : Bool) (hs : List Header) (lanes : List Lane) (ds : List Dump) → (alone ≡ true → most ≡ 0) → Holds rest hs lanes ds s → RunGives rest failures hs lanes alone ds s s' out out' result
+pub record Runs {X : Type 0} (rest : X → Option (List ℕ)) (failures : X → ℕ) (until : ℕ) (s s' : Standing X) (out out' : Device) (result : Result More Stop) : Type 0 where
+  pub gives : (alone : Bool) (hs : List Header) (lanes : List Lane) (ds : List Dump) → (alone ≡ true → until ≡ 0) → Holds rest hs lanes ds s → RunGives rest failures hs lanes alone ds s s' out out' result
   pub input : ℕ
   pub next : IsNext s.seats input
   pub leaves : RunLeaves rest failures s s' out out' input result

@@ -1,4 +1,4 @@
-//! Where a merge begins: what it adds to each input.
+//! What a merge sets in each seat when it starts.
 ghost use Rattle.std.specs.Prelude.{◌≡◌, ℕ, ◌≤◌, List, length};
 ghost use Rattle.vcd_merge.specs.Names.{AreBegun, AreOpen, factor, Header, IsExponent, IsViewOf, least_exponent as least_of, ShowHeaders};
 
@@ -6,8 +6,8 @@ use crate::seat::Seat;
 use vcd_head::{Head, least_exponent};
 use vcd_view::HeadView;
 
-/// Returns by how much the times of an input are scaled where this is the least power of ten of all
-/// time scales.
+/// Returns the factor of the times of an input, a power of ten. `least` is the exponent of the
+/// finest time scale of all inputs.
 fn factor_of(view: HeadView<'_>, least: i8) -> u64
     ensures { (hs : List Header) (h : Header) → IsViewOf view.entry h → IsExponent least
         → least ≡ least_of hs → result ≡ factor hs h }
@@ -16,8 +16,8 @@ fn factor_of(view: HeadView<'_>, least: i8) -> u64
     10u64.checked_pow(u32::from(power)).unwrap_or(u64::MAX)
 }
 
-/// Sets factor, time and first number of each seat, and that it has not finished. Where the feeds
-/// are, and what is known of their items, stays as it is.
+/// Sets factor, time and first number of each seat, and that it has not finished. Feeds and
+/// registers stay.
 pub(crate) fn set_seats(heads: &[Head], seats: &mut [Seat])
     requires many { length heads.now ≤ 64 }
     requires heads { length heads.now ≡ length seats.old }

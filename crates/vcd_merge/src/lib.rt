@@ -1,10 +1,13 @@
 //! The dumps of several inputs, whose headers were read, as one.
 //!
-//! `merge` writes the header of all inputs and then their items in the order of their times, each
-//! under the new code of its input's. A `Merge` is the same run in parts: `Merge::start` writes the
-//! header, `merge_step` takes one item of the input whose turn it is, and `Merge::finish` takes all
-//! that are left. A `Seat` is what is kept of an input between two of its items; the `Windows` of
-//! all inputs are lent as three slices, in equal parts. None of them takes memory.
+//! `merge` writes the header of all inputs, and then their changes in the order of their times,
+//! each under its new code. A `Merge` is the same run in parts: `Merge::start` writes the header,
+//! `merge_step` takes one item, and `Merge::finish` takes all that are left. A `Seat` is what is
+//! kept of an input between two of its items; the `Windows` of all inputs are lent as three slices,
+//! in equal parts. None of them takes memory.
+//!
+//! The input of the least time, of equal times the first, has its turn: its feed is resumed, its
+//! items are taken while its time is before that of all others, and the feed is parked again.
 //!
 //! # The relations
 //!
@@ -21,9 +24,9 @@
 //!
 //! - `whole_merge`: `merge`
 //! - `merge_state`, `windows`: `Merge`; `Windows`
-//! - `beginning`: what a merge adds to each input where it begins
-//! - `merge_steps`: the begin of a merge, a step of it over all inputs, and the loop over its steps
-//! - `merging`: the steps of one input, over its source and its parts of the windows alone
+//! - `beginning`: what a merge sets in each seat when it starts
+//! - `merge_steps`: the start of a merge, a step over all inputs, and the loop over its steps
+//! - `merging`: the turn of one input, over its source and its parts of the windows alone
 //! - `order`: whose turn it is, and in which order the others wait
 //! - `seat`: `Seat`
 //!

@@ -1,10 +1,10 @@
-//! A merge that goes on.
+//! A merge between two of its steps.
 ghost use Rattle.std.specs.Prelude.{◌≤◌, length};
 
 use crate::seat::Seat;
 use vcd_head::Head;
 
-/// A merge that goes on.
+/// A merge between two of its steps: the heads and seats of its inputs, and what was written.
 #[derive(Drop)]
 pub struct Merge<'h, 's> {
     pub(crate) heads: &'h [Head],

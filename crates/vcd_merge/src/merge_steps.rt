@@ -1,4 +1,4 @@
-//! `merge`: the changes of several dumps in one order of time.
+//! The start of a merge, a step of it over all inputs, and the loop over its steps.
 ghost use Rattle.std.specs.Prelude.{◌≡◌, ◌≢◌, ℕ, ◌+◌, ◌-◌, ◌*◌, ◌^◌, ◌<◌, ◌≤◌, Bool, true, false, ◌⊎◌, take, slice_get, List, length, All, MatchOption, MatchBool, IfErr, IfOk, Some, Option, Ok, map};
 ghost use Rattle.vcd_merge.specs.Names.{AllWait, AreBegun, AreMarked, AreParts, AreSeated, AtSeat, BodyItem, Counts, CountsWrites, Device, Dump, EndsAtReadOf, failures_after, failures_with, Follows, Gives, goes_on, greatest_time, HasBegun, Header, Holds, is_going, IsNext, IsReady, Lane, last_written, left_of, merge_close, merge_open, merged_head, merged_items, MergeIsWithinBound, NamesInput, no_windows, part, part_len, Runs, SameLengths, ShowHeaders, shown, Spot, spot_at, standing, standing_of, supply, Takes, Touches, TurnsAt, Views, windows_size, Writes};
 
@@ -12,7 +12,7 @@ use vcd_body::{Done, More, Stop, put_time_unless};
 use vcd_head::{Head, put_merged_head};
 use vcd_text::{Sink, Source, WriteFailed};
 
-/// Returns the greatest time mark of all inputs.
+/// Returns the greatest time of all inputs, scaled; `None` where none had a timestamp.
 fn greatest_time(seats: &[Seat]) -> Option<u64>
     ensures { result ≡ greatest_time seats.now }
 {
@@ -28,9 +28,8 @@ fn greatest_time(seats: &[Seat]) -> Option<u64>
     greatest
 }
 
-/// Runs an input. Its feed goes on where it was parked, over its parts of the windows, takes an
-/// item, and those that follow while its time is before the run's end, and is parked again. No
-/// other input's seat, source or part is touched.
+/// Takes the turn of an input, as `resume_turn` does, over its seat, its source and its parts of
+/// the windows. Those of other inputs are not touched. Fails where `take_item` does.
 #[inline(always)]
 fn run_turn<S: Source, W: Sink>(
     heads: &[Head],
@@ -83,7 +82,7 @@ fn run_turn<S: Source, W: Sink>(
 }
 
 impl<'h, 's> Merge<'h, 's> {
-    /// Begins a merge of at most 64 inputs with these heads, and writes its header. The feed of
+    /// Starts a merge of at most 64 inputs with these heads, and writes its header. The feed of
     /// each seat is after its header, and stays there.
     ///
     /// # Errors
@@ -116,7 +115,7 @@ impl<'h, 's> Merge<'h, 's> {
         })
     }
 
-    /// Returns whether the merge goes on: neither a step nor the end of all inputs has ended it.
+    /// Returns whether a step may be taken: no step has ended the merge.
     #[inline]
     pub fn going(&self) -> bool
         ensures { result ≡ is_going self.now }
@@ -125,7 +124,8 @@ impl<'h, 's> Merge<'h, 's> {
     }
 }
 
-/// Writes what is due at the clean end of all inputs.
+/// Writes what is due at the end of all inputs: the line of the greatest time, unless it was
+/// written last. Fails where a write does.
 fn close<W: Sink>(seats: &[Seat], written: Option<u64>, out: &mut W) -> Result<(), WriteFailed>
     requires { (W.device out.old).failures < 2 ^ 64 - 1 }
     ensures takes { (hs : List Header) (ds : List Dump) → AreMarked hs ds seats.now
@@ -139,8 +139,8 @@ fn close<W: Sink>(seats: &[Seat], written: Option<u64>, out: &mut W) -> Result<(
     }
 }
 
-/// Takes an item of the input whose turn it is, and those that follow while it comes before all
-/// others. The order gives the input and the end of its run, and then takes it in again.
+/// Takes the next turn, and puts its input back into the order; after the last one writes what is
+/// due at the end. Fails where `take_item` or a write does.
 #[inline(always)]
 fn run_next<S: Source, W: Sink>(
     heads: &[Head],
@@ -175,8 +175,8 @@ fn run_next<S: Source, W: Sink>(
     Ok(More::Ended(Done::Whole))
 }
 
-/// Takes items of the input whose turn it is, as `run_next` does. After any answer but `Again` the
-/// merge is over.
+/// Takes the next turn of a merge, as `run_next` does. After any answer but `Again` the merge is
+/// over.
 #[inline(always)]
 fn run_step<S: Source, W: Sink>(
     merge: &mut Merge<'_, '_>,
@@ -212,9 +212,8 @@ fn run_step<S: Source, W: Sink>(
     answer
 }
 
-/// Returns the order of these inputs, whose seats stay as they are. Their runs end at this time at
-/// the latest.
-// They come as a `&mut`: of what a shared borrow of a field reads a proof learns nothing.
+/// Returns the order of these inputs. Each turn ends at `until` at the latest. The seats stay.
+// They come as a `&mut`: a proof learns nothing of what a shared borrow of a field reads.
 fn order_of(seats: &mut [Seat], until: u64) -> TurnOrder
     requires { length seats.old ≤ 64 }
     ensures order { AllWait seats.old result.inputs result.len }
@@ -224,11 +223,15 @@ fn order_of(seats: &mut [Seat], until: u64) -> TurnOrder
     TurnOrder::of(seats, until)
 }
 
-/// Takes the next item of the input whose turn it is, and writes what is due after it; at the end
-/// of all inputs, what is due there. Nothing is written where an input has a fault, nor at the end
-/// of one input while others go on: that input, which did not count as finished before the call,
-/// does so after it. Before a read that may wait, what is kept back of the output is passed on; if
-/// that fails, nothing is read. After any answer but `Again` the merge is over.
+/// Takes the next item of the input whose turn it is, and writes what is due with it, or at the end
+/// of all inputs. At the end of one input while others have items, nothing is written, and the
+/// input counts as finished. Before a read `out` passes on what it keeps back; where that fails,
+/// nothing is read. After any answer but `Again` the merge is over.
+///
+/// # Errors
+///
+/// The fault of the input whose turn it is, or a failed read of it: nothing was written.
+/// `Stop::Write` where a write failed.
 pub fn merge_step<S: Source, W: Sink>(
     merge: &mut Merge<'_, '_>,
     sources: &mut [S],

@@ -1,4 +1,4 @@
-//! The steps of one input of a merge, over its source and its windows alone.
+//! The turn of one input of a merge, over its source and its parts of the windows alone.
 ghost use Rattle.std.specs.Prelude.{◌≡◌, ◌≢◌, ℕ, ◌+◌, ◌-◌, ◌^◌, ◌<◌, ◌≤◌, ◌++◌, [], List, Option, Some, None, length, slice_get, IfOk, IfSome, MatchOption, Ok, true, false, is_some, ◌&&◌};
 ghost use Rattle.vcd_merge.specs.Names.{Advances, AheadTurns, AtSeat, BodyItem, bytes_of, CallEnd, chunk_len_of, Code, Counts, CountsWrites, Device, EndsAtRead, failures_after, Fits, HasNotFailed, IsGoodText, IsRun, IsSeated, Lane, limit_of, longest_of, Moved, NamesInput, parked_of, parked_seen, parts, passed_of, Puts, PutsDue, reads_failed, RunTurns, SameLoans, SameSeat, seat_with, seen, shown, source_of, spot, spot_with, stage, stage_with, time_due, Turns, Views};
 ghost use Rattle.vcd_body.specs.declared.answer.Stop.TheVariants as stop;
@@ -16,7 +16,7 @@ use vcd_head::Head;
 use vcd_text::{Feed, Sink, Source, WriteFailed};
 use vcd_view::{Code, HeadView, code_in};
 
-/// Returns whether a change is left out: an event inside a section is.
+/// Returns whether a merge drops a change: an event inside a section.
 #[inline(always)]
 fn is_left_out(event: bool, inside: bool) -> bool
     ensures { result ≡ (event && inside) }
@@ -24,7 +24,7 @@ fn is_left_out(event: bool, inside: bool) -> bool
     event && inside
 }
 
-/// Writes the line of a time, unless it was written last.
+/// Writes the line of `time`, unless it was written last. Fails where a write does.
 #[inline(always)]
 fn put_due_time<W: Sink>(
     time: u64,
@@ -43,12 +43,10 @@ fn put_due_time<W: Sink>(
     Ok(())
 }
 
-/// Writes what is due with a change, by the row of its code: an event inside a section is left out;
-/// any other is written under its new code after the line of its time.
-// Cold, and not inlined, for the walk over the items ahead: the look-up there gives the size of
-// most codes. It takes no struct: one would be cleared for each item. With one here and in
-// `put_renamed_text`, and each bit put in lower case, `merge` of scalars took 156.0 an item, as it
-// is 143.4.
+/// Writes a change of the code at index `code`, under its new code, after the line of its time. An
+/// event inside a section is dropped. Fails where a write does.
+// Cold, and not inlined, for the walk over the items in the chunk: the look-up there gives the size
+// of most codes. It takes no struct: that would be cleared for each item.
 #[cold]
 #[inline(never)]
 fn put_unsized<W: Sink>(
@@ -80,20 +78,20 @@ fn put_unsized<W: Sink>(
     put_renamed(declared.size, declared.event, form, text, number, out)
 }
 
-/// What a walk over the items of an input has at hand.
+/// What a walk over the items of an input keeps, as numbers.
 #[derive(Clone, Copy)]
 struct Merging {
-    // The time, scaled; by how much times are scaled; the number of the first code.
+    // The time, scaled; the factor of times; the number of the first code.
     time: u64,
     factor: u64,
     first: u64,
     // The time whose line was written last.
     written: Option<u64>,
-    // Items are taken while the time is before this one.
+    // Items are taken while the time is below this one.
     before: u64,
 }
 
-/// The header of an input, of which a walk makes the view where it uses it.
+/// The header of an input. A walk makes the view where it uses it.
 #[derive(Clone, Copy)]
 struct Headed<'h> {
     head: &'h Head,
@@ -120,7 +118,7 @@ impl Visit<()> for Merging {
 
     ghost over = { λ merging. nat_le merging.before merging.time };
 
-    // A time that is too large once it is scaled is left.
+    // A time that does not fit once it is scaled is left: the step finds the fault.
     #[inline(always)]
     fn ends_before(&self, _command: &(), time: u64) -> bool {
         time.checked_mul(self.factor).is_none()
@@ -158,7 +156,7 @@ impl Visit<()> for Merging {
             return Ok(());
         };
         if change.most == 0 {
-            // A copy, so that the time that was written last stays out of memory elsewhere.
+            // A copy, so that `written` stays in a register on the other path.
             let mut last = self.written;
             let inside = regs.section.is_some();
             let (time, first) = (self.time, self.first);
@@ -175,9 +173,9 @@ impl Visit<()> for Merging {
     }
 }
 
-/// Takes the items of an input that lie whole ahead in its feed's chunk, as long as its time is
-/// before this one: the feed moves past them in one call. Returns whether the time is no longer
-/// early. Where a keyword comes none is taken.
+/// Takes the items of an input that are whole in its feed's chunk, while its time is below
+/// `before`, and returns whether the time has reached it. The feed moves past them in one call.
+/// Where a keyword is next, none is taken. Fails where a write does.
 #[inline(never)]
 fn take_ahead<S: Source, W: Sink>(
     head: &Head,
@@ -225,7 +223,7 @@ fn take_ahead<S: Source, W: Sink>(
 /// The number of the fault of a time that is 2^64 or more once it is scaled.
 const TIME_TOO_LARGE: u8 = 20;
 
-/// Returns the stop at a time of an input, on this line, that is too large once it is scaled.
+/// Returns the stop at a timestamp of an input that is 2^64 or more once it is scaled.
 #[inline(always)]
 fn too_large(input: usize, line: u64) -> Stop
     ensures { result ≡ stop.Dump input line 20 }
@@ -237,9 +235,13 @@ fn too_large(input: usize, line: u64) -> Stop
     }
 }
 
-/// Takes the next item of an input over its feed, and writes what is due with it. A read of it may
-/// wait: by then nothing is kept back of what is due. The seat's registers are those after it;
-/// where the feed is parked is left to the caller.
+/// Takes the next item of an input from its feed, and writes what is due with it. It may wait for a
+/// read, so by then `out` keeps nothing back. The caller parks the feed.
+///
+/// # Errors
+///
+/// The fault of the dump, also a time that is too large; a failed read; `Stop::Write` where a write
+/// failed.
 #[inline(always)]
 fn take_item<S: Source, W: Sink>(
     head: &Head,
@@ -288,10 +290,10 @@ fn take_item<S: Source, W: Sink>(
     Ok(())
 }
 
-/// Takes items of an input over its feed as long as its time is before the run's end: one item, and
-/// those that follow while it is. Those that lie ahead are taken first, and what is due is passed
-/// on before more is read.
-// Most items so cost no look at the seats and no new feed.
+/// Takes the items of a turn from its input's feed: one, and those after it while the input's time
+/// is below the turn's end. Before a read `out` passes on what it keeps back. Fails where
+/// `take_item` does.
+// So most items cost no look at the seats and no new feed.
 #[inline(always)]
 fn take_turn<S: Source, W: Sink>(
     head: &Head,
@@ -328,9 +330,8 @@ fn take_turn<S: Source, W: Sink>(
     }
 }
 
-/// Runs an input over its source and its parts of the windows alone: its feed goes on where it was
-/// parked, takes an item, and those that follow while the time of the input is before the run's
-/// end, and is parked again.
+/// Takes the turn of an input over its source and its parts of the windows alone: resumes its feed,
+/// takes the items of the turn, and parks the feed. Fails where `take_item` does.
 #[inline(always)]
 pub(crate) fn resume_turn<S: Source, W: Sink>(
     head: &Head,

@@ -5,16 +5,16 @@ ghost use Rattle.vcd_merge.specs.Order.{AllWait, ComesBefore, IsFirstBefore, IsO
 
 use crate::seat::Seat;
 
-/// The run of an input whose turn it is.
+/// The turn of an input: its items are taken while its time is before `before`.
 #[derive(Clone, Copy)]
 pub(crate) struct Turn {
     pub(crate) input: usize,
-    /// The input goes on while its time is before this one: so long it comes before all others.
+    /// While its time is below this one, the input comes before all others.
     pub(crate) before: u64,
 }
 
-/// Returns whether the first one of two inputs comes before the other: by their times, and of equal
-/// times by their numbers.
+/// Returns whether an input comes before the other: by their times, at equal times by their
+/// indices.
 #[inline(always)]
 fn comes_before(seats: &[Seat], input: usize, other: usize) -> bool
     requires input { input < length seats.now }
@@ -29,7 +29,7 @@ fn comes_before(seats: &[Seat], input: usize, other: usize) -> bool
     time < other_time || (time == other_time && input < other)
 }
 
-/// Returns the time before which an input comes before the other.
+/// Returns the time below which `input` comes before `other`.
 #[inline(always)]
 fn end_before(seats: &[Seat], input: usize, other: usize) -> u64
     requires { other < length seats.now }
@@ -44,13 +44,13 @@ fn end_before(seats: &[Seat], input: usize, other: usize) -> u64
     }
 }
 
-/// Inputs that have not finished, in the order of their turns, the next one last.
-// Sorted, since a pass over all seats for each run grows with their number.
+/// The inputs that wait for their turn, the next one last.
+// Sorted: a pass over all seats for each turn would grow with their number.
 #[derive(Clone, Copy)]
 pub(crate) struct TurnOrder {
     inputs: [u8; 64],
     len: usize,
-    /// No run goes on once the time of its input is this one.
+    /// Each turn ends at this time at the latest.
     until: u64,
     ghost within: { len ≤ 64 },
 }
@@ -58,8 +58,8 @@ pub(crate) struct TurnOrder {
 impl TurnOrder {
     ghost use Rattle.std.specs.Prelude.{◌≤◌};
 
-    /// Returns the index at which an input that is not in the order goes: from there on all come
-    /// before it, and below it none.
+    /// Returns the index at which to insert an input: those from there on come before it, those
+    /// below do not.
     #[inline(always)]
     fn index_for(&self, input: usize, seats: &[Seat]) -> usize
         requires input { input < length seats.now }
@@ -84,7 +84,7 @@ impl TurnOrder {
         low
     }
 
-    /// Takes in an input that is not in it, and has not finished.
+    /// Inserts an input that is not in the order and has not finished.
     #[inline(always)]
     fn insert(&mut self, input: usize, seats: &[Seat])
         requires input { input < length seats.now }
@@ -107,7 +107,7 @@ impl TurnOrder {
         self.len += 1;
     }
 
-    /// Takes in an input that is not in it, unless it has finished.
+    /// Inserts an input that is not in the order, unless it has finished.
     #[inline(always)]
     pub(crate) fn put(&mut self, input: usize, seats: &[Seat])
         requires input { input < length seats.now }
@@ -126,7 +126,8 @@ impl TurnOrder {
         }
     }
 
-    /// Returns all inputs that have not finished, whose runs end at this time at the latest.
+    /// Returns the order of all inputs that have not finished. Each turn ends at `until` at the
+    /// latest.
     pub(crate) fn of(seats: &[Seat], until: u64) -> TurnOrder
         requires { length seats.now ≤ 64 }
         ensures order { AllWait seats.now result.inputs result.len }
@@ -152,7 +153,8 @@ impl TurnOrder {
         self.len == 0
     }
 
-    /// Returns the time before which an input comes before the first `count` that wait.
+    /// Returns the time below which `input` comes before all of the first `count` that wait:
+    /// `u64::MAX` where that is none.
     #[inline(always)]
     fn end_of(&self, input: usize, count: usize, seats: &[Seat]) -> u64
         requires count { count ≤ self.now.len }
@@ -165,7 +167,7 @@ impl TurnOrder {
         end_before(seats, input, self.inputs[count - 1] as usize)
     }
 
-    /// Takes out the next input: it is its turn. None where all have finished.
+    /// Takes out the next input, and returns its turn. `None` where all inputs have finished.
     #[inline(always)]
     pub(crate) fn take_next(&mut self, seats: &[Seat]) -> Option<Turn>
         requires { AllWait seats.now self.old.inputs self.old.len }

@@ -4,27 +4,26 @@ ghost use Rattle.std.specs.Prelude.{◌≡◌, None, false};
 use vcd_body::Regs;
 use vcd_text::Parked;
 
-/// An input of a merge between two of its items: its parked feed, what is known after its items,
-/// and what the merge adds.
+/// An input of a merge between two of its items: its parked feed, its registers, and what the merge
+/// adds.
 #[derive(Clone, Copy, PartialEq, Eq, Debug)]
 pub struct Seat {
-    /// Where its feed goes on.
+    /// Its parked feed.
     pub(crate) parked: Parked,
-    /// What is known after the items that it gave.
+    /// The registers after the items that it gave.
     pub(crate) regs: Regs,
-    /// By how much its times are scaled.
+    /// The factor of its times.
     pub(crate) factor: u64,
-    /// Its time, scaled.
+    /// The time of its last timestamp, scaled; 0 before the first.
     pub(crate) time: u64,
     /// The number of its first code among the codes of all inputs.
     pub(crate) first: u64,
-    /// Whether it has no item any more.
+    /// Whether all its items were taken.
     pub(crate) finished: bool,
 }
 
 impl Seat {
-    /// Returns the seat of an input whose feed is after its header. The rest is set where the merge
-    /// begins.
+    /// Returns the seat of an input whose feed is after its header. `Merge::start` sets the rest.
     pub fn new(parked: Parked) -> Seat
         ensures parked { result.parked ≡ parked }
         ensures open { result.finished ≡ false }

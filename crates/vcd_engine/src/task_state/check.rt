@@ -10,7 +10,7 @@ use vcd_body::{Item, Regs};
 use vcd_text::{Sink, WriteFailed};
 use vcd_view::HeadView;
 
-/// How many time marks, sections and changes there were.
+/// The counts of `check`: timestamps, sections and value changes so far.
 #[derive(Clone, Copy)]
 pub(crate) struct Check {
     times: u64,
@@ -19,7 +19,7 @@ pub(crate) struct Check {
 }
 
 impl Check {
-    /// Returns the counts before all items.
+    /// Returns counts of 0.
     pub(crate) fn start() -> Check
         ensures { AreCounted [] result }
     {
@@ -30,7 +30,7 @@ impl Check {
         }
     }
 
-    /// Writes the report.
+    /// Writes the seven lines of the report. `regs` are the registers after all items.
     pub(crate) fn close<W: Sink>(
         &self,
         view: HeadView<'_>,

@@ -14,7 +14,8 @@ use vcd_head::{put_head, select};
 use vcd_text::{Sink, WriteFailed, put};
 use vcd_view::HeadView;
 
-/// The values until the start section is written, and from then on the text of what was kept.
+/// What `cut` keeps: the values until the start section is written (`started`), and from then on
+/// the time whose line was written last.
 #[derive(Drop)]
 pub(crate) struct Cut<'r> {
     from: u64,
@@ -24,8 +25,8 @@ pub(crate) struct Cut<'r> {
     started: bool,
 }
 
-/// Writes the start section of a cut from this time on: the line of each code that is no event and
-/// has a value.
+/// Writes the start section of a cut: the line of `from`, and in `$dumpvars` the value of each code
+/// that has one and is no event.
 #[inline(never)]
 fn put_section<W: Sink>(
     table: &Table<'_>,
@@ -47,8 +48,8 @@ fn put_section<W: Sink>(
     put(out, b"$end\n")
 }
 
-/// Returns whether an item may be kept, after which the registers are these: a section's begin or
-/// end, or a change that is no event's inside a section.
+/// Returns whether an item is kept: the begin or end of a section, or a change, unless it is an
+/// event inside a section. `regs` are the registers after the item.
 #[inline(always)]
 fn may_keep(view: HeadView<'_>, regs: Regs, item: Item) -> bool
     ensures { result ≡ may_be_kept view.entry regs item }
@@ -61,8 +62,8 @@ fn may_keep(view: HeadView<'_>, regs: Regs, item: Item) -> bool
 }
 
 impl<'r> Cut<'r> {
-    /// Writes the header, and the start section where nothing is before it. The first time is not
-    /// above the last.
+    /// Writes the header, and the start section where `from` is 0. `from` is at most `to`. Fails
+    /// where a write does.
     pub(crate) fn start<W: Sink>(
         view: HeadView<'_>,
         room: Room<'r>,
@@ -95,8 +96,7 @@ impl<'r> Cut<'r> {
         Ok(cut)
     }
 
-    /// Writes the start section, after which kept items follow, if it is not written yet and this
-    /// time has come.
+    /// Writes the start section if it is not written yet and `time` is at least `from`.
     fn begin_by<W: Sink>(
         &mut self,
         view: HeadView<'_>,
@@ -128,8 +128,8 @@ impl<'r> Cut<'r> {
         self.started
     }
 
-    /// Takes a time mark: writes the start section where its time has come, and where it is above
-    /// the span the line of the span's end. Returns whether it is.
+    /// Takes a timestamp, and returns whether it is above `to`, which ends the run. Writes the
+    /// start section where its time has come, and at the end of the run the line of `to`.
     fn take_time<W: Sink>(
         &mut self,
         view: HeadView<'_>,
@@ -150,9 +150,9 @@ impl<'r> Cut<'r> {
         Ok(true)
     }
 
-    /// Takes an item with its text, and returns whether it ended the run: before the start section
-    /// keeps the value that the item gives, then writes the item where it is kept. The registers
-    /// are those after it.
+    /// Takes an item that the feed gave, and returns whether it ended the run. Before the start
+    /// section it sets the value that the item gives, then it writes the item where it is kept.
+    /// `regs` are the registers after the item.
     #[inline(never)]
     pub(crate) fn take<W: Sink>(
         &mut self,
@@ -178,7 +178,7 @@ impl<'r> Cut<'r> {
         take_given::<Keeping, _, _>(self, view, regs, item, text, out)
     }
 
-    /// Writes the start section if it is not written yet, and the line of the last time mark.
+    /// Writes the start section if it is not written yet, else the line of the last timestamp.
     pub(crate) fn close<W: Sink>(
         &self,
         view: HeadView<'_>,

@@ -12,8 +12,8 @@ use vcd_head::select;
 use vcd_text::{Sink, WriteFailed};
 use vcd_view::{Code, HeadView, code_in};
 
-/// The names that were asked for, the flags of the variables that they select, and the values and
-/// counters of all codes.
+/// What `edges` keeps: the names that were asked for, a flag for each row that they select, and the
+/// values and counters of all codes.
 #[derive(Drop)]
 pub(crate) struct Edges<'n, 'r> {
     names: &'n [String],
@@ -22,7 +22,7 @@ pub(crate) struct Edges<'n, 'r> {
 }
 
 impl<'n, 'r> Edges<'n, 'r> {
-    /// Selects the variables. Nothing is written before the end.
+    /// Selects the variables. Writes nothing. Fails at a name that selects nothing.
     pub(crate) fn start(
         view: HeadView<'_>,
         room: Room<'r>,
@@ -49,10 +49,10 @@ impl<'n, 'r> Edges<'n, 'r> {
         })
     }
 
-    /// Counts a change of the code at an index among these, inside a section or not.
-    // It takes no view, which would be copied for each item, also where this is not called. With a
-    // view `edges` takes 75.1 and 192.9 an item of scalars and of 27,505 codes, as it is 72.0 and
-    // 179.8.
+    /// Counts a change of the code at index `code`, whose size the look-up did not give. `inside`
+    /// tells whether a section is open: an event does not count there.
+    // It takes no view, which would be copied for each item, also where this is not called: with a
+    // view `edges` takes 7 % more instructions an item of 27,505 codes.
     #[cold]
     #[inline(never)]
     fn take_at(&mut self, codes: &[Code], inside: bool, code: usize, form: Form, text: &[u8])

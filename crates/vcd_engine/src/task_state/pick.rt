@@ -15,8 +15,8 @@ use vcd_head::put_head;
 use vcd_text::{Sink, WriteFailed};
 use vcd_view::HeadView;
 
-/// The names that were asked for, the codes of the variables that they select, and the text of what
-/// was kept.
+/// What `pick` keeps: the names that were asked for, a flag for each code that they select, and
+/// the time whose line was written last.
 #[derive(Drop)]
 pub(crate) struct Pick<'n, 'r> {
     names: &'n [String],
@@ -25,7 +25,8 @@ pub(crate) struct Pick<'n, 'r> {
 }
 
 impl<'n, 'r> Pick<'n, 'r> {
-    /// Selects the variables, and writes their header.
+    /// Selects the variables, and writes their header. Fails at a name that selects nothing, before
+    /// anything is written, and where a write does.
     pub(crate) fn start<W: Sink>(
         view: HeadView<'_>,
         room: Room<'r>,
@@ -55,8 +56,8 @@ impl<'n, 'r> Pick<'n, 'r> {
         })
     }
 
-    /// Returns whether an item is written, after which the registers are these: a section's begin
-    /// or end, or a change of a chosen code that is no event inside a section.
+    /// Returns whether an item is written: the begin or end of a section, or a change of a chosen
+    /// code, unless it is an event inside a section. `regs` are the registers after the item.
     #[inline(always)]
     fn keeps(&self, view: HeadView<'_>, regs: Regs, item: Item) -> bool
         ensures { result ≡ is_kept self.now.flags.now view.entry regs item }
@@ -70,7 +71,7 @@ impl<'n, 'r> Pick<'n, 'r> {
         }
     }
 
-    /// Writes the line of the last time mark, unless that was written already.
+    /// Writes the line of the last timestamp, unless it is written already.
     pub(crate) fn close<W: Sink>(&self, regs: Regs, out: &mut W) -> Result<(), WriteFailed>
         requires { (W.device out.old).failures < 2 ^ 64 - 1 }
         ensures takes { (h : Header) (items : List BodyItem) → AreRegsAfter items regs

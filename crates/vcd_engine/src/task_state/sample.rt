@@ -14,8 +14,8 @@ use vcd_head::select;
 use vcd_text::{Sink, WriteFailed};
 use vcd_view::HeadView;
 
-/// The times and names that were asked for, the times that are not settled, the current values, and
-/// the flags that lead from one row with a line to the next.
+/// What `sample` keeps: the times and names that were asked for, the times whose lines are not
+/// written yet (`rest`), the current values, and the flags that lead from row to row.
 #[derive(Drop)]
 pub(crate) struct Sample<'n, 'r> {
     times: &'n [u64],
@@ -25,7 +25,7 @@ pub(crate) struct Sample<'n, 'r> {
     marks: &'r [u8],
 }
 
-/// Returns how many times come before the first that is not below this one.
+/// Returns how many of `times`, which rise, are below `time`.
 #[inline(always)]
 fn count_below(times: &[u64], time: u64) -> usize
     ensures { result ≡ position_or_len (λ due. nat_le time due) times.now }
@@ -37,8 +37,8 @@ fn count_below(times: &[u64], time: u64) -> usize
 }
 
 impl<'n, 'r> Sample<'n, 'r> {
-    /// Selects the variables. Nothing is written. There is a time, and each is above the one before
-    /// it.
+    /// Selects the variables. Writes nothing. `times` has one time or more, and each is above the
+    /// one before it. Fails at a name that selects nothing.
     pub(crate) fn start(
         view: HeadView<'_>,
         room: Room<'r>,
@@ -71,8 +71,8 @@ impl<'n, 'r> Sample<'n, 'r> {
         })
     }
 
-    /// Takes a time mark: writes the lines of the times below it that are left. Returns whether it
-    /// is above them all.
+    /// Takes a timestamp, and returns whether it is above all times, which ends the run. Writes the
+    /// lines of the times below it that are not written yet.
     fn take_time<W: Sink>(
         &mut self,
         view: HeadView<'_>,
@@ -91,9 +91,9 @@ impl<'n, 'r> Sample<'n, 'r> {
         Ok(rest.is_empty())
     }
 
-    /// Takes an item with its text: keeps the value of a change, and at a time mark writes the
-    /// lines of the times below it. Returns whether it ended the run. The registers are those after
-    /// it.
+    /// Takes an item that the feed gave, and returns whether it ended the run. Sets the value of a
+    /// change; at a timestamp writes the lines of the times below it. `regs` are the registers
+    /// after the item.
     #[inline(always)]
     pub(crate) fn take<W: Sink>(
         &mut self,
@@ -116,7 +116,7 @@ impl<'n, 'r> Sample<'n, 'r> {
         take_given::<Keeping, _, _>(self, view, regs, item, text, out)
     }
 
-    /// Writes the lines of the times that are left.
+    /// Writes the lines of the times that are not written yet.
     pub(crate) fn close<W: Sink>(&self, view: HeadView<'_>, out: &mut W) -> Result<(), WriteFailed>
         requires { (W.device out.old).failures < 2 ^ 64 - 1 }
         ensures takes { ClosesOver view.entry (AreSampled self.now)

@@ -1,4 +1,4 @@
-//! The items ahead in a feed's chunk, as a command takes them, and those that the feed gave.
+//! The items that are whole in a feed's chunk, as a task takes them, and those that the feed gave.
 ghost use Rattle.std.specs.Prelude.{◌≡◌, ℕ, ◌-◌, ◌^◌, ◌<◌, ◌≤◌, Bool, List, length, false, true, IfOk};
 ghost use Rattle.vcd_text.specs.Ahead.{bytes_of, passed_of};
 ghost use Rattle.vcd_text.specs.Device.{Counts};
@@ -18,19 +18,19 @@ use vcd_body::{Extent, Item, Plain, Regs, Visit, is_mark_line, walk_ahead};
 use vcd_text::{Ahead, Sink, WriteFailed};
 use vcd_view::HeadView;
 
-/// How a walk has ended, with what is due with its items written.
+/// What a walk over the items in the chunk has left.
 #[derive(Clone, Copy)]
 pub(crate) struct WalkEnd {
-    /// How many bytes the items that were taken have.
+    /// How many bytes of the chunk are passed: those of the items that were taken.
     pub(crate) passed: usize,
     /// The registers after these items.
     pub(crate) regs: Regs,
-    /// Whether a write of what is due with these items failed.
+    /// Fails where a write of what is due with these items did.
     pub(crate) written: Result<(), WriteFailed>,
 }
 
 impl WalkEnd {
-    /// Returns that a walk has ended here, with this result of what was written.
+    /// Returns the end of a walk at this position, with the result of its writes.
     #[inline(always)]
     fn until(ahead: Ahead<'_>, regs: Regs, written: Result<(), WriteFailed>) -> WalkEnd
         ensures passed { result.passed ≡ passed_of ahead.entry }
@@ -45,26 +45,25 @@ impl WalkEnd {
     }
 }
 
-/// A kind of loop, by what it knows of the line of the last time.
+/// What a loop remembers of the last timestamp's line in the chunk.
 pub(crate) trait LoopKind: Copy {
-    // From which offset up to which the chunk has that line. An empty part says nothing.
+    // The offsets in the chunk where that line begins and ends. An empty part says nothing.
     ghost line: { Self → ℕ × ℕ };
 
-    /// Returns what is known before all items of a chunk: nothing.
+    /// Returns the state before all items of a chunk: no line is known.
     fn new() -> Self
         ensures { (bytes : List ℕ) (time : ℕ) → IsLine bytes (line result) time };
 
-    /// Returns what is known after a mark that has the bytes from `from` up to `to`, and its digits
-    /// from `at` on.
+    /// Returns the state after a timestamp that has the bytes from `from` up to `to`, with its
+    /// digits from `at` on.
     fn after_mark(bytes: &[u8], from: usize, to: usize, at: usize) -> Self
         requires { (time : ℕ) × HasMark bytes.now from to at time }
         ensures { (time : ℕ) → HasMark bytes.now from to at time
             → IsLine bytes.now (line result) time };
 }
 
-/// A loop in which a command counts changes or keeps their values, and writes nothing. It knows
-/// nothing of that line.
-// Carrying nothing for the line saves `check` of scalars 2.5 an item, `edges` 3.4.
+/// The loop of a task that counts changes or sets values, and writes nothing: it remembers nothing.
+// Against a loop that carries the line, `edges` takes 3.4 instructions an item of scalars less.
 #[derive(Clone, Copy)]
 pub(crate) struct Keeping;
 
@@ -82,11 +81,10 @@ impl LoopKind for Keeping {
     }
 }
 
-/// A loop in which a command copies changes from the chunk. The line of the last time has the bytes
-/// from `from` up to `to`; where these are the same, the chunk is not known to have it.
-// The line is one more gathered piece: `pick` of five scalars takes 46.8 an item, with the line
-// known only right before a change 57.9; `pick` of all 56.5, 59.9; `cut` inside its window 56.1,
-// 53.6.
+/// The loop of a task that copies changes from the chunk. The last timestamp's line has the bytes
+/// from `from` up to `to`; where these are equal, the chunk is not known to have it.
+// The line is one more pending piece. Against one that is known only right before a change this
+// saves `pick` of five scalars 19 % of its instructions; `cut` in its window takes 5 % more.
 #[derive(Clone, Copy)]
 pub(crate) struct Copying {
     pub(crate) from: usize,
@@ -110,26 +108,25 @@ impl LoopKind for Copying {
     }
 }
 
-/// What a command does with items, in a loop of the kind `L` or where the feed gave them. None of
-/// them ends the run.
+/// What a task does with items, whole in the chunk or from the feed, that do not end the run.
 pub(crate) trait AheadTask<L: LoopKind> {
     ghost use Rattle.vcd_engine.specs.declared.task_state.TaskState.{TaskState};
 
-    // The task's state of the command.
+    // The task's state, as the case of the enum.
     ghost task_state: { Self → TaskState };
 
-    // Whether it may run in such a loop.
+    // Whether it may run in a loop of this kind.
     ghost is_ready: { Self → Bool };
 
-    // Whether the loop leaves a time mark with this time.
+    // Whether a timestamp of this time is left to the step.
     ghost is_left: { Self → ℕ → Bool };
 
-    /// Returns whether a time mark with this time is left to `TaskState::take`, since it ends the
-    /// run, or something is due with it.
+    /// Returns whether a timestamp of this time is left to `TaskState::take`: it ends the run, or
+    /// output is due with it.
     fn leaves(&self, time: u64) -> bool
         ensures { result ≡ is_left self.now time };
 
-    /// Takes a time mark with this time, with which nothing is due.
+    /// Notes a timestamp of this time, with which no output is due.
     fn note_time(&mut self, time: u64)
         requires ready { is_ready self.old ≡ true }
         requires left { is_left self.old time ≡ false }
@@ -137,9 +134,9 @@ pub(crate) trait AheadTask<L: LoopKind> {
         ensures ready { is_ready self.new ≡ true }
         ensures same { SameTask (task_state self.old) (task_state self.new) };
 
-    /// Takes an item that is no time mark. What is due with it goes to `pieces`, or to `out` after
-    /// what they hold. Fails where a write does. `regs` are those after the item; `line` is what is
-    /// known of the line of the last time.
+    /// Takes an item that is no timestamp. What is due with it is added to `pieces`, or written to
+    /// `out` after them. `regs` are the registers after the item; `line` tells where the last
+    /// timestamp's line is. Fails where a write does.
     fn take_item<W: Sink>(
         &mut self,
         view: HeadView<'_>,
@@ -162,8 +159,7 @@ pub(crate) trait AheadTask<L: LoopKind> {
         ensures same { SameTask (task_state self.old) (task_state self.new) };
 }
 
-/// What a walk has at hand beside a command: the text that is due and not yet written, and what is
-/// known of the line of the last time.
+/// What a walk keeps beside its task: the pending text, and where the last timestamp's line is.
 #[derive(Drop)]
 struct WalkState<L> {
     pieces: Pieces,
@@ -222,9 +218,8 @@ impl<L: LoopKind, C: AheadTask<L>> Visit<C> for WalkState<L> {
     }
 }
 
-/// Takes the items that lie ahead, one after the other. What is due with them is written in pieces.
-// The loop of each command is a function, so that none has less registers for what another one
-// does.
+/// Takes the items that are whole in the chunk, and writes what is due with them, piece by piece.
+// The loop of each task is a function of its own, so that it has all registers.
 #[inline(never)]
 pub(crate) fn take_each<L: LoopKind, C: AheadTask<L>, W: Sink>(
     command: &mut C,
@@ -251,8 +246,8 @@ pub(crate) fn take_each<L: LoopKind, C: AheadTask<L>, W: Sink>(
     }
 }
 
-/// Takes an item that the feed gave with its text, and writes what is due with it. Returns false,
-/// since it does not end the run. The registers are those after it.
+/// Takes an item that the feed gave, and writes what is due with it. Returns false: the item does
+/// not end the run. `regs` are the registers after it. Fails where a write does.
 #[inline(always)]
 pub(crate) fn take_given<L: LoopKind, C: AheadTask<L>, W: Sink>(
     command: &mut C,

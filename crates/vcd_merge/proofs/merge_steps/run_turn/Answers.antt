@@ -57,11 +57,11 @@ returns-clause-touches g c =
 
 pub returns-clause-last : goal.returns-clause-last
 returns-clause-last g c =
-    let k = c.args.run.input in
+    let k = c.args.turn.input in
     let within : k < length c.args.sources.now = omega arith in
     λ input is.
-    let named : input ≡ k = subst (NamesInput k) is c.run_of.ensures.named in
-    rw named (set_last g.S.Source.last_failed c.args.sources.now k c.run_of.new.source within (c.run_of.ensures.last input is))
+    let named : input ≡ k = subst (NamesInput k) is c.resume_turn.ensures.named in
+    rw named (set_last g.S.Source.last_failed c.args.sources.now k c.resume_turn.new.source within (c.resume_turn.ensures.last input is))
 
 pub returns-clause-seated : goal.returns-clause-seated
 returns-clause-seated g c =
