@@ -8,7 +8,7 @@ ghost use Rattle.vcd_model.specs.Declarations.{IdCode};
 ghost use Rattle.vcd_model.specs.Items.{BodyItem};
 ghost use Rattle.vcd_text.specs.Answer.{whole};
 ghost use Rattle.vcd_text.specs.Feed.{chunk_len_of, limit_of};
-ghost use Rattle.vcd_changes.specs.Reading.{Finds, FindsIn, GoesOnAt, IsAfter, Refused, status_of};
+ghost use Rattle.vcd_changes.specs.Reading.{Finds, FindsIn, GoesOnAt, Refused, status_of};
 
 use crate::reading::{Reading, place_of, regs_of};
 use crate::row::ChangeRow;
@@ -89,38 +89,6 @@ fn read_on(
     }
 }
 
-/// Makes a feed at the reading's `Place`, fills the rows as `read_on` does, and returns the status.
-/// Fails where memory runs out.
-fn go_on(
-    alloc: Global,
-    dump: &[u8],
-    view: HeadView<'_>,
-    index: usize,
-    reading: &mut Reading,
-    rows: &mut [ChangeRow],
-) -> Result<u8, AllocError>
-    requires { reading.old.count ≡ 0 }
-    ensures finds { (h : Header) (front : List Token) (items : List BodyItem) (code : IdCode)
-        → IsViewOf view.entry h
-        → IsAfter h.codes (whole dump.now) front items reading.old.place
-        → slice_get h.codes index ≡ Some code
-        → IfOk result (Finds h.codes (whole dump.now) front items code.text reading.new rows.new) }
-    ensures most { reading.new.count ≤ length rows.new }
-    ensures none { IfErr result (λ _. reading.new.count ≡ 0) }
-{
-    let mut chunk = vec![in alloc; 0u8; LIMIT]?;
-    let mut token = vec![in alloc; 0u8; LIMIT]?;
-    let mut value = vec![in alloc; 0u8; LIMIT]?;
-    let from = reading.place;
-    let mut source = Bytes {
-        rest: after(dump, from.offset.bytes),
-    };
-    match Feed::at(&mut source, &mut chunk, &mut token, &mut value, from.offset) {
-        Some(mut feed) => Ok(read_on(&mut feed, view, index, regs_of(from), reading, rows)),
-        None => Ok(BAD_PLACE),
-    }
-}
-
 /// Returns the bytes after the first `n`: none where there are fewer.
 fn after(dump: &[u8], n: u64) -> &[u8]
     ensures { result.now ≡ drop n dump.now }
@@ -173,10 +141,15 @@ fn read_changes<B: BuildHasher>(
     let Some(index) = find(shown, code) else {
         return Ok(NO_CODE);
     };
-    if reading.place.begun == 0 {
+    let from = reading.place;
+    if from.begun == 0 {
         return Ok(read_on(&mut feed, shown, index, Regs::new(), reading, rows));
     }
-    go_on(alloc, dump, shown, index, reading, rows)
+    source.rest = after(dump, from.offset.bytes);
+    match Feed::at(&mut source, &mut chunk, &mut token, &mut value, from.offset) {
+        Some(mut feed) => Ok(read_on(&mut feed, shown, index, regs_of(from), reading, rows)),
+        None => Ok(BAD_PLACE),
+    }
 }
 
 /// Fills the rows with the changes of the variables with this identifier code, from `reading.place`

@@ -1,6 +1,6 @@
-use Rattle.std.proofs.Common.{◌≡◌, ◌∙◌, ℕ, [], Result, Err, ap, arith, inl, inr, refl, subst, sym}
+use Rattle.std.proofs.Common.{◌≡◌, ◌∙◌, ◌++◌, ℕ, List, [], Result, Err, Some, ap, arith, false, inl, inr, length, refl, subst, sym, true}
 use Rattle.vcd_text.specs.Answer.{whole}
-use Rattle.vcd_text.specs.Feed.{limit_of, token_of}
+use Rattle.vcd_text.specs.Feed.{HasGivenTo, limit_of, token_of}
 use Rattle.vcd_head.specs.Fault.{fault_number}
 use Rattle.vcd_head.specs.declared.fault.HeadFault.{HeadFault}
 use Rattle.vcd_head.specs.declared.fault.HeadFault.TheVariants.{ReadFailed}
@@ -11,13 +11,17 @@ use Rattle.vcd_head.specs.Views.{Views}
 use Rattle.vcd_model.specs.Header.{header_of}
 use Rattle.vcd_model.specs.Reading.{phrases_of}
 use Rattle.vcd_body.proofs.CallerLemmas.{gave_nothing}
+use Rattle.vcd_body.specs.Reads.{GaveItems}
+use Rattle.vcd_body.specs.declared.item.Regs.{Regs}
 use Rattle.vcd_changes.specs.Reading.{FindsIn}
-use Rattle.std.proofs.lemmas.Result.{IfOk-weaker}
 use Rattle.vcd_changes.proofs.DumpLemmas.{codes_in, finds_for, goes_behind, has_codes, none_before}
 use Rattle.vcd_changes.proofs.FaultLemmas.{head_fault_is, some_fault}
 use Rattle.vcd_changes.proofs.HeaderLemmas.{found_text}
-use Rattle.vcd_changes.proofs.PlaceLemmas.{has_not_failed}
+use Rattle.vcd_changes.proofs.PlaceLemmas.{goes_on, has_not_failed}
 use Rattle.vcd_changes.proofs.dump.read_changes.Goals as goal
+
+apart : false ≡ true → ⊥
+apart e = cc
 
 as_err : (a b : HeadFault) → a ≡ b → ◌≡◌ {A = Result Head HeadFault} (Err a) (Err b)
 as_err a b e = ap (λ (x : HeadFault). Err x) e
@@ -45,8 +49,8 @@ returns-in_default-clause-finds g c = λ items goes.
     let views = subst (λ (s : HeadShown). Views s (header_of (phrases_of head.placed))) (sym c.view-shown.ensures) head.views in
     FindsIn.NoCode head.given (codes_in head.placed) (has_codes c.read_head_with_hasher.new.feed dump _ head limit) (c.in_default.ensures.found (header_of (phrases_of head.placed)) views) c.requires refl
 
-pub returns-then-reading-eq0-clause-finds : goal.returns-then-reading-eq0-clause-finds
-returns-then-reading-eq0-clause-finds g c = λ items goes.
+pub returns-then-from-eq0-clause-finds : goal.returns-then-from-eq0-clause-finds
+returns-then-from-eq0-clause-finds g c = λ items goes.
     let dump = c.args.dump.now in
     let f = c.read_head_with_hasher.new.feed in
     let stands = c.new-feed.ensures.begins.stands in
@@ -55,13 +59,13 @@ returns-then-reading-eq0-clause-finds g c = λ items goes.
     let h = header_of (phrases_of head.placed) in
     let views = subst (λ (s : HeadShown). Views s h) (sym c.view-shown.ensures) head.views in
     let at = c.in-Some.ensures.found h views in
-    let none = none_before dump items c.args.reading.now.place goes c.if-reading-eq0.true in
+    let none = none_before dump items c.args.reading.now.place goes c.if-from-eq0.true in
     let finds = c.read_on.ensures.finds h dump head.given [] at.0 views (gave_nothing h.codes (whole dump) head.given f c.new.result head.stands c.new.ensures.known) at.1 in
     FindsIn.Found head.given (codes_in head.placed) (has_codes f dump _ head limit)
     (finds_for h.codes (whole dump) head.given [] items at.0.text c.args.code.now _ _ _ none (found_text h.codes c.args.code.now at.0 at.2) finds)
 
-pub returns-clause-finds : goal.returns-clause-finds
-returns-clause-finds g c = λ items goes.
+pub returns-in-Some-at-clause-finds : goal.returns-in-Some-at-clause-finds
+returns-in-Some-at-clause-finds g c = λ items goes.
     let dump = c.args.dump.now in
     let f = c.read_head_with_hasher.new.feed in
     let stands = c.new-feed.ensures.begins.stands in
@@ -71,7 +75,22 @@ returns-clause-finds g c = λ items goes.
     let has = has_codes f dump _ head limit in
     let views = subst (λ (s : HeadShown). Views s h) (sym c.view-shown.ensures) head.views in
     let at = c.in-Some.ensures.found h views in
-    let after = goes_behind dump items c.args.reading.now.place goes c.if-reading-eq0.false head.given (codes_in head.placed) has in
-    IfOk-weaker c.go_on.result _ _
-    (λ status finds. FindsIn.Found head.given (codes_in head.placed) has (finds_for h.codes (whole dump) head.given items items at.0.text c.args.code.now _ _ _ refl (found_text h.codes c.args.code.now at.0 at.2) finds))
-    (c.go_on.ensures.finds h head.given items at.0 views after at.1)
+    let after = goes_behind dump items c.args.reading.now.place goes c.if-from-eq0.false head.given (codes_in head.placed) has in
+    let o = c.args.reading.now.place.offset in
+    let chunk : length c.deref_mut-4.result.now ≡ 65536 = omega (arith, c.in_ok-chunk.ensures.len, c.deref_mut.ensures.len, c.deref_mut-4.ensures.len) in
+    let token : length c.deref_mut-5.result.now ≡ 65536 = omega (arith, c.in_ok-token.ensures.len, c.deref_mut-2.ensures.len, c.deref_mut-5.ensures.len) in
+    let to = subst (λ (n : ℕ). HasGivenTo n 65536 o (whole dump) (head.given ++ after.given)) (sym chunk) after.stands in
+    let given = c.in-Some-at.ensures.given (whole dump) (head.given ++ after.given) (ap (λ (l : List ℕ). Some l) c.after-source.ensures)
+    (subst (λ (n : ℕ). HasGivenTo (length c.deref_mut-4.result.now) n o (whole dump) (head.given ++ after.given)) (sym token) to) in
+    let gave = subst (λ (r : Regs). GaveItems h.codes (whole dump) head.given items c.in-Some-at.feed r) (sym c.regs_of.ensures) (goes_on h.codes (whole dump) head.given items c.in-Some-at.feed c.args.reading.now.place after given) in
+    FindsIn.Found head.given (codes_in head.placed) has
+    (finds_for h.codes (whole dump) head.given items items at.0.text c.args.code.now _ _ _ refl (found_text h.codes c.args.code.now at.0 at.2) (c.read_on-in-Some-at.ensures.finds h dump head.given items at.0 views gave at.1))
+
+pub returns-clause-finds : goal.returns-clause-finds
+returns-clause-finds g c = λ items goes.
+    let dump = c.args.dump.now in
+    let f = c.read_head_with_hasher.new.feed in
+    let limit : limit_of f ≡ 65536 = c.in-Ok.ensures.lengths.0 ∙ omega (arith, c.in_ok-token.ensures.len, c.deref_mut-2.ensures.len, c.new-feed.ensures.begins.limit) in
+    let head = c.in-Ok.ensures.reads (whole dump) c.new-feed.ensures.begins.stands in
+    let after = goes_behind dump items c.args.reading.now.place goes c.if-from-eq0.false head.given (codes_in head.placed) (has_codes f dump _ head limit) in
+    absurd (apart (c.in-None.ensures.comes after.comes))
