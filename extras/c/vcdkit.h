@@ -33,13 +33,13 @@ struct vcdkit_file {
 
 /* Runs what the words ask for, as `vcdkit WORDS..` does, and returns its exit status: 0 done, 1 a
  * fault of a dump or a name that selects nothing, 2 bad words, 3 no such file or no memory; or 4,
- * where there was no memory for output or message: then nothing is said of out and err.
+ * where there was no memory to begin: then nothing is said of out and err.
  *
  * input is standard input, and files are those that words name. seed is any number: what is left is
  * the same by each, and if whoever made a dump does not know it, its codes are not slow to find. The
- * output is at the front of out, as far as out_length goes, and *out_used says how long it is:
- * where that is more than out_length, call again with so much. The same holds of the message and
- * err. */
+ * output is written to out, as far as out_length goes, and takes no other memory; *out_used says how
+ * long it is: where that is more than out_length, call again with so much. The same holds of the
+ * message and err. */
 uint8_t vcdkit_run(const struct vcdkit_bytes *words, size_t words_length,
                    const uint8_t *input, size_t input_length,
                    const struct vcdkit_file *files, size_t files_length, uint64_t seed,

@@ -1,3 +1,4 @@
 pub mod AskedLemmas
 mod AskedRows
 pub mod OpensLemmas
+mod RoomLemmas

@@ -9,13 +9,13 @@ use std::simd::prelude::*;
 pub(crate) const ROOM: usize = 8_192;
 
 /// The most bytes that are copied by one copy of this many, whatever their number.
-const SHORT: usize = 64;
+pub(crate) const SHORT: usize = 64;
 
 /// As many bytes as one copy brings to the buffer as a number.
 pub(crate) const FEW: usize = 8;
 
 /// The most bytes that `push_parts` copies.
-const PARTS: usize = 1 + SHORT + FEW;
+pub(crate) const PARTS: usize = 1 + SHORT + FEW;
 
 /// The bytes that a sink has taken and its device has not, one after the other.
 #[derive(Drop)]
@@ -30,7 +30,7 @@ pub(crate) struct Buffer {
 // As many as `merge` writes most often are read before one is written: else the compiler asks
 // whether the two overlap. `merge` of scalars takes 135.6 an item, without these arms 142.4.
 #[inline(always)]
-fn copy(from: &[u8], to: &mut [u8])
+pub(crate) fn copy(from: &[u8], to: &mut [u8])
     requires { length to.old ≡ length from.now }
     ensures { to.new ≡ from.now }
 {
@@ -60,7 +60,7 @@ fn copy(from: &[u8], to: &mut [u8])
 
 /// Copies the first 64 bytes to an offset.
 #[inline(always)]
-fn copy_short(to: &mut [u8], place: usize, from: &[u8])
+pub(crate) fn copy_short(to: &mut [u8], place: usize, from: &[u8])
     requires room { place + 64 ≤ length to.old }
     requires there { 64 ≤ length from.now }
     ensures long { length to.new ≡ length to.old }
@@ -79,7 +79,7 @@ fn together(bytes: [u8; 8]) -> [u8; 8]
 
 /// Copies these bytes to an offset.
 #[inline(always)]
-fn copy_few(to: &mut [u8], place: usize, from: [u8; 8])
+pub(crate) fn copy_few(to: &mut [u8], place: usize, from: [u8; 8])
     requires room { place + 8 ≤ length to.old }
     ensures long { length to.new ≡ length to.old }
     ensures copied { take (place + 8) to.new ≡ take place to.old ++ from }
@@ -91,7 +91,14 @@ fn copy_few(to: &mut [u8], place: usize, from: [u8; 8])
 // The front is always one copy of 64: a copy of a length that is not known is a call, 12.2 more an
 // item of Verilator's.
 #[inline(always)]
-fn copy_parts(to: &mut [u8], place: usize, first: u8, from: &[u8], n: usize, end: [u8; 8])
+pub(crate) fn copy_parts(
+    to: &mut [u8],
+    place: usize,
+    first: u8,
+    from: &[u8],
+    n: usize,
+    end: [u8; 8],
+)
     requires few { n ≤ 64 }
     requires there { 64 ≤ length from.now }
     requires room { place + 73 ≤ length to.old }

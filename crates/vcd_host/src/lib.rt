@@ -2,7 +2,7 @@
 //!
 //! `inputs_of` returns which inputs the matches of a command line name, and `open_inputs` opens
 //! them on a `Host`, in order, up to the first that cannot be opened. `Buffered` is an `Output`
-//! over any device of `std::io::Write`.
+//! over any device of `std::io::Write`, `Room` one over bytes that were lent.
 //!
 //! # The modules
 //!
@@ -11,18 +11,23 @@
 //! - `opened`: inputs that are opened one by one
 //! - `buffer`: bytes that wait, in memory that is taken once
 //! - `buffered`: an output whose bytes wait in a buffer
+//! - `room`: an output that is bytes that were lent
+//! - `gone`: what found no room there, which only clauses read
 //!
-//! In `specs/`: `Asked`; `Opens`, which inputs were opened; `Buffer`, `Buffered`, what an output
-//! has taken.
+//! In `specs/`: `Asked`; `Opens`, which inputs were opened; `Buffer`, `Buffered`, `Room`, what an
+//! output has taken.
 #![tactic(auto)]
 
 mod asked;
 mod buffer;
 mod buffered;
+mod gone;
 mod host;
 mod opened;
+mod room;
 
 pub use asked::inputs_of;
 pub use buffered::Buffered;
 pub use host::{Host, OpenFault, Output};
 pub use opened::{OpenStop, Opened, called, open_inputs};
+pub use room::Room;

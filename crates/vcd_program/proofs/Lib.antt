@@ -1,3 +1,4 @@
 mod MemoryLemmas
+mod RoomLemmas
 mod RunsLemmas
 mod Statuses

@@ -25,7 +25,7 @@ use Rattle.vcd_program.specs.declared.memory.MemoryFile.{MemoryFile}
 
 -- ---- streams that begin empty, of which no write failed
 
-abbrev holding : List ℕ → Device
+abbrev pub holding : List ℕ → Device
 holding bytes = record { held = Some bytes; failures = 0 }
 
 none-shown : (old new line : List ℕ) → Shows (holding old) (holding new) line → new ≡ old ++ line
@@ -40,13 +40,13 @@ all-left o out err status (Part written shown is) = let bad : 0 ≡ 0 + 1 = writ
 -- ---- inputs
 
 -- the bytes that inputs have still
-abbrev bytes_of : Bytes → Option (List ℕ)
+abbrev pub bytes_of : Bytes → Option (List ℕ)
 bytes_of b = Some b.rest.now
 
-abbrev no_failures : Bytes → ℕ
+abbrev pub no_failures : Bytes → ℕ
 no_failures b = 0
 
-abbrev none_failed : Bytes → Bool
+abbrev pub none_failed : Bytes → Bool
 none_failed b = false
 
 -- what opening one after the other leaves: the files as they were, the names noted, and the bytes
@@ -73,7 +73,7 @@ opened-in files input host (n ∷ names) (b ∷ inputs) after f i o =
       bytes = ap (λ x. x ∷ map (λ name. bytes_among files input name) names) here ∙ ap (λ l. Some b.rest.now ∷ l) more.bytes;
     }
 
-texts-of : (inputs : List Bytes) → map bytes_of inputs ≡ map (λ text. Some text) (map (λ (b : Bytes). b.rest.now) inputs)
+pub texts-of : (inputs : List Bytes) → map bytes_of inputs ≡ map (λ text. Some text) (map (λ (b : Bytes). b.rest.now) inputs)
 texts-of [] = refl
 texts-of (b ∷ inputs) = ap (λ l. Some b.rest.now ∷ l) (texts-of inputs)
 
@@ -143,7 +143,7 @@ left-parsed words asked files input host after left out err status f i n holds (
 left-parsed words asked files input host after left out err status f i n holds (Runs.NoMemory job is opened fails) = inr (out-of-memory left after out err status holds fails)
 
 -- what any words leave
-left-by : (words : List Text) (files : List MemoryFile) (input : Text) (host after : Memory) (left : End) (out err : List ℕ) (status : ℕ) → host.files.now ≡ files → host.input.now ≡ input → noted host ≡ [] → LeftAs left after out err status
+pub left-by : (words : List Text) (files : List MemoryFile) (input : Text) (host after : Memory) (left : End) (out err : List ℕ) (status : ℕ) → host.files.now ≡ files → host.input.now ≡ input → noted host ≡ [] → LeftAs left after out err status
     → RunsOn words OpensIn bytes_of no_failures none_failed host after (holding []) (holding out) (holding []) (holding err) status → IsLeftBy words files input left
 left-by words files input host after left out err status f i n holds (RunsOn.NoMatches why is only same (inl some)) =
     IsLeftBy.NoMatches why is only some.0 some.1 (is-left left after out err status [] (answer_outcome why some.1) holds (ap noted same ∙ n) some.2)

@@ -13,6 +13,7 @@ use Rattle.vcd_words.specs.Words.{program_app, words_used}
 use Rattle.vcdkit.specs.Message.{unopened_outcome}
 use Rattle.vcd_host.specs.Opens.{called}
 use Rattle.vcd_host.specs.Asked.{inputs_asked}
+use Rattle.vcd_host.specs.Room.{Fills}
 use Rattle.vcd_program.specs.Runs.{answer_outcome}
 use Rattle.vcd_host.specs.declared.host.OpenFault.{OpenFault}
 use Rattle.vcd_host.specs.declared.host.OpenFault.TheVariants.{Unopened, OutOfMemory}
@@ -103,3 +104,18 @@ pub data IsLeftBy (words : List Text) (files : List MemoryFile) (input : Text) (
   NoMatches : (why : ErrorKind) (is : (why ≡ kind.OutOfMemory) ⊎ IsAmong why (fault_of program_app words)) (only : takes program_app words ≡ true → why ≡ kind.OutOfMemory) (other : why ≢ kind.OutOfMemory) (text : Text)
       (leaves : IsLeft left [] (answer_outcome why text)) → IsLeftBy words files input left
   NoMemory : (fails : IsOutOfMemory left) → IsLeftBy words files input left
+
+-- this output, this message and this status are left
+abbrev pub IsLeftAs : List Text → List MemoryFile → (input output message : Text) → (status : ℕ) → Type 0
+IsLeftAs words files input output message status = (opened : List (Option Text)) × IsLeftBy words files input (record { opened = opened; output = output; message = message; status = status })
+
+-- ---- the same in bytes that were lent
+
+-- What is left of any words, the program's name first, where output and message went to bytes that
+-- were lent: each of the two as far as there is room for it, and how long it is.
+pub record IsLeftIn (words : List Text) (files : List MemoryFile) (input out : Text) (output : ℕ) (err : Text) (message : ℕ) (status : ℕ) : Type 0 where
+  pub left : End
+  pub is_left : IsLeftBy words files input left
+  pub on_out : Fills out output left.output
+  pub on_err : Fills err message left.message
+  pub status_is : status ≡ left.status

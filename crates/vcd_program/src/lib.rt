@@ -6,7 +6,7 @@
 //! order and under which names, and what was left: the outcome that the definitions have for the
 //! words and the inputs, or the line and the status of what went wrong before (`Runs`). Over a host
 //! in memory the outcome is that of the words and the bytes of the files (`run_in_memory`,
-//! `specs/Memory`).
+//! `run_into_memory`, `specs/Memory`).
 //!
 //! # The modules
 //!
@@ -23,4 +23,4 @@ mod memory;
 
 pub use command_line::run_program;
 pub use machine::{run_on_machine, run_words_on_machine};
-pub use memory::{Left, Memory, MemoryFile, run_in_memory, run_in_memory_with_hasher};
+pub use memory::{Filled, Left, Memory, MemoryFile, run_in_memory, run_into_memory};

@@ -1,11 +1,11 @@
 //! A host in memory: files by name and standard input, as bytes.
-ghost use Rattle.std.specs.Prelude.{◌≡◌, IfOk, OnOk, map, option_map, string_bytes, Some, ◌++◌, ◌∷◌, []};
-ghost use Rattle.vcd_program.specs.Names.{bytes_in, bytes_named, end_of, IsLeftBy, noted, OpensIn, text_of};
+ghost use Rattle.std.specs.Prelude.{◌≡◌, IfOk, IfSome, OnOk, map, option_map, string_bytes, Some, ◌++◌, ◌∷◌, []};
+ghost use Rattle.vcd_program.specs.Names.{bytes_in, bytes_named, end_of, IsLeftAs, IsLeftBy, IsLeftIn, noted, OpensIn, text_of, written};
 
 use crate::command_line::run_program;
 use std::alloc::{AllocError, Global};
 use std::hash::{BuildHasher, BuildHasherDefault, FoldHasher};
-use vcd_host::{Host, OpenFault};
+use vcd_host::{Host, OpenFault, Room};
 use vcd_text::{Bytes, Sink, Watch};
 
 /// A file in memory.
@@ -107,7 +107,7 @@ pub struct Left {
 /// ran out.
 ///
 /// Identifier codes are hashed by numbers that all may know, so that codes can be crafted which
-/// take long to find: dumps that are not trusted are for `run_in_memory_with_hasher`.
+/// take long to find: dumps that are not trusted are for `run_into_memory`.
 pub fn run_in_memory(
     alloc: Global,
     words: &[String],
@@ -118,24 +118,6 @@ pub fn run_in_memory(
         (map string_bytes words.now) files.now input.now (end_of left)) }
 {
     let hasher: BuildHasherDefault<FoldHasher> = BuildHasherDefault::new();
-    run_in_memory_with_hasher(alloc, words, files, input, &hasher)
-}
-
-/// Runs the program on these words, its own name first among them, over files in memory, and
-/// returns what it left. An error says that memory for the output, for the message or for the notes
-/// ran out.
-///
-/// Identifier codes are hashed by numbers that the hasher gives; what is left is the same by each.
-pub fn run_in_memory_with_hasher<B: BuildHasher>(
-    alloc: Global,
-    words: &[String],
-    files: &[MemoryFile<'_>],
-    input: &[u8],
-    hasher: &B,
-) -> Result<Left, AllocError>
-    ensures { IfOk result (λ left. IsLeftBy
-        (map string_bytes words.now) files.now input.now (end_of left)) }
-{
     let mut memory = Memory {
         files,
         input,
@@ -143,7 +125,7 @@ pub fn run_in_memory_with_hasher<B: BuildHasher>(
     };
     let mut out = Watch::new(Vec::new(alloc));
     let mut err = Watch::new(Vec::new(alloc));
-    let status = run_program(alloc, words, &mut memory, &mut out, &mut err, hasher);
+    let status = run_program(alloc, words, &mut memory, &mut out, &mut err, &hasher);
     if out.failures() > 0 || err.failures() > 0 {
         return Err(AllocError);
     }
@@ -151,6 +133,72 @@ pub fn run_in_memory_with_hasher<B: BuildHasher>(
         opened: memory.opened,
         output: out.device,
         message: err.device,
+        status,
+    })
+}
+
+/// What a program left where its output and its message went to bytes that were lent.
+#[derive(Clone, Copy, PartialEq, Eq, Debug)]
+pub struct Filled {
+    /// How many bytes the output has, also where there was room for fewer.
+    pub output: u64,
+    /// How many bytes the message has, also where there was room for fewer.
+    pub message: u64,
+    /// The exit status.
+    pub status: u8,
+}
+
+/// Runs the program on these words over files in memory, with an output and an error stream to
+/// which nothing was written yet, and returns its exit status.
+fn run_into_rooms<B: BuildHasher>(
+    alloc: Global,
+    words: &[String],
+    memory: &mut Memory<'_>,
+    out: &mut Room<'_>,
+    err: &mut Room<'_>,
+    hasher: &B,
+) -> u8
+    requires memory { noted memory.old ≡ [] }
+    requires out { written out.old ≡ [] }
+    requires err { written err.old ≡ [] }
+    ensures out_loan { out.new.bytes.ghost_name ≡ out.old.bytes.ghost_name }
+    ensures err_loan { err.new.bytes.ghost_name ≡ err.old.bytes.ghost_name }
+    ensures left { IsLeftAs (map string_bytes words.now) memory.old.files.now memory.old.input.now
+        (written out.new) (written err.new) result }
+{
+    run_program(alloc, words, memory, out, err, hasher)
+}
+
+/// Runs the program on these words, its own name first among them, over files in memory, and
+/// returns its status and how long output and message are, if of each fewer than 2^63 bytes found no
+/// room. As much as there is room for is at the front of the bytes that were lent.
+///
+/// Identifier codes are hashed by numbers that the hasher gives; what is left is the same by each.
+pub fn run_into_memory<B: BuildHasher>(
+    alloc: Global,
+    words: &[String],
+    files: &[MemoryFile<'_>],
+    input: &[u8],
+    out: &mut [u8],
+    err: &mut [u8],
+    hasher: &B,
+) -> Option<Filled>
+    ensures { IfSome result (λ filled. IsLeftIn (map string_bytes words.now) files.now input.now
+        out.new filled.output err.new filled.message filled.status) }
+{
+    let mut memory = Memory {
+        files,
+        input,
+        opened: Vec::new(alloc),
+    };
+    let mut out = Room::new(out);
+    let mut err = Room::new(err);
+    let status = run_into_rooms(alloc, words, &mut memory, &mut out, &mut err, hasher);
+    let output = out.len()?;
+    let message = err.len()?;
+    Some(Filled {
+        output,
+        message,
         status,
     })
 }

@@ -1,8 +1,8 @@
 -- What a call of the program leaves in memory that was lent.
-use Rattle.std.specs.Prelude.{◌≡◌, ℕ, ⊤, List, ◌∷◌, ◌++◌, codes, length, take, IsUtf8}
+use Rattle.std.specs.Prelude.{◌≡◌, ℕ, ⊤, List, ◌∷◌, ◌++◌, codes, IsUtf8}
 use Rattle.clap.specs.Words.{Text}
 use Rattle.vcd_model.specs.Outcome.{program_line}
-use Rattle.vcd_program.specs.Memory.{End, IsLeftBy}
+use Rattle.vcd_program.specs.Memory.{Fills, IsLeftIn}
 use Rattle.vcd_program.specs.declared.memory.MemoryFile.{MemoryFile}
 use Rattle.vcdkit_c.specs.declared.lent.Lent.{Lent}
 use Rattle.vcdkit_c.specs.declared.words.Refused.{Refused}
@@ -25,20 +25,6 @@ abbrev pub HasNoText : (words : List Text) → Refused → Type 0
 HasNoText words BadWords = NoText words
 HasNoText words OutOfMemory = ⊤
 
--- of all these bytes as many as there is room for are at the front, and their number is returned
-pub record Fills (bytes : List ℕ) (used : ℕ) (all : List ℕ) : Type 0 where
-  pub front : take used bytes ≡ take (length bytes) all
-  pub number : used ≡ length all
-
--- What is left of any words, the program's name first, where output and message went to bytes that
--- were lent: each of the two as far as there is room for it, and how long it is.
-pub record IsLeftIn (words : List Text) (files : List MemoryFile) (input out : Text) (output : ℕ) (err : Text) (message : ℕ) (status : ℕ) : Type 0 where
-  pub left : End
-  pub is_left : IsLeftBy words files input left
-  pub on_out : Fills out output left.output
-  pub on_err : Fills err message left.message
-  pub status_is : status ≡ left.status
-
 -- What a call with these words, the program's name not among them, leaves in `out` and in `err`,
 -- how long output and message are, and the status.
 pub data RunsInto (words : List Text) (files : List MemoryFile) (input out : Text) (output : ℕ) (err : Text) (message : ℕ) (status : ℕ) : Type 0 where
@@ -46,5 +32,5 @@ pub data RunsInto (words : List Text) (files : List MemoryFile) (input out : Tex
   Ran : (left : IsLeftIn (codes "vcdkit" ∷ words) files input out output err message status) → RunsInto words files input out output err message status
   -- a word is no text: no output, and a line
   BadWord : (bad : NoText words) (none : output ≡ 0) (line : Fills err message bad_words) (status_is : status ≡ 2) → RunsInto words files input out output err message status
-  -- memory ran out for what the bytes have no room for, or before the program began
+  -- memory ran out before the program began, or 2^63 bytes found no room
   NoMemory : (status_is : status ≡ 4) → RunsInto words files input out output err message status

@@ -1,6 +1,6 @@
 -- What the clauses of this crate speak of, under one path.
 pub use Rattle.vcd_changes.specs.Reading.{FindsIn, GoesOnAt}
 pub use Rattle.vcd_model.specs.Items.{BodyItem}
-pub use Rattle.vcd_program.specs.Memory.{end_of, IsLeftBy}
-pub use Rattle.vcdkit_c.specs.Calls.{Fills, HasNoText, IsLeftIn, RunsInto, bad_words, bytes_of}
+pub use Rattle.vcd_program.specs.Memory.{Fills, IsLeftIn}
+pub use Rattle.vcdkit_c.specs.Calls.{HasNoText, RunsInto, bad_words, bytes_of}
 pub use Rattle.vcdkit_c.specs.declared.words.Refused.{Refused}

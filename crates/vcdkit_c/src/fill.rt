@@ -1,5 +1,5 @@
 //! Bytes that are copied to bytes that were lent.
-ghost use Rattle.vcdkit_c.specs.Calls.{Fills};
+ghost use Rattle.vcdkit_c.specs.Names.{Fills};
 
 /// Copies as many of all these bytes as there is room for to the front, and returns how many bytes
 /// there are in all.

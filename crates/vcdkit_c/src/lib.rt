@@ -20,20 +20,20 @@ use crate::words::{Refused, words_of};
 pub use lent::Lent;
 use std::alloc::Global;
 use vcd_changes::{ChangeRow, Reading, changes};
-use vcd_program::{MemoryFile, run_in_memory_with_hasher};
+use vcd_program::{MemoryFile, run_into_memory};
 
 /// What is said where a word is no text.
 const BAD_WORDS: &[u8] = b"vcdkit: bad words\n";
 
-/// The status where memory ran out for output or message.
-const OUT_OF_MEMORY: u8 = 4;
+/// The status where the program did not begin, or its output cannot be counted.
+const NOT_RUN: u8 = 4;
 
 /// Runs the program on these words, which come without its name, over files in memory, and returns
-/// its exit status; or 4, where memory ran out for output or message.
+/// its exit status; or 4, where memory ran out before it began, or 2^63 bytes found no room.
 ///
 /// `input` is standard input. Identifier codes are hashed by `seed`: what is left is the same by
-/// each, and who does not know it cannot make a dump whose codes are slow to find. Of the output as
-/// much as there is room for is at the front of `out`, and `out_used` says how long it is: where
+/// each, and who does not know it cannot make a dump whose codes are slow to find. The output is
+/// written to `out`, as much of it as there is room for, and `out_used` says how long it is: where
 /// that is more than `out` has, so much is wanted of `out` for all of it. The same holds of the
 /// message, `err` and `err_used`. After a 4 nothing is said of them.
 #[unsafe(no_mangle)]
@@ -54,13 +54,13 @@ pub extern "C" fn vcdkit_run(
     match words_of(alloc, words) {
         Ok(words) => {
             let hasher = Seed::new(seed);
-            match run_in_memory_with_hasher(alloc, words.as_slice(), files, input, &hasher) {
-                Ok(left) => {
-                    *out_used = fill(out, left.output.as_slice());
-                    *err_used = fill(err, left.message.as_slice());
-                    left.status
+            match run_into_memory(alloc, words.as_slice(), files, input, out, err, &hasher) {
+                Some(filled) => {
+                    *out_used = filled.output;
+                    *err_used = filled.message;
+                    filled.status
                 }
-                Err(_) => OUT_OF_MEMORY,
+                None => NOT_RUN,
             }
         }
         Err(Refused::BadWords) => {
@@ -68,7 +68,7 @@ pub extern "C" fn vcdkit_run(
             *err_used = fill(err, BAD_WORDS);
             2
         }
-        Err(Refused::OutOfMemory) => OUT_OF_MEMORY,
+        Err(Refused::OutOfMemory) => NOT_RUN,
     }
 }
 

@@ -1,10 +1,10 @@
 use Rattle.std.proofs.Common.{◌≡◌, ◌∙◌, ap, arith, map, option_map, refl, string_bytes}
 use Rattle.vcd_text.specs.Watch.{failed_calls}
 use Rattle.vcd_program.proofs.MemoryLemmas.{is-holding, left-in-memory}
-use Rattle.vcd_program.proofs.memory.run_in_memory_with_hasher.Goals as goal
+use Rattle.vcd_program.proofs.memory.run_in_memory.Goals as goal
 
 pub returns : goal.returns
-returns g c =
+returns c =
     let o = c.run_program-status.new.out in
     let e = c.run_program-status.new.err in
     let out_zero : failed_calls o ≡ 0 = omega (arith, c.failures.ensures, c.if-failures-gt0.false) in

@@ -1,0 +1,141 @@
+//! An output that is bytes that were lent.
+ghost use Rattle.std.specs.Prelude.{◌≡◌, ◌+◌, ◌-◌, ◌*◌, ◌^◌, ◌<◌, ◌≤◌, ◌++◌, [], IfSome, Some, length, take, true};
+
+use crate::buffer::{FEW, PARTS, SHORT, copy, copy_few, copy_parts, copy_short};
+use crate::gone::Gone;
+use crate::host::Output;
+use vcd_text::{Sink, WriteFailed};
+
+/// From this number on bytes that find no room are not counted.
+const UNCOUNTED: u64 = 9_223_372_036_854_775_808;
+
+/// Bytes that were lent, which are filled from the front. What finds no room there is counted and
+/// let go. No write fails.
+#[derive(Drop)]
+pub struct Room<'a> {
+    bytes: &'a mut [u8],
+    used: usize,
+    // How many bytes found no room, where they are fewer than 2^63.
+    over: u64,
+    gone: Gone,
+    ghost within: { used ≤ length bytes.now },
+    ghost number: { over < 2 ^ 63 → over ≡ length gone.bytes },
+    // Only what finds no room is let go.
+    ghost order: { 0 < over → used ≡ length bytes.now },
+}
+
+impl<'a> Room<'a> {
+    ghost use Rattle.vcd_host.specs.Room.{Fills, held, written};
+
+    /// Returns these bytes, none of which is filled.
+    pub fn new(bytes: &'a mut [u8]) -> Room<'a>
+        ensures loan { result.bytes.ghost_name ≡ bytes.entry.ghost_name }
+        ensures empty { written result ≡ [] }
+    {
+        Room {
+            bytes,
+            used: 0,
+            over: 0,
+            gone: Gone::new(),
+        }
+    }
+
+    /// Returns how many bytes were written, if fewer than 2^63 found no room. As many of them as
+    /// there is room for are at the front of the bytes that were lent.
+    pub fn len(&self) -> Option<u64>
+        ensures { IfSome result (λ n. Fills self.now.bytes.now n (written self.now)) }
+    {
+        if self.over >= UNCOUNTED {
+            return None;
+        }
+        Some(self.used as u64 + self.over)
+    }
+
+    /// Takes bytes for which there is not room enough, and returns how many: from the front those
+    /// for which there is, or all of them where there is no room at all.
+    #[cold]
+    #[inline(never)]
+    fn write_over(&mut self, from: &[u8]) -> usize
+        requires { length self.old.bytes.now - self.old.used ≤ length from.now }
+        ensures bound { result ≤ length from.now }
+        ensures takes { 0 < length from.now → 0 < result }
+        ensures bytes { held self.new ≡ held self.old ++ take result from.now }
+    {
+        let room = self.bytes.len() - self.used;
+        if room > 0 {
+            self.bytes[self.used..].copy_from_slice(&from[..room]);
+            self.used += room;
+            return room;
+        }
+        self.over = self.over.saturating_add(from.len() as u64);
+        self.gone.push(from);
+        from.len()
+    }
+}
+
+impl Sink for Room<'_> {
+    ghost use Rattle.vcd_host.specs.Room.{held};
+
+    ghost device = { λ room. record { held = Some (held room); failures = 0 } };
+
+    ghost kept_back = { λ _. 0 };
+
+    #[inline(always)]
+    fn write(&mut self, from: &[u8]) -> Result<usize, WriteFailed> {
+        if from.len() >= self.bytes.len() - self.used {
+            return Ok(self.write_over(from));
+        }
+        let end = self.used + from.len();
+        copy(from, &mut self.bytes[self.used..end]);
+        self.used = end;
+        Ok(from.len())
+    }
+
+    #[inline(always)]
+    fn write_few(&mut self, bytes: [u8; 8], n: usize) -> bool {
+        if self.bytes.len() - self.used <= FEW {
+            return false;
+        }
+        copy_few(self.bytes, self.used, bytes);
+        self.used += n;
+        true
+    }
+
+    #[inline(always)]
+    fn write_front(&mut self, from: &[u8], n: usize) -> bool {
+        if n > SHORT || from.len() < SHORT || self.bytes.len() - self.used <= SHORT {
+            return false;
+        }
+        copy_short(self.bytes, self.used, from);
+        self.used += n;
+        true
+    }
+
+    #[inline(always)]
+    fn write_parts(&mut self, first: u8, from: &[u8], n: usize, end: [u8; 8], m: usize) -> bool {
+        if n > SHORT || from.len() < SHORT || self.bytes.len() - self.used <= PARTS {
+            return false;
+        }
+        copy_parts(self.bytes, self.used, first, from, n, end);
+        self.used += 1 + n + m;
+        true
+    }
+
+    #[inline(always)]
+    fn pass_on(&mut self) -> Result<(), WriteFailed> {
+        Ok(())
+    }
+
+    fn failures(&self) -> u64 {
+        0
+    }
+}
+
+/// It keeps nothing in a buffer.
+impl Output for Room<'_> {
+    ghost flushes = { λ old done new. (done ≡ true) × (new ≡ old) };
+
+    fn flush(&mut self) -> Result<(), WriteFailed> {
+        Ok(())
+    }
+}

@@ -1,0 +1,112 @@
+-- What a program leaves in bytes that were lent.
+use Rattle.std.proofs.Common.{◌≡◌, ◌∷◌, [], ℕ, List, Bool, true, false, ap, sym, refl, subst, inl, inr, drop, get_or, map, codes}
+use Rattle.std.specs.Prelude.{Option}
+use Rattle.clap.specs.Words.{Text}
+use Rattle.vcd_model.specs.Job.{Want}
+use Rattle.vcd_model.specs.Outcome.{Outcome}
+use Rattle.vcd_model.specs.Words.{Words}
+use Rattle.vcd_text.specs.Device.{Device, Supply, Writes, WritesSome}
+use Rattle.vcd_text.specs.declared.device.Bytes.{Bytes}
+use Rattle.vcdkit.specs.Message.{Shows}
+use Rattle.vcdkit.specs.Run.{IsOutcome}
+use Rattle.vcdkit.specs.Run.IsOutcome.{Whole, Part}
+use Rattle.vcd_program.specs.Memory.{IsLeftAs, IsLeftIn, OpensIn, noted}
+use Rattle.vcd_host.specs.Room.{Fills, held, written}
+use Rattle.vcd_program.specs.Runs.{Fails, Finishes, Leaves, Runs, RunsOn}
+use Rattle.vcd_program.specs.declared.memory.Memory.{Memory}
+use Rattle.vcd_program.specs.declared.memory.MemoryFile.{MemoryFile}
+use Rattle.vcd_host.specs.declared.room.Room.{Room}
+use Rattle.vcd_program.proofs.MemoryLemmas.{bytes_of, holding, left-by, no_failures, none_failed, texts-of}
+
+-- what a room tells of itself
+abbrev room_device : Room → Device
+room_device room = holding (held room)
+
+abbrev flushes : Room → Bool → Room → Type 0
+flushes old done new = (done ≡ true) × (new ≡ old)
+
+-- the name of the loan is as it was
+first : {n n' : ℕ} {xs ws : List ℕ} → n' ∷ ws ≡ n ∷ xs → n' ≡ n
+first e = ap (λ l. get_or l 0 0) e
+
+rest : {n n' : ℕ} {xs ws : List ℕ} → n' ∷ ws ≡ n ∷ xs → ws ≡ xs
+rest e = ap (drop 1) e
+
+module _ (n n' : ℕ) (ws : List ℕ) where
+  writes-after : (bytes : List ℕ) → Writes (holding (n ∷ [])) (holding (n' ∷ ws)) bytes → (n' ≡ n) × Writes (holding []) (holding ws) bytes
+  writes-after bytes w = (first w.0, (rest w.0, w.1))
+
+  some-after : (bytes : List ℕ) → WritesSome (holding (n ∷ [])) (holding (n' ∷ ws)) bytes → (n' ≡ n) × WritesSome (holding []) (holding ws) bytes
+  some-after bytes w = (first w.0.1, ((w.0.0, rest w.0.1), w.1))
+
+  shows-after : (line : List ℕ) → Shows (holding (n ∷ [])) (holding (n' ∷ ws)) line → (n' ≡ n) × Shows (holding []) (holding ws) line
+  shows-after line (inl all) = let s = writes-after line all in (s.0, inl s.1)
+  shows-after line (inr some) = let s = some-after line some in (s.0, inr s.1)
+
+module _ (n n' m m' status : ℕ) (ws vs : List ℕ) where
+  -- of what is left, with the names and without them
+  abbrev After : ((out out' err err' : Device) → ℕ → Type 0) → Type 0
+  After Left = Left (holding (n ∷ [])) (holding (n' ∷ ws)) (holding (m ∷ [])) (holding (m' ∷ vs)) status → (n' ≡ n) × (m' ≡ m) × Left (holding []) (holding ws) (holding []) (holding vs) status
+
+  outcome-after : (o : Outcome) → After (IsOutcome o)
+  outcome-after o (Whole written shown is) =
+      let w = writes-after n n' ws o.output written in
+      let s = shows-after m m' vs o.message shown in
+      (w.0, s.0, Whole w.1 s.1 is)
+  outcome-after o (Part written shown is) =
+      let w = some-after n n' ws o.output written in
+      let s = shows-after m m' vs _ shown in
+      (w.0, s.0, Part w.1 s.1 is)
+
+  fails-after : (text : Text) → After (Fails text)
+  fails-after text fails =
+      let w = writes-after n n' ws [] fails.0 in
+      let s = shows-after m m' vs _ fails.1 in
+      (w.0, s.0, (w.1, s.1, fails.2))
+
+  leaves-after : (words : Option Words) (want : Want) (limit : ℕ) (names texts : List Text) (old new : List Supply) → After (Leaves words want limit names texts old new)
+  leaves-after words want limit names texts old new (Leaves.WithOutcome inputs read needed leaves) = let o = outcome-after _ leaves in (o.0, o.1, Leaves.WithOutcome inputs read needed o.2)
+  leaves-after words want limit names texts old new (Leaves.NoMemory inputs read fails) = let o = fails-after (codes "out of memory") fails in (o.0, o.1, Leaves.NoMemory inputs read o.2)
+
+  runs-after : (words : Option Words) (asked : List (Option Text)) (host after : Memory) → After (Runs OpensIn bytes_of no_failures none_failed words asked host after)
+  runs-after words asked host after (Runs.Refused fault is same leaves) = let o = outcome-after _ leaves in (o.0, o.1, Runs.Refused fault is same o.2)
+  runs-after words asked host after (Runs.Ran want limit is readers done opened ends gives) =
+      let texts = map (λ (b : Bytes). b.rest.now) readers in
+      let one = leaves-after words want limit _ texts _ _ (gives texts (texts-of readers)) in (
+        one.0,
+        one.1,
+        Runs.Ran want limit is readers done opened (ends.0, ends.1, ends.2, ends.3, (shows-after m m' vs _ ends.4).1, ends.5)
+            (λ read have. (leaves-after words want limit _ read _ _ (gives read have)).2),
+      )
+  runs-after words asked host after (Runs.Stopped job is name opened leaves) = let o = outcome-after _ leaves in (o.0, o.1, Runs.Stopped job is name opened o.2)
+  runs-after words asked host after (Runs.NoMemory job is opened fails) = let o = fails-after (codes "out of memory") fails in (o.0, o.1, Runs.NoMemory job is opened o.2)
+
+  words-after : (words : List Text) (host after : Memory) → After (RunsOn words OpensIn bytes_of no_failures none_failed host after)
+  words-after words host after (RunsOn.Parsed matches is runs) = let o = runs-after _ _ host after runs in (o.0, o.1, RunsOn.Parsed matches is o.2)
+  words-after words host after (RunsOn.NoMatches why is only same (inl some)) = let o = outcome-after _ some.2 in (o.0, o.1, RunsOn.NoMatches why is only same (inl (some.0, some.1, o.2)))
+  words-after words host after (RunsOn.NoMatches why is only same (inr fails)) = let o = fails-after (codes "out of memory") fails in (o.0, o.1, RunsOn.NoMatches why is only same (inr o.2))
+
+-- what is left in the end: the same loans, and in them what the program leaves
+pub left-in-rooms : (words : List Text) (files : List MemoryFile) (input : Text) (host after : Memory) (status : ℕ) (out out' err err' : Room) → host.files.now ≡ files → host.input.now ≡ input → noted host ≡ [] → written out ≡ [] → written err ≡ []
+    → Finishes room_device flushes (λ out_now err_now n. RunsOn words OpensIn bytes_of no_failures none_failed host after (room_device out) out_now (room_device err) err_now n) out' (room_device err') status
+    → (out'.bytes.ghost_name ≡ out.bytes.ghost_name) × (err'.bytes.ghost_name ≡ err.bytes.ghost_name) × IsLeftAs words files input (written out') (written err') status
+left-in-rooms words files input host after status out out' err err' f i n no_out no_err (Finishes.Flushed before left flushed held same) =
+    let now = subst (λ (room : Room). RunsOn words OpensIn bytes_of no_failures none_failed host after (room_device out) (room_device room) (room_device err) (room_device err') status) (sym flushed.1) left in
+    let from_out = subst (λ l. RunsOn words OpensIn bytes_of no_failures none_failed host after (holding (out.bytes.ghost_name ∷ l)) (room_device out') (room_device err) (room_device err') status) no_out now in
+    let from_err = subst (λ l. RunsOn words OpensIn bytes_of no_failures none_failed host after (holding (out.bytes.ghost_name ∷ [])) (room_device out') (holding (err.bytes.ghost_name ∷ l)) (room_device err') status) no_err from_out in
+    let bare = words-after out.bytes.ghost_name out'.bytes.ghost_name err.bytes.ghost_name err'.bytes.ghost_name status (written out') (written err') words host after from_err in
+    (bare.0, bare.1, (noted after, left-by words files input host after _ (written out') (written err') status f i n (refl, refl, refl, refl) bare.2))
+left-in-rooms words files input host after status out out' err err' f i n no_out no_err (Finishes.Failed before left machine fails held same) = let bad : false ≡ true = fails.0 in cc
+left-in-rooms words files input host after status out out' err err' f i n no_out no_err (Finishes.Unflushed before shown was left below fails held same then status_is) = let bad : false ≡ true = fails.0 in cc
+
+-- the same in the bytes that were lent, once the rooms are given up
+pub left-in-lent : (words : List Text) (files : List MemoryFile) (input : Text) (out err : Room) (filled_out : List ℕ) (used_out : ℕ) (filled_err : List ℕ) (used_err status : ℕ) → filled_out ≡ out.bytes.now → filled_err ≡ err.bytes.now
+    → IsLeftAs words files input (written out) (written err) status → Fills out.bytes.now used_out (written out) → Fills err.bytes.now used_err (written err) → IsLeftIn words files input filled_out used_out filled_err used_err status
+left-in-lent words files input out err filled_out used_out filled_err used_err status is_out is_err left fills_out fills_err =
+    record {
+      left = record { opened = left.0; output = written out; message = written err; status = status };
+      is_left = left.1;
+      on_out = subst (λ l. Fills l used_out (written out)) (sym is_out) fills_out;
+      on_err = subst (λ l. Fills l used_err (written err)) (sym is_err) fills_err;
+      status_is = refl;
+    }
