@@ -181,6 +181,28 @@ pub others_tell : (xs : List ℕ) (i n : ℕ) (f : ℕ → ℕ) (z : List ℕ) �
     → (k : ℕ) → k < n → bit_at (mask_l (map (top 7) z) % 2 ^ 64) k ≡ 0 → is_value_digit (slice_index xs (i + k)) ≡ true
 others_tell xs i n f z room few fits e all k less none = let t = mask_tells differs xs i n f z room few fits e all k less none in two_alone (slice_index xs (i + k)) t.0 t.1
 
+-- a byte that is neither x nor z in either case: with two bits cleared these four are X
+abbrev pub is_known : ℕ → Bool
+is_known x = not (bit_and x 221 == 88)
+
+-- whatever is not so is a digit
+unknown_alone : (d : ℕ) → d < 256 → is_known d ≡ false → is_value_digit d ≡ true
+unfolding is_value_digit
+unknown_alone d fit e = or_second (is_known d) (is_value_digit d) e (agree_below_at (λ x. is_known x || is_value_digit x) (λ _. true) 256 d refl fit)
+
+pub known_tell : (xs : List ℕ) (i n : ℕ) (f : ℕ → ℕ) (z : List ℕ) → i + n ≤ length xs → n ≤ 64 → Each1 (Fits w8) (chunk i n xs) → z ≡ map f (chunk i n xs) → agree_below (λ x. top 7 (f x)) is_known 256 ≡ true
+    → (k : ℕ) → k < n → bit_at (mask_l (map (top 7) z) % 2 ^ 64) k ≡ 0 → is_value_digit (slice_index xs (i + k)) ≡ true
+known_tell xs i n f z room few fits e all k less none = let t = mask_tells is_known xs i n f z room few fits e all k less none in unknown_alone (slice_index xs (i + k)) t.0 t.1
+
+-- where two masks have no bit in common, one of them has none at each place
+pub none_of_two : (m m' k : ℕ) → bit_and m m' ≡ 0 → (bit_at m k ≡ 0) ⊎ (bit_at m' k ≡ 0)
+none_of_two m m' k e = by_min (bit_at m k) (bit_at m' k) (sym (bit_at_and m m' k) ∙ ap (λ n. bit_at n k) e ∙ bit_at-zero k)
+  where
+    by_min : (a b : ℕ) → min a b ≡ 0 → (a ≡ 0) ⊎ (b ≡ 0)
+    by_min zero b h = inl refl
+    by_min (suc a) zero h = inr refl
+    by_min (suc a) (suc b) h = absurd (omega (arith, h))
+
 -- and it is a digit by its bit
 two_bits : (d : ℕ) → d < 256 → differs d ≡ false → d ≡ 48 + bit_of d
 two_bits d fit e = eqb-true d (48 + bit_of d) (or_second (differs d) (d == 48 + bit_of d) e (agree_below_at (λ x. differs x || (x == 48 + bit_of x)) (λ _. true) 256 d refl fit))

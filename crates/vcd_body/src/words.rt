@@ -159,6 +159,25 @@ fn nonbinary_32(bytes: &[u8], at: usize) -> u64
     v.simd_ne(u8x32::splat(b'0')).to_bitmask()
 }
 
+/// Returns a mask: bit k is set where byte `at + k` is none of `x`, `X`, `z` and `Z`.
+#[inline(always)]
+fn known_32(bytes: &[u8], at: usize) -> u64
+    requires { at + 32 ≤ length bytes.now }
+    ensures { (k : ℕ) → k < 32 → bit_at result k ≡ 0 → IsDigitAt bytes.now (at + k) }
+{
+    let v = u8x32::from_slice(&bytes[at..]) & u8x32::splat(0xdd);
+    v.simd_ne(u8x32::splat(b'X')).to_bitmask()
+}
+
+/// Returns true only where the 32 bytes from an offset on are digits of a value.
+#[inline(always)]
+fn are_digits_32(bytes: &[u8], at: usize) -> bool
+    requires { at + 32 ≤ length bytes.now }
+    ensures { result ≡ true → (k : ℕ) → k < 32 → IsDigitAt bytes.now (at + k) }
+{
+    nonbinary_32(bytes, at) & known_32(bytes, at) == 0
+}
+
 /// Returns whether n bytes from an offset on are `0` and `1` alone. The 32 bytes there are read.
 #[inline(always)]
 fn are_binary_at(bytes: &[u8], at: usize, n: usize) -> bool
@@ -201,12 +220,40 @@ fn are_binary(digits: &[u8]) -> bool
     nonbinary_32(digits, last) == 0
 }
 
+/// Returns true only where these are digits of a value, at least 32. It looks at 32 at a time, and
+/// at some of the last 32 twice.
+fn are_many_digits(digits: &[u8]) -> bool
+    ensures { result ≡ true → list_all is_digit digits.now ≡ true }
+{
+    if digits.len() < 32 {
+        return false;
+    }
+    let last = digits.len() - 32;
+    let mut at = 0;
+    'loads: while at < last {
+        if !are_digits_32(digits, at) {
+            return false;
+        }
+        at += 32;
+    }
+    are_digits_32(digits, last)
+}
+
+// Not inlined, so that digits that are `0` and `1` alone pay for no call. Many x and z are looked
+// at 32 at a time: `check` of wide vectors takes 309 an item, one by one 359.
+#[inline(never)]
+fn are_any_digits(digits: &[u8]) -> bool
+    ensures { result ≡ list_all is_digit digits.now }
+{
+    are_many_digits(digits) || digits.iter().all(|digit| is_value_digit(*digit))
+}
+
 // Not inlined, so that the ways of digits that are known stay small.
 #[inline(never)]
 fn all_are_digits(digits: &[u8]) -> bool
     ensures { result ≡ list_all is_digit digits.now }
 {
-    are_binary(digits) || digits.iter().all(|digit| is_value_digit(*digit))
+    are_binary(digits) || are_any_digits(digits)
 }
 
 /// Returns whether these are one or more digits of a value. Where their number is known they are,
