@@ -32,7 +32,7 @@ no_digit ds k h d =
     let all : list_all is_ascii_digit ds ≡ false = ap (list_all is_ascii_digit) parts ∙ rw (list_all-append, bad) refl in
     rw (all, and_right (not (is_empty ds)) false refl) refl
 
--- digits that spell too much at some place
+-- digits of which some first ones spell too much
 pub too_large : (ds : List ℕ) (k : ℕ) → 2 ^ 64 ≤ decimal_value (take k ds) → spelled_below ds ≡ None
 too_large ds k h =
     let grows = decimal_value-grows (take k ds) (drop k ds) in

@@ -12,14 +12,14 @@ use mir.Val.{zeroes}
 use native.Mathlib.Nat.{pow-suc, mul_comm, zero-div, div-one, div-div-eq-div-mul}
 use Rattle.std.proofs.lemmas.List.Sums.{sum_by-cons}
 use Rattle.vcd_model.specs.Bytes.{is_white_space}
-use Rattle.vcd_text.specs.Masks.{TellsWhite, Marks}
+use Rattle.vcd_text.specs.Masks.{TellsWhite, BitsAreWhite}
 use Rattle.vcd_text.specs.declared.ahead.White.{White}
 
 each_byte : (f : ℕ → ℕ) (p : ℕ → Bool) → agree_below (λ x. top 7 (f x)) p 256 ≡ true → (v : List ℕ) → Each1 (Fits w8) v → map (top 7) (map f v) ≡ map p v
 each_byte f p all [] fits = refl
 each_byte f p all (x ∷ xs) fits = ap₂ (λ a b. a ∷ b) (agree_below_at (λ y. top 7 (f y)) p 256 x all fits.0.fits) (each_byte f p all xs fits.1)
 
--- the mask of lanes that were computed from v by f, whose top bits tell p
+-- the mask of lanes that were computed from v by f, whose top bits say where p holds
 pub masked : (f : ℕ → ℕ) (p : ℕ → Bool) (v z : List ℕ) → length v ≤ 64 → Each1 (Fits w8) v → z ≡ map f v → agree_below (λ x. top 7 (f x)) p 256 ≡ true
     → mask_l (map (top 7) z) % 2 ^ 64 ≡ mask_l (map p v)
 masked f p v z short fits e all =
@@ -86,34 +86,34 @@ others_before xs i n mask r front t le none k lt = elim (cases_lt k i) [
       subst (λ j. is_white_space (get_or xs j 0) ≡ false) back (t.other (k - i) (omega arith) (none (k - i) (omega arith))))
 ]
 
--- ---- the marks of a look ahead
+-- ---- the white bytes of a look ahead
 
-abbrev pub marks-of : ℕ → ℕ → White
-marks-of bits next = record { bits = bits; next = next }
+abbrev pub bits-of : ℕ → ℕ → White
+bits-of bits next = record { bits = bits; next = next }
 
 -- where no bit is set, the bytes before `next` are others
-pub marks-none : (chunk : List ℕ) (at stop : ℕ) (w : White) → w.bits ≡ 0 → Marks chunk at stop w → (j : ℕ) → at ≤ j → j < w.next → is_white_space (get_or chunk j 0) ≡ false
-marks-none chunk at stop w e m j le lt = m.other j le lt (λ _. no_bits w.bits (j + 64 - w.next) e)
+pub bits-none : (chunk : List ℕ) (at stop : ℕ) (w : White) → w.bits ≡ 0 → BitsAreWhite chunk at stop w → (j : ℕ) → at ≤ j → j < w.next → is_white_space (get_or chunk j 0) ≡ false
+bits-none chunk at stop w e m j le lt = m.other j le lt (λ _. no_bits w.bits (j + 64 - w.next) e)
 
 -- the first set bit is where the token at `at` ends
-pub marks-before : (chunk : List ℕ) (at stop : ℕ) (w : White) (bit d : ℕ) → Marks chunk at stop w → bit_at w.bits bit ≡ 1 → ((k : ℕ) → k < bit → bit_at w.bits k ≡ 0) → d ≡ w.next + bit - 64 - at
+pub bits-before : (chunk : List ℕ) (at stop : ℕ) (w : White) (bit d : ℕ) → BitsAreWhite chunk at stop w → bit_at w.bits bit ≡ 1 → ((k : ℕ) → k < bit → bit_at w.bits k ≡ 0) → d ≡ w.next + bit - 64 - at
     → (k : ℕ) → k < d → is_white_space (get_or chunk (at + k) 0) ≡ false
-marks-before chunk at stop w bit d m set below is k lt =
+bits-before chunk at stop w bit d m set below is k lt =
     let a = m.ahead bit set in
     let i = m.inside bit set in
     m.other (at + k) (omega arith) (omega arith) (λ h. below (at + k + 64 - w.next) (omega arith))
 
-pub marks-at : (chunk : List ℕ) (at stop : ℕ) (w : White) (bit d : ℕ) → Marks chunk at stop w → bit_at w.bits bit ≡ 1 → d ≡ w.next + bit - 64 - at → is_white_space (get_or chunk (at + d) 0) ≡ true
-marks-at chunk at stop w bit d m set is =
+pub bits-at : (chunk : List ℕ) (at stop : ℕ) (w : White) (bit d : ℕ) → BitsAreWhite chunk at stop w → bit_at w.bits bit ≡ 1 → d ≡ w.next + bit - 64 - at → is_white_space (get_or chunk (at + d) 0) ≡ true
+bits-at chunk at stop w bit d m set is =
     let a = m.ahead bit set in
     let e : w.next + bit - 64 ≡ at + d = omega arith in
     subst (λ j. is_white_space (get_or chunk j 0) ≡ true) e (m.white bit set)
 
--- and behind it the other bits stand
-pub marks-on : (chunk : List ℕ) (at at' stop : ℕ) (w : White) (bit mask : ℕ) → Marks chunk at stop w → bit_at w.bits bit ≡ 1 → ((k : ℕ) → k < bit → bit_at w.bits k ≡ 0)
+-- and after it come the other bits
+pub bits-on : (chunk : List ℕ) (at at' stop : ℕ) (w : White) (bit mask : ℕ) → BitsAreWhite chunk at stop w → bit_at w.bits bit ≡ 1 → ((k : ℕ) → k < bit → bit_at w.bits k ≡ 0)
     → ((k : ℕ) → k < 64 → k ≢ bit → bit_at mask k ≡ bit_at w.bits k) → ((k : ℕ) → bit_at mask k ≡ 1 → bit_at w.bits k ≡ 1) → bit_at mask bit ≡ 0 → at' + 63 ≡ w.next + bit
-    → Marks chunk at' stop (marks-of mask w.next)
-marks-on chunk at at' stop w bit mask m set below kept no_more gone is =
+    → BitsAreWhite chunk at' stop (bits-of mask w.next)
+bits-on chunk at at' stop w bit mask m set below kept no_more gone is =
     let a = m.ahead bit set in
     let i = m.inside bit set in
     record {
@@ -129,8 +129,8 @@ marks-on chunk at at' stop w bit mask m set below kept no_more gone is =
     }
 
 -- where no byte was looked over yet
-pub marks-empty : (chunk : List ℕ) (at stop : ℕ) → at ≤ stop → Marks chunk at stop (marks-of 0 at)
-marks-empty chunk at stop le = record {
+pub bits-empty : (chunk : List ℕ) (at stop : ℕ) → at ≤ stop → BitsAreWhite chunk at stop (bits-of 0 at)
+bits-empty chunk at stop le = record {
   within = le;
   ahead = λ k h. absurd (zero-one (sym (bit_at-zero k) ∙ h));
   inside = λ k h. absurd (zero-one (sym (bit_at-zero k) ∙ h));
@@ -149,9 +149,9 @@ set_bit bits k i set = elim (cases_lt i k) [
   | inr le ↦ (le, omega (arith, bit_at_and bits (2 ^ 64 - 2 ^ k) i, bit_at-lt bits i, bit_at-lt (2 ^ 64 - 2 ^ k) i, set))
 ]
 
--- from a later place on
-pub marks-from : (chunk : List ℕ) (at start stop : ℕ) (w : White) (k : ℕ) → Marks chunk at stop w → at ≤ start → start < w.next → k + w.next ≡ start + 64 → Marks chunk start stop (marks-of (bit_and w.bits (2 ^ 64 - 2 ^ k)) w.next)
-marks-from chunk at start stop w k m le lt is = record {
+-- from a later offset on
+pub bits-from : (chunk : List ℕ) (at start stop : ℕ) (w : White) (k : ℕ) → BitsAreWhite chunk at stop w → at ≤ start → start < w.next → k + w.next ≡ start + 64 → BitsAreWhite chunk start stop (bits-of (bit_and w.bits (2 ^ 64 - 2 ^ k)) w.next)
+bits-from chunk at start stop w k m le lt is = record {
   within = m.within;
   ahead = λ i set. omega (arith, (set_bit w.bits k i set).0);
   inside = λ i set. m.inside i (set_bit w.bits k i set).1;
@@ -189,7 +189,7 @@ sum-three n a b c p q r =
 
 -- ---- a table of white bytes, by the lowest four bits of a byte
 
--- the place in the table; the highest bit is kept, with which nothing is found
+-- the index in the table; the highest bit is kept, with which nothing is found
 abbrev pub place_of : ℕ → ℕ
 place_of x = bit_and x 143
 

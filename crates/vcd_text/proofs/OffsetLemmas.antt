@@ -1,4 +1,4 @@
--- A feed that goes on at an offset has given what the other had.
+-- A feed that continues at an offset has given what the other had.
 use Rattle.std.proofs.Common.{◌≡◌, ◌∙◌, ◌+◌, ◌-◌, ◌≤◌, ℕ, List, Option, Some, ap, refl, sym, subst, length, take, drop, slice_range, unwrap_or, length-append, length-drop, arith, add-zero}
 use Rattle.std.specs.Prelude.{IfSome}
 use Rattle.std.proofs.lemmas.Option.{IfSome_then}
@@ -23,7 +23,7 @@ module _ (rest : Option (List ℕ)) (chunk c : List ℕ) (same : length c ≡ le
   abbrev left : List ℕ
   left = drop (looked p) i.bytes
 
-  -- what was not looked at is near any later place
+  -- what was not looked at is near any later offset
   near : (place : ℕ) → looked p ≤ place → Near (length c) (Some left) place i
   near place le = let l : length left ≡ length i.bytes - looked p = length-drop (looked p) i.bytes in omega arith
 
@@ -47,7 +47,7 @@ module _ (rest : Option (List ℕ)) (chunk c : List ℕ) (same : length c ≡ le
   in_phase (Halted InputTooLong) h = (near (looked q) (omega arith), h.1, h.2, subst (λ x. IfSome (halt_place limit i) (λ place. x ≤ place)) (sym (add-zero (looked p))) h.3)
   in_phase (Halted ReadFailed) h = (near (looked q) (omega arith), h.1, h.2, subst (λ x. IfSome (halt_place limit i) (λ place. x ≤ place)) (sym (add-zero (looked p))) h.3)
 
-  -- what the source had left when it was known to be near a place
+  -- what the source had left when it was known to be near an offset
   near_still : (more : List ℕ) → length more ≤ length i.bytes - looked p → (place : ℕ) → length i.bytes ≤ place + length chunk + length more → Near (length c) (Some left) place i
   near_still more le place n = let l : length left ≡ length i.bytes - looked p = length-drop (looked p) i.bytes in omega arith
 
@@ -59,7 +59,7 @@ module _ (rest : Option (List ℕ)) (chunk c : List ℕ) (same : length c ≡ le
   halt_near Ended h n = no-halt limit i given (p.line_feeds + 1) (λ place. Near (length c) (Some left) place i) h.1
   halt_near (Halted halt) h n = IfSome_then (halt_place limit i) h.3 (λ place m. near place m)
 
--- where a feed is parked, another may go on
+-- where a feed is parked, another may continue
 pub goes_on_at : (rest : Option (List ℕ)) (chunk token : List ℕ) (p : Parked) (i : Input) (given : List Token) → HasGivenParked rest chunk token p i given → HasGivenTo (length chunk) (length token) (offset_of p) i given
 goes_on_at rest chunk token p i given h c t same limit = record {
   at = subst (λ n. InPhase (unwrap_or (phase_at (answer_number p.phase)) Going) n (Some (drop (looked p) i.bytes)) c (registers_at (offset_of p)) i given) (sym limit) (in_phase rest chunk c same (length token) p i given p.phase h.at);

@@ -1,4 +1,4 @@
--- Tokens that were passed ahead, and what a feed has given behind them.
+-- Tokens that were passed ahead, and what a feed has given after them.
 use Rattle.std.proofs.Common.{◌≡◌, ◌≢◌, ℕ, suc, ◌+◌, ◌-◌, ◌^◌, ◌≤◌, ◌<◌, true, false, List, [], ◌∷◌, ◌++◌, length, take, drop, refl, ap, sym, ◌∙◌, subst, arith, inl, inr, add-zero, append-nil, append_assoc, length-append}
 use Rattle.std.specs.Prelude.{slice_index, slice_range, ◌==◌, Option}
 use Rattle.std.proofs.lemmas.List.{get_or-take, get_or-drop, drop-take, drop-drop, take-take}
@@ -8,9 +8,9 @@ use Rattle.vcd_model.specs.Bytes.{is_white_space}
 use Rattle.vcd_model.specs.Input.{Input}
 use Rattle.vcd_model.specs.Tokens.{Token, end_of_tokens, line_at}
 use Rattle.std.specs.Int.{bit_at}
-use Rattle.vcd_text.specs.Masks.{Marks}
+use Rattle.vcd_text.specs.Masks.{BitsAreWhite}
 use Rattle.vcd_text.specs.declared.ahead.White.{White}
-use Rattle.vcd_text.proofs.Masks.{marks-before, marks-at}
+use Rattle.vcd_text.proofs.Masks.{bits-before, bits-at}
 use Rattle.vcd_text.specs.LookedAt.{HasLookedAt}
 use Rattle.vcd_text.specs.Passed.{AreWhite, IsRun, StandsAt, PassedFrom, Passed, line_ahead}
 use Rattle.vcd_text.specs.Registers.{Fits, ahead_in, looked}
@@ -27,7 +27,7 @@ use Rattle.vcd_text.proofs.WindowLemmas.{cleared}
 
 -- ---- one token more
 
--- behind tokens that were passed, and white space
+-- after tokens that were passed, and white space
 pub passed_on : (limit lines : ℕ) (bytes : List ℕ) (from at start : ℕ) (ts : List Token) (t : Token) → PassedFrom limit lines bytes from ts at → AreWhite bytes at start → StandsAt limit lines bytes start t → PassedFrom limit lines bytes from (ts ++ t ∷ []) (start + length t.bytes + 1)
 passed_on limit lines bytes from at start [] t e w s = (start, subst (λ k. AreWhite bytes k start) e w, s, refl)
 passed_on limit lines bytes from at start (x ∷ ts) t p w s = (p.0, p.1, p.2, passed_on limit lines bytes (p.0 + length x.bytes + 1) at start ts t p.3 w s)
@@ -44,7 +44,7 @@ run_stands limit lines bytes at n r =
       line_is = refl;
     }
 
--- a token that ends at this place
+-- a token that ends at this offset
 pub passed_to : (limit lines : ℕ) (bytes : List ℕ) (at start end : ℕ) (ts : List Token) → AreWhite bytes at start → start ≤ end → IsRun limit bytes start (end - start) → Passed limit lines bytes at ts
     → Passed limit lines bytes (end + 1) (ts ++ (record { bytes = slice_range bytes start end; line = line_ahead lines bytes start }) ∷ [])
 passed_to limit lines bytes at start end ts w le r p =
@@ -75,7 +75,7 @@ passed_none : (limit lines n : ℕ) (ts : List Token) → Passed limit lines [] 
 passed_none limit lines n [] e = (e, refl)
 passed_none limit lines n (t ∷ ts) p = absurd (omega (arith, p.2.run.within))
 
--- ---- the text goes on behind them
+-- ---- the text after them
 
 module _ (limit : ℕ) (text : List ℕ) (p q lines : ℕ) (order : p ≤ q) (fits : q ≤ length text) (small : q < 2 ^ 63) (feeds : lines ≡ line_feeds_in (take p text)) where
   byte : (k : ℕ) → k < q - p → slice_index text (p + k) ≡ slice_index (slice_range text p q) k
@@ -121,7 +121,7 @@ module _ (limit : ℕ) (text : List ℕ) (p q lines : ℕ) (order : p ≤ q) (fi
     ends : end_of_tokens text (suc (length given)) ≡ p + m + length t.bytes
     ends = end-of-token limit text (p + m + length t.bytes) (p + m) given begun (omega (arith, inside)) (omega (arith, s.run.some)) (λ _. white)
 
-  -- behind white space
+  -- after white space
   behind-white : (m start : ℕ) (given : List Token) → AreWhite (slice_range text p q) m start → start ≤ q - p → HasLookedAt limit text (p + m) (p + m) given → HasLookedAt limit text (p + start) (p + start) given
   behind-white m start given w le l =
       let o = w.order in
@@ -139,7 +139,7 @@ module _ (limit : ℕ) (text : List ℕ) (p q lines : ℕ) (order : p ≤ q) (fi
       let there = behind-white m w.0 given w.1 (begins-in w.0 t w.2) l in
       subst (λ xs. HasLookedAt limit text (p + n) (p + n) xs) (append_assoc given (t ∷ []) ts) (passed-live (w.0 + length t.bytes + 1) n ts (given ++ t ∷ []) w.3 (next-live w.0 t given w.2 there))
 
-  -- the last of them ends behind place p
+  -- the last of them ends after offset p
   passed-far : (m n : ℕ) (t : Token) (ts given : List Token) → PassedFrom limit lines (slice_range text p q) m (t ∷ ts) n → HasLookedAt limit text (p + m) (p + m) given → p ≤ end_of_tokens text (length (given ++ t ∷ ts))
   passed-far m n t [] given w l =
       let e : length (given ++ t ∷ []) ≡ suc (length given) = simp length-append (omega arith) in
@@ -177,7 +177,7 @@ gone_nowhere chunk p =
     let b : p.at - p.at ≡ 0 = omega arith in
     rw (a, b, add-zero) refl
 
--- where a feed goes on, its tokens ahead stand in the text
+-- while a feed reads, its tokens ahead are in the text
 going_ahead : (limit : ℕ) (rest : Option (List ℕ)) (chunk : List ℕ) (p : Parked) (text : List ℕ) (given : List Token) → Fits p (length chunk) limit → At limit rest chunk p text given 0
     → (slice_range text (looked p) (looked p + (p.stop - p.at)) ≡ slice_range chunk p.at p.stop) × (looked p + (p.stop - p.at) ≤ length text) × HasLookedAt limit text (looked p + 0) (looked p + 0) given × (p.line_feeds ≡ line_feeds_in (take (looked p) text))
 going_ahead limit rest chunk p text given f a =
@@ -241,9 +241,9 @@ pass_far Going limit rest chunk p i given (t ∷ ts) n f some w st =
 pass_far Ended limit rest chunk p i given (t ∷ ts) n f some w st = absurd (omega (arith, w.2.run.within))
 pass_far (Halted h) limit rest chunk p i given (t ∷ ts) n f some w st = absurd (omega (arith, w.2.run.within))
 
--- ---- the token that the first mark ends
+-- ---- the token that the first set bit ends
 
-module _ (bytes : List ℕ) (at : ℕ) (w : White) (bit : ℕ) (m : Marks bytes at (length bytes) w) (set : bit_at w.bits bit ≡ 1) (below : (k : ℕ) → k < bit → bit_at w.bits k ≡ 0) where
+module _ (bytes : List ℕ) (at : ℕ) (w : White) (bit : ℕ) (m : BitsAreWhite bytes at (length bytes) w) (set : bit_at w.bits bit ≡ 1) (below : (k : ℕ) → k < bit → bit_at w.bits k ≡ 0) where
   pub marked_run : (limit : ℕ) → w.next + bit - 64 - at ≢ 0 → w.next + bit - 64 - at ≤ limit → IsRun limit bytes at (w.next + bit - 64 - at)
   marked_run limit some short =
       let a = m.ahead bit set in
@@ -252,25 +252,25 @@ module _ (bytes : List ℕ) (at : ℕ) (w : White) (bit : ℕ) (m : Marks bytes 
         some = omega arith;
         short = short;
         within = omega (arith, m.within);
-        other = marks-before bytes at (length bytes) w bit _ m set below refl;
-        white = marks-at bytes at (length bytes) w bit _ m set refl;
+        other = bits-before bytes at (length bytes) w bit _ m set below refl;
+        white = bits-at bytes at (length bytes) w bit _ m set refl;
       }
 
   -- another is not there
   pub marked_only : (limit n : ℕ) → IsRun limit bytes at n → n ≡ w.next + bit - 64 - at
-  marked_only limit n r = run_is limit bytes at (w.next + bit - 64 - at) n (marks-before bytes at (length bytes) w bit _ m set below refl) (marks-at bytes at (length bytes) w bit _ m set refl) r
+  marked_only limit n r = run_is limit bytes at (w.next + bit - 64 - at) n (bits-before bytes at (length bytes) w bit _ m set below refl) (bits-at bytes at (length bytes) w bit _ m set refl) r
 
-  -- the token that stands next begins here, where this byte is another
+  -- the next token begins here, where this byte is another
   pub marked_first : (limit start n : ℕ) → w.next + bit - 64 - at ≢ 0 → AreWhite bytes at start → IsRun limit bytes start n → n ≡ w.next + bit - 64 - at
   marked_first limit start n some front r = elim (cases_lt at start) [
     | inl lt ↦ (let e : at + 0 ≡ at = omega arith in
-        true-false (is_white_space (slice_index bytes at)) (front.white at (omega arith) lt) (subst (λ k. is_white_space (slice_index bytes k) ≡ false) e (marks-before bytes at (length bytes) w bit _ m set below refl 0 (omega arith))))
+        true-false (is_white_space (slice_index bytes at)) (front.white at (omega arith) lt) (subst (λ k. is_white_space (slice_index bytes k) ≡ false) e (bits-before bytes at (length bytes) w bit _ m set below refl 0 (omega arith))))
     | inr le ↦ (let o = front.order in
         let e : start ≡ at = omega arith in
         marked_only limit n (subst (λ k. IsRun limit bytes k n) e r))
   ]
 
--- the token behind white space begins no earlier than that goes
+-- the token after white space begins no earlier than that ends
 pub run_behind : (limit : ℕ) (bytes : List ℕ) (from at start n : ℕ) → AreWhite bytes from at → AreWhite bytes from start → IsRun limit bytes start n → at ≤ start
 run_behind limit bytes from at start n w front r = elim (cases_lt start at) [
   | inl lt ↦ (let e : start + 0 ≡ start = omega arith in
@@ -278,22 +278,22 @@ run_behind limit bytes from at start n w front r = elim (cases_lt start at) [
   | inr le ↦ le
 ]
 
--- and ends no earlier than the first white byte behind it
+-- and ends no earlier than the first white byte after it
 pub run_past : (limit : ℕ) (bytes : List ℕ) (at next start n : ℕ) → at ≤ start → ((j : ℕ) → at ≤ j → j < next → is_white_space (slice_index bytes j) ≡ false) → IsRun limit bytes start n → next ≤ start + n
 run_past limit bytes at next start n le other r = elim (cases_lt (start + n) next) [
   | inl lt ↦ true-false (is_white_space (slice_index bytes (start + n))) r.white (other (start + n) (omega arith) lt)
   | inr far ↦ far
 ]
 
--- a byte that is not white is before the marks that come next
-pub before_marks : (bytes : List ℕ) (start : ℕ) (w : White) → Marks bytes start (length bytes) w → (start < length bytes → is_white_space (slice_index bytes start) ≡ false) → (k : ℕ) → bit_at w.bits k ≡ 1 → start + 64 < w.next + k
-before_marks bytes start w m stops k set = elim (cases_lt (start + 64) (w.next + k)) [
+-- a byte that is not white is before the set bits that come next
+pub before_bits : (bytes : List ℕ) (start : ℕ) (w : White) → BitsAreWhite bytes start (length bytes) w → (start < length bytes → is_white_space (slice_index bytes start) ≡ false) → (k : ℕ) → bit_at w.bits k ≡ 1 → start + 64 < w.next + k
+before_bits bytes start w m stops k set = elim (cases_lt (start + 64) (w.next + k)) [
   | inl lt ↦ lt
   | inr le ↦ (let here : w.next + k - 64 ≡ start = omega (arith, m.ahead k set) in
       let within : start < length bytes = omega (arith, m.ahead k set, m.inside k set, m.within) in
       true-false (is_white_space (slice_index bytes start)) (subst (λ i. is_white_space (slice_index bytes i) ≡ true) here (m.white k set)) (stops within))
 ]
 
--- the white space that is left from a later place on
+-- the white space that is left from a later offset on
 pub white_rest : (bytes : List ℕ) (from at start : ℕ) → from ≤ at → at ≤ start → AreWhite bytes from start → AreWhite bytes at start
 white_rest bytes from at start le far w = record { order = far; white = λ k h lt. w.white k (omega arith) lt }

@@ -11,7 +11,7 @@ use Rattle.vcd_text.specs.Window.{line_feeds_in, skipped, gathered, ended, refil
 use Rattle.vcd_text.specs.Registers.{looked, Fits, halt_number}
 use Rattle.vcd_text.specs.Answer.{whole, failed_after, Ends, NextGives}
 use Rattle.vcd_text.specs.ReadAhead.{Near, HasRest}
-use Rattle.vcd_text.specs.Given.{AtPlace, At, Marks, NoHaltBefore, InPhase, HasGivenAt}
+use Rattle.vcd_text.specs.Given.{AtPlace, At, IsMarkAfter, NoHaltBefore, InPhase, HasGivenAt}
 use Rattle.vcd_text.specs.declared.registers.Parked.{Parked}
 use Rattle.vcd_text.specs.declared.registers.Phase.{Phase}
 use Rattle.vcd_text.specs.declared.registers.Phase.TheVariants.{Going, Ended, Halted}
@@ -25,7 +25,7 @@ use Rattle.vcd_text.proofs.Steps.{live-others, live-whites, live-end, live-take,
 use Rattle.vcd_text.proofs.Streams.{much-stream, long-stream, failed-stream, clean-stream, halts-from, end-of-token}
 use Rattle.vcd_text.proofs.AheadLemmas.{ahead-index, ahead-length, ahead-drop, ahead-slice, line_feeds_in-more, line_feeds_in-other, slice_range-append}
 
--- what has come of the next token stands in the window
+-- what has come of the next token is in the window
 pub record Within (limit : ℕ) (rest : Option (List ℕ)) (chunk token : List ℕ) (p : Parked) (text : List ℕ) (given : List Token) : Type 0 where
   pub at : At limit rest chunk p text given p.size
   pub bytes : take p.size token ≡ slice_range text (looked p - p.size) (looked p)
@@ -290,7 +290,7 @@ pub record Turns (limit : ℕ) (stands : Input → List Token → Type 0) (rest 
 is-whole : (i : Input) → i.mark ≡ Clean → whole i.bytes ≡ i
 is-whole i e = sym (ap (λ m. record { bytes = i.bytes; mark = m }) e)
 
--- no halt stands before what was looked at
+-- no halt is before what was looked at
 no-halt-within : (limit : ℕ) (rest : Option (List ℕ)) (chunk token : List ℕ) (p : Parked) (i : Input) (given : List Token) → Within limit rest chunk token p i.bytes given → NoHaltBefore limit i (looked p)
 no-halt-within limit rest chunk token p i given w = halts-from limit i.bytes (looked p) (looked p - p.size) given w.at.place.live w.at.place.within i.mark
 
@@ -299,8 +299,8 @@ no-halt-cut limit rest chunk token p text given w =
     let place = w.at.place in
     halts-from limit (take (looked p) text) (looked p) (looked p - p.size) given (live-take limit text (looked p) (looked p - p.size) given place.within place.live) (omega (arith, length-take-le (looked p) text place.within)) Failed
 
--- a halt stands, and the window is empty
-pub halted-stands : (limit : ℕ) (rest : Option (List ℕ)) (chunk token : List ℕ) (p : Parked) (i : Input) (given : List Token) (h : Halt) → p.phase ≡ Halted h → p.size ≡ 0 → Near (length chunk) rest (looked p) i → Marks h i.mark → Ends limit i given (Some (halt_number h)) p.line → NoHaltBefore limit i (looked p)
+-- there is a halt, and the window is empty
+pub halted-stands : (limit : ℕ) (rest : Option (List ℕ)) (chunk token : List ℕ) (p : Parked) (i : Input) (given : List Token) (h : Halt) → p.phase ≡ Halted h → p.size ≡ 0 → Near (length chunk) rest (looked p) i → IsMarkAfter h i.mark → Ends limit i given (Some (halt_number h)) p.line → NoHaltBefore limit i (looked p)
     → HasGivenAt limit rest chunk p i given × (take p.size token ≡ []) × Ends limit i given (Some (halt_number h)) p.line
 halted-stands limit rest chunk token p i given h phase empty near marks e before = (rw phase (near, marks, e, before), rw empty refl, e)
 

@@ -32,16 +32,16 @@ pub record At (limit : ℕ) (rest : Option (List ℕ)) (chunk : List ℕ) (p : P
 abbrev pub NoHaltBefore : ℕ → Input → ℕ → Type 0
 NoHaltBefore limit i p = IfSome (halt_place limit i) (λ place. p ≤ place)
 
--- a failed read marks the input
-abbrev pub Marks : Halt → Mark → Type 0
-Marks TokenTooLong m = Unit {0}
-Marks InputTooLong m = Unit {0}
-Marks ReadFailed m = m ≡ Failed
+-- the mark of an input after a halt: a failed read marks it
+abbrev pub IsMarkAfter : Halt → Mark → Type 0
+IsMarkAfter TokenTooLong m = Unit {0}
+IsMarkAfter InputTooLong m = Unit {0}
+IsMarkAfter ReadFailed m = m ≡ Failed
 
 abbrev pub InPhase : Phase → ℕ → Option (List ℕ) → List ℕ → Parked → Input → List Token → Type 0
 InPhase Going limit rest chunk p i given = (i.mark ≡ Clean) × At limit rest chunk p i.bytes given 0
 InPhase Ended limit rest chunk p i given = Near (length chunk) rest (looked p) i × Ends limit i given None (p.line_feeds + 1) × (i.mark ≡ Clean)
-InPhase (Halted h) limit rest chunk p i given = Near (length chunk) rest (looked p) i × Marks h i.mark × Ends limit i given (Some (halt_number h)) p.line × NoHaltBefore limit i (looked p)
+InPhase (Halted h) limit rest chunk p i given = Near (length chunk) rest (looked p) i × IsMarkAfter h i.mark × Ends limit i given (Some (halt_number h)) p.line × NoHaltBefore limit i (looked p)
 
 -- with these registers these tokens of the input have been given
 abbrev pub HasGivenAt : ℕ → Option (List ℕ) → List ℕ → Parked → Input → List Token → Type 0

@@ -4,7 +4,7 @@ use Rattle.std.specs.List.{range_with_len}
 use Rattle.vcd_model.specs.Bytes.{is_white_space}
 use Rattle.vcd_model.specs.Tokens.{Token, begins_token, run_at, end_at, token_at}
 
--- no token goes on at the offset: it is the first one, or comes after white space
+-- no token continues at the offset: it is the first one, or comes after white space
 abbrev pub is_apart : List ℕ → ℕ → Bool
 is_apart text zero = true
 is_apart text (suc i) = is_white_space (slice_index text i)
@@ -13,8 +13,8 @@ is_apart text (suc i) = is_white_space (slice_index text i)
 abbrev pub places_from : List ℕ → ℕ → ℕ → List ℕ
 places_from text a n = filter (begins_token text) (range_with_len a n)
 
--- the bytes before offset p were looked at, and no halt is at one of them. Since offset r a token
--- goes on (none where r is p), and these tokens have ended before it
+-- the bytes before offset p were looked at, and no halt is at one of them. A token that has not
+-- ended begins at offset r (none where r is p), and these tokens have ended before it
 pub record HasLookedAt (limit : ℕ) (text : List ℕ) (p r : ℕ) (given : List Token) : Type 0 where
   pub order : r ≤ p
   pub counted : p < 2 ^ 63

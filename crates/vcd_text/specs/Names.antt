@@ -7,7 +7,7 @@ pub use Rattle.std.specs.Simd.Lanes.{chunk}
 pub use Rattle.vcd_model.specs.Bytes.{decimal_value, is_decimal, is_white_space}
 pub use Rattle.vcd_model.specs.Tokens.{Token}
 pub use Rattle.vcd_text.specs.Digits.{spelled, spelled_below}
-pub use Rattle.vcd_text.specs.Masks.{Marks, TellsWhite}
+pub use Rattle.vcd_text.specs.Masks.{BitsAreWhite, TellsWhite}
 pub use Rattle.vcd_text.specs.Passed.{AreWhite, IsRun}
 pub use Rattle.vcd_text.specs.Registers.{Fits, IsOffset, KeepsFit, answer_number, looked, offset_of, phase_at, registers_at}
 pub use Rattle.vcd_text.specs.Turn.{GoesOnIn, MayGoOn, StillFits, TurnSays, Turns}

@@ -1,7 +1,7 @@
 //! A look ahead over the bytes of a chunk, in a caller's loop: most tokens cost no change of the
 //! feed.
 ghost use Rattle.std.specs.Prelude.{◌≡◌, ◌≢◌, ℕ, ◌+◌, ◌^◌, ◌<◌, ◌≤◌, true, false, List, length, slice_get, slice_index, IfSome, None, Some};
-ghost use Rattle.vcd_text.specs.Names.{AreWhite, IsRun, Marks, bit_at, is_white_space};
+ghost use Rattle.vcd_text.specs.Names.{AreWhite, BitsAreWhite, IsRun, bit_at, is_white_space};
 
 use crate::scan::{is_white_space, low_16, lowest, run_len, white_64, without};
 
@@ -18,7 +18,7 @@ impl White {
     /// Returns white space of which nothing is known yet.
     #[inline(always)]
     pub(crate) fn unknown() -> Self
-        ensures { (chunk : List ℕ) (at stop : ℕ) → Marks chunk at stop result }
+        ensures { (chunk : List ℕ) (at stop : ℕ) → BitsAreWhite chunk at stop result }
     {
         White { bits: 0, next: 0 }
     }
@@ -30,7 +30,7 @@ impl White {
         requires next { self.next + 64 < 2 ^ 64 }
         requires ahead { (k : ℕ) → bit_at self.bits k ≡ 1 → at + 64 ≤ self.next + k }
         ensures near { result ≡ true → self.next ≤ at + 64 }
-        ensures white { result ≡ true → (chunk : List ℕ) (stop : ℕ) → Marks chunk at stop self
+        ensures white { result ≡ true → (chunk : List ℕ) (stop : ℕ) → BitsAreWhite chunk at stop self
             → (at < stop) × (is_white_space (slice_index chunk at) ≡ true) }
         ensures none { result ≡ false → (k : ℕ) → bit_at self.bits k ≡ 1 → at + 64 < self.next + k }
     {
@@ -44,8 +44,8 @@ impl White {
         requires fits { start + 64 < 2 ^ 64 }
         ensures order { start ≤ result.next }
         ensures within { (stop : ℕ) → self.next ≤ stop → start ≤ stop → result.next ≤ stop }
-        ensures marks { (chunk : List ℕ) (at stop : ℕ) → at ≤ start → start ≤ stop
-            → Marks chunk at stop self → Marks chunk start stop result }
+        ensures bits { (chunk : List ℕ) (at stop : ℕ) → at ≤ start → start ≤ stop
+            → BitsAreWhite chunk at stop self → BitsAreWhite chunk start stop result }
     {
         if self.next <= start {
             return White {
@@ -85,7 +85,7 @@ pub struct Ahead<'a> {
     at: usize,
     limit: usize,
     white: White,
-    ghost marks: { Marks bytes.now at (length bytes.now) white },
+    ghost bits: { BitsAreWhite bytes.now at (length bytes.now) white },
     ghost order: { at ≤ white.next },
 }
 
@@ -125,8 +125,9 @@ impl<'a> Ahead<'a> {
         self.bytes
     }
 
-    /// Returns the next token, if it is whole ahead. White bytes before it are passed with it. None
-    /// where it is not whole, too long, or near the end of the bytes: that is left to `Feed::next`.
+    /// Returns the next token, if it is whole ahead. White bytes before it are passed with it.
+    /// `None` where it is not whole, too long, or near the end of the bytes: that is left to
+    /// `Feed::next`.
     // With a loop over the white bytes here, `check` of vectors takes 5 % more instructions.
     #[inline(always)]
     pub fn next(&mut self) -> Option<&'a [u8]>
@@ -146,7 +147,7 @@ impl<'a> Ahead<'a> {
     }
 
     /// Returns the next token, if it begins right here, has two bytes and a line feed after them.
-    /// None else; then `next` may give one. It looks at these three bytes alone, and forgets what
+    /// `None` else; then `next` may give one. It looks at these three bytes alone, and forgets what
     /// white space it has seen: it is for a run of such tokens.
     #[inline(always)]
     pub fn next_short(&mut self) -> Option<&'a [u8]>
@@ -162,7 +163,7 @@ impl<'a> Ahead<'a> {
     }
 
     /// Returns the next token, if it begins right here, has at most 15 bytes and a line feed after
-    /// them. None else; then `next` may give one. It looks at 16 bytes in one load, and forgets
+    /// them. `None` else; then `next` may give one. It looks at 16 bytes in one load, and forgets
     /// what white space it has seen: it is for a run of lines.
     #[inline(always)]
     pub fn next_near(&mut self) -> Option<&'a [u8]>
@@ -186,8 +187,8 @@ impl<'a> Ahead<'a> {
         self.take(at, White::before(at + len + 1))
     }
 
-    /// Returns the next token, if it is whole, also near the end of the bytes. It looks at one byte
-    /// after the other: it is for the end of a chunk.
+    /// Returns the next token, if it is whole, also near the end of the bytes; `None` where it is
+    /// not whole or too long. It looks at one byte after the other: it is for the end of a chunk.
     pub fn next_slowly(&mut self) -> Option<&'a [u8]>
         ensures takes { IfSome result (λ token. TakesToken self.old self.new token.now) }
         ensures within { passed_of self.new ≤ length (bytes_of self.old) }
@@ -210,7 +211,7 @@ impl<'a> Ahead<'a> {
         self.limit >= 2 && has_short(self.bytes, self.at)
     }
 
-    /// Returns the first byte of the next token; none where only white bytes are ahead.
+    /// Returns the first byte of the next token; `None` where only white bytes are ahead.
     #[inline(always)]
     pub fn first_byte(&self) -> Option<u8>
         ensures some { IfSome result (λ byte. (start : ℕ)
@@ -242,13 +243,13 @@ impl<'a> Ahead<'a> {
         };
     }
 
-    /// Takes the token at an offset, before which all bytes are white. None where it is longer than
-    /// the limit.
+    /// Takes the token at an offset, before which all bytes are white. `None` where it is longer
+    /// than the limit.
     #[inline(always)]
     fn take(&mut self, start: usize, white: White) -> Option<&'a [u8]>
         requires order { start ≤ white.next }
         requires before { AreWhite (bytes_of self.old) (passed_of self.old) start }
-        requires marks { Marks (bytes_of self.old) start (length (bytes_of self.old)) white }
+        requires bits { BitsAreWhite (bytes_of self.old) start (length (bytes_of self.old)) white }
         requires some { white.bits ≢ 0 }
         requires token { (k : ℕ) → bit_at white.bits k ≡ 1 → start + 64 < white.next + k }
         ensures takes { IfSome result (λ token. TakesToken self.old self.new token.now) }
@@ -322,19 +323,19 @@ fn white_end(bytes: &[u8], at: usize) -> usize
     past_white(bytes, at)
 }
 
-/// Returns the white space that is known ahead, or else comes next. None where there is none, or
+/// Returns the white space that is known ahead, or else comes next. `None` where there is none, or
 /// fewer than 64 bytes are left from it on.
-// What is known is asked once: it is so for most tokens.
+// Most tokens end at a white byte that is known already: then no look is made.
 #[inline(always)]
 fn white_ahead(bytes: &[u8], known: White) -> Option<White>
     requires { known.next ≤ length bytes.now }
     ensures some { IfSome result (λ white. white.bits ≢ 0) }
-    ensures marks { IfSome result (λ white. (at : ℕ) → at ≤ known.next
-        → Marks bytes.now at (length bytes.now) known
-        → Marks bytes.now at (length bytes.now) white) }
+    ensures bits { IfSome result (λ white. (at : ℕ) → at ≤ known.next
+        → BitsAreWhite bytes.now at (length bytes.now) known
+        → BitsAreWhite bytes.now at (length bytes.now) white) }
     ensures next { IfSome result (λ white. (known.next ≤ white.next) × (white.next ≤ length bytes.now)) }
     ensures none { result ≡ None → (next : ℕ) × (length bytes.now < next + 64)
-        × ((at : ℕ) → at ≤ known.next → Marks bytes.now at (length bytes.now) known
+        × ((at : ℕ) → at ≤ known.next → BitsAreWhite bytes.now at (length bytes.now) known
         → (j : ℕ) → at ≤ j → j < next
         → is_white_space (slice_index bytes.now j) ≡ false) }
 {
@@ -348,13 +349,14 @@ fn white_ahead(bytes: &[u8], known: White) -> Option<White>
     Some(white)
 }
 
-/// Looks on for white space, 64 bytes at a time: no bits where fewer are left before any.
+/// Returns the white space that comes next, by looks at 64 bytes: no bits where fewer are left
+/// before any.
 #[inline(never)]
 fn look_ahead(bytes: &[u8], from: usize) -> White
     requires { from ≤ length bytes.now }
-    ensures marks { result.bits ≢ 0 → (at : ℕ) → at ≤ from
+    ensures bits { result.bits ≢ 0 → (at : ℕ) → at ≤ from
         → ((j : ℕ) → at ≤ j → j < from → is_white_space (slice_index bytes.now j) ≡ false)
-        → Marks bytes.now at (length bytes.now) result }
+        → BitsAreWhite bytes.now at (length bytes.now) result }
     ensures next { (from ≤ result.next) × (result.next ≤ length bytes.now) }
     ensures none { result.bits ≡ 0 → (length bytes.now < result.next + 64)
         × ((j : ℕ) → from ≤ j → j < result.next

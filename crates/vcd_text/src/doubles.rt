@@ -1,14 +1,14 @@
 //! Devices for tests, of this crate and of those above: a reader that gives its bytes in pieces and
-//! may fail, and a writer that holds so much and no more.
+//! may fail, and a writer that is full after a number of bytes.
 ghost use Rattle.std.specs.Prelude.{◌≡◌, ◌≤◌, ◌<◌, ◌^◌, ℕ, None, []};
 ghost use Rattle.vcd_text.specs.Calls.{Fits, parked_answer, parked_seen};
 
 use crate::registers::Parked;
 use std::io;
 
-/// Returns a parked feed that counts this many bytes as looked at already. It shows no token of
-/// them, and they have no line feed. A feed that goes on from it comes to the last byte that an
-/// input may have, without a reader of that many bytes.
+/// Returns a parked feed that counts this many bytes as looked at, without a line feed. It shows no
+/// token of them. A feed that continues from it comes to the last byte that an input may have,
+/// without a reader of that many bytes.
 pub fn parked_after(bytes: u64) -> Parked
     requires { bytes < 2 ^ 63 }
     ensures seen { parked_seen result ≡ bytes }
@@ -21,8 +21,8 @@ pub fn parked_after(bytes: u64) -> Parked
     }
 }
 
-/// Gives its bytes, this many a call at most, and then is at its end; or fails at one call, or from
-/// its end on.
+/// A reader that gives its bytes, at most `most` a call, and then is at its end. It may fail at one
+/// call, or from its end on.
 #[derive(Drop)]
 pub struct Pieces<'a> {
     /// What it has still to give.
@@ -38,7 +38,7 @@ pub struct Pieces<'a> {
 }
 
 impl<'a> Pieces<'a> {
-    /// Returns a device that never fails.
+    /// Returns a reader of these bytes that never fails, and gives at most `most` of them a call.
     pub fn new(bytes: &'a [u8], most: usize) -> Self
         ensures bytes { result.bytes.now ≡ bytes.now }
         ensures rest { (result.most ≡ most) × (result.calls ≡ 0) × (result.fails_at ≡ 0) }
@@ -67,10 +67,10 @@ impl io::Read for Pieces<'_> {
     }
 }
 
-/// How many bytes a `Narrow` holds at most.
+/// The most bytes for which a `Narrow` has room.
 pub const MOST_HELD: usize = 1024;
 
-/// Takes three bytes a call at most, and fails where it is full; then it cannot be flushed either.
+/// A writer that takes at most three bytes a call. Once it is full, writes and flushes fail.
 #[derive(Drop)]
 pub struct Narrow {
     bytes: [u8; MOST_HELD],
@@ -83,7 +83,7 @@ pub struct Narrow {
 impl Narrow {
     ghost use Rattle.vcd_text.specs.Doubles.{held_by};
 
-    /// Returns a sink with room for this many bytes, which holds none yet.
+    /// Returns a writer with room for this many bytes, which holds none yet.
     pub fn new(room: usize) -> Self
         requires { room ≤ 1024 }
         ensures { held_by result ≡ [] }
@@ -95,7 +95,7 @@ impl Narrow {
         }
     }
 
-    /// Returns what it took so far.
+    /// Returns the bytes that it took so far.
     pub fn held(&self) -> &[u8]
         ensures { result.now ≡ held_by self.now }
     {

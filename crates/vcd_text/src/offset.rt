@@ -6,7 +6,7 @@ use crate::answer::Halt;
 use crate::registers::{Parked, Phase};
 
 /// How far a feed has come: numbers alone, which may be kept outside of the program. Another feed
-/// goes on there, over the bytes that were not looked at.
+/// continues there, over the bytes that were not looked at.
 #[repr(C)]
 #[derive(Clone, Copy, PartialEq, Eq, Debug)]
 pub struct Offset {
@@ -32,7 +32,7 @@ fn answer_number(phase: Phase) -> u64
     }
 }
 
-/// Returns what every later call answers, by its number.
+/// Returns what every later call answers, by its number. `None` for a number that none has.
 fn phase_at(answer: u64) -> Option<Phase>
     ensures { result ≡ phase_at answer }
 {
@@ -61,8 +61,8 @@ pub(crate) fn offset_of(parked: Parked) -> Offset
     }
 }
 
-/// Returns the registers of a feed that has come to this offset, with nothing in its chunk; none
-/// where no feed comes.
+/// Returns the registers of a feed that has come to this offset, with nothing in its chunk. `None`
+/// where no feed comes to it.
 pub(crate) fn registers_at(offset: Offset) -> Option<Parked>
     ensures registers { MatchOption result ⊤ (λ p. p ≡ registers_at offset) }
     ensures counted { MatchOption result ⊤

@@ -1,4 +1,4 @@
-// One turn of a feed: from the chunk to the token's window, and on to the next chunk.
+// One turn of a feed: from the chunk to the token window, and then the next chunk.
 ghost use Rattle.std.specs.Prelude.{◌≡◌, ℕ, ◌+◌, ◌-◌, ◌^◌, ◌<◌, ◌≤◌, ◌≢◌, ◌++◌, length, take, slice_range, true, false};
 ghost use Rattle.vcd_text.specs.Names.{Collects, Fills, Finishes, Fits, GoesOnIn, Halts, KeepsFit, MayGoOn, Skips, StillFits, is_white_at, looked, stepped_past};
 
@@ -7,13 +7,14 @@ use crate::device::Source;
 use crate::registers::{Parked, Phase};
 use crate::scan::{is_white_space, low_16, lowest, run_len, white_len};
 
-/// How far the chunk has the token that is gathered.
+/// How much of the token that is gathered the chunk had.
 #[derive(Clone, Copy)]
 pub(crate) enum Collected {
     // The token has ended.
     Whole,
     // The bytes that may be looked at are used up.
     Part,
+    // The token has more bytes than its window.
     TooLong,
 }
 
@@ -25,7 +26,7 @@ pub(crate) enum Filled {
     Failed,
 }
 
-// How many bytes of an input may be looked at.
+// The most bytes of an input that may be looked at.
 const INPUT_LIMIT: u64 = (1 << 63) - 1;
 
 /// Passes over white space, where no token has begun.
@@ -46,7 +47,8 @@ pub(crate) fn skip(chunk: &[u8], parked: &mut Parked)
     parked.line = parked.line_feeds + 1;
 }
 
-/// Takes bytes of the chunk up to the token's end.
+/// Copies bytes of the chunk to the token window, up to the token's end, and returns whether that
+/// was there.
 #[inline(always)]
 pub(crate) fn collect(chunk: &[u8], token: &mut [u8], parked: &mut Parked) -> Collected
     requires registers { MayGoOn (length chunk.now) parked.old }
@@ -109,8 +111,8 @@ fn token_len(bytes: &[u8]) -> usize
     run_len(bytes)
 }
 
-/// Gathers n bytes of the chunk after the first `size` of the token's window: a short token by one
-/// copy of 16, where 16 are there and have room.
+/// Copies `n` bytes of the chunk after the first `size` of the token window: of a short token by
+/// one copy of 16 bytes, where 16 are there and have room.
 // A copy of a length that is not known is a call.
 #[inline(always)]
 fn append(token: &mut [u8], size: usize, chunk: &[u8], at: usize, n: usize)
@@ -125,7 +127,7 @@ fn append(token: &mut [u8], size: usize, chunk: &[u8], at: usize, n: usize)
     }
 }
 
-/// Reads the next bytes of the source into the chunk.
+/// Reads the next bytes of the source into the chunk, and returns what the read gave.
 pub(crate) fn fill<S: Source>(source: &mut S, chunk: &mut [u8], parked: &mut Parked) -> Filled
     requires failures { S.failures source.old < 2 ^ 64 - 1 }
     requires some { 0 < length chunk.old }
@@ -171,8 +173,8 @@ pub(crate) fn halted(parked: &mut Parked, halt: Halt) -> Halt
     halt
 }
 
-/// Ends the feed where its source has ended, and returns the token that the end closes, or that
-/// there is none.
+/// Ends the feed where its source has ended, and returns `Token` where the end closes one, else
+/// `Finish`.
 pub(crate) fn finish(parked: &mut Parked) -> Next
     requires { parked.old.line_feeds < 2 ^ 63 }
     ensures kept { parked.new.kept ≡ parked.old.kept }

@@ -50,7 +50,7 @@ or_true false = refl
 abbrev says : List ℕ → Entry → Option Code → Bool
 says text e o = unwrap_or (option_map (is_entry_of text e) o) false
 
--- what an entry with the key of a short code says of the code at its place
+-- what an entry with the key of a short code says of the code at its index
 pub entry_tells : (text : List ℕ) (codes : List Code) (e : Entry) → is_right text codes e ≡ true → e.key ≢ 0 → e.key < 2 ^ 63
     → (c : Code) × (slice_get codes e.place ≡ Some c) × (e.key ≡ key_in (text_in text c.start c.len)) × (e.most ≡ most_of c)
 entry_tells text codes e h n l = by_code (slice_get codes e.place) refl
@@ -64,7 +64,7 @@ entry_tells text codes e h n l = by_code (slice_get codes e.place) refl
         let b = and_parts (e.key == key_in (text_in text c.start c.len)) (e.most == most_of c) (sym (ap (says text e) s) ∙ right) in
         (c, s, eqb-true _ _ b.0, eqb-true _ _ b.1)
 
--- an entry with the key and the size of the code at its place
+-- an entry with the key and the size of the code at its index
 pub entry_stands : (text : List ℕ) (codes : List Code) (e : Entry) (c : Code) → slice_get codes e.place ≡ Some c → e.key ≡ key_in (text_in text c.start c.len) → e.most ≡ most_of c → is_right text codes e ≡ true
 entry_stands text codes e c s k m =
     ap (λ (o : Option Code). (e.key == 0) || (nat_le (2 ^ 63) e.key || unwrap_or (option_map (is_entry_of text e) o) false)) s
@@ -82,7 +82,7 @@ entry_found text codes es i e key h s n l k =
     let told = entry_tells text codes e (one_of_all (is_right text codes) es i e h s) (λ z. n (sym k ∙ z)) (omega (arith, k, l)) in
     (told.0, told.1, sym k ∙ told.2, told.3)
 
--- a code of a view is the header's at its place
+-- a code of a view is the header's at its index
 pub code_found : (text : List ℕ) (cs : List Code) (ks : List IdCode) (p : ℕ) (c : Code) → AllZip (IsCode text) cs ks → slice_get cs p ≡ Some c → (k : IdCode) × (slice_get ks p ≡ Some k) × IsCode text c k
 code_found text [] ks p c h e = absurd (none-some c e)
 code_found text (x ∷ cs) [] p c h e = absurd h
@@ -91,7 +91,7 @@ code_found text (x ∷ cs) (k ∷ ks) (suc p) c h e = code_found text cs ks p c 
 
 -- ---- what entries give that are right
 
--- the key of an entry that gives a place
+-- the key of an entry that gives an index
 pub told_key : (t : List ℕ) (e : Entry) → (not (key_in t == 0) && (e.key == key_in t)) ≡ true → (e.key ≡ key_in t) × (e.key ≢ 0)
 told_key t e h =
     let b = and_parts (not (key_in t == 0)) (e.key == key_in t) h in
@@ -102,7 +102,7 @@ told_key t e h =
     never true h e = cc
     never false h e = cc
 
--- an entry that is right gives the place of its code
+-- an entry that is right gives the index of its code
 gives : (text : List ℕ) (codes : List Code) (cs : List IdCode) (es : List Entry) (i : ℕ) (e : Entry) (t : List ℕ) → AreHeld text codes cs → are_right text codes es ≡ true → slice_get es i ≡ Some e → AreBytes t → e.key ≡ key_in t → e.key ≢ 0 → Finds cs t (Some e.place)
 gives text codes cs es i e t h right there a q n =
     let told = entry_tells text codes e (one_of_all (is_right text codes) es i e right there) n (omega (arith, q, key_below t a)) in
@@ -126,7 +126,7 @@ told_finds text codes cs es t p h right a (i ∷ is) z = by_entry (told_finds te
         by_test true q w = let k = told_key t e q in subst (λ x. Finds cs t (Some x)) (same_Some e.place p w) (gives text codes cs es i e t h right s a k.0 k.1)
         by_test false q w = rest w
 
--- what they give is the place of a code
+-- what they give is the index of a code
 pub told_within : (text : List ℕ) (codes : List Code) (es : List Entry) (t : List ℕ) (p : ℕ) → are_right text codes es ≡ true → AreBytes t → (is : List ℕ) → told_by es t is ≡ Some p → p < length codes
 told_within text codes es t p right a [] z = absurd (none-some p z)
 told_within text codes es t p right a (i ∷ is) z = by_entry (told_within text codes es t p right a is) (slice_get es i) refl
@@ -144,7 +144,7 @@ told_within text codes es t p right a (i ∷ is) z = by_entry (told_within text 
 
 -- ---- what the hash of a code leads to
 
--- an entry with the key of a short code gives its place
+-- an entry with the key of a short code gives its index
 pub entry_finds : (text : List ℕ) (codes : List Code) (cs : List IdCode) (es : List Entry) (t : List ℕ) (p : ℕ) → AreHeld text codes cs → are_right text codes es ≡ true → AreBytes t → key_in t ≢ 0 → HasEntry es (key_in t) p → Finds cs t (Some p)
 entry_finds text codes cs es t p h right a n has =
     subst (λ x. Finds cs t (Some x)) has.4 (gives text codes cs es has.0 has.1 t h right has.2 a has.3 (λ z. n (sym has.3 ∙ z)))
@@ -154,7 +154,7 @@ entry_within text codes es t p right a n has =
     let told = entry_found text codes es has.0 has.1 (key_in t) right has.2 n (key_below t a) has.3 in
     subst (λ x. x < length codes) has.4 (slice_get_within codes has.1.place told.0 told.1)
 
--- the place of a code with these bytes
+-- the index of a code with these bytes
 pub at_finds : (text : List ℕ) (codes : List Code) (cs : List IdCode) (t : List ℕ) (p : ℕ) → AreHeld text codes cs → IsAt text codes t p → Finds cs t (Some p)
 at_finds text codes cs t p h at =
     let k = code_found text codes cs p at.0 h.stand at.1 in

@@ -31,7 +31,7 @@ use Rattle.vcd_view.proofs.ListLemmas.{slice_get-seam, bytes_flip, to_all}
 abbrev pub blank : Code
 blank = record { start = 0; len = 0; size = 0; event = false }
 
--- a code of a view is the header's at its place
+-- a code of a view is the header's at its index
 pub code_at : (text : List ℕ) (cs : List Code) (ks : List IdCode) (p : ℕ) → AllZip (IsCode text) cs ks → p < length cs → (k : IdCode) × (slice_get ks p ≡ Some k) × IsCode text (get_or cs p blank) k
 code_at text [] ks p h l = absurd (omega arith)
 code_at text (c ∷ cs) [] p h l = absurd h
@@ -86,11 +86,11 @@ place_with [] t p k d e s = absurd (none-some k e)
 place_with (x ∷ ks) t zero k d e s = rw (ap (bytes_eq t) (ap (λ (y : IdCode). y.text) (same_Some x k e) ∙ sym s) ∙ (bytes_eq-Decides t t).1 refl) refl
 place_with (x ∷ ks) t (suc p) k d e s = let more = place_with ks t p k d.1 e s in rw (ap (λ y. bytes_eq y x.text) s ∙ bytes_flip k.text x.text ∙ apart_at x.text ks p k d.0 e) (omega (arith, more))
 
--- a code stands at the first place with its text
+-- a code is at the first index with its text
 pub place_is : (ks : List IdCode) (index : List ℕ) (p : ℕ) (k : IdCode) → IsIndex ks index → slice_get ks p ≡ Some k → position_or_len (has_text k.text) ks ≡ p
 place_is ks index p k h e = place_with ks k.text p k (distinct ks index h) e refl
 
--- codes with one text stand at one place
+-- codes with one text are at one index
 pub same_place : (ks : List IdCode) (index : List ℕ) (p q : ℕ) (j k : IdCode) → IsIndex ks index → slice_get ks p ≡ Some j → slice_get ks q ≡ Some k → j.text ≡ k.text → p ≡ q
 same_place ks index p q j k h first second same = sym (place_is ks index p j h first) ∙ place_with ks j.text q k (distinct ks index h) second same
 
@@ -104,11 +104,11 @@ none_with (k ∷ ks) t h = rw (h 0 (omega arith)) (none_with ks t (λ p l. h (su
 
 -- ---- a search in the order of the codes
 
--- the order of the code that the index has at a place and the one that is looked up
+-- the order of the code that the index has at an offset and the one that is looked up
 abbrev pub order_at : List IdCode → List ℕ → List ℕ → ℕ → Ordering
 order_at ks index t i = slice_cmp nat_cmp (code_text ks (get_or index i 0)) t
 
--- what is looked up lies between: it comes behind all below `low`, and before all from `high` on
+-- what is looked up lies between: it comes after all below `low`, and before all from `high` on
 pub record IsBetween (ks : List IdCode) (index : List ℕ) (t : List ℕ) (low high : ℕ) : Type 0 where
   pub below : (i : ℕ) → i < low → order_at ks index t i ≡ Less
   pub above : (i : ℕ) → high ≤ i → i < length index → order_at ks index t i ≡ Greater

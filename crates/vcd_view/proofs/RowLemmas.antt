@@ -1,4 +1,4 @@
--- The row at a place, and the declaration there.
+-- The row at an index, and the declaration there.
 use Rattle.std.proofs.Common.{◌≡◌, ℕ, zero, suc, ◌+◌, ◌<◌, ◌≤◌, List, [], ◌∷◌, ◌++◌, length, take, slice_range, slice_get, get_or, Some, None, refl, sym, ap, subst, ◌∙◌, arith}
 use Rattle.std.proofs.lemmas.Bool.{le-leb}
 use Rattle.std.proofs.lemmas.List.{append_assoc, append-nil}
@@ -23,7 +23,7 @@ rows_len t cs e (r ∷ rs) (d ∷ ds) h = ap suc (rows_len t cs (e ++ d ∷ []) 
 pub text_within : (text : List ℕ) (start len : ℕ) → start + len ≤ length text → text_in text start len ≡ slice_range text start (start + len)
 text_within text start len h = rw (le-leb (start + len) (length text) h) refl
 
--- each row is that of the declaration at its place
+-- each row is that of the declaration at its index
 row_among : (t : List ℕ) (cs : List IdCode) (e : List Declaration) (rs : List Row) (ds : List Declaration) (i : ℕ) (r : Row) → AreRows t cs e rs ds → slice_get rs i ≡ Some r → (d : Declaration) × (slice_get ds i ≡ Some d) × IsRow t cs (e ++ take i ds) r d
 row_among t cs e [] [] i r h at = cc
 row_among t cs e [] (d ∷ ds) i r h at = absurd h
@@ -52,13 +52,13 @@ row_there (r ∷ rs) (suc i) h = row_there rs i (omega arith)
 pub there : (s : HeadShown) (h : Header) (i : ℕ) → Views s h → i < length h.declarations → (r : Row) × (slice_get s.rows i ≡ Some r)
 there s h i v l = row_there s.rows i (omega (arith, rows_len s.text h.codes [] s.rows h.declarations v.rows))
 
--- what is read at a place is the row there
+-- what is read at an index is the row there
 pub read_row : (s : HeadShown) (i : ℕ) (x : Row) → i < length s.rows → slice_get s.rows i ≡ Some (get_or s.rows i x)
 read_row s i x h = slice_get-get_or s.rows i x h
 
 -- ---- its texts
 
--- so many bytes of a text from a place on are these
+-- `len` bytes of a text from `start` on are these
 pub record IsThere (text : List ℕ) (start len : ℕ) (bytes : List ℕ) : Type 0 where
   pub within : start + len ≤ length text
   pub is : slice_range text start (start + len) ≡ bytes
@@ -96,7 +96,7 @@ pub record IsVariableRow (s : HeadShown) (h : Header) (i : ℕ) (r : Row) (v : V
   pub code_there : slice_get s.codes r.code ≡ Some code
   pub code_is : IsCode s.text code (code_of v)
 
--- the code that is shown at a place
+-- the code that is shown at an index
 pub code_at : (t : List ℕ) (cs : List Code) (ks : List IdCode) (p : ℕ) (k : IdCode) → AllZip (IsCode t) cs ks → slice_get ks p ≡ Some k → (c : Code) × (slice_get cs p ≡ Some c) × IsCode t c k
 code_at t [] [] p k h at = cc
 code_at t [] (y ∷ ks) p k h at = absurd h
@@ -104,7 +104,7 @@ code_at t (c ∷ cs) [] p k h at = absurd h
 code_at t (c ∷ cs) (y ∷ ks) zero k h at = let same : y ≡ k = cc in (c, refl, subst (IsCode t c) same h.0)
 code_at t (c ∷ cs) (y ∷ ks) (suc p) k h at = code_at t cs ks p k h.1 at
 
--- the code of a place, by what is shown there
+-- the code at an index, by what is shown there
 pub code_of_shown : (t : List ℕ) (cs : List Code) (ks : List IdCode) (p : ℕ) (c : Code) → AllZip (IsCode t) cs ks → slice_get cs p ≡ Some c → (k : IdCode) × (slice_get ks p ≡ Some k) × IsCode t c k
 code_of_shown t [] [] p c h at = cc
 code_of_shown t [] (k ∷ ks) p c h at = absurd h

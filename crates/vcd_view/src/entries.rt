@@ -73,7 +73,8 @@ fn number_of(code: &[u8]) -> usize
     number
 }
 
-/// Returns the index of the code with this key, if the entry at `at` is that of the code.
+/// Returns the index of the code with this key, if the entry at `at` is that of the code; else
+/// `None`.
 #[inline(always)]
 pub fn place_told(entries: &[Entry], at: usize, key: u64) -> Option<usize>
     ensures { (code : List ℕ) → key ≡ key_in code → result ≡ place_told code (slice_get entries.now at) }
@@ -87,8 +88,8 @@ pub fn place_told(entries: &[Entry], at: usize, key: u64) -> Option<usize>
 }
 
 /// Returns the index of the code with this key, if one of the three entries beside its own is that
-/// of the code. They are in the 64 bytes around that, so a look at them reads at most one cache
-/// line more.
+/// of the code; else `None`. They are in the 64 bytes around that, so a look at them reads at most
+/// one cache line more.
 #[inline(always)]
 pub fn place_beside(entries: &[Entry], own: usize, key: u64) -> Option<usize>
     ensures { (code : List ℕ) → key ≡ key_in code → result ≡ told_by entries.now code (beside own) }
@@ -105,7 +106,7 @@ pub fn place_beside(entries: &[Entry], own: usize, key: u64) -> Option<usize>
 // The least key of the entry of a code of 8 bytes or more.
 const LONG: u64 = 1 << 63;
 
-/// How many entries are looked at, at most, to which the hash of a code leads.
+/// The most entries that a look-up looks at to which the hash of a code leads.
 pub const MOST_LOOKS: usize = 64;
 
 /// Returns the index of the entry to which a hash leads after this many looks, in a table of
@@ -135,7 +136,7 @@ pub fn long_key(hash: u64) -> u64
 }
 
 /// Returns the index of a code, if one of the entries beside its own or one to which its hash leads
-/// is that of the code. Where none is, the code may be there all the same.
+/// is that of the code; else `None`, and the code may be there all the same.
 // For codes of 8 bytes or more, and codes crafted to share entries: `check` of 100,000 takes 1.5 to
 // 2.6 times as long as of ordinary codes, by the binary search alone 8 to 13 times.
 pub(crate) fn place_hashed(
@@ -166,7 +167,7 @@ pub(crate) fn place_hashed(
     }
 }
 
-// Returns the index that an entry with this key gives, if the hash leads to that.
+// Returns the index that an entry with this key gives, if the hash leads to that; else `None`.
 fn place_of_key(entries: &[Entry], hash: u64, key: u64) -> Option<usize>
     ensures { IfSome result (λ place. HasEntry entries.now key place) }
 {
@@ -183,7 +184,7 @@ fn place_of_key(entries: &[Entry], hash: u64, key: u64) -> Option<usize>
 }
 
 // Returns the index that an entry gives for this code of 8 bytes or more, if its hash leads to
-// that. Another code may have the same key, so one comparison is made.
+// that; else `None`. Another code may have the same key, so one comparison is made.
 fn place_of_long(
     text: &[u8],
     codes: &[Code],

@@ -28,7 +28,7 @@ pub fn is(token: &[u8], word: &[u8]) -> bool
     word == token
 }
 
-/// Returns the keyword that the whole token is; none where it is no keyword.
+/// Returns the keyword that the whole token is; `None` where it is no keyword.
 pub fn keyword_of(token: &[u8]) -> Option<Keyword>
     ensures { option_map model_keyword result ≡ keyword_is token.now }
 {

@@ -19,7 +19,7 @@ pub struct Found {
     pub most: usize,
 }
 
-/// Returns the index of a code among the distinct codes; none where it is not among them.
+/// Returns the index of a code among the distinct codes; `None` where it is not among them.
 ///
 /// A look at one entry finds nearly all codes that simulators give. The others are looked for by
 /// their hash, and those that are not found so by a binary search.
@@ -31,8 +31,8 @@ pub fn find(view: HeadView<'_>, code: &[u8]) -> Option<usize>
     find_counted(view, code, &mut Probes::new())
 }
 
-/// Returns the index of a code among the distinct codes, with its size; none where it is not among
-/// them.
+/// Returns the index of a code among the distinct codes, with its size; `None` where it is not
+/// among them.
 #[inline(always)]
 pub fn find_sized(view: HeadView<'_>, code: &[u8]) -> Option<Found>
     ensures found { (h : Header) → IsViewOf view.entry h
@@ -42,7 +42,8 @@ pub fn find_sized(view: HeadView<'_>, code: &[u8]) -> Option<Found>
     find_sized_counted(view, code, &mut Probes::new())
 }
 
-/// Returns the index of a code among the distinct codes, and counts the comparisons of codes.
+/// Returns the index of a code among the distinct codes, and counts the comparisons of codes;
+/// `None` where it is not among them.
 ///
 /// A code of at most 7 bytes has a number, and entries hold those: only where none that is looked
 /// at has it, the code is compared with others. The count grows by at most one more than the binary
@@ -97,8 +98,8 @@ fn find_sized_counted(view: HeadView<'_>, code: &[u8], probes: &mut Probes) -> O
     }
 }
 
-/// Returns the index and size of a code by a look at one entry. None if the entry is of another
-/// code; then `find_sized` may find the code.
+/// Returns the index and size of a code by a look at one entry. `None` if the entry is of another
+/// code or of none; then `find_sized` may find the code.
 #[inline(always)]
 pub fn find_at_once(view: HeadView<'_>, code: &[u8]) -> Option<Found>
     ensures found { (h : Header) → IsViewOf view.entry h
@@ -150,8 +151,8 @@ fn find_slowly(
     }
 }
 
-// Returns the index of a code by a binary search in the order of the codes. It takes no view, so
-// that a look-up that was guessed need not make one ready.
+// Returns the index of a code by a binary search in the order of the codes; `None` where it is not
+// among them. It takes no view, so that a look-up that was guessed need not make one ready.
 #[inline(never)]
 fn search(
     text: &[u8],
@@ -181,7 +182,7 @@ fn search(
     None
 }
 
-// Returns the bytes of the code at an index.
+// Returns the bytes of the code at an index; empty after the last.
 fn text_of<'a>(text: &'a [u8], codes: &[Code], place: usize) -> &'a [u8]
     ensures { AnyCodes text.now codes.now (λ ks. place < length ks → result.now ≡ code_text ks place) }
 {

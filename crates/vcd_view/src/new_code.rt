@@ -4,7 +4,7 @@ ghost use Rattle.vcd_view.specs.Names.{Puts, digits_of, new_code};
 
 use vcd_text::{Sink, WriteFailed, put};
 
-/// The code of a number: its digits in base 94, least significant first.
+/// The code of a number: its digits in base 94, from `!` to `~`, least significant first.
 #[derive(Clone, Copy)]
 pub struct NewCode {
     bytes: [u8; 10],

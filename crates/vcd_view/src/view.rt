@@ -95,7 +95,7 @@ pub struct HeadView<'a> {
 impl<'a> HeadView<'a> {
     ghost use Rattle.vcd_view.specs.Names.{AnyDeclared, AnyRow, Header, IsViewOf, code_text, exponent, name_of, parent, reference_of, type_of};
 
-    /// Returns a row by its number, from 0; none after the last.
+    /// Returns the row at an index; `None` after the last.
     #[inline(always)]
     pub fn row_at(self, row: usize) -> Option<Row>
         ensures { result ≡ slice_get self.entry.rows.now row }
@@ -103,7 +103,7 @@ impl<'a> HeadView<'a> {
         self.rows.get(row).copied()
     }
 
-    /// Returns the code at an index; none after the last.
+    /// Returns the code at an index; `None` after the last.
     #[inline(always)]
     pub fn code_at(self, place: usize) -> Option<Code>
         ensures { result ≡ slice_get self.entry.codes.now place }
@@ -111,7 +111,7 @@ impl<'a> HeadView<'a> {
         code_in(self.codes, place)
     }
 
-    /// Returns `len` bytes of the text from an offset on; none where it has fewer.
+    /// Returns `len` bytes of the text from an offset on; empty where it has fewer.
     #[inline(always)]
     pub fn text_at(self, start: usize, len: usize) -> &'a [u8]
         ensures { result.now ≡ text_in self.entry.text.now start len }
@@ -120,7 +120,7 @@ impl<'a> HeadView<'a> {
     }
 
     /// Returns the row of the scope that encloses the declaration of a row; for an `$upscope` the
-    /// one that it closes. None where no scope does.
+    /// one that it closes. `None` where no scope does, and after the last row.
     #[inline(always)]
     pub fn scope_of(self, row: usize) -> Option<usize>
         ensures earlier { IfSome result (λ scope. scope < row) }
@@ -130,7 +130,7 @@ impl<'a> HeadView<'a> {
         (scope < row).then_some(scope)
     }
 
-    /// Returns the type of the scope or the variable of a row.
+    /// Returns the type of the scope or the variable of a row; empty for an `$upscope`.
     #[inline(always)]
     pub fn type_of(self, row: usize) -> &'a [u8]
         ensures { AnyDeclared self.entry row (λ _ d. result.now ≡ type_of d) }
@@ -141,7 +141,8 @@ impl<'a> HeadView<'a> {
         }
     }
 
-    /// Returns the name of the scope or the variable of a row: the first token of its reference.
+    /// Returns the name of the scope or the variable of a row: the first token of its reference;
+    /// empty for an `$upscope`.
     #[inline(always)]
     pub fn name_of(self, row: usize) -> &'a [u8]
         ensures { AnyDeclared self.entry row (λ _ d. result.now ≡ name_of d) }
@@ -156,7 +157,7 @@ impl<'a> HeadView<'a> {
     }
 
     /// Returns the whole reference of the scope or the variable of a row, its tokens with a space
-    /// between.
+    /// between; empty for an `$upscope`.
     #[inline(always)]
     pub fn reference_of(self, row: usize) -> &'a [u8]
         ensures { AnyDeclared self.entry row (λ _ d. result.now ≡ reference_of d) }
@@ -167,7 +168,7 @@ impl<'a> HeadView<'a> {
         }
     }
 
-    /// Returns the bytes of the code at an index.
+    /// Returns the bytes of the code at an index; empty after the last.
     #[inline(always)]
     pub fn code_text(self, code: usize) -> &'a [u8]
         ensures { (h : Header) → IsViewOf self.entry h → result.now ≡ code_text h.codes code }
@@ -178,7 +179,7 @@ impl<'a> HeadView<'a> {
         }
     }
 
-    /// Returns the power of ten of its time scale, in seconds; a missing one counts as 1s.
+    /// Returns the power of ten of its time scale, in seconds: 0, that is 1s, where it has none.
     pub fn exponent(self) -> i8
         ensures { (h : Header) → IsViewOf self.entry h → result ≡ exponent h }
     {
@@ -188,7 +189,7 @@ impl<'a> HeadView<'a> {
         }
     }
 
-    /// Returns whether the variables of the code at an index are events.
+    /// Returns whether the variables of the code at an index are events; false after the last.
     #[inline(always)]
     pub fn is_event(self, code: usize) -> bool
         ensures event { (h : Header) → IsViewOf self.entry h
@@ -203,7 +204,7 @@ impl<'a> HeadView<'a> {
     }
 }
 
-/// Returns the code at an index among these; none after the last.
+/// Returns the code at an index among these; `None` after the last.
 #[inline(always)]
 pub fn code_in(codes: &[Code], place: usize) -> Option<Code>
     ensures { result ≡ slice_get codes.now place }
@@ -211,7 +212,7 @@ pub fn code_in(codes: &[Code], place: usize) -> Option<Code>
     codes.get(place).copied()
 }
 
-/// Returns `len` bytes of a text from an offset on; none where it has fewer.
+/// Returns `len` bytes of a text from an offset on; empty where it has fewer.
 #[inline(always)]
 pub fn text_in(text: &[u8], start: usize, len: usize) -> &[u8]
     ensures { result.now ≡ text_in text.now start len }

@@ -1,6 +1,6 @@
 use Rattle.std.proofs.Common.{inl, inr}
 use Rattle.std.proofs.lemmas.Bool.{cases_lt}
-use Rattle.vcd_text.proofs.Masks.{marks-none}
+use Rattle.vcd_text.proofs.Masks.{bits-none}
 use Rattle.vcd_text.proofs.ahead.white_ahead.Goals as goal
 
 pub returns-then-white-eq0-clause-none : goal.returns-then-white-eq0-clause-none
@@ -9,10 +9,10 @@ returns-then-white-eq0-clause-none c = λ _.
       c.look_ahead-white.result.next,
       none.0,
       λ at le m j from below. elim (cases_lt j c.args.known.next) [
-        | inl lt ↦ marks-none _ _ _ _ c.if-known-ne0.false m j from lt
+        | inl lt ↦ bits-none _ _ _ _ c.if-known-ne0.false m j from lt
         | inr behind ↦ none.1 j behind below
       ],
     )
 
-pub returns-clause-marks : goal.returns-clause-marks
-returns-clause-marks c = λ at le m. c.look_ahead-white.ensures.marks c.if-white-eq0.false at le (marks-none _ _ _ _ c.if-known-ne0.false m)
+pub returns-clause-bits : goal.returns-clause-bits
+returns-clause-bits c = λ at le m. c.look_ahead-white.ensures.bits c.if-white-eq0.false at le (bits-none _ _ _ _ c.if-known-ne0.false m)

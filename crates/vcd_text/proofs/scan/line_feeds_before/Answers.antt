@@ -10,7 +10,7 @@ use Rattle.vcd_text.specs.Window.{line_feeds_in}
 use Rattle.vcd_text.proofs.PassedLemmas.{line_feeds_in-few}
 use Rattle.vcd_text.proofs.scan.line_feeds_before.Goals as goal
 
--- the last n of the 64 bytes before a place
+-- the last n of the 64 bytes before an offset
 last : (bytes : List ℕ) (end n : ℕ) → 64 ≤ end → n ≤ 64 → drop (64 - n) (chunk (end - 64) 64 bytes) ≡ slice_range bytes (end - n) end
 last bytes end n le few =
     let all : 64 ≡ 64 - n + n = omega arith in

@@ -1,4 +1,4 @@
 use Rattle.vcd_text.proofs.ahead.Ahead.new.Goals as goal
 
-pub invariant_of-result-clause-marks : goal.invariant_of-result-clause-marks
-invariant_of-result-clause-marks c = c.unknown.ensures _ _ _
+pub invariant_of-result-clause-bits : goal.invariant_of-result-clause-bits
+invariant_of-result-clause-bits c = c.unknown.ensures _ _ _

@@ -5,8 +5,8 @@ use Rattle.std.proofs.lemmas.Bool.{cases_lt}
 use Rattle.vcd_model.specs.Bytes.{is_white_space}
 use Rattle.vcd_text.proofs.ahead.Ahead.next_near.Goals as goal
 
-pub take-requires-clause-marks : goal.take-requires-clause-marks
-take-requires-clause-marks c =
+pub take-requires-clause-bits : goal.take-requires-clause-bits
+take-requires-clause-bits c =
     let bytes = c.args.self.now.bytes.now in
     let at = c.args.self.now.at in
     let len = c.lowest-len.result in

@@ -12,8 +12,8 @@ index bytes at k lt = get_or-take (length bytes - at) (drop at bytes) k 0 lt ∙
 long_rest : (bytes : List ℕ) (at : ℕ) → at ≤ length bytes → length (slice_range bytes at (length bytes)) ≡ length bytes - at
 long_rest bytes at le = length-take-le (length bytes - at) (drop at bytes) (omega (arith, length-drop at bytes))
 
-pub take-requires-clause-marks : goal.take-requires-clause-marks
-take-requires-clause-marks c =
+pub take-requires-clause-bits : goal.take-requires-clause-bits
+take-requires-clause-bits c =
     let bytes = c.args.self.now.bytes.now in
     let start = c.past_white-start.result in
     let len = c.run_len.result in
