@@ -150,6 +150,11 @@ class Questions:
     def test_edges(self):
         self.assertEqual(Dump(NESTED).edges("bench.slow.count"), {"bench.slow.count":
                                                                  Edges(12, 5, 4)})
+        every = Dump(NESTED).edges()
+        self.assertEqual((len(every), list(every), list(every.values())),
+                         (24, list(dict(every)), list(dict(every).values())))
+        self.assertIn("bench.slow.count", every)
+        self.assertIsNone(every.get("bench.nothing"))
 
     def test_changes(self):
         times, values = Dump(NESTED).changes("bench.slow.count")
