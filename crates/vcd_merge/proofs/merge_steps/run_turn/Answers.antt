@@ -5,11 +5,66 @@ use Rattle.vcd_head.specs.Shown.{shown}
 use Rattle.vcd_view.specs.Views.{Views}
 use Rattle.vcd_merge.specs.MergeParts.{part_len}
 use Rattle.vcd_merge.specs.Seat.{AtSeat}
-use Rattle.vcd_merge.proofs.PartLemmas.{get_other, len_put, lent_len, part_other, spot_lent, spot_put, spot_other, seated_put}
+use Rattle.vcd_merge.proofs.PartLemmas.{get_other, len_put, lent_len, part_ends, part_other, spot_lent, spot_put, spot_other, seated_put}
 use Rattle.vcd_body.specs.Answer.{NamesInput, reads_failed}
 use Rattle.vcd_merge.proofs.MergeCounts.{get_map_or, left_moved, map_set, set_last}
 use Rattle.vcd_body.proofs.Results.{if_ok_more}
 use Rattle.vcd_merge.proofs.merge_steps.run_turn.Goals as goal
+
+pub overflow_mul-chunk_at : goal.overflow_mul-chunk_at
+overflow_mul-chunk_at g c =
+    let ends = part_ends (part_len (length c.args.seats.now) c.args.windows.now.chunks.now) (length c.args.seats.now) c.args.turn.input c.requires.input in
+    omega (arith, ends, c.requires.ready.parts.chunks_are)
+
+pub overflow_mul-token_at : goal.overflow_mul-token_at
+overflow_mul-token_at g c =
+    let ends = part_ends (part_len (length c.args.seats.now) c.args.windows.now.tokens.now) (length c.args.seats.now) c.args.turn.input c.requires.input in
+    omega (arith, ends, c.requires.ready.parts.tokens_are)
+
+pub overflow_add-chunk_at : goal.overflow_add-chunk_at
+overflow_add-chunk_at g c =
+    let ends = part_ends (part_len (length c.args.seats.now) c.args.windows.now.chunks.now) (length c.args.seats.now) c.args.turn.input c.requires.input in
+    omega (arith, ends, c.requires.ready.parts.chunks_are)
+
+pub slice_bounds-resume_turn-count : goal.slice_bounds-resume_turn-count
+slice_bounds-resume_turn-count g c =
+    let ends = part_ends (part_len (length c.args.seats.now) c.args.windows.now.chunks.now) (length c.args.seats.now) c.args.turn.input c.requires.input in
+    omega (arith, ends, c.requires.ready.parts.chunks_are)
+
+pub slice_bounds-resume_turn-start : goal.slice_bounds-resume_turn-start
+slice_bounds-resume_turn-start g c =
+    let ends = part_ends (part_len (length c.args.seats.now) c.args.windows.now.chunks.now) (length c.args.seats.now) c.args.turn.input c.requires.input in
+    omega (arith, ends, c.requires.ready.parts.chunks_are)
+
+pub slice_bounds-resume_turn-end : goal.slice_bounds-resume_turn-end
+slice_bounds-resume_turn-end g c =
+    let ends = part_ends (part_len (length c.args.seats.now) c.args.windows.now.chunks.now) (length c.args.seats.now) c.args.turn.input c.requires.input in
+    omega (arith, ends, c.requires.ready.parts.chunks_are)
+
+pub overflow_add-token_at : goal.overflow_add-token_at
+overflow_add-token_at g c =
+    let ends = part_ends (part_len (length c.args.seats.now) c.args.windows.now.tokens.now) (length c.args.seats.now) c.args.turn.input c.requires.input in
+    omega (arith, ends, c.requires.ready.parts.tokens_are)
+
+pub slice_bounds-resume_turn-count-2 : goal.slice_bounds-resume_turn-count-2
+slice_bounds-resume_turn-count-2 g c =
+    let ends = part_ends (part_len (length c.args.seats.now) c.args.windows.now.tokens.now) (length c.args.seats.now) c.args.turn.input c.requires.input in
+    omega (arith, ends, c.requires.ready.parts.tokens_are)
+
+pub slice_bounds-resume_turn-start-2 : goal.slice_bounds-resume_turn-start-2
+slice_bounds-resume_turn-start-2 g c =
+    let ends = part_ends (part_len (length c.args.seats.now) c.args.windows.now.tokens.now) (length c.args.seats.now) c.args.turn.input c.requires.input in
+    omega (arith, ends, c.requires.ready.parts.tokens_are)
+
+pub slice_bounds-resume_turn-end-2 : goal.slice_bounds-resume_turn-end-2
+slice_bounds-resume_turn-end-2 g c =
+    let ends = part_ends (part_len (length c.args.seats.now) c.args.windows.now.tokens.now) (length c.args.seats.now) c.args.turn.input c.requires.input in
+    omega (arith, ends, c.requires.ready.parts.tokens_are)
+
+pub overflow_add-token_at-2 : goal.overflow_add-token_at-2
+overflow_add-token_at-2 g c =
+    let ends = part_ends (part_len (length c.args.seats.now) c.args.windows.now.tokens.now) (length c.args.seats.now) c.args.turn.input c.requires.input in
+    omega (arith, ends, c.requires.ready.parts.tokens_are)
 
 pub returns-clause-turns : goal.returns-clause-turns
 returns-clause-turns g c = λ scale first l items h s there views at is.
