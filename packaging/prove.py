@@ -2,15 +2,15 @@
 """prove.py CRATE COMMAND [WORD ..]: proves each crate below crates/CRATE, runs
 `rt COMMAND WORD ..` in it, and shows how far it is.
 
-Crates that do not need each other are proved at the same time, two at most, on as many processors
-as there are, and as 4 GB of available memory for each allow. rt locks the folders of a crate and of
-those below it while it works. So what is proved beside another crate is proved in a copy in the
-temporary folder (TMPDIR), most of it links, and what rt built and kept there is moved back.
+Crates that do not need each other are proved at the same time, on as many processors as there are,
+and as 4 GB of available memory for each allow. rt locks the folders of a crate and of those below
+it while it works. So what is proved beside another crate is proved in a copy in the temporary
+folder (TMPDIR), most of it links, and what rt built and kept there is moved back.
 
 What rt and the prover write goes to the file make.log of the top folder, with what the program
 writes, each line after its crate's name. The screen has a line for each crate that was proved:
-'crate k of n, NAME: N functions proved, M minutes'; on a terminal also a line that says what is
-being proved. Standard input is handed on. The first failure ends the other proofs: the exit
+'crate k of n, NAME: so many functions proved, so many minutes'; on a terminal also a line that says
+what is being proved. Standard input is handed on. The first failure ends the other proofs: the exit
 status is that of rt, and the last lines of that crate are shown."""
 import collections
 import os
@@ -30,6 +30,9 @@ LAST_LINES = 20
 MEMORY_EACH = 4_000_000_000
 # rt replaces files with these ends and writes to none, so a copy may have links to them.
 LINKED = (".oantt", ".a")
+# Each process of a proof loads the crates below again. Where this is most of the work, one is
+# faster: it proves vcd_program in 121 s of processor, and four take 265.
+BY_ONE = ("vcd_program",)
 SOURCES, BUILT, KEPT = ("src", "specs", "proofs"), "out/rlib", "out/incremental"
 SO_FAR = re.compile(r"so far: (\d+) of (\d+) functions")
 VERDICT = re.compile(r"logic=proved functions=(\d+)")
@@ -43,8 +46,8 @@ def listed():
 
 
 def crates_below(crate):
-    """Returns, for a crate of crates.txt and each below it, all that it depends on; each crate
-    comes after those that it depends on."""
+    """Returns, for a crate of crates.txt and each below it, all that it stands on; each crate comes
+    after those that it stands on."""
     lines, found = listed(), {}
 
     def visit(name):
@@ -101,9 +104,10 @@ def copied(crates, part, to):
 class Run:
     """rt at work in a crate: its lines are put into a queue, and None after the last."""
 
-    def __init__(self, crate, words, said, below=None, **how):
-        """With the crates below it rt works in a copy of these crates, else where they lie."""
-        self.crate, self.room, self.began = crate, None, time.monotonic()
+    def __init__(self, crate, words, said, jobs, below=None, **how):
+        """With the crates below it rt works in a copy of these crates, else where they lie. It has
+        as many processes at work as jobs says."""
+        self.crate, self.jobs, self.room, self.began = crate, jobs, None, time.monotonic()
         self.so_far, self.functions = "", None
         self.last = collections.deque(maxlen=LAST_LINES)
         if below is not None:
@@ -136,8 +140,8 @@ class Run:
         return (time.monotonic() - self.began) / 60
 
     def end(self):
-        """Ends rt if it still works, moves what it made in a copy to the crate's folder, and
-        returns its status."""
+        """Ends rt if it still works, moves what it made in a copy to its place, and returns its
+        status."""
         if self.rt.poll() is None:
             self.rt.terminate()
         status = self.rt.wait()
@@ -184,35 +188,35 @@ class Proof:
             above = [self.chain[it] for it in self.order if name in self.below[it]]
             self.chain[name] = sum(map(os.path.getsize, sources_of(name))) + max(above, default=0)
 
-    def is_alone(self, crate):
-        """Returns whether no other crate can be proved beside this one."""
-        return all(other == crate or other in self.below[crate] or crate in self.below[other]
-                   for other in self.order)
-
     def jobs(self, crate):
-        """Returns how many processes prove a crate: as many as processors, or three quarters of
-        these where another can be proved beside it. The last functions of a proof wait for one
-        another, so that two such proofs together want no more processors than there are."""
-        return self.lanes if self.is_alone(crate) else max(3 * self.lanes // 4, 1)
+        """Returns how many processes are to prove a crate: one for some; else half as many as there
+        are processors, or as many where no other crate that is left can be proved beside it."""
+        if crate in BY_ONE:
+            return 1
+        others = {*self.left, *(run.crate for run in self.running)} - {crate}
+        is_alone = all(it in self.below[crate] or crate in self.below[it] for it in others)
+        return self.lanes if is_alone else max(self.lanes // 2, 1)
 
-    def start(self, crate, words, **how):
+    def start(self, crate, words, jobs, **how):
         is_free = all(run.room for run in self.running)
         self.log.write("== rt %s in crates/%s, %s\n"
                        % (" ".join(words), crate, time.strftime("%Y-%m-%d %H:%M:%S")))
         self.log.flush()
         self.left.remove(crate)
         self.running.append(
-            Run(crate, words, self.said, None if is_free else self.below[crate], **how))
+            Run(crate, words, self.said, jobs, None if is_free else self.below[crate], **how))
 
     def start_libraries(self):
-        """Starts the proofs of the libraries that can start now, those with most above them first,
-        up to two at the same time. Where one is proved at a time, rt chooses by itself how many
+        """Starts the proofs of the libraries that can start now, those with most above them first.
+        Their processes are up to half as many again as processors, since the last functions of a
+        proof wait for one another. Where one is proved at a time, rt chooses by itself how many
         processors it uses."""
         lacking = {*self.left, *(run.crate for run in self.running)}
         for crate in sorted(self.left[:-1], key=self.chain.get, reverse=True):
-            if not lacking & self.below[crate] and len(self.running) < min(self.lanes, 2):
-                flags = ["--jobs", str(self.jobs(crate))] if self.lanes > 1 else []
-                self.start(crate, ["lib", *flags], stdin=subprocess.DEVNULL)
+            jobs, at_work = self.jobs(crate), sum(run.jobs for run in self.running)
+            if not lacking & self.below[crate] and at_work + jobs <= 3 * self.lanes // 2:
+                flags = ["--jobs", str(jobs)] if self.lanes > 1 else []
+                self.start(crate, ["lib", *flags], jobs, stdin=subprocess.DEVNULL)
 
     def follow(self):
         """Copies a line to the log, and shows it; returns the status of rt that failed, else 0."""
@@ -245,7 +249,7 @@ class Proof:
             while not status and (self.left or self.running):
                 self.start_libraries()
                 if len(self.left) == 1 and not self.running:
-                    self.start(self.order[-1], words)
+                    self.start(self.order[-1], words, self.lanes)
                 status = self.follow()
         finally:
             for run in self.running:
