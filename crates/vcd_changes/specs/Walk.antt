@@ -61,7 +61,7 @@ pub record TakesRow (v : HeadView) (s t : RowStage) (result : Result (Unit {0}) 
 
 -- where it is, whatever the output is, to which nothing is written
 abbrev pub rows_at : Ahead → Regs → Collecting → Rows → RowStage
-rows_at a r c rows = stage_at a r c rows (record { held = None; failures = 0 })
+rows_at a r c rows = stage_at a r c rows (record { held = None; failures = 0; last_failed = false })
 
 abbrev pub passed_at : RowStage → ℕ
 passed_at s = passed_with s.ahead s.visit

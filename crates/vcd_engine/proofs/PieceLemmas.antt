@@ -1,9 +1,9 @@
 -- What is written and what is pending, where text is due.
 use Rattle.std.proofs.Common.{◌≡◌, ℕ, ◌+◌, ◌-◌, ◌≤◌, length, refl, List, [], ◌++◌, slice_range, Result, Ok, Err, sym, ap, subst, ◌∙◌, append-nil, append_assoc, arith, take, drop, IfOk}
 use Rattle.std.proofs.lemmas.List.{take-take}
-use Rattle.vcd_text.specs.Device.{Device, Puts, Writes, WritesSome, failures_after}
+use Rattle.vcd_text.specs.Device.{Device, Puts, Writes, WritesSome}
 use Rattle.vcd_text.proofs.AheadLemmas.{length-ahead, slice_range-append}
-use Rattle.vcd_text.proofs.Writes.{both-written, some-behind, some-first}
+use Rattle.vcd_text.proofs.Writes.{both-written, counts-on, some-behind, some-first}
 use Rattle.vcd_body.specs.Device.{Grows, GrowsSome}
 use Rattle.std.specs.Borrow.{Bor}
 use Rattle.std.specs.Io.KnownBytes.{Appends}
@@ -78,7 +78,7 @@ twice_on pending mid pending' a b out between out' (Err f) first then =
 pub twice_behind : {A B E : Type 0} (bytes : List ℕ) (p q p' : Pieces) (a b : List ℕ) (out mid out' : Device) (v : B) (r : Result A E) → PutsBehind {A = B} {E = E} bytes p q out mid a (Ok v) → PutsBehind bytes q p' mid out' b r → PutsBehind bytes p p' out out' (a ++ b) r
 twice_behind {A} {B} {E} bytes p q p' a b out mid out' v r first then = record {
   puts = twice_on (pending_in bytes p) (pending_in bytes q) (pending_in bytes p') a b out mid out' r first.puts then.puts;
-  counts = subst (λ n. out'.failures ≡ failures_after n r) first.counts then.counts;
+  counts = counts-on out mid out' r first.counts then.counts;
   part = then.part;
 }
 

@@ -4,7 +4,8 @@ use Rattle.std.specs.Prelude.{IfErr, IfOk}
 use Rattle.vcd_model.specs.Tokens.{Token}
 use Rattle.vcd_text.specs.Ahead.{bytes_of, longest_of, passed_of}
 use Rattle.vcd_text.specs.Passed.{Passed}
-use Rattle.vcd_text.specs.Device.{Counts, Device, Puts, failures_after}
+use Rattle.vcd_text.specs.Device.{Counts, Device, Puts}
+use Rattle.vcd_text.proofs.Writes.{counts-on}
 use Rattle.vcd_text.specs.declared.ahead.Ahead.{Ahead}
 use Rattle.vcd_text.specs.declared.device.WriteFailed.{WriteFailed}
 use Rattle.vcd_view.specs.declared.view.HeadView.{HeadView}
@@ -37,7 +38,7 @@ walk_begins v a r m out line p within unknown part none = record {
   same = (refl, refl);
   part = part;
   line = unknown (bytes_of a) r.time;
-  stands = λ h lines before views few s. ([], s, rw append-nil (but_none _ _ _ none));
+  stands = λ h lines before views few s. ([], s, rw append-nil (but_none out _ _ none));
 }
 
 module _ (v : HeadView) (a : Ahead) (r : Regs) (m : TaskState) (begin : Device) (w : Walk) (p : Pieces) (out : Device) (m' : TaskState) (walked : HasWalked v a r m begin w p out m') where
@@ -112,7 +113,7 @@ module _ (v : HeadView) (a : Ahead) (r : Regs) (m : TaskState) (begin : Device) 
             let all = walked.stands h lines before views few s in
             rw (passed_is, regs_is) (ends_before (request_in m) h _ lines (bytes_of a) before p begin out out' t.written more here _ all.0 _ _ all.1 all.2);
         passes = rw passed_is passes;
-        counts = subst (λ (k : ℕ). out'.failures ≡ failures_after k t.written) walked.failures puts.1;
+        counts = counts-on begin out out' t.written walked.failures puts.1;
         same = walked.same;
       }
 

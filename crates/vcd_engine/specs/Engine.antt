@@ -21,7 +21,7 @@ use Rattle.vcd_body.specs.declared.item.Item.{Item}
 use Rattle.vcd_body.specs.Reads.{GaveItems}
 use Rattle.vcd_body.specs.declared.item.Regs.{Regs}
 use Rattle.vcd_engine.specs.Check.{AreCounted}
-use Rattle.vcd_text.specs.Device.{Device, Takes, Writes, WritesSome}
+use Rattle.vcd_text.specs.Device.{Device, Takes, Writes, WritesSome, failures_then}
 use Rattle.vcd_body.specs.Device.{DueBy}
 use Rattle.vcd_engine.specs.Cut.{AreCut, span_in}
 use Rattle.vcd_engine.specs.Edges.{AreEdges, names_counted}
@@ -103,9 +103,9 @@ StopsAtStart task h out out' Write = CanRun task h × WritesSome out out' (open_
 StopsAtStart task h out out' (Unmatched index) = (first_unmatched (names_of task) h.declarations ≡ Some index) × Writes out out' []
 StopsAtStart task h out out' stop = ⊥
 
--- one write failed where the answer is that, and none where it is not
+-- one write failed where the answer is that, the last one, and none where it is not
 abbrev pub CountsStop : {A : Type 0} → Device → Device → Result A Stop → Type 0
-CountsStop out out' result = out'.failures ≡ out.failures + writes_failed result
+CountsStop out out' result = failures_then (writes_failed result) out' ≡ out.failures + writes_failed result
 
 -- what comes before all items was written, and this holds of what begins; or why it stops
 abbrev pub Starts : {A : Type 0} → (A → Type 0) → Request → Header → Device → Device → Result A Stop → Type 0

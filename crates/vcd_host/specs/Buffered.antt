@@ -1,5 +1,5 @@
 -- What was taken by a sink with a buffer.
-use Rattle.std.specs.Prelude.{ℕ, List, Option}
+use Rattle.std.specs.Prelude.{ℕ, ◌+◌, ◌==◌, Bool, List, Option}
 use Rattle.std.specs.Io.KnownBytes.{append_known}
 use Rattle.vcd_host.specs.Buffer.{kept}
 use Rattle.vcd_host.specs.declared.buffered.Buffered.{Buffered}
@@ -7,3 +7,7 @@ use Rattle.vcd_host.specs.declared.buffered.Buffered.{Buffered}
 -- the bytes of the device and then those that wait, where the former are known
 abbrev pub taken : {D : Type 0} → (D → Option (List ℕ)) → Buffered D → Option (List ℕ)
 taken contents sink = append_known (contents sink.device) (kept sink.buffer)
+
+-- whether the last write failed, and no byte was taken since
+abbrev pub has_just_failed : {D : Type 0} → Buffered D → Bool
+has_just_failed sink = sink.buffer.failed_at == sink.buffer.len + 1

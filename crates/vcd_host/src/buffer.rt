@@ -22,8 +22,12 @@ pub(crate) const PARTS: usize = 1 + SHORT + FEW;
 pub(crate) struct Buffer {
     bytes: Vec<u8>,
     pub(crate) len: usize,
+    // 1 more than the bytes that waited when the last write failed, or less: a byte that is taken
+    // moves on from there, and no call that copies has to note that it went well.
+    pub(crate) failed_at: usize,
     ghost size: { vec_len bytes ≡ 8192 },
     ghost room: { len ≤ 8192 },
+    ghost failed: { failed_at ≤ len + 1 },
 }
 
 /// Copies bytes over as many others.
@@ -116,10 +120,15 @@ impl Buffer {
 
     /// Returns a buffer in which no byte waits.
     pub(crate) fn new(alloc: Global) -> Result<Buffer, AllocError>
-        ensures { IfOk result (λ buffer. kept buffer ≡ []) }
+        ensures bytes { IfOk result (λ buffer. kept buffer ≡ []) }
+        ensures failed { IfOk result (λ buffer. buffer.failed_at ≡ 0) }
     {
         let bytes = vec![in alloc; 0u8; ROOM]?;
-        Ok(Buffer { bytes, len: 0 })
+        Ok(Buffer {
+            bytes,
+            len: 0,
+            failed_at: 0,
+        })
     }
 
     /// Returns the bytes that wait.
@@ -133,7 +142,8 @@ impl Buffer {
     #[inline(always)]
     pub(crate) fn push(&mut self, from: &[u8])
         requires { self.old.len + length from.now ≤ 8192 }
-        ensures { kept self.new ≡ kept self.old ++ from.now }
+        ensures bytes { kept self.new ≡ kept self.old ++ from.now }
+        ensures goes_on { 0 < length from.now → self.new.failed_at < self.new.len + 1 }
     {
         let end = self.len + from.len();
         copy(from, &mut self.bytes[self.len..end]);
@@ -145,7 +155,8 @@ impl Buffer {
     pub(crate) fn push_few(&mut self, bytes: [u8; 8], n: usize)
         requires few { n ≤ 8 }
         requires room { self.old.len + 8 ≤ 8192 }
-        ensures { kept self.new ≡ kept self.old ++ take n bytes }
+        ensures bytes { kept self.new ≡ kept self.old ++ take n bytes }
+        ensures goes_on { 0 < n → self.new.failed_at < self.new.len + 1 }
     {
         copy_few(&mut self.bytes, self.len, bytes);
         self.len += n;
@@ -168,7 +179,8 @@ impl Buffer {
         requires few { n ≤ 64 }
         requires there { 64 ≤ length from.now }
         requires room { self.old.len + 64 ≤ 8192 }
-        ensures { kept self.new ≡ kept self.old ++ take n from.now }
+        ensures bytes { kept self.new ≡ kept self.old ++ take n from.now }
+        ensures goes_on { 0 < n → self.new.failed_at < self.new.len + 1 }
     {
         copy_short(&mut self.bytes, self.len, from);
         self.len += n;
@@ -181,19 +193,31 @@ impl Buffer {
         requires end { m ≤ 8 }
         requires there { 64 ≤ length from.now }
         requires room { self.old.len + 73 ≤ 8192 }
-        ensures { kept self.new ≡ kept self.old ++ (first ∷ take n from.now ++ take m end) }
+        ensures bytes { kept self.new ≡ kept self.old ++ (first ∷ take n from.now ++ take m end) }
+        ensures goes_on { self.new.failed_at < self.new.len + 1 }
     {
         let place = self.len;
         copy_parts(&mut self.bytes, place, first, from, n, end);
         self.len = place + 1 + n + m;
     }
 
-    /// Removes the first n bytes.
+    /// Notes that a write has failed, and no byte was taken since.
+    pub(crate) fn note_failure(&mut self)
+        ensures kept { kept self.new ≡ kept self.old }
+        ensures len { self.new.len ≡ self.old.len }
+        ensures failed { self.new.failed_at ≡ self.new.len + 1 }
+    {
+        self.failed_at = self.len + 1;
+    }
+
+    /// Removes the first n bytes, which were written.
     pub(crate) fn remove_front(&mut self, n: usize)
         requires { n ≤ self.old.len }
         ensures kept { kept self.new ≡ drop n (kept self.old) }
         ensures len { self.new.len ≡ self.old.len - n }
+        ensures goes_on { self.new.failed_at ≡ 0 }
     {
+        self.failed_at = 0;
         self.bytes.copy_within(n..self.len, 0);
         self.len -= n;
     }

@@ -1,5 +1,5 @@
 //! A sink whose bytes wait in a buffer until it is full or flushed.
-ghost use Rattle.std.specs.Prelude.{◌≡◌, ◌+◌, ◌-◌, ◌^◌, ◌<◌, ◌≤◌, [], length, take, IfOk, OnOk};
+ghost use Rattle.std.specs.Prelude.{◌≡◌, ◌+◌, ◌-◌, ◌^◌, ◌<◌, ◌≤◌, [], false, length, take, IfOk, OnOk};
 ghost use Rattle.std.specs.Io.{WritesAtMost};
 ghost use Rattle.std.specs.Io.KnownBytes.{Appends, Keeps, WriteAppends};
 
@@ -54,13 +54,14 @@ fn write_out<D: Write>(bytes: &[u8], device: &mut D) -> usize
 
 impl<D: Write + Drop> Buffered<D> {
     ghost use Rattle.vcd_host.specs.Buffer.{kept};
-    ghost use Rattle.vcd_host.specs.Buffered.{taken};
+    ghost use Rattle.vcd_host.specs.Buffered.{has_just_failed, taken};
 
     /// Returns a sink over the device, with an empty buffer and no failure.
     pub fn new(alloc: Global, device: D) -> Result<Buffered<D>, AllocError>
         ensures device { IfOk result (λ sink. sink.device ≡ device) }
         ensures empty { IfOk result (λ sink. kept sink.buffer ≡ []) }
         ensures failures { IfOk result (λ sink. sink.failures ≡ 0) }
+        ensures last { IfOk result (λ sink. has_just_failed sink ≡ false) }
     {
         let buffer = Buffer::new(alloc)?;
         Ok(Buffered {
@@ -76,6 +77,7 @@ impl<D: Write + Drop> Buffered<D> {
         ensures room { OnOk result (self.new.buffer.len ≡ 0) }
         ensures bytes { Keeps (taken D.contents self.old) (taken D.contents self.new) }
         ensures failures { self.new.failures ≡ self.old.failures }
+        ensures goes_on { self.new.buffer.failed_at ≡ 0 }
     {
         let written = write_out(self.buffer.as_slice(), &mut self.device);
         self.buffer.remove_front(written);
@@ -106,6 +108,8 @@ impl<D: Write + Drop> Buffered<D> {
         ensures bytes { WriteAppends (taken D.contents self.old) (taken D.contents self.new)
             result from.now }
         ensures failures { self.new.failures ≡ self.old.failures }
+        ensures goes_on { 0 < length from.now
+            → OnOk result (self.new.buffer.failed_at < self.new.buffer.len + 1) }
     {
         if from.len() >= ROOM {
             self.write_kept()?;
@@ -128,12 +132,15 @@ impl<D: Write + Drop> Buffered<D> {
         ensures bytes { Appends (taken D.contents self.old) (taken D.contents self.new)
             (take result from.now) }
         ensures failed { result ≡ 0 → self.new.failures ≡ self.old.failures + 1 }
+        ensures last { result ≡ 0 → self.new.buffer.failed_at ≡ self.new.buffer.len + 1 }
         ensures done { 0 < result → self.new.failures ≡ self.old.failures }
+        ensures goes_on { 0 < result → self.new.buffer.failed_at < self.new.buffer.len + 1 }
     {
         match self.take_long(from) {
             Ok(n) => n,
             Err(_) => {
                 self.failures += 1;
+                self.buffer.note_failure();
                 0
             }
         }
@@ -141,11 +148,12 @@ impl<D: Write + Drop> Buffered<D> {
 }
 
 impl<D: Write + Drop> Sink for Buffered<D> {
-    ghost use Rattle.vcd_host.specs.Buffered.{taken};
+    ghost use Rattle.vcd_host.specs.Buffered.{has_just_failed, taken};
 
     ghost device = { λ sink. record {
       held = taken D.contents sink;
       failures = sink.failures;
+      last_failed = has_just_failed sink;
     } };
 
     ghost kept_back = { λ sink. sink.buffer.len };
@@ -194,6 +202,7 @@ impl<D: Write + Drop> Sink for Buffered<D> {
             Ok(()) => Ok(()),
             Err(failed) => {
                 self.failures += 1;
+                self.buffer.note_failure();
                 Err(failed)
             }
         }

@@ -1,5 +1,5 @@
 //! An output that is bytes that were lent.
-ghost use Rattle.std.specs.Prelude.{◌≡◌, ◌+◌, ◌-◌, ◌*◌, ◌^◌, ◌<◌, ◌≤◌, ◌++◌, [], IfSome, Some, length, take, true};
+ghost use Rattle.std.specs.Prelude.{◌≡◌, ◌-◌, ◌^◌, ◌<◌, ◌≤◌, ◌++◌, [], IfSome, Some, length, take, false, true};
 
 use crate::buffer::{FEW, PARTS, SHORT, copy, copy_few, copy_parts, copy_short};
 use crate::gone::Gone;
@@ -76,7 +76,11 @@ impl<'a> Room<'a> {
 impl Sink for Room<'_> {
     ghost use Rattle.vcd_host.specs.Room.{held};
 
-    ghost device = { λ room. record { held = Some (held room); failures = 0 } };
+    ghost device = { λ room. record {
+      held = Some (held room);
+      failures = 0;
+      last_failed = false;
+    } };
 
     ghost kept_back = { λ _. 0 };
 

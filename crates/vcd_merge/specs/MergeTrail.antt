@@ -9,7 +9,8 @@ use Rattle.vcd_model.specs.MergeByInput.{due_with, entry_for}
 use Rattle.vcd_text.specs.Device.{Device, Writes, WritesSome}
 use Rattle.vcd_text.specs.declared.device.Source.{Ghosts}
 use Rattle.vcd_text.specs.declared.feed.Feed.{Feed}
-use Rattle.vcd_body.specs.Answer.{NamesInput, writes_failed}
+use Rattle.vcd_body.specs.Answer.{NamesInput}
+use Rattle.vcd_merge.specs.SeatStep.{CountsWrites}
 use Rattle.vcd_body.specs.Device.{Grows}
 use Rattle.vcd_merge.specs.MergeOrder.{IsNext}
 use Rattle.vcd_merge.specs.MergeParts.{part, part_len, spot_at}
@@ -160,7 +161,7 @@ pub record Touches {X A : Type 0} (rest : X → Option (List ℕ)) (failures : X
   pub named : NamesInput k result
   pub others : (j : ℕ) → j ≢ k → spot_at rest s'.seats s'.sources s'.chunks s'.tokens j ≡ spot_at rest s.seats s.sources s.chunks s.tokens j
   pub untouched : (j : ℕ) → j ≢ k → (slice_get s'.sources j ≡ slice_get s.sources j) × (part (part_len (length s.seats) s.tokens) j s'.values ≡ part (part_len (length s.seats) s.tokens) j s.values)
-  pub writes : out'.failures ≡ out.failures + writes_failed result
+  pub writes : CountsWrites out out' result
 
 -- What a step of a merge leaves whatever the inputs are: the input whose turn it was was touched,
 -- and where the merge has not ended, less is left to be looked at.

@@ -1,7 +1,7 @@
 -- What a step of one input leaves of its feed, whatever the input is.
 use Rattle.std.specs.Prelude.{◌≡◌, ℕ, ◌+◌, ◌^◌, ◌<◌, false, Result, IfOk}
 use Rattle.vcd_text.specs.Feed.{SameLoans, limit_of, chunk_len_of, seen, source_of}
-use Rattle.vcd_text.specs.Device.{Device}
+use Rattle.vcd_text.specs.Device.{Device, failures_then}
 use Rattle.vcd_text.specs.declared.device.Source.{Ghosts}
 use Rattle.vcd_text.specs.declared.feed.Feed.{Feed}
 use Rattle.vcd_text.specs.Advances.{HasNotFailed}
@@ -21,6 +21,6 @@ pub record Moved {X : Type 0} {g : Ghosts X} {A : Type 0} (failures : X → ℕ)
   pub progress : IfOk result (λ _. s.finished ≡ false → seen old < seen new)
   pub bounded : seen new < 2 ^ 63
 
--- a write has failed where that is why it stopped, and else none
+-- a write has failed where that is why it stopped, the last one, and else none
 abbrev pub CountsWrites : {A : Type 0} → Device → Device → Result A Stop → Type 0
-CountsWrites out out' result = out'.failures ≡ out.failures + writes_failed result
+CountsWrites out out' result = failures_then (writes_failed result) out' ≡ out.failures + writes_failed result

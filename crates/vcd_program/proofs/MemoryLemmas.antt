@@ -1,5 +1,5 @@
 -- What a program leaves over a host in memory.
-use Rattle.std.proofs.Common.{◌≡◌, ◌+◌, ◌⊎◌, ℕ, Bool, true, false, List, [], ◌∷◌, ◌++◌, map, refl, sym, subst, ap, ◌∙◌, inl, inr, arith, codes, append_assoc, append-nil}
+use Rattle.std.proofs.Common.{◌≡◌, ◌+◌, ◌⊎◌, ℕ, Bool, true, false, cond, List, [], ◌∷◌, ◌++◌, map, refl, sym, subst, ap, ◌∙◌, inl, inr, arith, codes, append_assoc, append-nil}
 use Rattle.std.specs.Prelude.{Option, Some, None, Err}
 use Rattle.clap.specs.Words.{Text}
 use Rattle.vcd_model.specs.Input.{Input}
@@ -25,17 +25,20 @@ use Rattle.vcd_program.specs.declared.memory.MemoryFile.{MemoryFile}
 
 -- ---- streams that begin empty, of which no write failed
 
-abbrev pub holding : List ℕ → Device
-holding bytes = record { held = Some bytes; failures = 0 }
+abbrev pub holding : Bool → List ℕ → Device
+holding failed bytes = record { held = Some bytes; failures = 0; last_failed = failed }
 
-none-shown : (old new line : List ℕ) → Shows (holding old) (holding new) line → new ≡ old ++ line
-none-shown old new line (inl all) = all.0
-none-shown old new line (inr some) = let bad : 0 ≡ 0 + 1 = some.1 in absurd (omega arith)
+-- a stream with these bytes, of which no write failed
+pub is-holding : (bytes all : List ℕ) (n : ℕ) (f failed : Bool) → bytes ≡ all → n ≡ 0 → f ≡ failed → record { held = Some bytes; failures = n; last_failed = f } ≡ holding failed all
+is-holding bytes all n f failed e z q = ap (λ l. record { held = Some l; failures = n; last_failed = f }) e ∙ ap (λ m. record { held = Some all; failures = m; last_failed = f }) z ∙ ap (λ b. record { held = Some all; failures = 0; last_failed = b }) q
 
--- all of the outcome was left
-all-left : (o : Outcome) (out err : List ℕ) (status : ℕ) → IsOutcome o (holding []) (holding out) (holding []) (holding err) status → (out ≡ o.output) × (err ≡ o.message) × (status ≡ o.status)
-all-left o out err status (Whole written shown is) = (written.0, none-shown [] err o.message shown, is)
-all-left o out err status (Part written shown is) = let bad : 0 ≡ 0 + 1 = written.1 in absurd (omega arith)
+none-failed : (failed : Bool) → cond failed 0 0 ≡ 0 + 1 → ⊥
+none-failed true e = omega (arith, e)
+none-failed false e = omega (arith, e)
+
+none-shown : (failed : Bool) (old new line : List ℕ) → Shows (holding false old) (holding failed new) line → new ≡ old ++ line
+none-shown failed old new line (inl all) = all.0
+none-shown failed old new line (inr some) = absurd (none-failed failed some.1)
 
 -- ---- inputs
 
@@ -90,89 +93,92 @@ all-read settled limit chunk earlier (t ∷ texts) (b ∷ old) (c ∷ new) (i �
 
 -- ---- what is left
 
--- what the program left in memory
-abbrev LeftAs : End → (after : Memory) → (out err : List ℕ) → ℕ → Type 0
-LeftAs left after out err status = (left.opened ≡ noted after) × (left.output ≡ out) × (left.message ≡ err) × (left.status ≡ status)
+-- over streams of which no write failed, whatever they say of the last one
+module _ (a b : Bool) where
+  -- all of the outcome was left
+  all-left : (o : Outcome) (out err : List ℕ) (status : ℕ) → IsOutcome o (holding false []) (holding a out) (holding false []) (holding b err) status → (out ≡ o.output) × (err ≡ o.message) × (status ≡ o.status)
+  all-left o out err status (Whole written shown is) = (written.0, none-shown b [] err o.message shown, is)
+  all-left o out err status (Part written shown is) = absurd (none-failed a written.1)
 
-is-left : (left : End) (after : Memory) (out err : List ℕ) (status : ℕ) (names : List (Option Text)) (o : Outcome) → LeftAs left after out err status → noted after ≡ names → IsOutcome o (holding []) (holding out) (holding []) (holding err) status → IsLeft left names o
-is-left left after out err status names o holds n leaves =
-    let all = all-left o out err status leaves in
-    record {
-      opened = holds.0 ∙ n;
-      output = holds.1 ∙ all.0;
-      message = holds.2 ∙ all.1;
-      status = holds.3 ∙ all.2;
-    }
+  -- what the program left in memory
+  abbrev LeftAs : End → (after : Memory) → (out err : List ℕ) → ℕ → Type 0
+  LeftAs left after out err status = (left.opened ≡ noted after) × (left.output ≡ out) × (left.message ≡ err) × (left.status ≡ status)
 
-out-of-memory : (left : End) (after : Memory) (out err : List ℕ) (status : ℕ) → LeftAs left after out err status → Fails (codes "out of memory") (holding []) (holding out) (holding []) (holding err) status → IsOutOfMemory left
-out-of-memory left after out err status holds fails = record { output = holds.1 ∙ fails.0.0; message = holds.2 ∙ none-shown [] err (program_line (codes "out of memory")) fails.1; status = holds.3 ∙ fails.2 }
+  is-left : (left : End) (after : Memory) (out err : List ℕ) (status : ℕ) (names : List (Option Text)) (o : Outcome) → LeftAs left after out err status → noted after ≡ names → IsOutcome o (holding false []) (holding a out) (holding false []) (holding b err) status → IsLeft left names o
+  is-left left after out err status names o holds n leaves =
+      let all = all-left o out err status leaves in
+      record {
+        opened = holds.0 ∙ n;
+        output = holds.1 ∙ all.0;
+        message = holds.2 ∙ all.1;
+        status = holds.3 ∙ all.2;
+      }
 
--- a step that found no file
-missed : (files : List MemoryFile) (input : Text) (names : List (Option Text)) (inputs : List Bytes) (host next after : Memory) (name : Option Text) → Opened files input names inputs host next → OpensIn next name (Err Unopened) after
-    → (noted after ≡ noted host ++ (names ++ name ∷ [])) × (bytes_among files input name ≡ None)
-missed files input names inputs host next after name o p = (
-  p.1 ∙ ap (λ l. l ++ name ∷ []) o.notes ∙ append_assoc (noted host) names (name ∷ []),
-  ap (λ fs. bytes_among fs input name) (sym o.files_are) ∙ ap (λ t. bytes_among next.files.now t name) (sym o.input_is) ∙ p.2,
-)
+  out-of-memory : (left : End) (after : Memory) (out err : List ℕ) (status : ℕ) → LeftAs left after out err status → Fails (codes "out of memory") (holding false []) (holding a out) (holding false []) (holding b err) status → IsOutOfMemory left
+  out-of-memory left after out err status holds fails = record { output = holds.1 ∙ fails.0.0; message = holds.2 ∙ none-shown b [] err (program_line (codes "out of memory")) fails.1; status = holds.3 ∙ fails.2 }
 
--- what words leave that were parsed
-left-parsed : (words : Option Words) (asked : List (Option Text)) (files : List MemoryFile) (input : Text) (host after : Memory) (left : End) (out err : List ℕ) (status : ℕ) → host.files.now ≡ files → host.input.now ≡ input → noted host ≡ [] → LeftAs left after out err status
-    → Runs OpensIn bytes_of no_failures none_failed words asked host after (holding []) (holding out) (holding []) (holding err) status → IsLeftOf words asked files input left ⊎ IsOutOfMemory left
-left-parsed words asked files input host after left out err status f i n holds (Runs.Refused fault is same leaves) =
-    inl (IsLeftOf.Refused fault is (is-left left after out err status [] (command_outcome words [] []) holds (ap noted same ∙ n) leaves))
-left-parsed words asked files input host after left out err status f i n holds (Runs.Ran want limit is readers done opened ends gives) =
-    let o = opened-in files input host asked readers after f i opened in
-    let texts = map (λ (b : Bytes). b.rest.now) readers in
-    by_end o texts (o.bytes ∙ texts-of readers) (gives texts (texts-of readers))
-  where
-    by_end : Opened files input asked readers host after → (texts : List Text) → HaveTexts files input asked texts
-        → Leaves words want limit (map called asked) texts (map (supply bytes_of no_failures) readers) (map (supply bytes_of no_failures) done) (holding []) (holding out) (holding []) (holding err) status → IsLeftOf words asked files input left ⊎ IsOutOfMemory left
-    by_end o texts have (Leaves.WithOutcome inputs read needed leaves) =
-        let all = all-read (is_settled want) limit 65536 [] texts readers done inputs read in
-        inl (IsLeftOf.Ran (record { want = want; limit = limit }) is texts have (is-left left after out err status asked (command_outcome words (map called asked) (map whole texts)) holds (o.notes ∙ ap (λ l. l ++ asked) n)
-        (subst (λ l. IsOutcome (command_outcome words (map called asked) l) (holding []) (holding out) (holding []) (holding err) status) all leaves)))
-    by_end o texts have (Leaves.NoMemory inputs read fails) = inr (out-of-memory left after out err status holds fails)
-left-parsed words asked files input host after left out err status f i n holds (Runs.Stopped job is name opened leaves) =
-    let before = opened.0 in
-    let inputs = opened.3 in
-    let next = opened.4 in
-    let o = opened-in files input host before inputs next f i opened.5 in
-    let missing = missed files input before inputs host next after name o (opened.6) in
-    inl (IsLeftOf.Stopped job is before opened.1 name opened.2 (map (λ (b : Bytes). b.rest.now) inputs) (o.bytes ∙ texts-of inputs) missing.1
-    (is-left left after out err status (before ++ name ∷ []) (unopened_outcome (called name)) holds (missing.0 ∙ ap (λ l. l ++ (before ++ name ∷ [])) n) leaves))
-left-parsed words asked files input host after left out err status f i n holds (Runs.NoMemory job is opened fails) = inr (out-of-memory left after out err status holds fails)
+  -- a step that found no file
+  missed : (files : List MemoryFile) (input : Text) (names : List (Option Text)) (inputs : List Bytes) (host next after : Memory) (name : Option Text) → Opened files input names inputs host next → OpensIn next name (Err Unopened) after
+      → (noted after ≡ noted host ++ (names ++ name ∷ [])) × (bytes_among files input name ≡ None)
+  missed files input names inputs host next after name o p = (
+    p.1 ∙ ap (λ l. l ++ name ∷ []) o.notes ∙ append_assoc (noted host) names (name ∷ []),
+    ap (λ fs. bytes_among fs input name) (sym o.files_are) ∙ ap (λ t. bytes_among next.files.now t name) (sym o.input_is) ∙ p.2,
+  )
 
--- what any words leave
-pub left-by : (words : List Text) (files : List MemoryFile) (input : Text) (host after : Memory) (left : End) (out err : List ℕ) (status : ℕ) → host.files.now ≡ files → host.input.now ≡ input → noted host ≡ [] → LeftAs left after out err status
-    → RunsOn words OpensIn bytes_of no_failures none_failed host after (holding []) (holding out) (holding []) (holding err) status → IsLeftBy words files input left
-left-by words files input host after left out err status f i n holds (RunsOn.NoMatches why is only same (inl some)) =
-    IsLeftBy.NoMatches why is only some.0 some.1 (is-left left after out err status [] (answer_outcome why some.1) holds (ap noted same ∙ n) some.2)
-left-by words files input host after left out err status f i n holds (RunsOn.NoMatches why is only same (inr fails)) = IsLeftBy.NoMemory (out-of-memory left after out err status holds fails)
-left-by words files input host after left out err status f i n holds (RunsOn.Parsed matches is run) =
-    elim (left-parsed (words_used matches) (inputs_asked matches) files input host after left out err status f i n holds run) [ inl parsed ↦ IsLeftBy.Parsed matches is parsed | inr none ↦ IsLeftBy.NoMemory none ]
+  -- what words leave that were parsed
+  left-parsed : (words : Option Words) (asked : List (Option Text)) (files : List MemoryFile) (input : Text) (host after : Memory) (left : End) (out err : List ℕ) (status : ℕ) → host.files.now ≡ files → host.input.now ≡ input → noted host ≡ [] → LeftAs left after out err status
+      → Runs OpensIn bytes_of no_failures none_failed words asked host after (holding false []) (holding a out) (holding false []) (holding b err) status → IsLeftOf words asked files input left ⊎ IsOutOfMemory left
+  left-parsed words asked files input host after left out err status f i n holds (Runs.Refused fault is same leaves) =
+      inl (IsLeftOf.Refused fault is (is-left left after out err status [] (command_outcome words [] []) holds (ap noted same ∙ n) leaves))
+  left-parsed words asked files input host after left out err status f i n holds (Runs.Ran want limit is readers done opened ends gives) =
+      let o = opened-in files input host asked readers after f i opened in
+      let texts = map (λ (b : Bytes). b.rest.now) readers in
+      by_end o texts (o.bytes ∙ texts-of readers) (gives texts (texts-of readers))
+    where
+      by_end : Opened files input asked readers host after → (texts : List Text) → HaveTexts files input asked texts
+          → Leaves words want limit (map called asked) texts (map (supply bytes_of no_failures) readers) (map (supply bytes_of no_failures) done) (holding false []) (holding a out) (holding false []) (holding b err) status → IsLeftOf words asked files input left ⊎ IsOutOfMemory left
+      by_end o texts have (Leaves.WithOutcome inputs read needed leaves) =
+          let all = all-read (is_settled want) limit 65536 [] texts readers done inputs read in
+          inl (IsLeftOf.Ran (record { want = want; limit = limit }) is texts have (is-left left after out err status asked (command_outcome words (map called asked) (map whole texts)) holds (o.notes ∙ ap (λ l. l ++ asked) n)
+          (subst (λ l. IsOutcome (command_outcome words (map called asked) l) (holding false []) (holding a out) (holding false []) (holding b err) status) all leaves)))
+      by_end o texts have (Leaves.NoMemory inputs read fails) = inr (out-of-memory left after out err status holds fails)
+  left-parsed words asked files input host after left out err status f i n holds (Runs.Stopped job is name opened leaves) =
+      let before = opened.0 in
+      let inputs = opened.3 in
+      let next = opened.4 in
+      let o = opened-in files input host before inputs next f i opened.5 in
+      let missing = missed files input before inputs host next after name o (opened.6) in
+      inl (IsLeftOf.Stopped job is before opened.1 name opened.2 (map (λ (b : Bytes). b.rest.now) inputs) (o.bytes ∙ texts-of inputs) missing.1
+      (is-left left after out err status (before ++ name ∷ []) (unopened_outcome (called name)) holds (missing.0 ∙ ap (λ l. l ++ (before ++ name ∷ [])) n) leaves))
+  left-parsed words asked files input host after left out err status f i n holds (Runs.NoMemory job is opened fails) = inr (out-of-memory left after out err status holds fails)
 
--- the output is flushed, as nothing is kept in a buffer
-left-flushed : {W : Type 0} (device : W → Device) (flushes : W → Bool → W → Type 0) (words : List Text) (files : List MemoryFile) (input : Text) (host after : Memory) (left : End) (out' : W) (out err : List ℕ) (status : ℕ)
-    → ((old new : W) (done : Bool) → flushes old done new → (done ≡ true) × (new ≡ old)) → device out' ≡ holding out → host.files.now ≡ files → host.input.now ≡ input → noted host ≡ [] → LeftAs left after out err status
-    → Finishes device flushes (λ out_now err_now n. RunsOn words OpensIn bytes_of no_failures none_failed host after (holding []) out_now (holding []) err_now n) out' (holding err) status → IsLeftBy words files input left
-left-flushed device flushes words files input host after left out' out err status flush is f i n holds (Finishes.Flushed before leaves flushed held same) =
-    left-by words files input host after left out err status f i n holds
-    (subst (λ d. RunsOn words OpensIn bytes_of no_failures none_failed host after (holding []) d (holding []) (holding err) status) (ap device (sym (flush before out' true flushed).1) ∙ is) leaves)
-left-flushed device flushes words files input host after left out' out err status flush is f i n holds (Finishes.Failed before leaves machine fails held same) =
-    let bad : false ≡ true = (flush before out' false fails).0 in cc
-left-flushed device flushes words files input host after left out' out err status flush is f i n holds (Finishes.Unflushed before shown was leaves below fails held same then status_is) =
-    let bad : false ≡ true = (flush before out' false fails).0 in cc
+  -- what any words leave
+  pub left-by : (words : List Text) (files : List MemoryFile) (input : Text) (host after : Memory) (left : End) (out err : List ℕ) (status : ℕ) → host.files.now ≡ files → host.input.now ≡ input → noted host ≡ [] → LeftAs left after out err status
+      → RunsOn words OpensIn bytes_of no_failures none_failed host after (holding false []) (holding a out) (holding false []) (holding b err) status → IsLeftBy words files input left
+  left-by words files input host after left out err status f i n holds (RunsOn.NoMatches why is only same (inl some)) =
+      IsLeftBy.NoMatches why is only some.0 some.1 (is-left left after out err status [] (answer_outcome why some.1) holds (ap noted same ∙ n) some.2)
+  left-by words files input host after left out err status f i n holds (RunsOn.NoMatches why is only same (inr fails)) = IsLeftBy.NoMemory (out-of-memory left after out err status holds fails)
+  left-by words files input host after left out err status f i n holds (RunsOn.Parsed matches is run) =
+      elim (left-parsed (words_used matches) (inputs_asked matches) files input host after left out err status f i n holds run) [ inl parsed ↦ IsLeftBy.Parsed matches is parsed | inr none ↦ IsLeftBy.NoMemory none ]
 
--- a stream with these bytes, of which no write failed
-pub is-holding : (bytes all : List ℕ) (n : ℕ) → bytes ≡ all → n ≡ 0 → record { held = Some bytes; failures = n } ≡ holding all
-is-holding bytes all n e z = ap (λ l. record { held = Some l; failures = n }) e ∙ ap (λ m. record { held = Some all; failures = m }) z
+  -- the output is flushed, as nothing is kept in a buffer
+  left-flushed : {W : Type 0} (device : W → Device) (flushes : W → Bool → W → Type 0) (words : List Text) (files : List MemoryFile) (input : Text) (host after : Memory) (left : End) (out' : W) (out err : List ℕ) (status : ℕ)
+      → ((old new : W) (done : Bool) → flushes old done new → (done ≡ true) × (new ≡ old)) → device out' ≡ holding a out → host.files.now ≡ files → host.input.now ≡ input → noted host ≡ [] → LeftAs left after out err status
+      → Finishes device flushes (λ out_now err_now n. RunsOn words OpensIn bytes_of no_failures none_failed host after (holding false []) out_now (holding false []) err_now n) out' (holding b err) status → IsLeftBy words files input left
+  left-flushed device flushes words files input host after left out' out err status flush is f i n holds (Finishes.Flushed before leaves flushed held same) =
+      left-by words files input host after left out err status f i n holds
+      (subst (λ d. RunsOn words OpensIn bytes_of no_failures none_failed host after (holding false []) d (holding false []) (holding b err) status) (ap device (sym (flush before out' true flushed).1) ∙ is) leaves)
+  left-flushed device flushes words files input host after left out' out err status flush is f i n holds (Finishes.Failed before leaves machine fails held same) =
+      let bad : false ≡ true = (flush before out' false fails).0 in cc
+  left-flushed device flushes words files input host after left out' out err status flush is f i n holds (Finishes.Unflushed before shown was leaves below fails held same then status_is) =
+      let bad : false ≡ true = (flush before out' false fails).0 in cc
 
-pub left-in-memory : {W : Type 0} (device : W → Device) (flushes : W → Bool → W → Type 0) (words : List Text) (files : List MemoryFile) (input : Text) (host after : Memory) (left : End) (out' : W) (out err : List ℕ) (status : ℕ) (out0 err0 err1 : Device)
-    → ((old new : W) (done : Bool) → flushes old done new → (done ≡ true) × (new ≡ old)) → device out' ≡ holding out → host.files.now ≡ files → host.input.now ≡ input → noted host ≡ [] → LeftAs left after out err status
-    → out0 ≡ holding [] → err0 ≡ holding [] → err1 ≡ holding err
-    → Finishes device flushes (λ out_now err_now n. RunsOn words OpensIn bytes_of no_failures none_failed host after out0 out_now err0 err_now n) out' err1 status → IsLeftBy words files input left
-left-in-memory device flushes words files input host after left out' out err status out0 err0 err1 flush is f i n holds e0 e1 e2 fin =
-    left-flushed device flushes words files input host after left out' out err status flush is f i n holds
-    (subst (λ d. Finishes device flushes (λ out_now err_now n. RunsOn words OpensIn bytes_of no_failures none_failed host after (holding []) out_now (holding []) err_now n) out' d status) e2
-    (subst (λ d. Finishes device flushes (λ out_now err_now n. RunsOn words OpensIn bytes_of no_failures none_failed host after (holding []) out_now d err_now n) out' err1 status) e1
-    (subst (λ d. Finishes device flushes (λ out_now err_now n. RunsOn words OpensIn bytes_of no_failures none_failed host after d out_now err0 err_now n) out' err1 status) e0 fin)))
+  pub left-in-memory : {W : Type 0} (device : W → Device) (flushes : W → Bool → W → Type 0) (words : List Text) (files : List MemoryFile) (input : Text) (host after : Memory) (left : End) (out' : W) (out err : List ℕ) (status : ℕ) (out0 err0 err1 : Device)
+      → ((old new : W) (done : Bool) → flushes old done new → (done ≡ true) × (new ≡ old)) → device out' ≡ holding a out → host.files.now ≡ files → host.input.now ≡ input → noted host ≡ [] → LeftAs left after out err status
+      → out0 ≡ holding false [] → err0 ≡ holding false [] → err1 ≡ holding b err
+      → Finishes device flushes (λ out_now err_now n. RunsOn words OpensIn bytes_of no_failures none_failed host after out0 out_now err0 err_now n) out' err1 status → IsLeftBy words files input left
+  left-in-memory device flushes words files input host after left out' out err status out0 err0 err1 flush is f i n holds e0 e1 e2 fin =
+      left-flushed device flushes words files input host after left out' out err status flush is f i n holds
+      (subst (λ d. Finishes device flushes (λ out_now err_now n. RunsOn words OpensIn bytes_of no_failures none_failed host after (holding false []) out_now (holding false []) err_now n) out' d status) e2
+      (subst (λ d. Finishes device flushes (λ out_now err_now n. RunsOn words OpensIn bytes_of no_failures none_failed host after (holding false []) out_now d err_now n) out' err1 status) e1
+      (subst (λ d. Finishes device flushes (λ out_now err_now n. RunsOn words OpensIn bytes_of no_failures none_failed host after d out_now err0 err_now n) out' err1 status) e0 fin)))

@@ -1,12 +1,13 @@
 -- What a program leaves in bytes that were lent.
-use Rattle.std.proofs.Common.{◌≡◌, ◌∷◌, [], ℕ, List, Bool, true, false, ap, sym, refl, subst, inl, inr, drop, get_or, map, codes}
+use Rattle.std.proofs.Common.{◌≡◌, ◌∷◌, [], ℕ, List, Bool, true, false, ap, sym, refl, subst, inl, inr, drop, get_or, zero, suc, map, codes}
 use Rattle.std.specs.Prelude.{Option}
 use Rattle.clap.specs.Words.{Text}
 use Rattle.vcd_model.specs.Job.{Want}
 use Rattle.vcd_model.specs.Outcome.{Outcome}
 use Rattle.vcd_model.specs.Words.{Words}
-use Rattle.vcd_text.specs.Device.{Device, Supply, Writes, WritesSome}
+use Rattle.vcd_text.specs.Device.{Device, Supply, Writes, WritesSome, failures_then}
 use Rattle.vcd_text.specs.declared.device.Bytes.{Bytes}
+use Rattle.vcdkit.specs.Failure.{writes_failed}
 use Rattle.vcdkit.specs.Message.{Shows}
 use Rattle.vcdkit.specs.Run.{IsOutcome}
 use Rattle.vcdkit.specs.Run.IsOutcome.{Whole, Part}
@@ -20,7 +21,7 @@ use Rattle.vcd_program.proofs.MemoryLemmas.{bytes_of, holding, left-by, no_failu
 
 -- what a room tells of itself
 abbrev room_device : Room → Device
-room_device room = holding (held room)
+room_device room = holding false (held room)
 
 abbrev flushes : Room → Bool → Room → Type 0
 flushes old done new = (done ≡ true) × (new ≡ old)
@@ -32,21 +33,26 @@ first e = ap (λ l. get_or l 0 0) e
 rest : {n n' : ℕ} {xs ws : List ℕ} → n' ∷ ws ≡ n ∷ xs → ws ≡ xs
 rest e = ap (drop 1) e
 
+-- what is counted does not depend on the bytes
+same-count : (k : ℕ) (xs ys : List ℕ) (m : ℕ) → failures_then k (holding false xs) ≡ m → failures_then k (holding false ys) ≡ m
+same-count zero xs ys m e = e
+same-count (suc k) xs ys m e = e
+
 module _ (n n' : ℕ) (ws : List ℕ) where
-  writes-after : (bytes : List ℕ) → Writes (holding (n ∷ [])) (holding (n' ∷ ws)) bytes → (n' ≡ n) × Writes (holding []) (holding ws) bytes
+  writes-after : (bytes : List ℕ) → Writes (holding false (n ∷ [])) (holding false (n' ∷ ws)) bytes → (n' ≡ n) × Writes (holding false []) (holding false ws) bytes
   writes-after bytes w = (first w.0, (rest w.0, w.1))
 
-  some-after : (bytes : List ℕ) → WritesSome (holding (n ∷ [])) (holding (n' ∷ ws)) bytes → (n' ≡ n) × WritesSome (holding []) (holding ws) bytes
+  some-after : (bytes : List ℕ) → WritesSome (holding false (n ∷ [])) (holding false (n' ∷ ws)) bytes → (n' ≡ n) × WritesSome (holding false []) (holding false ws) bytes
   some-after bytes w = (first w.0.1, ((w.0.0, rest w.0.1), w.1))
 
-  shows-after : (line : List ℕ) → Shows (holding (n ∷ [])) (holding (n' ∷ ws)) line → (n' ≡ n) × Shows (holding []) (holding ws) line
+  shows-after : (line : List ℕ) → Shows (holding false (n ∷ [])) (holding false (n' ∷ ws)) line → (n' ≡ n) × Shows (holding false []) (holding false ws) line
   shows-after line (inl all) = let s = writes-after line all in (s.0, inl s.1)
   shows-after line (inr some) = let s = some-after line some in (s.0, inr s.1)
 
 module _ (n n' m m' status : ℕ) (ws vs : List ℕ) where
   -- of what is left, with the names and without them
   abbrev After : ((out out' err err' : Device) → ℕ → Type 0) → Type 0
-  After Left = Left (holding (n ∷ [])) (holding (n' ∷ ws)) (holding (m ∷ [])) (holding (m' ∷ vs)) status → (n' ≡ n) × (m' ≡ m) × Left (holding []) (holding ws) (holding []) (holding vs) status
+  After Left = Left (holding false (n ∷ [])) (holding false (n' ∷ ws)) (holding false (m ∷ [])) (holding false (m' ∷ vs)) status → (n' ≡ n) × (m' ≡ m) × Left (holding false []) (holding false ws) (holding false []) (holding false vs) status
 
   outcome-after : (o : Outcome) → After (IsOutcome o)
   outcome-after o (Whole written shown is) =
@@ -75,7 +81,7 @@ module _ (n n' m m' status : ℕ) (ws vs : List ℕ) where
       let one = leaves-after words want limit _ texts _ _ (gives texts (texts-of readers)) in (
         one.0,
         one.1,
-        Runs.Ran want limit is readers done opened (ends.0, ends.1, ends.2, ends.3, (shows-after m m' vs _ ends.4).1, ends.5)
+        Runs.Ran want limit is readers done opened (ends.0, ends.1, same-count (writes_failed ends.0) (n' ∷ ws) ws _ ends.2, ends.3, (shows-after m m' vs _ ends.4).1, ends.5)
             (λ read have. (leaves-after words want limit _ read _ _ (gives read have)).2),
       )
   runs-after words asked host after (Runs.Stopped job is name opened leaves) = let o = outcome-after _ leaves in (o.0, o.1, Runs.Stopped job is name opened o.2)
@@ -92,10 +98,10 @@ pub left-in-rooms : (words : List Text) (files : List MemoryFile) (input : Text)
     → (out'.bytes.ghost_name ≡ out.bytes.ghost_name) × (err'.bytes.ghost_name ≡ err.bytes.ghost_name) × IsLeftAs words files input (written out') (written err') status
 left-in-rooms words files input host after status out out' err err' f i n no_out no_err (Finishes.Flushed before left flushed held same) =
     let now = subst (λ (room : Room). RunsOn words OpensIn bytes_of no_failures none_failed host after (room_device out) (room_device room) (room_device err) (room_device err') status) (sym flushed.1) left in
-    let from_out = subst (λ l. RunsOn words OpensIn bytes_of no_failures none_failed host after (holding (out.bytes.ghost_name ∷ l)) (room_device out') (room_device err) (room_device err') status) no_out now in
-    let from_err = subst (λ l. RunsOn words OpensIn bytes_of no_failures none_failed host after (holding (out.bytes.ghost_name ∷ [])) (room_device out') (holding (err.bytes.ghost_name ∷ l)) (room_device err') status) no_err from_out in
+    let from_out = subst (λ l. RunsOn words OpensIn bytes_of no_failures none_failed host after (holding false (out.bytes.ghost_name ∷ l)) (room_device out') (room_device err) (room_device err') status) no_out now in
+    let from_err = subst (λ l. RunsOn words OpensIn bytes_of no_failures none_failed host after (holding false (out.bytes.ghost_name ∷ [])) (room_device out') (holding false (err.bytes.ghost_name ∷ l)) (room_device err') status) no_err from_out in
     let bare = words-after out.bytes.ghost_name out'.bytes.ghost_name err.bytes.ghost_name err'.bytes.ghost_name status (written out') (written err') words host after from_err in
-    (bare.0, bare.1, (noted after, left-by words files input host after _ (written out') (written err') status f i n (refl, refl, refl, refl) bare.2))
+    (bare.0, bare.1, (noted after, left-by false false words files input host after _ (written out') (written err') status f i n (refl, refl, refl, refl) bare.2))
 left-in-rooms words files input host after status out out' err err' f i n no_out no_err (Finishes.Failed before left machine fails held same) = let bad : false ≡ true = fails.0 in cc
 left-in-rooms words files input host after status out out' err err' f i n no_out no_err (Finishes.Unflushed before shown was left below fails held same then status_is) = let bad : false ≡ true = fails.0 in cc
 

@@ -41,9 +41,13 @@ pub shows-none : (d : Device) → Shows d d []
 shows-none d = inl (writes-none d)
 
 -- a line on the error stream counts one failure at most
-pub shown-counts : (old new : Device) (line : List ℕ) → Shows old new line → new.failures ≤ old.failures + 1
-shown-counts old new line (inl all) = let same = all.1 in omega (arith, same)
-shown-counts old new line (inr some) = let more = some.1 in omega (arith, more)
+pub shown_once : (old new : Device) (line : List ℕ) → Shows old new line → new.failures ≤ old.failures + 1
+shown_once old new line (inl all) = let same = all.1 in omega (arith, same)
+shown_once old new line (inr some) = by_flag new.last_failed some.1
+  where
+    by_flag : (b : Bool) → cond b new.failures 0 ≡ old.failures + 1 → new.failures ≤ old.failures + 1
+    by_flag true is = omega (arith, is)
+    by_flag false is = absurd (omega (arith, is))
 
 -- what was put is shown, whatever the result
 pub put-shows : {A E : Type 0} (old new : Device) (line : List ℕ) (r : Result A E) → Puts old new line r → Shows old new line

@@ -10,7 +10,7 @@ use Rattle.vcd_model.specs.Outcome.{Outcome, clean_outcome, program_line}
 use Rattle.vcd_model.specs.Settled.{is_header_over, is_settled}
 use Rattle.vcd_model.specs.Words.{Job, Words, UseFault, command_outcome, job_of}
 use Rattle.vcd_model.specs.Job.{Want}
-use Rattle.vcd_text.specs.Device.{Device, Supply, Writes, supply}
+use Rattle.vcd_text.specs.Device.{Device, Supply, Writes, failures_then, supply}
 use Rattle.vcd_text.specs.declared.device.Sink.{Ghosts as Sinks}
 use Rattle.vcd_text.specs.declared.device.Source.{Ghosts}
 use Rattle.vcd_words.specs.Words.{parse_status_of, program_app, words_used}
@@ -38,7 +38,7 @@ names_wanted want = []
 -- the input that is named failed, its last one, and of no other, and likewise for a write
 abbrev pub EndsSo : (names asked : List Text) (before after : List ℕ) (last_failed : List Bool) (out out' err err' : Device) (status : ℕ) → Type 0
 EndsSo names asked before after last_failed out out' err err' status =
-    (why : _) × CountsReads before after why × (out'.failures ≡ out.failures + writes_failed why) × (status ≡ end_status why) × Shows err err' (end_message names asked why)
+    (why : _) × CountsReads before after why × (failures_then (writes_failed why) out' ≡ out.failures + writes_failed why) × (status ≡ end_status why) × Shows err err' (end_message names asked why)
     × EndsAtReadOf last_failed why
 
 -- over inputs with these names and texts: the outcome of the words and of what was read of each,

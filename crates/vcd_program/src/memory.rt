@@ -170,8 +170,8 @@ fn run_into_rooms<B: BuildHasher>(
 }
 
 /// Runs the program on these words, its own name first among them, over files in memory, and
-/// returns its status and how long output and message are, if of each fewer than 2^63 bytes found no
-/// room. As much as there is room for is at the front of the bytes that were lent.
+/// returns its status and how long output and message are, if of each fewer than 2^63 bytes found
+/// no room. As much as there is room for is at the front of the bytes that were lent.
 ///
 /// Identifier codes are hashed by numbers that the hasher gives; what is left is the same by each.
 pub fn run_into_memory<B: BuildHasher>(

@@ -6,6 +6,6 @@ use Rattle.vcd_text.specs.declared.device.Watch.{Watch}
 abbrev pub failed_calls : {D : Type 0} → Watch D → ℕ
 failed_calls w = w.failures
 
--- whether the last read of the device did
+-- whether the last of them did
 abbrev pub has_just_failed : {D : Type 0} → Watch D → Bool
 has_just_failed w = w.last_failed

@@ -1,5 +1,5 @@
 -- How a run ends, and what it leaves.
-use Rattle.std.proofs.Common.{◌≡◌, ◌==◌, ℕ, Bool, true, false, ◌+◌, ◌<◌, ◌++◌, inl, List, [], ◌∷◌, length, map, get_or, set, slice_set, Option, Some, Result, Ok, Err, refl, sym, ap, subst, ◌∙◌, arith}
+use Rattle.std.proofs.Common.{◌≡◌, ◌==◌, ℕ, Bool, true, false, cond, zero, suc, ◌+◌, ◌<◌, ◌≤◌, ◌++◌, inl, inr, List, [], ◌∷◌, length, map, get_or, set, slice_set, Option, None, Some, Result, Ok, Err, refl, sym, ap, subst, ◌∙◌, arith}
 use Rattle.std.specs.Prelude.{MatchResult, IfOk, IfErr}
 use Rattle.std.specs.List.{list_any}
 use Rattle.vcd_model.specs.Input.{Input}
@@ -16,7 +16,7 @@ use Rattle.vcd_model.specs.Outcome.{Opened, Outcome, Request, ends_early, fault_
 use Rattle.vcd_model.specs.Reading.{Fault, Placed, phrases_of}
 use Rattle.vcd_model.specs.Tokens.{Token, stream_of}
 use Rattle.vcd_text.specs.Answer.{whole}
-use Rattle.vcd_text.specs.Device.{Counts, Device, Supply, Takes, Writes, supply}
+use Rattle.vcd_text.specs.Device.{Counts, Device, failures_then, Supply, Takes, Writes, supply}
 use Rattle.vcd_text.specs.ReadAhead.{ReadsAsNeeded}
 use Rattle.vcd_text.specs.ReadAhead.ReadsAsNeeded.{Nothing}
 use Rattle.vcd_text.specs.Feed.{HasGiven, limit_of}
@@ -32,7 +32,8 @@ use Rattle.vcd_words.specs.declared.job.Want.{Want}
 use Rattle.vcdkit.specs.declared.failure.Failure.{Failure}
 use Rattle.vcdkit.specs.declared.failure.Failure.TheVariants as failure
 use Rattle.vcd_words.specs.declared.refusal.Refusal.{Refusal}
-use Rattle.vcdkit.specs.Failure.{end_of, failure_of, merge_end, CountsRead, EndsAtRead, EndsAtReadOf}
+use Rattle.vcdkit.specs.Failure.{end_of, failure_of, merge_end, writes_failed as failure_writes, CountsRead, EndsAtRead, EndsAtReadOf}
+use Rattle.vcdkit.specs.Message.{Shows}
 use Rattle.vcd_words.specs.Refusal.{model_refusal}
 use Rattle.vcd_words.specs.Job.{is_merge, model_want, names_asked}
 use Rattle.vcdkit.specs.Inputs.{HasFailed, IsBegun}
@@ -81,9 +82,32 @@ pub list_reads : (n : ℕ) (r : Result Done Stop) → MatchResult r (λ done. do
 list_reads n (Ok done) m = omega arith
 list_reads n (Err stop) m = rw m (omega arith)
 
-pub list_writes : (out out' : Device) (r : Result Done Stop) → Counts out out' r → MatchResult r (λ done. done ≡ Done.Whole) (λ stop. stop ≡ Write) → out'.failures ≡ out.failures + writes_failed r
+pub list_writes : (out out' : Device) (r : Result Done Stop) → Counts out out' r → MatchResult r (λ done. done ≡ Done.Whole) (λ stop. stop ≡ Write) → failures_then (writes_failed r) out' ≡ out.failures + writes_failed r
 list_writes out out' (Ok done) f m = omega (arith, f)
-list_writes out out' (Err stop) f m = rw m (omega (arith, f))
+list_writes out out' (Err stop) f m = rw m f
+
+-- at most one write more has failed
+pub most_one : (n : ℕ) (old new : Device) → n ≤ 1 → failures_then n new ≡ old.failures + n → new.failures ≤ old.failures + 1
+most_one zero old new few e = omega (arith, e)
+most_one (suc n) old new few e = by_flag new.last_failed e
+  where
+    by_flag : (b : Bool) → cond b new.failures 0 ≡ old.failures + suc n → new.failures ≤ old.failures + 1
+    by_flag true is = omega (arith, few, is)
+    by_flag false is = absurd (omega (arith, is))
+
+pub few_writes : (why : Option Failure) → failure_writes why ≤ 1
+few_writes None = omega arith
+few_writes (Some (failure.Stopped (Dump input line fault))) = omega arith
+few_writes (Some (failure.Stopped (Read input))) = omega arith
+few_writes (Some (failure.Stopped Write)) = omega arith
+few_writes (Some (failure.Stopped (Unmatched name))) = omega arith
+few_writes (Some (failure.Refused why)) = omega arith
+few_writes (Some failure.OutOfMemory) = omega arith
+
+-- a line counts one failure at most
+pub shown_once : (old new : Device) (line : List ℕ) → Shows old new line → new.failures ≤ old.failures + 1
+shown_once old new line (inl all) = let same = all.1 in omega (arith, same)
+shown_once old new line (inr some) = most_one 1 old new (omega arith) some.1
 
 pub list_last : (last_failed : Bool) (r : Result Done Stop) → MatchResult r (λ done. done ≡ Done.Whole) (λ stop. stop ≡ Write) → EndsAtStop last_failed r
 list_last last_failed (Ok done) m = λ input is. absurd (cc)

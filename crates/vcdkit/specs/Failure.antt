@@ -1,6 +1,6 @@
 -- Why a run ends before it is done, and which calls of its devices failed.
 use Rattle.std.specs.Prelude.{◌≡◌, ℕ, ◌+◌, ◌<◌, Bool, true, List, length, map, slice_get, slice_set, slice_index, Option, Some, None, Result, Ok, Err}
-use Rattle.vcd_text.specs.Device.{Device}
+use Rattle.vcd_text.specs.Device.{Device, failures_then}
 use Rattle.vcd_head.specs.Fault.{fault_number}
 use Rattle.vcd_head.specs.declared.fault.HeadFault.{HeadFault}
 use Rattle.vcd_head.specs.declared.fault.HeadFault.TheVariants as head_fault
@@ -74,6 +74,6 @@ CountsAt failures place old new result = CountsRead place (failures old) (failur
 abbrev pub CountsReadsOf : {X : Type 0} → (X → ℕ) → (old new : List X) → Option Failure → Type 0
 CountsReadsOf failures old new why = CountsReads (map failures old) (map failures new) why
 
--- this many writes of this sink failed
+-- this many writes of this sink failed, the last one among them
 abbrev pub CountsWrites : {W : Type 0} → (W → Device) → W → W → ℕ → Type 0
-CountsWrites device old new count = (device new).failures ≡ (device old).failures + count
+CountsWrites device old new count = failures_then count (device new) ≡ (device old).failures + count

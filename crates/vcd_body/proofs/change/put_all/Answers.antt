@@ -7,18 +7,18 @@ use Rattle.vcd_body.proofs.change.put_all.Goals as goal
 pub returns-in_err-put_lower : goal.returns-in_err-put_lower
 returns-in_err-put_lower g c =
     let p = err_from_is_err_and c.from_residual.result c.from_residual.ensures.1 in
-    rw p.1 (some-first _ _ (str_to_ascii_lowercase c.args.digits.now) (c.args.id.now ++ 10 ∷ []) c.in_err-put_lower.ensures)
+    rw p.1 (some-first (g.W.Sink.device _) (g.W.Sink.device _) (str_to_ascii_lowercase c.args.digits.now) (c.args.id.now ++ 10 ∷ []) c.in_err-put_lower.ensures)
 
 pub returns-in_err-put : goal.returns-in_err-put
 returns-in_err-put g c =
     let p = err_from_is_err_and c.from_residual-in_err-put.result c.from_residual-in_err-put.ensures.1 in
     let digits = str_to_ascii_lowercase c.args.digits.now in
     let id = c.args.id.now in
-    rw p.1 (some-behind _ _ _ digits (id ++ 10 ∷ []) c.in_ok-put_lower.ensures (some-first _ _ id (10 ∷ []) c.in_err-put.ensures))
+    rw p.1 (some-behind (g.W.Sink.device _) (g.W.Sink.device _) (g.W.Sink.device _) digits (id ++ 10 ∷ []) c.in_ok-put_lower.ensures (some-first (g.W.Sink.device _) (g.W.Sink.device _) id (10 ∷ []) c.in_err-put.ensures))
 
 pub returns : goal.returns
 returns g c =
     let digits = str_to_ascii_lowercase c.args.digits.now in
     let id = c.args.id.now in
     let result = c.put-2.result in
-    puts-twice _ _ _ digits (id ++ 10 ∷ []) result c.in_ok-put_lower.ensures (puts-twice _ _ _ id (10 ∷ []) result c.in_ok-put.ensures c.put-2.ensures)
+    puts-twice (g.W.Sink.device _) (g.W.Sink.device _) (g.W.Sink.device _) digits (id ++ 10 ∷ []) result c.in_ok-put_lower.ensures (puts-twice (g.W.Sink.device _) (g.W.Sink.device _) (g.W.Sink.device _) id (10 ∷ []) result c.in_ok-put.ensures c.put-2.ensures)

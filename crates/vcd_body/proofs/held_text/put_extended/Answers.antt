@@ -15,7 +15,7 @@ returns-in_err-put_repeated g c =
     let count : c.saturating_sub-missing.result ≡ m = omega (arith, c.saturating_sub-missing.ensures, c.count_of.ensures) in
     let digit = c.extension_of.ensures ∙ ap (λ d. extension (d ∷ [])) c.digit_or.ensures ∙ sym (extension_at ds 0 c.requires.some) in
     let front = ap (λ n. replicate n c.extension_of.result) count ∙ ap (replicate m) digit in
-    rw p.1 (some-first _ _ (replicate m (extension ds)) ds (subst (WritesSome (g.W.Sink.device c.args.w.now) (g.W.Sink.device c.put_repeated.new.w)) front c.in_err-put_repeated.ensures))
+    rw p.1 (some-first (g.W.Sink.device _) (g.W.Sink.device _) (replicate m (extension ds)) ds (subst (WritesSome (g.W.Sink.device c.args.w.now) (g.W.Sink.device c.put_repeated.new.w)) front c.in_err-put_repeated.ensures))
 
 pub returns : goal.returns
 returns g c =
@@ -24,4 +24,4 @@ returns g c =
     let count : c.saturating_sub-missing.result ≡ m = omega (arith, c.saturating_sub-missing.ensures, c.count_of.ensures) in
     let digit = c.extension_of.ensures ∙ ap (λ d. extension (d ∷ [])) c.digit_or.ensures ∙ sym (extension_at ds 0 c.requires.some) in
     let front = ap (λ n. replicate n c.extension_of.result) count ∙ ap (replicate m) digit in
-    puts-twice _ _ _ (replicate m (extension ds)) ds c.put_from.result (subst (Writes (g.W.Sink.device c.args.w.now) (g.W.Sink.device c.put_repeated.new.w)) front c.in_ok-put_repeated.ensures) c.put_from.ensures
+    puts-twice (g.W.Sink.device _) (g.W.Sink.device _) (g.W.Sink.device _) (replicate m (extension ds)) ds c.put_from.result (subst (Writes (g.W.Sink.device c.args.w.now) (g.W.Sink.device c.put_repeated.new.w)) front c.in_ok-put_repeated.ensures) c.put_from.ensures

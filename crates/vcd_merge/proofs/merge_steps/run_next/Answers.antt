@@ -1,8 +1,8 @@
-use Rattle.std.proofs.Common.{◌≡◌, ◌+◌, ◌∙◌, true, false, sym, ap, refl, length, Err, rules, take, arith, inr, add-zero}
+use Rattle.std.proofs.Common.{◌≡◌, ◌+◌, ◌∙◌, true, false, sym, ap, refl, length, Err, rules, subst, take, arith, inr, add-zero}
 use Rattle.std.proofs.lemmas.Option.{get_or_from_slice_get, slice_get_within}
 use Rattle.vcd_model.specs.HeadText.{first_number}
 use Rattle.vcd_model.specs.Merge.{factor}
-use Rattle.vcd_text.specs.Device.{Device}
+use Rattle.vcd_text.specs.Device.{Device, failures_then}
 use Rattle.vcd_merge.specs.MergeStep.{Standing, standing}
 use Rattle.vcd_body.specs.declared.answer.More.{More}
 use Rattle.vcd_body.specs.declared.answer.Stop.{Stop}
@@ -75,7 +75,7 @@ returns-in_err-run_turn-clause-runs g c =
           named = still_named (Unit {0}) More c.in-Some.next.input stop en.touches.named;
           others = en.touches.others;
           untouched = en.touches.untouched;
-          writes = en.touches.writes ∙ ap (λ n. (g.W.Sink.device c.args.out.now).failures + n) (still_written (Unit {0}) More stop);
+          writes = subst (λ n. failures_then n (g.W.Sink.device c.run_turn.new.out) ≡ (g.W.Sink.device c.args.out.now).failures + n) (still_written (Unit {0}) More stop) en.touches.writes;
         };
         left = λ again. cc;
       });

@@ -16,7 +16,7 @@ pub returns-in-Err-clause-turns : goal.returns-in-Err-clause-turns
 returns-in-Err-clause-turns g c = λ scale first l items shows at.
     let views = subst (λ (x : HeadShown). Views x l.header) (sym c.view-view.ensures) shows in
     let fails = c.in-Err.ensures.reads l.header l.input l.front items views (out_of scale first l items c.args.seat.now c.args.feed.now at) in
-    rw c.of_body.ensures (faulty scale first l items (Unit {0}) c.args.input c.args.seat.now c.next_item.new.regs c.args.seat.now.time c.args.seat.now.finished c.args.feed.now c.next_item.new.feed c.args.written.now _ c.in-Err.fault c.line.result at c.line.ensures fails)
+    rw c.of_body.ensures (faulty scale first l items (Unit {0}) c.args.input c.args.seat.now c.next_item.new.regs c.args.seat.now.time c.args.seat.now.finished c.args.feed.now c.next_item.new.feed c.args.written.now (g.W.Sink.device _) c.in-Err.fault c.line.result at c.line.ensures fails)
 
 pub returns-in-None-clause-turns : goal.returns-in-None-clause-turns
 returns-in-None-clause-turns g c = λ scale first l items shows at.
@@ -25,7 +25,7 @@ returns-in-None-clause-turns g c = λ scale first l items shows at.
     let not = c.in-None.ensures in
     let big : 2 ^ 64 ≤ c.in-Time.time * c.args.seat.now.factor = omega (arith, not) in
     let dump = marked_dump scale (limit_of c.next_item.new.feed) l.header l.front l.input items at.small c.next_item.new.feed c.in-Time.time c.next_item.new.regs refl (large scale c.in-Time.time (rw at.factor_is at big)) gives in
-    rw c.too_large.ensures (refl, refl, rw c.line-in-None.ensures dump, writes-none _, no_more_at_item l l.input items c.next_item.new.feed (BodyItem.Time c.in-Time.time) c.next_item.new.regs gives)
+    rw c.too_large.ensures (refl, refl, rw c.line-in-None.ensures dump, writes-none (g.W.Sink.device _), no_more_at_item l l.input items c.next_item.new.feed (BodyItem.Time c.in-Time.time) c.next_item.new.regs gives)
 
 pub returns-in_err-put_unsized-in-Change-clause-turns : goal.returns-in_err-put_unsized-in-Change-clause-turns
 returns-in_err-put_unsized-in-Change-clause-turns g c = λ scale first l items shows at.
@@ -45,7 +45,7 @@ pub returns-in-Finish-clause-turns : goal.returns-in-Finish-clause-turns
 returns-in-Finish-clause-turns g c = λ scale first l items shows at.
     let views = subst (λ (x : HeadShown). Views x l.header) (sym c.view-view.ensures) shows in
     let gives = rw c.in-Finish.is at c.in-Ok.ensures.reads l.header l.input l.front items views (out_of scale first l items c.args.seat.now c.args.feed.now at) in
-    inr (refl, ended scale first l items c.args.seat.now c.next_item.new.regs true c.args.feed.now c.next_item.new.feed at gives, refl, writes-none _, no_more_at_end l l.input items c.next_item.new.feed c.next_item.new.regs gives)
+    inr (refl, ended scale first l items c.args.seat.now c.next_item.new.regs true c.args.feed.now c.next_item.new.feed at gives, refl, writes-none (g.W.Sink.device _), no_more_at_end l l.input items c.next_item.new.feed c.next_item.new.regs gives)
 
 pub returns-in-Some-clause-turns : goal.returns-in-Some-clause-turns
 returns-in-Some-clause-turns g c = λ scale first l items shows at.
@@ -56,7 +56,7 @@ returns-in-Some-clause-turns g c = λ scale first l items shows at.
     let regs = rw c.in-Time.is at c.in-Ok.ensures.regs in
     let fits = rw at.factor_is at c.in-Some.ensures in
     let time : c.in-Some.time ≡ scale * r.time = fits.1 ∙ mul_comm c.in-Time.time scale ∙ ap (λ n. scale * n) (sym (ap (λ (q : Regs). q.time) regs)) in
-    inl (BodyItem.Time c.in-Time.time, (c.requires.unfinished, turned scale first l items s r c.in-Some.time s.finished c.args.feed.now c.next_item.new.feed (BodyItem.Time c.in-Time.time) at gives.gave (not_large scale c.in-Time.time fits.0) time c.requires.unfinished, refl, no_more_at_item l l.input items c.next_item.new.feed (BodyItem.Time c.in-Time.time) r gives), writes-none _)
+    inl (BodyItem.Time c.in-Time.time, (c.requires.unfinished, turned scale first l items s r c.in-Some.time s.finished c.args.feed.now c.next_item.new.feed (BodyItem.Time c.in-Time.time) at gives.gave (not_large scale c.in-Time.time fits.0) time c.requires.unfinished, refl, no_more_at_item l l.input items c.next_item.new.feed (BodyItem.Time c.in-Time.time) r gives), writes-none (g.W.Sink.device _))
 
 pub returns-in_ok-put_unsized-in-Change-clause-turns : goal.returns-in_ok-put_unsized-in-Change-clause-turns
 returns-in_ok-put_unsized-in-Change-clause-turns g c = λ scale first l items shows at.
@@ -79,7 +79,7 @@ returns-in-Begin-clause-turns g c = λ scale first l items shows at.
     let gives = rw c.in-Begin.is at c.in-Ok.ensures.reads l.header l.input l.front items views (out_of scale first l items s c.args.feed.now at) in
     let regs = rw c.in-Begin.is at c.in-Ok.ensures.regs in
     let x = BodyItem.Begin (model_section c.in-Begin.field-0) in
-    inl (x, (c.requires.unfinished, turned scale first l items s r s.time s.finished c.args.feed.now c.next_item.new.feed x at gives.gave refl (timed scale items s r at.gave.known (ap (λ (q : Regs). q.time) regs) at.time_is) c.requires.unfinished, refl, no_more_at_item l l.input items c.next_item.new.feed x r gives), writes-none _)
+    inl (x, (c.requires.unfinished, turned scale first l items s r s.time s.finished c.args.feed.now c.next_item.new.feed x at gives.gave refl (timed scale items s r at.gave.known (ap (λ (q : Regs). q.time) regs) at.time_is) c.requires.unfinished, refl, no_more_at_item l l.input items c.next_item.new.feed x r gives), writes-none (g.W.Sink.device _))
 
 pub returns-in-End-clause-turns : goal.returns-in-End-clause-turns
 returns-in-End-clause-turns g c = λ scale first l items shows at.
@@ -88,4 +88,4 @@ returns-in-End-clause-turns g c = λ scale first l items shows at.
     let r = c.next_item.new.regs in
     let gives = rw c.in-End.is at c.in-Ok.ensures.reads l.header l.input l.front items views (out_of scale first l items s c.args.feed.now at) in
     let regs = rw c.in-End.is at c.in-Ok.ensures.regs in
-    inl (BodyItem.End, (c.requires.unfinished, turned scale first l items s r s.time s.finished c.args.feed.now c.next_item.new.feed BodyItem.End at gives.gave refl (timed scale items s r at.gave.known (ap (λ (q : Regs). q.time) regs) at.time_is) c.requires.unfinished, refl, no_more_at_item l l.input items c.next_item.new.feed BodyItem.End r gives), writes-none _)
+    inl (BodyItem.End, (c.requires.unfinished, turned scale first l items s r s.time s.finished c.args.feed.now c.next_item.new.feed BodyItem.End at gives.gave refl (timed scale items s r at.gave.known (ap (λ (q : Regs). q.time) regs) at.time_is) c.requires.unfinished, refl, no_more_at_item l l.input items c.next_item.new.feed BodyItem.End r gives), writes-none (g.W.Sink.device _))

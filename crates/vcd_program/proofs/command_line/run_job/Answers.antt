@@ -7,14 +7,14 @@ use Rattle.vcd_host.specs.Opens.{called, text_of, Opens}
 use Rattle.vcd_host.specs.declared.opened.OpenStop.TheVariants as stop
 use Rattle.vcd_host.proofs.AskedLemmas.{asked-is}
 use Rattle.vcd_host.proofs.OpensLemmas.{opens-many}
-use Rattle.vcd_program.proofs.RunsLemmas.{memory-shown, memory-stopped, merge-same, names-many, names-same, no-memory, ran, stopped}
+use Rattle.vcd_program.proofs.RunsLemmas.{memory-shown, memory-stopped, merge-same, names-many, names-same, no-memory, ran, shown_once, stopped}
 use Rattle.vcd_program.proofs.command_line.run_job.Goals as goal
 
 pub returns-in_default-clause-runs : goal.returns-in_default-clause-runs
 returns-in_default-clause-runs g c =
     let m = c.args.matches.now in
     no-memory g.H.Host.opens g.H.Input.Source.rest g.H.Input.Source.failures g.H.Input.Source.last_failed (words_used m) (inputs_asked m) c.args.host.now (g.W.Sink.device c.args.out.now) (g.E.Sink.device c.args.err.now) (g.E.Sink.device c.use_fault.new.err) c.use_fault.result _ c.requires.job
-    (memory-shown _ _ c.use_fault.ensures.line) c.use_fault.ensures.status
+    (memory-shown (g.E.Sink.device _) (g.E.Sink.device _) c.use_fault.ensures.line) c.use_fault.ensures.status
 
 pub run_with_hasher-requires-clause-names : goal.run_with_hasher-requires-clause-names
 run_with_hasher-requires-clause-names g c =
@@ -66,4 +66,13 @@ returns-clause-runs g c =
     let is : c.in-Err-OutOfMemory.field-0 ≡ stop.OutOfMemory = search rules in
     memory-stopped g.H.Host.opens g.H.Input.Source.rest g.H.Input.Source.failures g.H.Input.Source.last_failed (words_used m) (inputs_asked m) (map text_of c.as_slice.result.now) c.args.host.now c.open_inputs.new.host (g.W.Sink.device c.args.out.now) (g.E.Sink.device c.args.err.now)
     (g.E.Sink.device c.use_fault-in-Err-OutOfMemory.new.err) c.use_fault-in-Err-OutOfMemory.result _ c.in-Err-OutOfMemory.field-0 c.requires.job named is c.in-Err-OutOfMemory.ensures.stop
-    (memory-shown _ _ c.use_fault-in-Err-OutOfMemory.ensures.line) c.use_fault-in-Err-OutOfMemory.ensures.status
+    (memory-shown (g.E.Sink.device _) (g.E.Sink.device _) c.use_fault-in-Err-OutOfMemory.ensures.line) c.use_fault-in-Err-OutOfMemory.ensures.status
+
+pub returns-in_default-clause-failures : goal.returns-in_default-clause-failures
+returns-in_default-clause-failures g c = shown_once (g.E.Sink.device c.args.err.now) (g.E.Sink.device c.use_fault.new.err) _ c.use_fault.ensures.line
+
+pub returns-in-Err-Unopened-clause-failures : goal.returns-in-Err-Unopened-clause-failures
+returns-in-Err-Unopened-clause-failures g c = shown_once (g.E.Sink.device c.args.err.now) (g.E.Sink.device c.open_fault.new.err) _ c.open_fault.ensures.line
+
+pub returns-clause-failures : goal.returns-clause-failures
+returns-clause-failures g c = shown_once (g.E.Sink.device c.args.err.now) (g.E.Sink.device c.use_fault-in-Err-OutOfMemory.new.err) _ c.use_fault-in-Err-OutOfMemory.ensures.line

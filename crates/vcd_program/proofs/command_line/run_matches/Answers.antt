@@ -1,9 +1,12 @@
 use Rattle.vcd_words.specs.Words.{words_used}
 use Rattle.vcd_host.specs.Asked.{inputs_asked}
-use Rattle.vcd_program.proofs.RunsLemmas.{refused}
+use Rattle.vcd_program.proofs.RunsLemmas.{refused, shown_once}
 use Rattle.vcd_program.proofs.command_line.run_matches.Goals as goal
 
 pub returns-in-Err-clause-runs : goal.returns-in-Err-clause-runs
 returns-in-Err-clause-runs g c =
     refused g.H.Host.opens g.H.Input.Source.rest g.H.Input.Source.failures g.H.Input.Source.last_failed (words_used c.args.matches.now) (inputs_asked c.args.matches.now) c.args.host.now (g.W.Sink.device c.args.out.now) (g.E.Sink.device c.args.err.now)
     (g.E.Sink.device c.use_fault.new.err) c.use_fault.result c.in-Err.fault c.in-Err.ensures.fault c.use_fault.ensures.line c.use_fault.ensures.status
+
+pub returns-in-Err-clause-failures : goal.returns-in-Err-clause-failures
+returns-in-Err-clause-failures g c = shown_once (g.E.Sink.device c.args.err.now) (g.E.Sink.device c.use_fault.new.err) _ c.use_fault.ensures.line

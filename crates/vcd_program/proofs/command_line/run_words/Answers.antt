@@ -2,11 +2,11 @@ use Rattle.std.proofs.Common.{◌≡◌, ◌⊎◌, inl, inr, map, refl, string_
 use Rattle.clap.specs.Words.{HasMatchesOf, IsAmong, fault_of, is_simple_and_free, kind_of, takes}
 use Rattle.clap.specs.declared.error.kind.ErrorKind.TheVariants as kind
 use Rattle.vcd_program.specs.Runs.{RunsOn}
-use Rattle.vcd_program.proofs.RunsLemmas.{memory-shown, simple, writes-none}
+use Rattle.vcd_program.proofs.RunsLemmas.{memory-shown, shown_once, simple, writes-none}
 use Rattle.vcd_program.proofs.command_line.run_words.Goals as goal
 
 pub returns-in_default-clause-runs : goal.returns-in_default-clause-runs
-returns-in_default-clause-runs g c = RunsOn.NoMatches kind.OutOfMemory (inl refl) (λ _. refl) refl (inr (writes-none _, memory-shown _ _ c.use_fault.ensures.line, c.use_fault.ensures.status))
+returns-in_default-clause-runs g c = RunsOn.NoMatches kind.OutOfMemory (inl refl) (λ _. refl) refl (inr (writes-none (g.W.Sink.device _), memory-shown (g.E.Sink.device _) (g.E.Sink.device _) c.use_fault.ensures.line, c.use_fault.ensures.status))
 
 pub returns-in-Ok-try_get_matches_from-clause-runs : goal.returns-in-Ok-try_get_matches_from-clause-runs
 returns-in-Ok-try_get_matches_from-clause-runs g c =
@@ -19,3 +19,6 @@ returns-in-Err-clause-runs g c =
     let kinds = subst (λ app. is_simple_and_free app ≡ true → (why ≡ kind.OutOfMemory) ⊎ IsAmong why (fault_of app words)) c.in-Ok.ensures.0 c.in-Err.ensures.kinds in
     let passes = subst (λ app. takes app words ≡ true → why ≡ kind.OutOfMemory) c.in-Ok.ensures.0 c.in-Err.ensures.passes in
     RunsOn.NoMatches why (kinds simple) passes refl c.answer.ensures.answers
+
+pub returns-in_default-clause-failures : goal.returns-in_default-clause-failures
+returns-in_default-clause-failures g c = shown_once (g.E.Sink.device c.args.err.now) (g.E.Sink.device c.use_fault.new.err) _ c.use_fault.ensures.line

@@ -3,14 +3,14 @@ use Rattle.vcd_text.proofs.Writes.{puts-first, puts-twice}
 use Rattle.vcdkit.proofs.message.put_line.Goals as goal
 
 pub returns-in_err-put : goal.returns-in_err-put
-returns-in_err-put g c = puts-first _ _ (codes "vcdkit: ") (c.args.text.now ++ 10 ∷ []) _ c.from_residual.ensures.0 c.in_err-put.ensures
+returns-in_err-put g c = puts-first (g.E.Sink.device _) (g.E.Sink.device _) (codes "vcdkit: ") (c.args.text.now ++ 10 ∷ []) _ c.from_residual.ensures.0 c.in_err-put.ensures
 
 pub returns-in_err-put-2 : goal.returns-in_err-put-2
 returns-in_err-put-2 g c =
-    rw (← c.as_bytes.ensures.value) (puts-twice _ _ _ (codes "vcdkit: ") _ _ c.in_ok-put.ensures
-    (puts-first _ _ _ (10 ∷ []) _ c.from_residual-in_err-put-2.ensures.0 c.in_err-put-2.ensures))
+    rw (← c.as_bytes.ensures.value) (puts-twice (g.E.Sink.device _) (g.E.Sink.device _) (g.E.Sink.device _) (codes "vcdkit: ") _ _ c.in_ok-put.ensures
+    (puts-first (g.E.Sink.device _) (g.E.Sink.device _) _ (10 ∷ []) _ c.from_residual-in_err-put-2.ensures.0 c.in_err-put-2.ensures))
 
 pub returns : goal.returns
 returns g c =
-    rw (← c.as_bytes.ensures.value) (puts-twice _ _ _ (codes "vcdkit: ") _ _ c.in_ok-put.ensures
-    (puts-twice _ _ _ _ (10 ∷ []) _ c.in_ok-put-2.ensures c.put-3.ensures))
+    rw (← c.as_bytes.ensures.value) (puts-twice (g.E.Sink.device _) (g.E.Sink.device _) (g.E.Sink.device _) (codes "vcdkit: ") _ _ c.in_ok-put.ensures
+    (puts-twice (g.E.Sink.device _) (g.E.Sink.device _) (g.E.Sink.device _) _ (10 ∷ []) _ c.in_ok-put-2.ensures c.put-3.ensures))

@@ -7,7 +7,7 @@ returns-in-Write g c = rw c.in-Write.is c.say.ensures
 
 pub returns-in-Dump : goal.returns-in-Dump
 returns-in-Dump g c =
-    rw (c.in-Dump.is, ← c.name_of.ensures, ← c.text_of.ensures) (record { line = puts-shows _ _ _ c.put_fault.result c.put_fault.ensures; status = refl })
+    rw (c.in-Dump.is, ← c.name_of.ensures, ← c.text_of.ensures) (record { line = puts-shows (g.E.Sink.device _) (g.E.Sink.device _) _ c.put_fault.result c.put_fault.ensures; status = refl })
 
 pub returns-in-Read : goal.returns-in-Read
 returns-in-Read g c =

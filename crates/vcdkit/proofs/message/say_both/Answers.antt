@@ -3,4 +3,4 @@ use Rattle.vcdkit.proofs.MessageLemmas.{puts-shows}
 use Rattle.vcdkit.proofs.message.say_both.Goals as goal
 
 pub returns : goal.returns
-returns g c = record { line = puts-shows _ _ _ _ c.put_both.ensures; status = refl }
+returns g c = record { line = puts-shows (g.E.Sink.device _) (g.E.Sink.device _) _ _ c.put_both.ensures; status = refl }

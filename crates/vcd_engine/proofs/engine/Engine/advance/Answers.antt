@@ -21,7 +21,7 @@ returns-in-Err-clause-gives g c =
       c.in_ok-take_ahead.ensures.source,
       λ h i front items s.
           let a = c.in_ok-take_ahead.ensures.gives h i front items s in
-          record { more = a.more; on = a.on; last = (c.take_ahead.new.self.regs, a.last.0.gave, some_still _ _ _ _ _ a.last.1 c.in-Err.ensures.puts) },
+          record { more = a.more; on = a.on; last = (c.take_ahead.new.self.regs, a.last.0.gave, some_still (g.W.Sink.device _) (g.W.Sink.device _) (g.W.Sink.device _) _ _ a.last.1 c.in-Err.ensures.puts) },
     )
 
 pub returns-clause-gives : goal.returns-clause-gives
@@ -32,4 +32,4 @@ returns-clause-gives g c = inl (λ h i front items s.
     let new = g.W.Sink.device c.read_on.new.out in
     let a = c.in_ok-take_ahead.ensures.gives h i front items s in
     let step = subst (λ (q : Request). StepGives q h i front (items ++ a.more) c.read_on.new.self c.read_on.new.feed mid new c.read_on.result) c.take_ahead.ensures.request (c.read_on.ensures.gives h i front (items ++ a.more) a.last.0) in
-    steps_behind t h i front items a.more c.read_on.new.self c.read_on.new.feed out mid new c.read_on.result a.on (grows_still _ _ _ _ _ a.last.1 c.in-Ok.ensures.puts) step)
+    steps_behind t h i front items a.more c.read_on.new.self c.read_on.new.feed out mid new c.read_on.result a.on (grows_still (g.W.Sink.device _) (g.W.Sink.device _) (g.W.Sink.device _) _ _ a.last.1 c.in-Ok.ensures.puts) step)

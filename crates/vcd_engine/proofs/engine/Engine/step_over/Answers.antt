@@ -13,7 +13,7 @@ use Rattle.vcd_engine.proofs.engine.Engine.step_over.Goals as goal
 pub returns-in-Err-clause-gives : goal.returns-in-Err-clause-gives
 returns-in-Err-clause-gives g c = λ h i front items s.
     let v : Views (parts c.args.view) h = rw c.requires.view s.holds.views in
-    rw c.of_body.ensures (stopped (request_of_engine c.args.self.now) h i front items (ended_with c.args.self.now c.next_item.new.regs) c.next_item.new.feed _ c.in-Err.fault c.line.result c.line.ensures (c.in-Err.ensures.reads h i front items v s.gave))
+    rw c.of_body.ensures (stopped (request_of_engine c.args.self.now) h i front items (ended_with c.args.self.now c.next_item.new.regs) c.next_item.new.feed (g.W.Sink.device _) c.in-Err.fault c.line.result c.line.ensures (c.in-Err.ensures.reads h i front items v s.gave))
 
 pub returns-in_err-close-clause-gives : goal.returns-in_err-close-clause-gives
 returns-in_err-close-clause-gives g c = λ h i front items s.

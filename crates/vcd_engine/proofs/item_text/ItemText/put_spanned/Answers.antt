@@ -19,7 +19,7 @@ returns-in_err-add_time g c =
     rw e (record {
       text = λ h before kept e views is at has tells.
           let t = c.args.self.now in
-          ((time_due t.written c.args.time ++ item_line e.item, text_with before kept e c.args.time t at has tells, first_on (pending_in c.args.item.bytes.now c.args.pieces.now) (time_due t.written c.args.time) (item_line e.item) _ _ time.puts), tt);
+          ((time_due t.written c.args.time ++ item_line e.item, text_with before kept e c.args.time t at has tells, first_on (pending_in c.args.item.bytes.now c.args.pieces.now) (time_due t.written c.args.time) (item_line e.item) (g.W.Sink.device _) (g.W.Sink.device _) time.puts), tt);
       counts = time.counts;
       part = tt;
     })
@@ -45,11 +45,11 @@ pub returns-in_err-flush-clause-text : goal.returns-in_err-flush-clause-text
 returns-in_err-flush-clause-text g c = λ h before kept e views is at has tells.
     let t = c.args.self.now in
     let failed : c.from_residual.result ≡ Err c.in_err-flush.field-0.0 = search rules in
-    rw failed ((time_due t.written c.args.time ++ item_line e.item, text_with before kept e c.args.time t at has tells, some-first _ _ _ _ c.in_err-flush.ensures.puts), tt)
+    rw failed ((time_due t.written c.args.time ++ item_line e.item, text_with before kept e c.args.time t at has tells, some-first (g.W.Sink.device _) (g.W.Sink.device _) _ _ c.in_err-flush.ensures.puts), tt)
 
 pub returns-in_default-clause-text : goal.returns-in_default-clause-text
 returns-in_default-clause-text g c = λ h before kept e views is at has tells.
     let one = c.put.ensures.text h before kept e views is at has tells in (
-      (one.0.0, one.0.1, put_on _ _ _ _ _ _ c.put.result c.in_ok-flush.ensures.puts c.in_ok-flush.ensures.pending.0 (one.0.2, c.put.ensures.counts)),
+      (one.0.0, one.0.1, put_on _ _ _ (g.W.Sink.device _) (g.W.Sink.device _) (g.W.Sink.device _) c.put.result c.in_ok-flush.ensures.puts c.in_ok-flush.ensures.pending.0 (one.0.2, c.put.ensures.counts)),
       one.1,
     )

@@ -20,9 +20,9 @@ pub returns-in_err-flush : goal.returns-in_err-flush
 returns-in_err-flush g c =
     let e : c.from_residual.result ≡ Err c.in_err-flush.field-0.0 = search rules in
     let puts = c.in_err-flush.ensures.puts in
-    rw e (record { puts = some-first _ _ _ _ puts; counts = puts.1; part = tt })
+    rw e (record { puts = some-first (g.W.Sink.device _) (g.W.Sink.device _) _ _ puts; counts = puts.1; part = tt })
 
 pub returns : goal.returns
 returns g c =
     let puts = c.in_ok-flush.ensures.puts in
-    record { puts = begun_on _ _ _ _ puts; counts = puts.1; part = c.requires.within }
+    record { puts = begun_on _ _ (g.W.Sink.device _) (g.W.Sink.device _) puts; counts = puts.1; part = c.requires.within }

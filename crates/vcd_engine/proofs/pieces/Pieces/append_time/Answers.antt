@@ -1,6 +1,5 @@
-use Rattle.std.proofs.Common.{◌≡◌, Err, rules, subst}
-use Rattle.vcd_text.specs.Device.{failures_after}
-use Rattle.vcd_text.proofs.Writes.{some-first}
+use Rattle.std.proofs.Common.{◌≡◌, Err, rules}
+use Rattle.vcd_text.proofs.Writes.{counts-on, some-first}
 use Rattle.vcd_body.proofs.Results.{if_ok}
 use Rattle.vcd_engine.proofs.PieceLemmas.{put_on}
 use Rattle.vcd_engine.proofs.pieces.Pieces.append_time.Goals as goal
@@ -8,11 +7,11 @@ use Rattle.vcd_engine.proofs.pieces.Pieces.append_time.Goals as goal
 pub returns-in_err-flush : goal.returns-in_err-flush
 returns-in_err-flush g c =
     let e : c.from_residual.result ≡ Err c.in_err-flush.field-0.0 = search rules in
-    rw e (record { puts = some-first _ _ _ _ c.in_err-flush.ensures.puts; counts = c.in_err-flush.ensures.puts.1; part = tt })
+    rw e (record { puts = some-first (g.W.Sink.device _) (g.W.Sink.device _) _ _ c.in_err-flush.ensures.puts; counts = c.in_err-flush.ensures.puts.1; part = tt })
 
 pub returns : goal.returns
 returns g c = record {
-  puts = put_on _ _ _ _ _ _ c.put_time.result c.in_ok-flush.ensures.puts c.in_ok-flush.ensures.pending.0 c.put_time.ensures;
-  counts = subst (λ n. (g.W.Sink.device c.put_time.new.out).failures ≡ failures_after n c.put_time.result) c.in_ok-flush.ensures.puts.1 c.put_time.ensures.1;
+  puts = put_on _ _ _ (g.W.Sink.device _) (g.W.Sink.device _) (g.W.Sink.device _) c.put_time.result c.in_ok-flush.ensures.puts c.in_ok-flush.ensures.pending.0 c.put_time.ensures;
+  counts = counts-on (g.W.Sink.device c.args.out.now) (g.W.Sink.device c.flush.new.out) (g.W.Sink.device c.put_time.new.out) c.put_time.result c.in_ok-flush.ensures.puts.1 c.put_time.ensures.1;
   part = if_ok c.put_time.result _ c.in_ok-flush.ensures.pending.1;
 }

@@ -3,8 +3,8 @@ use Rattle.std.proofs.lemmas.List.{length-take-le, take-take}
 use Rattle.std.proofs.Math.Seq.{take-append-add, take-append_seam}
 use Rattle.vcd_host.proofs.buffer.Buffer.push_few.Goals as goal
 
-pub returns : goal.returns
-returns c =
+pub returns-clause-bytes : goal.returns-clause-bytes
+returns-clause-bytes c =
     let b = c.args.self.now in
     let xs = c.deref_mut.result.now in
     let bytes = c.args.bytes in

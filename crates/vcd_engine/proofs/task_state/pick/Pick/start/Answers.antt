@@ -11,7 +11,7 @@ pub returns-in_err-select_codes-clause-starts : goal.returns-in_err-select_codes
 returns-in_err-select_codes-clause-starts g c = λ h views.
     let stop = c.in_err-select_codes.field-0.0 in
     let e : c.from_residual.result ≡ Err stop = search rules in
-    rw e (stops_unmatched (Request.Pick (map string_bytes c.args.names.now)) h _ stop (c.in_err-select_codes.ensures.selects h views))
+    rw e (stops_unmatched (Request.Pick (map string_bytes c.args.names.now)) h (g.W.Sink.device _) stop (c.in_err-select_codes.ensures.selects h views))
 
 pub returns-in_err-put_head-clause-starts : goal.returns-in_err-put_head-clause-starts
 returns-in_err-put_head-clause-starts g c = λ h views.

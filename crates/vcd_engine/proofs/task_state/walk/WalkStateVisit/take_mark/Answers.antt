@@ -28,7 +28,7 @@ returns-clause-takes g c = λ out.
       line = next_line_is _ _ _ _ _ _ c.bytes.ensures refl (sym (ap (λ (i : Item). (regs_after r i).time) c.requires.time)) (c.after_mark-self.ensures c.args.time marked);
       one = λ h items x views known is few keeps.
           let e : x ≡ BodyItem.Time c.args.time = subst (λ (i : Item). IsItem h.codes mark.text.now i x) c.requires.time is in
-          rw e (more_quietly _ _ _ h items _ _ _ (c.note_time.ensures.takes h items few keeps));
+          rw e (more_quietly _ _ _ h items _ _ out (c.note_time.ensures.takes h items few keeps));
       counts = refl;
       part = c.requires.stands.part;
       same = c.note_time.ensures.same;
