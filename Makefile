@@ -18,7 +18,7 @@
 #     byte: a minute
 # make clean   drops what was built, and what the proofs kept
 # make install [PREFIX=/usr/local] [DESTDIR=]    puts ./vcdkit, as it was built, completions,
-#     scripts, man pages, Python package (PYTHON_FOLDER=) and documents in place, and the
+#     scripts, man pages, Python package (PYTHON_FOLDER=) and documents where they belong, and the
 #     library where there is one
 # make uninstall [PREFIX=..] [DESTDIR=..]        takes them away again
 # make completions-check    compares the completions and the man page with the help of ./vcdkit: a

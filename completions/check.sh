@@ -40,8 +40,8 @@ completed() {
     printf '%s' "${COMPREPLY[*]-}${options_set:+ ($options_set)}"
 }
 
-# What zsh is told: the commands of its list; of each command what stands in its case and the lists
-# that it names.
+# What zsh reads: the commands of its list; of each command what is in its case and the lists that
+# it names.
 zsh_commands=$(sed -n "s/^ *'\([a-z]*\):[A-Z].*'\$/\1/p" completions/_vcdkit | sorted)
 zsh_options() {
     awk -v command="$1" '

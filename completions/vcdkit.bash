@@ -1,7 +1,7 @@
 # Completion of vcdkit for bash: commands, options, files, and the names of a dump where `-i FILE`
 # comes before. Source this file, or let `make install` put it where bash-completion finds it.
 
-# What may be said of a command: its options, and whether it takes names (`name`), files (`file`), or
+# What a command takes: its options, and whether it takes names (`name`), files (`file`), or
 # one file where none comes after `-i` (`dump`).
 _vcdkit_words() {
     case $1 in
@@ -69,7 +69,7 @@ _vcdkit() {
     done
     local current=$word
 
-    # What stands before the word: the command, the file of `-i`, and whether `--` ended the
+    # What comes before the word: the command, the file of `-i`, and whether `--` ended the
     # options.
     local command= file= ended= previous=
     for word in "${words[@]:1}"; do
@@ -111,7 +111,7 @@ _vcdkit() {
             compopt -o nospace 2> /dev/null
             COMPREPLY=("${COMPREPLY[0]}")
         fi
-        # Between quotes bash takes a word as it is; else it is quoted, and what stands before a
+        # Between quotes bash takes a word as it is; else it is quoted, and what comes before a
         # mark at which bash parts words left out.
         [[ $current == [\'\"]* ]] && return
         local before=${current%"${current##*[=:@]}"}

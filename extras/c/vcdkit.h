@@ -3,12 +3,12 @@
  *
  * What a call leaves is proved to be what the program leaves, for all bytes. Not checked is what C
  * hands over:
- *  - a pointer is not null, also where the length is 0, and has as many bytes or changes behind it
- *    as the length says, at most 2^63 - 1 bytes;
+ *  - a pointer is not null, also where the length is 0, and points to as many bytes or changes as
+ *    the length says, at most 2^63 - 1 bytes;
  *  - what is written (out, err, reading, changes, and each number) overlaps nothing else;
  *  - nobody writes what is read, and nobody reads what is written, until the call is over. That
  *    holds of a mapped file too: let nobody change or shorten it meanwhile.
- * Calls may be made in several threads at once. The library takes memory by malloc, gives all of it
+ * Several threads may call at the same time. The library takes memory by malloc, gives all of it
  * back, and opens no file. Not in a signal handler. */
 #ifndef VCDKIT_H
 #define VCDKIT_H
@@ -57,7 +57,7 @@ struct vcdkit_change {
 
 /* A reading of the changes of a variable. All zeros at the first call. */
 struct vcdkit_reading {
-    uint64_t place[8]; /* where the next call goes on: for the library alone */
+    uint64_t place[8]; /* where the next call resumes: for the library alone */
     uint64_t count;    /* how many changes the last call found: never more than the array has
                         * room for, and 0 with VCDKIT_NO_CODE and VCDKIT_NO_MEMORY */
     uint64_t fault;    /* the fault of the dump, where there is one:
@@ -73,17 +73,17 @@ struct vcdkit_reading {
 /* How a call of vcdkit_changes ends. */
 enum {
     VCDKIT_ALL = 0,       /* the dump has no further change, and no fault */
-    VCDKIT_FAULT = 1,     /* the dump has a fault, behind the changes that were found */
+    VCDKIT_FAULT = 1,     /* the dump has a fault, after the changes that were found */
     VCDKIT_NO_CODE = 2,   /* no variable has the code */
     VCDKIT_NO_MEMORY = 3, /* memory ran out */
-    VCDKIT_FULL = 4,      /* the array is full: the next call finds the changes behind these */
+    VCDKIT_FULL = 4,      /* the array is full: the next call finds the changes after these */
     VCDKIT_BAD_PLACE = 5  /* no call has left this reading */
 };
 
 /* Finds the changes of the variables with this identifier code (`vcdkit list` says it), one for
  * each change that the dump writes, also to the value that was there: as many as the array has room
  * for (at least 1), from where the call before has stopped. Each call reads the header, and then
- * goes on in the body, so an array of some thousands costs little. dump and code are those of the
+ * resumes in the body, so an array of some thousands costs little. dump and code are those of the
  * first call. seed is as for vcdkit_run, and may be another at each call. */
 uint8_t vcdkit_changes(const uint8_t *dump, size_t dump_length,
                        const uint8_t *code, size_t code_length, uint64_t seed,

@@ -141,7 +141,7 @@ module _ (codes : List IdCode) (limit lines : ℕ) (bytes : List ℕ) (before it
   known_mark : (r : Regs) (t : ℕ) → time_after (before ++ items) ≤ t → AreRegsAfter (before ++ items) r → AreRegsAfter (before ++ (items ++ BodyItem.Time t ∷ [])) (regs_after r (item.Time t))
   known_mark r t less k = subst (λ (l : List BodyItem). AreRegsAfter l (regs_after r (item.Time t))) (append_assoc before items (BodyItem.Time t ∷ [])) (known_time (before ++ items) r t less k)
 
-  -- the token is a change of the code at this place, or this time mark
+  -- the token is a change of the code at this index, or this timestamp
   abbrev IsScalar : List BodyPhrase → List ℕ → ℕ → Type 0
   IsScalar earlier token place = (c : IdCode) × (slice_get codes place ≡ Some c) × Passes codes earlier token (BodyItem.Changes (record { code = c; form = ChangeForm.Scalar; text = take 1 token }))
 
@@ -177,7 +177,7 @@ module _ (codes : List IdCode) (limit lines : ℕ) (bytes : List ℕ) (before it
           known_more r x k,
         )
 
-    -- a time mark
+    -- a timestamp
     pub mark_taken : (n' time line : ℕ) (token : List ℕ) → n < n' → Passed limit lines bytes n' (g.tokens ++ record { bytes = token; line = line } ∷ []) → ((earlier : List BodyPhrase) → AreRegsAfter (items_of earlier) r → IsMark earlier token time) → TakesOne n' (regs_after r (item.Time time)) (item.Time time) []
     mark_taken n' time line token less p h =
         let known : (earlier : List BodyPhrase) → items_of earlier ≡ before ++ items → AreRegsAfter (items_of earlier) r = λ earlier e. subst (λ (l : List BodyItem). AreRegsAfter l r) (sym e) k in

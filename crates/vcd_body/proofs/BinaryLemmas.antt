@@ -8,7 +8,7 @@ pub length_binary : (l n : ℕ) → length (binary_digits l n) ≡ l
 length_binary zero n = refl
 length_binary (suc l) n = ap suc (length_binary l n)
 
--- the digit at a place
+-- the digit at an index
 pub binary_at : (l n place : ℕ) → place < l → slice_get (binary_digits l n) place ≡ Some (48 + n / 2 ^ (l - 1 - place) % 2)
 binary_at zero n place h = absurd (omega arith)
 binary_at (suc l) n zero h = let e : l ≡ suc l - 1 - 0 = omega arith in ap (λ k. Some (48 + n / 2 ^ k % 2)) e

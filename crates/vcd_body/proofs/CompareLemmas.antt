@@ -112,7 +112,7 @@ differ_in_digit x y size r d = differ_at_longest (x ∷ []) (y ∷ []) size 1 (o
 
 -- ---- digit by digit, from the right
 
--- the digits from a place on are the same
+-- the digits from an index on are the same
 abbrev pub SameFrom : ℕ → List ℕ → List ℕ → Type 0
 SameFrom place xs ys = (k : ℕ) → place ≤ k → get_or xs k 0 ≡ get_or ys k 0
 

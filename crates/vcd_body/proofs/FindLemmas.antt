@@ -19,7 +19,7 @@ zip_at text (x ∷ xs) [] k c a e = absurd a
 zip_at text (x ∷ xs) (y ∷ ys) zero c a e = let s : y ≡ c = cc in (x, refl, rw (sym s) a.0)
 zip_at text (x ∷ xs) (y ∷ ys) (suc k) c a e = zip_at text xs ys k c a.1 e
 
--- the view's code at the place of a header's code
+-- the view's code at the index of a header's code
 pub code_at : (s : HeadShown) (h : Header) → Views s h → (place : ℕ) (c : IdCode) → slice_get h.codes place ≡ Some c → (code : Code) × (slice_get s.codes place ≡ Some code) × IsCode s.text code c
 code_at s h v place c e = zip_at s.text s.codes h.codes place c v.codes e
 
@@ -37,7 +37,7 @@ time_fits digits time both value =
 pub time_whole : (digits : List ℕ) (time : ℕ) → is_decimal digits ≡ true → decimal_value digits ≡ time → time < 2 ^ 64 → (is_decimal digits && nat_lt (decimal_value digits) (2 ^ 64)) ≡ true
 time_whole digits time decimal value less = rw (decimal, value, lt-ltb time (2 ^ 64) less) refl
 
--- so what they spell is the time of a mark, and each such time is what they spell
+-- so what they spell is the time of a timestamp, and each such time is what they spell
 pub time_if_spelled : (digits : List ℕ) (o : Option ℕ) → o ≡ spelled_below digits → IfSome o (λ time. (is_decimal digits ≡ true) × (decimal_value digits ≡ time) × (time < 2 ^ 64))
 time_if_spelled digits None e = tt
 time_if_spelled digits (Some time) e = let s = time_spelled digits time (sym e) in time_fits digits time s.0 s.1

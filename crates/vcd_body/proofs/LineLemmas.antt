@@ -70,7 +70,7 @@ sized_is y most is some = by_parts y.event (nat_le (2 ^ 32) y.size) refl refl
     by_parts false true h g = absurd (some (is ∙ rw (h, g) refl))
     by_parts false false h g = (h, sym (is ∙ rw (h, g) refl))
 
--- the change of the code whose size was found, at its places
+-- the change of the code whose size was found, at its offsets
 pub of_sized : (v : HeadView) (h : Header) → IsViewOf v h → (place most : ℕ) → IsSized v.codes.now (record { place = place; most = most }) → most ≢ 0 → (f : Form) (text code bytes : List ℕ) (from to at start : ℕ) → Names v place code → HasPlaces bytes from to at start text code → (x : BodyItem) → IsItem h.codes text (item.Change place f) x
     → (k : IdCode) × (x ≡ BodyItem.Changes (record { code = k; form = model_form f; text = text })) × (k.text ≡ code) × (length code ≡ to - 1 - start) × (k.size ≡ most) × (k.event ≡ false)
 of_sized v h view place most (y, there, is) some f text code bytes from to at start named places x i =
@@ -85,7 +85,7 @@ of_sized v h view place most (y, there, is) some f text code bytes from to at st
 pub token_there : (bytes : List ℕ) (from to : ℕ) (token : List ℕ) → from + length token + 1 ≤ to → to ≤ length bytes → AreWhite bytes from (to - length token - 1) → token ≡ slice_range bytes (to - length token - 1) (to - 1) → HasToken bytes from to token
 token_there bytes from to token further within before place = record { start = to - length token - 1; before = before; ends = omega arith; within = within; token_is = place }
 
--- a digit and a code at once
+-- a digit and a code right after it
 pub scalar_there : (bytes : List ℕ) (from to : ℕ) (token text : List ℕ) (digit : ℕ) (rest : List ℕ) → token ≡ digit ∷ rest → text ≡ take 1 token → HasToken bytes from to token → HasChange bytes from to form.Scalar text (drop 1 token)
 scalar_there bytes from to token text digit rest e is t = (digit, is ∙ ap (take 1) e, subst (HasToken bytes from to) (e ∙ ap (λ l. digit ∷ drop 1 l) (sym e)) t)
 
@@ -103,7 +103,7 @@ part_there bytes start end k token is long order few =
 length_rest : (digit : ℕ) (rest token : List ℕ) → token ≡ digit ∷ rest → (length (drop 1 token) + 1 ≡ length token) × (length (take 1 token) ≡ 1)
 length_rest digit rest token e = rw e (omega arith, refl)
 
--- the places of a digit and of the code at once after it
+-- the offsets of a digit and of the code right after it
 pub scalar_places : (bytes : List ℕ) (from to : ℕ) (token text : List ℕ) (digit : ℕ) (rest : List ℕ) → token ≡ digit ∷ rest → text ≡ take 1 token → (t : HasToken bytes from to token) → HasPlaces bytes from to (to - 1 - length token) (to - 1 - length token + 1) text (drop 1 token)
 scalar_places bytes from to token text digit rest e is t =
     let ends = t.ends in
@@ -162,7 +162,7 @@ rest_there bytes from to token some t =
     let place : token ≡ slice_range bytes (to - 1 - length token) (to - 1) = t.token_is ∙ ap (λ a. slice_range bytes a (to - 1)) start in
     part_there bytes (to - 1 - length token) (to - 1) 1 token place (omega arith) (omega arith) (omega arith)
 
--- those of a mark's digits
+-- those of a timestamp's digits
 pub mark_there : (bytes : List ℕ) (from to : ℕ) (token : List ℕ) (time : ℕ) → 0 < length token → (is_decimal (drop 1 token) ≡ true) × (decimal_value (drop 1 token) ≡ time) × (time < 2 ^ 64) → HasToken bytes from to token → HasMark bytes from to (to - 1 - length token + 1) time
 mark_there bytes from to token time some told t =
     let ends = t.ends in
@@ -196,7 +196,7 @@ one_byte bytes p inside =
     front (b ∷ bytes) zero inside = refl
     front (b ∷ bytes) (suc p) inside = front bytes p (omega arith)
 
--- the digit of a change is at its place
+-- the digit of a change is at its offset
 pub digit_there : (bytes : List ℕ) (from to at start : ℕ) (text code : List ℕ) → HasChange bytes from to form.Scalar text code → HasPlaces bytes from to at start text code → (at < length bytes) × (text ≡ slice_index bytes at ∷ [])
 digit_there bytes from to at start text code (digit, is, t) places =
     let long = ap (λ (l : List ℕ). length l) is in
@@ -240,7 +240,7 @@ both_line bytes from middle to letter first text code t u e begins blank last =
     let back : slice_range bytes middle to ≡ code ++ 10 ∷ [] = token_line bytes middle to code 10 u second_end last in
     ap (slice_range bytes from) (sym whole) ∙ sym (slice_range-append bytes from middle (to - middle) (omega arith)) ∙ ap₂ (λ (a b : List ℕ). a ++ b) front (ap (slice_range bytes middle) whole ∙ back) ∙ append_assoc (first ∷ text) (32 ∷ []) (code ++ 10 ∷ [])
 
--- where the first byte is not white, a token begins at once
+-- where the first byte is not white, a token begins with it
 begins_there : (bytes : List ℕ) (from start first : ℕ) → AreWhite bytes from start → slice_index bytes from ≡ first → is_white_space first ≡ false → start ≡ from
 begins_there bytes from start first before here other = by_order (cases_lt from start)
   where

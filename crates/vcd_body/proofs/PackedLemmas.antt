@@ -1,4 +1,4 @@
--- Packed digits are the digits again, as they are held; the digit at a place of a share.
+-- Packed digits are the digits again, as they are held; the digit at an index of a share.
 use Rattle.std.proofs.Common.{◌≡◌, ℕ, ◌+◌, ◌-◌, ◌*◌, ◌/◌, ◌%◌, ◌<◌, ◌≤◌, Bool, true, false, cond, ◌||◌, ◌==◌, nat_lt, List, [], ◌∷◌, length, map, refl, sym, ap, subst, ◌∙◌, arith, ◌⊎◌, inl, inr, slice_get, Some, None}
 use Rattle.std.specs.Prelude.{get_or}
 use Rattle.std.specs.List.{list_all}
@@ -86,7 +86,7 @@ or_small text place = by_test (nat_lt place (length text)) (code_small (get_or t
     by_test true h = h
     by_test false h = omega arith
 
--- ---- tests of places
+-- ---- tests of indexes
 
 pub below_test : (a b x y : ℕ) → a < b → cond (nat_lt a b) x y ≡ x
 below_test a b x y h = ap (λ t. cond t x y) (lt-ltb a b h)
@@ -97,7 +97,7 @@ above_test a b x y h = ap (λ t. cond t x y) (le-ltb a b h)
 pub in_text : (text : List ℕ) (place : ℕ) → place < length text → code_or text place ≡ code_of (get_or text place 0)
 in_text text place h = below_test place (length text) (code_of (get_or text place 0)) 0 h
 
--- the code at a place, by its quarter
+-- the code at an index, by its quarter
 pub in_first : (n : ℕ) (bytes : List ℕ) (p : ℕ) → p < n - quarter_of n → p < quarter_of n → code_among n bytes p ≡ get_or bytes p 0 % 4
 in_first n bytes p before h = below_test p (n - quarter_of n) _ _ before ∙ below_test p (quarter_of n) _ _ h
 
@@ -112,7 +112,7 @@ in_last n bytes p h = above_test p (n - quarter_of n) _ _ h
 
 -- ---- a text
 
--- each byte of the first ones holds the digits of its place
+-- each byte of the first ones holds the digits of its index
 abbrev pub Packs : List ℕ → ℕ → List ℕ → Type 0
 Packs text count bytes = (j : ℕ) → j < count → get_or bytes j 0 ≡ four_codes text (quarter_of (length text)) j
 
@@ -126,7 +126,7 @@ codes_at text bytes j packs h =
     let q = quarter_of (length text) in
     codes_of_byte (code_or text j) (code_or text (j + q)) (code_or text (j + 2 * q)) (code_or text (j + (length text - q))) (get_or bytes j 0) (or_small text j) (or_small text (j + q)) (or_small text (j + 2 * q)) (or_small text (j + (length text - q))) (packs j h)
 
--- the code at each place is that of the text's digit
+-- the code at each index is that of the text's digit
 code_again : (text bytes : List ℕ) (p : ℕ) → Packs text (quarter_of (length text)) bytes → p < length text → code_among (length text) bytes p ≡ code_of (get_or text p 0)
 code_again text bytes p packs less = elim (cases_lt p (n - q)) [
   | inl before ↦ elim (cases_lt p q) [

@@ -76,7 +76,7 @@ module _ (codes : List IdCode) where
   pub section_open : (items : List BodyItem) (r : Regs) (o : Bool) → AreRegsAfter items r → is_some r.section ≡ o → leaves_open items ≡ o
   section_open items r o k e = open_is (count_by is_begin items) (count_by is_end_of_section items) (is_some r.section) k.ended ∙ e
 
-  -- ---- time marks
+  -- ---- timestamps
 
   module _ (earlier : List BodyPhrase) (token : List ℕ) (b : Begins token kind.Mark) where
     pub bad_time : (is_decimal (drop 1 token) && nat_lt (decimal_value (drop 1 token)) (2 ^ 64)) ≡ false → body_fault codes earlier [] token ≡ Some 13

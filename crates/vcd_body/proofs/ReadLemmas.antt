@@ -44,7 +44,7 @@ count_push p xs x = sum_by-append (λ y. cond (p y) 1 0) xs (x ∷ []) ∙ omega
 marks_push : (items : List BodyItem) (x : BodyItem) → marks (items ++ x ∷ []) ≡ marks items ++ marks (x ∷ [])
 marks_push items x = filter_map-append time_mark items (x ∷ [])
 
--- an item that is no mark leaves the marks
+-- an item that is no timestamp leaves the timestamps
 marks_stay : (items : List BodyItem) (x : BodyItem) → marks (x ∷ []) ≡ [] → marks (items ++ x ∷ []) ≡ marks items
 marks_stay items x e = marks_push items x ∙ ap (λ l. marks items ++ l) e ∙ append-nil (marks items)
 

@@ -1,4 +1,4 @@
--- A change by a digit with its code at once, of which the code was found.
+-- A change by a digit with its code right after it, of which the code was found.
 use Rattle.std.proofs.Common.{◌≡◌, ◌⊎◌, ℕ, ◌+◌, ◌-◌, ◌<◌, ◌≤◌, List, [], ◌∷◌, None, length, take, drop, sym, subst, arith}
 use Rattle.std.specs.Borrow.{Bor}
 use Rattle.vcd_model.specs.Tokens.{Token}

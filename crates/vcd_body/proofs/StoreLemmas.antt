@@ -620,7 +620,7 @@ pub more_kept : (s : Whole) (counts : List ℕ) (more : ℕ) (rises falls : Bool
     → kept_with values end (record { state = s.state; start = s.start; len = s.len; counts = counts; chosen = s.chosen }) ≡ with_steps more rises falls (kept_with values end s)
 more_kept s counts more rises falls end values e = rw e refl
 
--- one step at once
+-- a single step
 pub one_step : (rises falls : Bool) (k : Kept) → with_steps 1 rises falls k ≡ with_step rises falls k
 one_step true true k = refl
 one_step true false k = refl

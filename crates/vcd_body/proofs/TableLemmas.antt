@@ -116,7 +116,7 @@ room_needed v h views = same_room v.text.now v.codes.now h.codes views.codes
 
 -- ---- a table that was written
 
--- what was written has the same places
+-- what was written has the same indexes
 pub keeps_laid : (t t' : Table) → length t'.slots.now ≡ length t.slots.now → length t'.shares.now ≡ length t.shares.now → length t'.values.now ≡ length t.values.now → (IsLaidOut t → AreLaidOut t'.slots.now t'.shares.now (length t.values.now)) → KeepsTable t t'
 keeps_laid t t' slots shares values laid = record {
   laid = λ l. subst (AreLaidOut t'.slots.now t'.shares.now) (sym values) (laid l);

@@ -31,7 +31,7 @@ module _ {V C : Type 0} (takes : HeadView → Stage V C → Stage V C → Result
         within = n.within;
       }
 
-  -- another look-ahead at the same place will do
+  -- another look-ahead at the same offset will do
   pub come_again : (a b : Stage V C) (there : Ahead) → HasCome takes stands over shows a b → IsSamePlace b.ahead there → HasCome takes stands over shows a (stage_at there b.regs b.visit b.command b.out)
   come_again a b there come same =
       let p = come.further in

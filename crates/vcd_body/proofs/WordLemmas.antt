@@ -118,7 +118,7 @@ known_digits digits (Some b) h e = rw h (by_length b.len b.number b.some)
 pub binary_more : (digits : List ℕ) (at : ℕ) → at < length digits → list_all is_value_digit (take at digits) ≡ true → 48 ≤ get_or digits at 0 → get_or digits at 0 ≤ 49 → list_all is_value_digit (take (at + 1) digits) ≡ true
 binary_more digits at inside so_far low high = list_all_more is_value_digit digits at 0 inside ∙ rw (so_far, binary (get_or digits at 0) (one_of_two (get_or digits at 0) low high)) refl
 
--- all of them, each by its place
+-- all of them, each by its index
 pub all_by_place : (p : ℕ → Bool) (l : List ℕ) → ((k : ℕ) → k < length l → p (slice_index l k) ≡ true) → list_all p l ≡ true
 all_by_place p [] h = refl
 all_by_place p (d ∷ l) h = rw (h 0 (omega arith)) (all_by_place p l (λ k less. h (suc k) (omega arith)))

@@ -27,13 +27,13 @@ use Rattle.vcd_body.specs.Binary.{binary_digits}
 use Rattle.vcd_body.specs.Items.{AreRegsAfter}
 use Rattle.vcd_body.specs.Reads.{GaveItems}
 
--- a time mark, with no text, or a change
+-- a timestamp, with no text, or a change
 abbrev pub IsPlain : List ℕ → Item → Type 0
 IsPlain text (Time t) = text ≡ []
 IsPlain text (Change place form) = Unit {0}
 IsPlain text item = ⊥
 
--- a change's code is one of these and has this size, as a look-up tells it; a mark has none
+-- a change's code is one of these and has this size, as a look-up tells it; a timestamp has none
 abbrev pub IsSizedItem : List Code → Item → ℕ → Type 0
 IsSizedItem codes (Change place form) most = IsSized codes (record { place = place; most = most })
 IsSizedItem codes item most = most ≡ 0

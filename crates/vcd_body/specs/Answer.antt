@@ -1,4 +1,4 @@
--- What an answer says: the fault of a body, which calls failed, and whether the run goes on; and
+-- What an answer says: the fault of a body, which calls failed, and whether the run continues; and
 -- what is left of an input.
 use Rattle.std.specs.Prelude.{◌≡◌, ℕ, ◌+◌, ◌⊎◌, Bool, true, false, Result, Ok, Err}
 use Rattle.vcd_model.specs.Input.{Clean, Input}
@@ -37,7 +37,7 @@ abbrev pub stop_of_body : BodyFault → ℕ → ℕ → Stop
 stop_of_body ReadFailed input line = Read input
 stop_of_body fault input line = Dump input line (fault_number fault)
 
--- the answer is that the run goes on
+-- the answer is that the run continues
 abbrev pub goes_on : Result More Stop → Bool
 goes_on (Ok Again) = true
 goes_on result = false

@@ -22,7 +22,7 @@ use Rattle.vcd_body.specs.declared.item.Form.{Form}
 use Rattle.vcd_body.specs.declared.item.Item.{Item}
 use Rattle.vcd_body.specs.declared.item.Regs.{Regs}
 
--- a mark is taken where one may come
+-- a timestamp is taken where one may come
 abbrev pub ReadsMark : List ℕ → Regs → Result ℕ BodyFault → Type 0
 ReadsMark token r result = (codes : List IdCode) (earlier : List BodyPhrase) → AreRegsAfter (items_of earlier) r → MatchResult result (λ time. Passes codes earlier token (BodyItem.Time time) × (time_after (items_of earlier) ≤ time)) (Refuses codes earlier token)
 

@@ -33,7 +33,7 @@ pub record AreRegsAfter (items : List BodyItem) (r : Regs) : Type 0 where
   -- as many sections have ended as have begun, but for the open one
   pub ended : count_by is_begin items ≡ count_by is_end_of_section items + cond (is_some r.section) 1 0
 
--- a mark of this time may come after these items; or it has this fault
+-- a timestamp of this time may come after these items; or it has this fault
 pub record MayMark (r : Regs) (time : ℕ) : Type 0 where
   pub outside : is_some r.section ≡ false
   pub forth : r.time ≤ time

@@ -39,7 +39,7 @@ pub record HasPlaces (bytes : List ℕ) (from to at code_at : ℕ) (text code : 
   pub text_is : text ≡ slice_range bytes at (at + length text)
   pub code_is : code ≡ slice_range bytes code_at (code_at + length code)
 
--- the decimal digits of a mark are at this offset, up to the last byte
+-- the decimal digits of a timestamp are at this offset, up to the last byte
 pub record HasMark (bytes : List ℕ) (from to at time : ℕ) : Type 0 where
   pub after : from < at
   pub before : at < to
@@ -48,7 +48,8 @@ pub record HasMark (bytes : List ℕ) (from to at time : ℕ) : Type 0 where
   pub value : decimal_value (slice_range bytes at (to - 1)) ≡ time
   pub fits : time < 2 ^ 64
 
--- a change is there, with this text and with its code, at these offsets; or the digits of a mark
+-- a change is there, with this text and with its code, at these offsets; or the digits of a
+-- timestamp
 abbrev pub HasSpelled : HeadView → List ℕ → ℕ → ℕ → ℕ → ℕ → List ℕ → Item → Type 0
 HasSpelled v bytes from to at code_at text (Time time) = HasMark bytes from to at time
 HasSpelled v bytes from to at code_at text (Change place form) = (code : List ℕ) × HasChange bytes from to form text code × Names v place code × HasPlaces bytes from to at code_at text code

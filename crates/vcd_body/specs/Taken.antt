@@ -32,7 +32,7 @@ pub record Opens (a a' : Ahead) (o : Opening) : Type 0 where
   pub token : TakesToken a a' o.token.now
   pub begins : Begins o.token.now o.kind
 
--- a mark's digits spell this time
+-- a timestamp's digits spell this time
 abbrev pub HasTime : Opening → ℕ → Type 0
 HasTime o time = (is_decimal (drop 1 o.token.now) ≡ true) × (decimal_value (drop 1 o.token.now) ≡ time) × (time < 2 ^ 64)
 
@@ -86,7 +86,7 @@ IsChangeBy form p = (place : ℕ) × (p.item ≡ Change place form)
 abbrev pub TakesOpened : HeadView → (middle to : Ahead) → Opening → Plain → Type 0
 TakesOpened v middle to o p = (a : Ahead) (r : Regs) → Opens a middle o → TakesItem v a to r p
 
--- a time mark was taken, wherever its token was taken from, whatever the view is of
+-- a timestamp was taken, wherever its token was taken from, whatever the view is of
 abbrev pub TakesOpenedMark : Ahead → Regs → Opening → Plain → Type 0
 TakesOpenedMark to r o p = (a : Ahead) (v : HeadView) → Opens a to o → TakesItem v a to r p
 

@@ -31,7 +31,7 @@ as_done (Ok v) = Ok tt
 as_done (Err e) = Err e
 
 module _ {V C : Type 0} (takes : HeadView → Stage V C → Stage V C → Result (Unit {0}) WriteFailed → Type 0) (stands : V → C → List ℕ → Regs → Type 0) where
-  -- the walk can go on from there
+  -- the walk can continue from there
   abbrev pub CanGoOn : Stage V C → Type 0
   CanGoOn s = stands s.visit s.command (bytes_of s.ahead) s.regs
 
@@ -51,7 +51,7 @@ module _ {V C : Type 0} (takes : HeadView → Stage V C → Stage V C → Result
   abbrev pub MayTakeUpTo : {A : Type 0} → HeadView → Stage V C → (Ahead → Stage V C) → Ahead → Option (Result A WriteFailed) → Type 0
   MayTakeUpTo v s s' to result = MatchOption result (s' s.ahead ≡ s) (λ one. TakesOne v s (s' to) (as_done one))
 
-  -- a mark was taken, with which nothing is written, where there is a result; else nothing has
+  -- a timestamp was taken, with which nothing is written, where there is a result; else nothing has
   -- changed
   abbrev pub MayTakeMark : HeadView → (Device → Stage V C) → (Device → Stage V C) → Option (Unit {0}) → Type 0
   MayTakeMark v s s' result = MatchOption result ((out : Device) → s' out ≡ s out) (λ _. (out : Device) → TakesOne v (s out) (s' out) (Ok tt))
@@ -67,7 +67,7 @@ module _ {V C : Type 0} (takes : HeadView → Stage V C → Stage V C → Result
       Further : (b c : Stage V C) (so_far : Trail a b) (one : TakesShown shows b c (Ok tt)) (on : over c.visit ≡ false) → Trail a c
       Again : (b c : Stage V C) (so_far : Trail a b) (there : Ahead) (same : IsSamePlace b.ahead there) (is : c ≡ stage_at there b.regs b.visit b.command b.out) → Trail a c
 
-    -- how far it has come from where it began; it can go on
+    -- how far it has come from where it began; it can continue
     pub record HasCome (a z : Stage V C) : Type 0 where
       pub trail : Trail a z
       pub on : CanGoOn z

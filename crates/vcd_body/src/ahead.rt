@@ -15,18 +15,18 @@ use vcd_text::{Ahead, Feed, Sink, Source, WriteFailed, decimal_at};
 use vcd_view::{Found, HeadView, find_at_once, find_sized};
 
 /// An item that was taken ahead. The fields other than `item` and `at` are those of a change; for a
-/// mark they are empty.
+/// timestamp they are empty.
 #[derive(Clone, Copy)]
 pub struct Plain<'a> {
-    /// A time mark or a change.
+    /// A timestamp or a change.
     pub item: Item,
-    /// The text of a change; none for a mark.
+    /// The text of a change; none for a timestamp.
     pub text: &'a [u8],
     /// The size in bits of a change's code, which `size` returns. It is 0 for an event, for a size
-    /// that 32 bits do not hold, and for a time mark.
+    /// that 32 bits do not hold, and for a timestamp.
     pub most: usize,
     /// Where the text of a change begins in the bytes that are looked over; where the digits of a
-    /// mark begin.
+    /// timestamp begin.
     pub at: usize,
     /// Where a change's code begins; it ends one byte before the last one that is passed.
     pub code_at: usize,
@@ -37,7 +37,7 @@ pub struct Plain<'a> {
 
 impl Plain<'_> {
     /// Returns the size in bits of a change's code; none of an event, where the look-up did not
-    /// give it, and of a time mark.
+    /// give it, and of a timestamp.
     #[inline(always)]
     pub fn size(self) -> Option<usize>
         ensures told { IfSome result (λ size. (size ≡ self.entry.most) × (0 < size)) }
@@ -82,7 +82,7 @@ fn change_of(
     }
 }
 
-/// Returns a time mark, whose digits begin at this offset. The fields of a change are empty.
+/// Returns a timestamp, whose digits begin at this offset. The fields of a change are empty.
 #[inline(always)]
 fn mark_of<'a>(time: u64, at: usize) -> Plain<'a>
     ensures item { result.item ≡ item.Time time }
@@ -173,7 +173,7 @@ fn short_opening<'a>(ahead: &mut Ahead<'a>) -> Option<Opening<'a>>
     })
 }
 
-/// Returns the next token ahead where it begins a time mark, if it begins right here, has at most
+/// Returns the next token ahead where it begins a timestamp, if it begins right here, has at most
 /// 15 bytes and a line feed after them. Else `opening_ahead` may give one, and nothing has changed.
 #[inline(always)]
 pub(crate) fn line_mark<'a>(ahead: &mut Ahead<'a>) -> Option<Opening<'a>>
@@ -276,9 +276,8 @@ pub(crate) fn two_short_lines_come(ahead: Ahead<'_>) -> bool
     next.has_short()
 }
 
-/// Returns whether a short line comes, and then another one or a time mark.
-// Asked at one short line alone, `merge` of scalars takes 125.2 an item, as it is 121.9; of wide
-// vectors 758.1 and 749.0.
+/// Returns whether a short line comes, and then another one or a timestamp.
+// Asked at one short line alone, `merge` of scalars takes 3 % more.
 #[inline(always)]
 pub(crate) fn short_lines_come(ahead: Ahead<'_>) -> bool
     ensures { result ≡ true
@@ -290,9 +289,9 @@ pub(crate) fn short_lines_come(ahead: Ahead<'_>) -> bool
 
 /// Returns whether the next token ahead begins with `$`, as a keyword does. Then no item lies ahead
 /// of it.
-// Asked before a loop over items ahead, since no such loop takes a keyword: of `$dumpon` and `$end`
-// in turn each takes 270 in `check` and 314 in `merge`; without this, `token_len` of the feed and
-// `command_of` inlined 675 and 623.
+// Asked before a loop over items ahead, since no such loop takes a keyword: without this, and with
+// `token_len` of the feed and `command_of` not inlined, `check` of `$dumpon` and `$end` in turn
+// takes 2.5 times as many instructions.
 #[inline(always)]
 pub fn keyword_comes(ahead: Ahead<'_>) -> bool
     ensures { result ≡ true → (start : ℕ)
@@ -435,8 +434,8 @@ pub(crate) fn real_ahead<'a>(
     Some(change_of(found, Form::RealText, rest_of(token), None, at + 1, code_at))
 }
 
-/// Returns the time of the mark that a token is; none where it spells none. The look-ahead is right
-/// after the token.
+/// Returns the time of the timestamp that a token is; none where it spells none. The look-ahead is
+/// right after the token.
 #[inline(always)]
 pub(crate) fn time_ahead<'a>(opening: Opening<'a>, ahead: Ahead<'a>) -> Option<u64>
     requires opens { (a : Ahead) × Opens a ahead opening }
@@ -447,8 +446,8 @@ pub(crate) fn time_ahead<'a>(opening: Opening<'a>, ahead: Ahead<'a>) -> Option<u
     decimal_at(ahead.bytes(), at, ahead.passed() - 1)
 }
 
-/// Returns the time mark that a token spells, and sets the registers to those after it. None where
-/// no such mark may come here; then nothing has changed.
+/// Returns the timestamp that a token spells, and sets the registers to those after it. None where
+/// no such timestamp may come here; then nothing has changed.
 #[inline(always)]
 pub(crate) fn mark_ahead<'a>(
     opening: Opening<'a>,
@@ -478,7 +477,7 @@ pub(crate) fn mark_ahead<'a>(
     }
 }
 
-/// Moves the feed past the items that were taken ahead, which have `bytes` bytes.
+/// Moves the feed past the items that were taken ahead, which have `bytes` bytes. It reads nothing.
 pub fn pass_items<S: Source>(feed: &mut Feed<'_, '_, '_, '_, S>, bytes: usize)
     requires { (ts : List Token) × Passed (limit_of feed.old) (lines_of feed.old)
         (ahead_of feed.old) bytes ts }

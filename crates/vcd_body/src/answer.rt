@@ -10,14 +10,14 @@ use vcd_text::WriteFailed;
 pub enum Done {
     /// The run read all that it had to.
     Whole,
-    /// A time mark ended the run; what follows it is not checked.
+    /// A timestamp ended the run; what follows it is not checked.
     Early,
 }
 
-/// Whether a run goes on.
+/// Whether a run continues.
 #[derive(Clone, Copy, PartialEq, Eq, Debug)]
 pub enum More {
-    /// The run goes on: there is more to read.
+    /// The run continues: there is more to read.
     Again,
     /// The run has ended.
     Ended(Done),

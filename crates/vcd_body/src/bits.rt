@@ -103,7 +103,7 @@ fn digit_of_bits(bits: Bits, index: usize) -> u8
     b'0' + digit as u8
 }
 
-/// Puts all digits.
+/// Writes all digits, a byte each, the highest first.
 pub(crate) fn put_digits(bits: Bits, to: &mut [u8])
     requires { length to.old ≡ bits.len }
     ensures { to.new ≡ binary_digits bits.len bits.number }

@@ -36,8 +36,8 @@ pub(crate) fn shortest(digits: &[u8]) -> &[u8]
 }
 
 // Returns whether some byte may be a capital letter: these have bit 5 clear, and digits of a value
-// in lower case have it set. Bit 5 of all digits, put together by `and`: `merge` of wide vectors
-// with itself takes 698.6 an item, by two comparisons of each digit 744.3.
+// in lower case have it set. Bit 5 of all digits is put together by `and`: by two comparisons of
+// each digit `merge` of wide vectors takes 7 % more.
 pub(crate) fn may_have_capital(bytes: &[u8]) -> bool
     ensures { result ≡ false → str_to_ascii_lowercase bytes.now ≡ bytes.now }
 {

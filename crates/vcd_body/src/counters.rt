@@ -59,8 +59,7 @@ pub(crate) fn count_steps(counts: &mut [u64; 3], more: u64, rises: bool, falls: 
 /// Counts a step that goes this way in a slot. Returns whether that had room for it; else its
 /// counter begins again, and 256 steps are left to count.
 // A step touches one byte, whose index is the difference of the last digits, without a branch:
-// `edges` takes 58.3 and 175.8 an item of scalars and of 27,505 codes, with counters of changes,
-// rises and falls in the slot 71.4 and 179.1.
+// with counters of changes, rises and falls in the slot `edges` of scalars takes 22 % more.
 #[inline(always)]
 pub(crate) fn count_step(steps: &mut [u8; 3], way: usize) -> bool
     requires { way < 3 }

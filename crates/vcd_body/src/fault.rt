@@ -14,7 +14,7 @@ pub enum BodyFault {
     OutOfPlace,
     /// No decimal number below 2^64 after `#` (fault 13).
     BadTime,
-    /// A time mark below one that was read (fault 14).
+    /// A timestamp below one that was read (fault 14).
     TimeBack,
     /// No digits `0 1 x X z Z` where there should be some, or no code after a digit, or no text
     /// after `r` (fault 15).
@@ -25,7 +25,7 @@ pub enum BodyFault {
     TooWide,
     /// The text of a real number has more than 64 bytes (fault 18).
     RealTooLong,
-    /// A time mark inside a section (fault 19).
+    /// A timestamp inside a section (fault 19).
     TimeInSection,
     /// Byte number 2^63, counted from 1, would be looked at (fault 21).
     InputTooLong,

@@ -28,7 +28,7 @@ pub enum Form {
 /// An item of a body, or its end.
 #[derive(Clone, Copy, PartialEq, Eq, Debug)]
 pub enum Item {
-    /// A time mark.
+    /// A timestamp.
     Time(u64),
     /// A section begins.
     Begin(Section),
@@ -44,9 +44,9 @@ pub enum Item {
 /// What is known after the items read so far.
 #[derive(Clone, Copy, PartialEq, Eq, Debug)]
 pub struct Regs {
-    /// The last time mark, which is the greatest; 0 where there was none.
+    /// The last timestamp, which is the greatest; 0 where there was none.
     pub time: u64,
-    /// Whether there was a time mark.
+    /// Whether there was a timestamp.
     pub marked: bool,
     /// The section that is open.
     pub section: Option<Section>,
@@ -68,11 +68,11 @@ impl Regs {
         }
     }
 
-    /// Takes a time mark, where one may come: outside a section, and at no time before the last
+    /// Takes a timestamp, where one may come: outside a section, and at no time before the last
     /// one. Else returns its fault, and nothing changes.
-    // Not inlined, so that a loop over items keeps neither time nor mark at hand for it. With the
-    // call `cut` of scalars before its window takes 6 % less; in `take_lines` `check` takes 31.6 an
-    // item, with the call 33.2.
+    // Not inlined, so that a loop over items keeps neither time nor timestamp in a register for it:
+    // so `cut` of scalars before its window takes 6 % less. `take_lines` does not call it: with a
+    // call `check` takes 5 % more.
     #[inline(never)]
     pub(crate) fn accept_mark(&mut self, time: u64) -> Result<(), BodyFault>
         ensures may { MatchResult result (λ _. MayMark self.old time) (RefusesMark self.old time) }
@@ -81,7 +81,7 @@ impl Regs {
         self.accept_mark_here(time)
     }
 
-    /// Takes a time mark as `accept_mark` does, in a call where `call` says so.
+    /// Takes a timestamp as `accept_mark` does, in a call where `call` says so.
     #[inline(always)]
     pub(crate) fn accept_mark_by(&mut self, time: u64, call: bool) -> Result<(), BodyFault>
         ensures may { MatchResult result (λ _. MayMark self.old time) (RefusesMark self.old time) }
@@ -94,7 +94,7 @@ impl Regs {
         }
     }
 
-    /// Takes a time mark as `accept_mark` does, without a call.
+    /// Takes a timestamp as `accept_mark` does, without a call.
     #[inline(always)]
     fn accept_mark_here(&mut self, time: u64) -> Result<(), BodyFault>
         ensures may { MatchResult result (λ _. MayMark self.old time) (RefusesMark self.old time) }

@@ -1,17 +1,17 @@
 //! The body of a dump, item by item.
 //!
-//! `next_item` reads the next item from a feed that is after a header: a time mark, the begin or
+//! `next_item` reads the next item from a feed that is after a header: a timestamp, the begin or
 //! end of a section, a value change, or the end of the body (`Finish`). `change_text` is the text
-//! of the change that was read last, and `put_change` writes one as its line. Most items are time
-//! marks and changes that are whole in the chunk: `walk_ahead` takes these one after the other, and
-//! leaves the feed where it is; `pass_items` takes the feed past all of them. A `Visit` says what
-//! is done with each, which marks are left, and when the walk is over. `pass_on` is for a caller
-//! that reads on: before a read may wait, a sink passes on what it keeps back. Where the bytes of
-//! such a change are the line that `put_change` would write, but for digits that it does not need
-//! (`left_out` counts them), the line may be copied from the chunk, and many such lines in a row
-//! together. A `Table` keeps of each code its current value, three counters, and whether it is
-//! chosen. What is done with all items ends with a `Done` or a `Stop`; `put_time` writes the line
-//! of a time. None of them takes memory.
+//! of the change that was read last, and `put_change` writes one as its line. Most items are
+//! timestamps and changes that are whole in the chunk: `walk_ahead` takes these one after the
+//! other, and leaves the feed where it is; `pass_items` takes the feed past all of them. A `Visit`
+//! says what is done with each, which timestamps are left, and when the walk is over. `pass_on` is
+//! for a caller that reads on: before a read may wait, a sink passes on what it keeps back. Where
+//! the bytes of such a change are the line that `put_change` would write, but for digits that it
+//! does not need (`left_out` counts them), the line may be copied from the chunk, and many such
+//! lines in a row together. A `Table` keeps of each code its current value, three counters, and
+//! whether it is chosen. What is done with all items ends with a `Done` or a `Stop`; `put_time`
+//! writes the line of a time. None of them takes memory.
 //!
 //! # The relation
 //!

@@ -10,7 +10,7 @@ use crate::words::{after_first, are_digits_or_known, is_end, rest_of};
 use vcd_text::{Feed, Source, decimal_of};
 use vcd_view::{Code, Found, HeadView, find_sized};
 
-/// Returns the time that the token of a mark spells.
+/// Returns the time that the token of a timestamp spells.
 #[inline(always)]
 pub(crate) fn time_in(token: &[u8]) -> Option<u64>
     ensures { result ≡ mark_time token.now }
@@ -18,7 +18,7 @@ pub(crate) fn time_in(token: &[u8]) -> Option<u64>
     decimal_of(rest_of(token))
 }
 
-/// Takes the time mark that a token is, and returns its time. A fault changes nothing.
+/// Takes the timestamp that a token is, and returns its time. A fault changes nothing.
 #[inline(always)]
 pub(crate) fn read_mark(token: &[u8], regs: &mut Regs) -> Result<u64, BodyFault>
     requires { Begins token.now PhraseKind.Mark }

@@ -64,7 +64,7 @@ fn short_end(first: u8, number: u64) -> Option<End>
     None
 }
 
-/// Writes a byte, the code of a number and a line feed.
+/// Writes a byte, the code of a number, of any length, and a line feed.
 // Not inlined: the bytes of a code would be cleared where the other codes are written.
 #[cold]
 #[inline(never)]
@@ -131,8 +131,8 @@ fn put_copied_slowly<W: Sink>(
 
 /// Writes the bytes from `from` up to `end`, without `left_out` after the first one, then a blank,
 /// the code of a number and a line feed. The bytes after `end` may be read too.
-// Not inlined: two arms of a loop call it. One write for most lines: of Verilator's it takes 58.6 a
-// line, as three writes 85.4.
+// Not inlined: two arms of a loop call it. One write for most lines: as three writes it takes 46 %
+// more of Verilator's.
 #[inline(never)]
 fn put_copied<W: Sink>(
     bytes: &[u8],
@@ -186,8 +186,8 @@ fn put_renamed_text<W: Sink>(
 /// Writes a change that was taken ahead under the new code of this number. The bytes from `from` up
 /// to `to` spell it. Those before its code are copied where they are what its line begins with.
 /// Where a write fails, a prefix was written.
-// Digits are copied and not looked at one by one: `merge` of Verilator's takes 344 an item, without
-// 386; of wide vectors 770, 787; of scalars 153.6, 152.6.
+// Digits are copied and not looked at one by one: without this `merge` of Verilator's takes 12 %
+// more.
 #[inline(always)]
 pub fn put_renamed_ahead<W: Sink>(
     plain: Plain<'_>,

@@ -80,9 +80,8 @@ impl<'a> Table<'a> {
     /// Sets the value of the code at an index to several digits over several others, where they
     /// differ in the last 16 and so at each size, and counts the step. Returns whether it did; else
     /// nothing changes. This is the common case.
-    // Values that differ mostly do so in their last digits. Without this, `packed_ends_differ` and
-    // `pack_bits`, with one loop over digits, `edges` takes 45 % more of wide vectors and 38 % more
-    // of Verilator's.
+    // Values that differ mostly do so in their last digits. With one loop over digits instead of
+    // this, `packed_ends_differ` and `pack_bits`, `edges` of wide vectors takes 45 % more.
     #[inline(never)]
     pub(crate) fn change(&mut self, code: usize, text: &[u8]) -> bool
         ensures sets { result ≡ true → (size : ℕ)

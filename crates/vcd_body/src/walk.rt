@@ -24,8 +24,8 @@ use vcd_text::{Ahead, Sink, WriteFailed};
 use vcd_view::HeadView;
 
 /// The view of a header, or a small value that makes it.
-// A view made once a walk: `merge` of 27,505 codes takes 220 an item, with one made for each item
-// 308. Handed to `take_lines` as a view, scalars take 121.1, as it is 116.8.
+// A view is made once a walk: with one made for each item `merge` of 27,505 codes takes 40 % more.
+// Handed to `take_lines` as a view, scalars take 4 % more.
 pub trait Viewed: Copy {
     // Whether this is such a view.
     ghost shows: { Self → HeadView → Type 0 };
@@ -56,14 +56,14 @@ pub struct Extent<'a> {
 /// What is done with the items ahead, in a command that is lent. What a loop is to keep in
 /// registers is in the visit, which comes and goes by value.
 pub trait Visit<C>: Drop {
-    // Whether it can go on in these bytes, with these registers after the items so far.
+    // Whether it can continue in these bytes, with these registers after the items so far.
     ghost stands: { Self → C → List ℕ → Regs → Type 0 };
 
     // Whether this is what it does with an item, from one stage of the walk to another, and what a
     // write of what is due with it gives.
     ghost takes: { HeadView → Stage Self C → Stage Self C → Result (Unit {0}) WriteFailed → Type 0 };
 
-    // Whether the walk leaves a time mark with this time.
+    // Whether the walk leaves a timestamp with this time.
     ghost is_left: { Self → C → ℕ → Bool };
 
     // Whether no other item is to be taken.
@@ -169,7 +169,7 @@ impl<'a, V> Walked<'a, V> {
     }
 }
 
-/// Takes a change that was found ahead, and returns that it was no mark.
+/// Takes a change that was found ahead, and returns that it was no timestamp.
 #[inline(always)]
 fn take_change<C, V: Visit<C>, W: Sink>(
     command: &mut C,
@@ -193,7 +193,7 @@ fn take_change<C, V: Visit<C>, W: Sink>(
     Ok(false)
 }
 
-/// Takes the time mark that a token is, from one position up to another. None where it takes none,
+/// Takes the timestamp that a token is, from one position up to another. None where it takes none,
 /// and then nothing has changed.
 #[inline(always)]
 fn take_mark<'a, C, V: Visit<C>>(
@@ -258,12 +258,10 @@ fn take_vector<C, V: Visit<C>, W: Sink>(
     }
 }
 
-/// Takes the next item that lies ahead, and returns whether it was a mark. None where it takes
+/// Takes the next item that lies ahead, and returns whether it was a timestamp. None where it takes
 /// none, and then nothing has changed.
 // What begins the item is asked once: what is done with it follows in each arm. All arms are
-// inlined. With arms for changes in a function of their own `pick` of all takes 188 and 253 an item
-// of 27,505 codes and Verilator's, as it is 160 and 227; not inlined, `check` takes nearly three
-// times as many.
+// inlined: else `check` takes nearly three times as many instructions.
 #[inline(always)]
 fn take_next<C, V: Visit<C>, W: Sink>(
     command: &mut C,
@@ -309,7 +307,7 @@ fn take_next<C, V: Visit<C>, W: Sink>(
 }
 
 /// Takes the next item that lies ahead, where it is a change by `0` or `1` with a code of one byte
-/// on a line of its own, and returns that it was no mark. None where it takes none, and then
+/// on a line of its own, and returns that it was no timestamp. None where it takes none, and then
 /// nothing has changed.
 #[inline(always)]
 fn take_short<C, V: Visit<C>, W: Sink>(
@@ -367,7 +365,7 @@ fn take_shorts<'a, C, V: Visit<C>, H: Viewed, W: Sink>(
     }
 }
 
-/// Takes the next item that lies ahead, where it is a time mark on a line of its own. None where it
+/// Takes the next item that lies ahead, where it is a timestamp on a line of its own. None where it
 /// takes none, and then nothing has changed.
 #[inline(always)]
 fn take_line_mark<C, V: Visit<C>>(
@@ -387,14 +385,12 @@ fn take_line_mark<C, V: Visit<C>>(
     take_mark(command, visit, view, opening, regs, ahead, to)
 }
 
-/// Takes the items that come next, as long as each is a short change or a time mark on a line of
+/// Takes the items that come next, as long as each is a short change or a timestamp on a line of
 /// its own.
 // It is not inlined, so that it has all registers, and the other loop has none less for it. The
-// loop of changes in it is one of its own, so that no change pays for what a mark needs. Without
-// this loop `check` of scalars takes 48.9 an item, with it 31.6; `pick` of all 92.9, 60.5; `edges`
-// 88.7, 72.0 (other dumps 1 to 2 % more). One loop over changes and marks, with a call for each
-// mark, takes 44.0 in `check`; a loop of changes inside and no call, but nothing asked before,
-// 40.9.
+// loop of changes in it is one of its own, so that no change pays for what a timestamp needs.
+// Without this loop `check` of scalars takes 55 % more, other dumps 1 to 2 % less. With one loop
+// over changes and timestamps, and a call for each timestamp, it takes 39 % more.
 #[inline(never)]
 fn take_lines<'a, C, V: Visit<C>, H: Viewed, W: Sink>(
     command: &mut C,
@@ -460,11 +456,11 @@ fn begin_lines<'a, C, V: Visit<C>, H: Viewed, W: Sink>(
 }
 
 /// Takes the items that lie ahead, one after the other, as long as the visit is not over: the first
-/// one in any case. A mark that it leaves ends the walk, and so does a failed write.
+/// one in any case. A timestamp that it leaves ends the walk, and so does a failed write.
 // Registers, offset and visit come and go by value, so that the loop keeps them out of memory. The
 // view is made here and in `take_lines`: its words would be copied for each call. In each arm of an
-// item the compiler knows whether it was a mark. In a struct that stays in memory they cost `check`
-// of scalars 11 %, `pick` 9 % and `edges` 14 %.
+// item the compiler knows whether it was a timestamp. In a struct that is kept in memory they cost
+// `check` of scalars 11 %.
 #[inline(always)]
 pub fn walk_ahead<'a, C, V: Visit<C>, H: Viewed, W: Sink>(
     command: &mut C,

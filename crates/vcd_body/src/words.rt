@@ -10,7 +10,7 @@ use vcd_view::{Keyword, keyword_of};
 /// What a phrase begins with, by the token's first byte.
 #[derive(Clone, Copy, PartialEq, Eq, Debug)]
 pub enum PhraseKind {
-    /// `#`: a time mark.
+    /// `#`: a timestamp.
     Mark,
     /// The digit `0` or `1` of a value, with its code right after it.
     Bit,
@@ -46,9 +46,8 @@ pub(crate) fn kind_of(token: &[u8]) -> PhraseKind
 }
 
 /// Returns what a token with this first byte begins.
-// The most frequent first bytes of dumps are asked for first. `check` of 27,505 codes and of
-// Verilator takes 100 and 134 an item; with x and z asked before `b`, and each token whether it is
-// empty, 106 and 144.
+// The most frequent first bytes of dumps are asked for first. With x and z asked before `b`, and
+// each token whether it is empty, `check` of 27,505 codes takes 6 % more.
 #[inline(always)]
 pub(crate) fn kind_by(byte: u8) -> PhraseKind
     ensures { (rest : List ℕ) → Begins (byte ∷ rest) result }

@@ -1,4 +1,4 @@
--- A reading that goes on finds the header that it began with.
+-- A reading that resumes finds the header that it began with.
 use Rattle.std.proofs.Common.{◌≡◌, ◌∙◌, ℕ, List, [], ap, refl, subst, sym}
 use Rattle.vcd_model.specs.Declarations.{IdCode}
 use Rattle.vcd_model.specs.Header.{header_of}
@@ -44,7 +44,7 @@ goes_behind dump items p (GoesOnAt.Behind front' codes' has' after) some front c
     let same = same_header dump front' front codes' codes has' has in
     subst (λ (l : List Token). IsAfter codes (whole dump) l items p) same.0 (subst (λ (l : List IdCode). IsAfter l (whole dump) front' items p) same.1 after)
 
--- the same behind the same items, and for the same code
+-- the same after the same items, and for the same code
 pub finds_for : (codes : List IdCode) (i : Input) (front : List Token) (items items' : List BodyItem) (text text' : List ℕ) (r : Reading) (rows : List ChangeRow) (status : ℕ) → items' ≡ items → text' ≡ text → Finds codes i front items text r rows status → Finds codes i front items' text' r rows status
 finds_for codes i front items items' text text' r rows status e f finds =
     subst (λ (t : List ℕ). Finds codes i front items' t r rows status) (sym f) (subst (λ (l : List BodyItem). Finds codes i front l text r rows status) (sym e) finds)

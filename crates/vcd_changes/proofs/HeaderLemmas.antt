@@ -29,7 +29,7 @@ module _ {P : Type 0} (g : Grammar P) where
   abbrev Same : (front front' : List Token) → (placed placed' : List (Placed P)) → Type 0
   Same front front' placed placed' = (front ≡ front') × (placed ≡ placed')
 
-  -- one that goes on behind the other goes on by nothing
+  -- one that continues after the other continues by nothing
   no_more : (front front' more : List Token) (placed placed' : List (Placed P)) → IsWhole g front placed → IsWhole g front' placed' → front' ≡ front ++ more → Same front front' placed placed'
   no_more front front' more placed placed' w w' e =
       let reads = sym (whole-more g front placed more w) ∙ ap (reading_of g) (sym e) ∙ w' in

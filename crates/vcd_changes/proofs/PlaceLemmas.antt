@@ -1,4 +1,4 @@
--- A place keeps what is known of the items before it, and a feed over a dump in memory has met no
+-- A `Place` keeps what is known of the items before it, and a feed over a dump in memory has met no
 -- failed read.
 use Rattle.std.proofs.Common.{◌≡◌, ◌≢◌, ◌∙◌, ◌==◌, ◌++◌, ℕ, Bool, true, false, not, cond, List, Option, Some, None, Ok, Err, ap, refl, sym, subst, length, inl, inr, arith}
 use Rattle.vcd_model.specs.Declarations.{IdCode}
@@ -58,7 +58,7 @@ open_phase (Halted halt.ReadFailed) limit rest chunk p dump given h = λ e. clea
 pub has_not_failed : {X : Type 0} {g : Ghosts X} (f : Feed X g) (dump : List ℕ) (given : List Token) → HasGiven (whole dump) given f → HasNotFailed f
 has_not_failed {X} {g} f dump given h = open_phase f.parked.phase (length f.token.now) (g.rest f.source.now) f.chunk.now f.parked dump given h.at
 
--- the next call goes on where the items end that a feed has given
+-- the next call resumes where the items end that a feed has given
 pub is_after : {X : Type 0} {g : Ghosts X} (codes : List IdCode) (i : Input) (front : List Token) (items : List BodyItem) (f : Feed X g) (r : Regs) (o : Offset) → GaveItems codes i front items f r → limit_of f ≡ 65536 → chunk_len_of f ≡ 65536
     → ((j : Input) (given : List Token) → HasGiven j given f → HasGivenTo (chunk_len_of f) (limit_of f) o j given) → IsOffset o → IsAfter codes i front items (place_of o r)
 is_after codes i front items f r o gave limit chunk to comes = record {
@@ -72,7 +72,7 @@ is_after codes i front items f r o gave limit chunk to comes = record {
   known = subst (AreRegsAfter items) (sym (regs_back o r)) gave.known;
 }
 
--- a feed that goes on there has given them
+-- a feed that resumes there has given them
 pub goes_on : {X : Type 0} {g : Ghosts X} (codes : List IdCode) (i : Input) (front : List Token) (items : List BodyItem) (f : Feed X g) (p : Place) (after : IsAfter codes i front items p) → HasGiven i (front ++ after.given) f → GaveItems codes i front items f (regs_of p)
 goes_on codes i front items f p after stands = record { given = after.given; placed = after.placed; stands = stands; so_far = after.so_far; items_are = after.items_are; known = after.known }
 

@@ -28,7 +28,7 @@ use Rattle.vcd_changes.specs.declared.row.ChangeRow.{ChangeRow}
 rows_more : (code : List ℕ) (items : List BodyItem) (x : BodyItem) → rows_of code (items ++ x ∷ []) ≡ rows_of code items ++ filter_map (row_in code) (entry_after items x ∷ [])
 rows_more code items x = ap (filter_map (row_in code)) (entries-append items (x ∷ [])) ∙ filter_map-append (row_in code) (entries items) (entry_after items x ∷ [])
 
--- a change is no time mark
+-- a change is no timestamp
 time_stays : (items : List BodyItem) (d : Change) → time_after (items ++ BodyItem.Changes d ∷ []) ≡ time_after items
 time_stays items d = ap (fold max 0) (filter_map-append time_mark items (BodyItem.Changes d ∷ []) ∙ append-nil (marks items))
 
@@ -41,7 +41,7 @@ not_true true n = absurd (n refl)
 not_true false n = refl
 
 module _ (codes : List IdCode) (index : List ℕ) (is : IsIndex codes index) (place : ℕ) (c : IdCode) (at : slice_get codes place ≡ Some c) where
-  -- two codes of a header have one text where they have one place
+  -- two codes of a header have one text where they have one index
   same_text : (code : ℕ) (k : IdCode) → slice_get codes code ≡ Some k → bytes_eq k.text c.text ≡ (code == place)
   same_text code k there = elim (eqb_tells code place) [
     | inl h ↦
@@ -83,7 +83,7 @@ module _ (codes : List IdCode) (index : List ℕ) (is : IsIndex codes index) (pl
   taken i front items f r Finish h n = absurd (n refl)
 
 module _ (code : List ℕ) where
-  -- the rows hold the changes of these items, which are behind those of an earlier call
+  -- the rows hold the changes of these items, which are after those of an earlier call
   abbrev pub Filled : List BodyItem → List BodyItem → List ChangeRow → Type 0
   Filled items more rows = rows_of code (items ++ more) ≡ rows_of code items ++ rows
 

@@ -1,4 +1,4 @@
--- Where a reading of changes goes on, and what a call of it finds.
+-- Where a reading of changes resumes, and what a call of it finds.
 use Rattle.std.specs.Prelude.{◌≡◌, ◌≢◌, ◌⊎◌, ℕ, ◌==◌, not, cond, find, List, [], ◌++◌, length, take, Option, Some, None}
 use Rattle.vcd_model.specs.BodyPhrases.{BodyPhrase, items_of}
 use Rattle.vcd_model.specs.BodyReading.{body_grammar}
@@ -31,7 +31,7 @@ use Rattle.vcd_changes.specs.declared.row.ChangeRow.{ChangeRow}
 use Rattle.vcd_changes.specs.declared.rows.Filled.{Filled}
 use Rattle.vcd_changes.specs.declared.rows.Filled.TheVariants as filled
 
--- ---- a place as numbers
+-- ---- a `Place` as numbers
 
 abbrev pub section_number : Option Section → ℕ
 section_number None = 0
@@ -43,17 +43,17 @@ section_number (Some All) = 4
 abbrev pub section_at : ℕ → Option Section
 section_at n = cond (n == 1) (Some Vars) (cond (n == 2) (Some Off) (cond (n == 3) (Some On) (cond (n == 4) (Some All) None)))
 
--- the place of a reading that has come so far, with this known of the items
+-- the `Place` of a reading that has come this far, with this known of the items
 abbrev pub place_of : Offset → Regs → Place
 place_of offset regs = record { begun = 1; offset = offset; time = regs.time; marked = cond regs.marked 1 0; section = section_number regs.section }
 
--- what is known of the items before a place
+-- what is known of the items before a `Place`
 abbrev pub regs_of : Place → Regs
 regs_of p = record { time = p.time; marked = not (p.marked == 0); section = section_at p.section }
 
 -- ---- in a dump
 
--- the body goes on at this place, after these tokens of the header, these items of it and no others
+-- the body continues at this `Place`, after these tokens of the header, these items and no others
 pub record IsAfter (codes : List IdCode) (i : Input) (front : List Token) (items : List BodyItem) (p : Place) : Type 0 where
   pub given : List Token
   pub placed : List (Placed BodyPhrase)
@@ -71,7 +71,7 @@ pub record HasCodes (dump : List ℕ) (front : List Token) (codes : List IdCode)
   pub header : IsWhole (header_grammar 16777216) front placed
   pub codes_are : codes ≡ (header_of (phrases_of placed)).codes
 
--- a reading of this dump goes on at this place, after these items: at the begin of the body, or
+-- a reading of this dump resumes at this `Place`, after these items: at the begin of the body, or
 -- where a call has left it
 pub data GoesOnAt (dump : List ℕ) (items : List BodyItem) (p : Place) : Type 0 where
   AtBegin : (new : p.begun ≡ 0) (none : items ≡ []) → GoesOnAt dump items p
@@ -88,7 +88,7 @@ status_of filled.All = 0
 status_of filled.Full = 4
 
 -- how a call ends whose reading has come after these items: the body has no others and no fault; or
--- it has this fault; or the rows are full, and the next call goes on
+-- it has this fault; or the rows are full, and the next call resumes
 abbrev pub EndsAt : List IdCode → Input → List Token → List BodyItem → Reading → List ChangeRow → ℕ → Type 0
 EndsAt codes i front items r rows status =
     ((status ≡ 0) × BodyHas codes i front 65536 items None × IsAfter codes i front items r.place)

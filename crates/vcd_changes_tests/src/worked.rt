@@ -96,7 +96,7 @@ const WORKED: [Worked; 16] = [
         fault: 0,
         line: 0,
     },
-    // Before the first mark it is time 0.
+    // Before the first timestamp it is time 0.
     Worked {
         head: HEAD_C,
         body: b"1!\n#0\n0!\n#9\n",

@@ -59,7 +59,7 @@ module _ (t : Request) (h : Header) (limit lines : ℕ) (bytes : List ℕ) (befo
     pub few_ahead : n ≤ length bytes → length before + length bytes < 2 ^ 63 → length (before ++ items) < 2 ^ 63
     few_ahead within few = let each = s.gave.few in omega (arith, length-append before items)
 
-    -- one item more, after which the run goes on
+    -- one item more, after which the run continues
     pub stands_on : (n' : ℕ) (m' : TaskState) (r' : Regs) (text : List ℕ) (item : Item) (x : BodyItem) → IsItem h.codes text item x → GaveAhead h.codes limit lines bytes n' before (items ++ x ∷ []) → AreRegsAfter (before ++ (items ++ x ∷ [])) r' → r' ≡ regs_after r item
         → Keeps m' h ((before ++ items) ++ x ∷ []) → ends_early t x ≡ false → StandsAhead t h limit lines bytes before n' (items ++ x ∷ []) m' r'
     stands_on n' m' r' text item x is gave known regs keeps stays =
@@ -144,7 +144,7 @@ gave_over codes limit limit' lines bytes bytes' n before items l b s = subst (λ
 -- ---- an engine that has taken them
 
 module _ {X : Type 0} {g : Ghosts X} (h : Header) (i : Input) (front : List Token) (items : List BodyItem) (e e' : Engine) (old new : Feed X g) (limit lines : ℕ) (bytes : List ℕ) (n : ℕ) (s : Runs e h i front items old) where
-  -- it goes on
+  -- it continues
   pub runs_behind : (more : List BodyItem) → StandsAhead (request_of_engine e) h limit lines bytes items n more e'.task_state e'.regs → GaveItems h.codes i front (items ++ more) new e'.regs → e'.view ≡ e.view → request_of_engine e' ≡ request_of_engine e → seen new ≡ seen old + n
       → Runs e' h i front (items ++ more) new
   runs_behind more stands gave view same looked = record {

@@ -75,7 +75,7 @@ begun_at a e = rw e refl
 pub plain_at : (a : ℕ) → a ≢ 0 → is_started a [] ≡ false
 plain_at a e = rw (ne_eqb a 0 e) refl
 
--- ---- a time mark
+-- ---- a timestamp
 
 -- it ends the cut or not
 pub above_is : (b t : ℕ) → b < t → is_mark_above b (BodyItem.Time t) ≡ true
@@ -103,7 +103,7 @@ module _ {E : Type 0} (h : Header) (a b : ℕ) (p : List BodyItem) (on : ends_cu
       by_mark true m = (start_section h a p ++ time_unless (a ∷ []) b, due_both h a b p on t m s le, takes-first out.held out'.held (start_section h a p) (time_unless (a ∷ []) b) r failed some)
       by_mark false m = (start_section h a p, due_section h a b p on t m s le, takes-failed out.held out'.held (start_section h a p) r failed some)
 
-  -- it was written, and the cut goes on
+  -- it was written, and the cut continues
   pub begun_on : is_started a p ≡ false → a ≤ t → t ≤ b → Takes out out' (start_section h a p) r → TakesDue out out' (cut_open h a b p) (cut_open h a b (p ++ BodyItem.Time t ∷ [])) r
   begun_on s le low all = (start_section h a p, due_section h a b p on t (within_is b t low) s le, all)
 
@@ -111,20 +111,20 @@ module _ {E : Type 0} (h : Header) (a b : ℕ) (p : List BodyItem) (on : ends_cu
   pub begun_ended : (mid : Device) → is_started a p ≡ false → a ≤ t → b < t → Appends out.held mid.held (start_section h a p) → Takes mid out' (closing (times_with (a ∷ []) []) (Some b)) r → TakesDue out out' (cut_open h a b p) (cut_open h a b (p ++ BodyItem.Time t ∷ [])) r
   begun_ended mid s le high all last = (start_section h a p ++ time_unless (a ∷ []) b, due_both h a b p on t (above_is b t high) s le, takes-twice out.held mid.held out'.held (start_section h a p) (time_unless (a ∷ []) b) r all last)
 
-  -- it stood already, and the cut ends
+  -- it was there already, and the cut ends
   pub ended : is_started a p ≡ true → b < t → Takes out out' (closing (times_with (a ∷ []) (cut_entries a p)) (Some b)) r → TakesDue out out' (cut_open h a b p) (cut_open h a b (p ++ BodyItem.Time t ∷ [])) r
   ended s high last = (time_unless (a ∷ times_of (cut_entries a p)) b, due_last h a b p on t (above_is b t high) s, last)
 
--- it stands or falls with the mark as it did
+-- it is there with the timestamp or not, as before
 same_start : (a : ℕ) (p : List BodyItem) (t : ℕ) → (is_started a p ≡ true) ⊎ (t < a) → is_started a (p ++ BodyItem.Time t ∷ []) ≡ is_started a p
 same_start a p t (inl s) = started_more a p (BodyItem.Time t ∷ []) s ∙ sym s
 same_start a p t (inr low) = unstarted_by a p t low
 
--- nothing is due, and the cut goes on
+-- nothing is due, and the cut continues
 pub mark_passes : (h : Header) (a b : ℕ) (p : List BodyItem) (t : ℕ) → ends_cut b p ≡ false → t ≤ b → (is_started a p ≡ true) ⊎ (t < a) → cut_open h a b (p ++ BodyItem.Time t ∷ []) ≡ cut_open h a b p ++ []
 mark_passes h a b p t on low stands = due_none h a b p on (BodyItem.Time t) (within_is b t low) (mark_kept h a b p on t) (same_start a p t stands)
 
--- ---- what is kept after a time mark
+-- ---- what is kept after a timestamp
 
 module _ (h : Header) (items : List BodyItem) (m : Cut) (is : AreCut m h items) (t : ℕ) (low : t ≤ m.to) where
   still : ends_cut m.to (items ++ BodyItem.Time t ∷ []) ≡ false
@@ -150,7 +150,7 @@ module _ (h : Header) (items : List BodyItem) (m : Cut) (is : AreCut m h items) 
 
 -- ---- other items
 
--- what is read is no time mark
+-- what is read is no timestamp
 no_mark : (codes : List IdCode) (text : List ℕ) (item : Item) (x : BodyItem) (b : ℕ) → IsItem codes text item x → IsNoMark item → (is_mark_above b x ≡ false) × (marks (x ∷ []) ≡ [])
 no_mark codes text (Time t) x b is none = absurd none
 no_mark codes text (Begin s) x b is none = rw is (refl, refl)
@@ -250,7 +250,7 @@ module _ (v : HeadView) (h : Header) (items : List BodyItem) (before : Regs) (m 
 
 -- ---- the end
 
--- the last time mark
+-- the last timestamp
 last_time_is : (items : List BodyItem) (r : Regs) (t : ℕ) → AreRegsAfter items r → last_of r ≡ last_mark items → last_mark items ≡ Some t → t ≡ time_after items
 last_time_is items r t known last e = last_time items r t known (last ∙ e)
 
@@ -262,7 +262,7 @@ module _ (h : Header) (m : Cut) (items : List BodyItem) (r : Regs) (is : AreCut 
   pub closes_unstarted : m.started ≡ false → start_section h m.from items ≡ cut_close h m.from m.to items
   closes_unstarted s = sym (close_unstarted h m.from m.to items is.on (sym is.started_is ∙ s) (λ t e. last_time_is items r t known last e))
 
-  -- a mark that is not above the begin has its line
+  -- a timestamp that is not above the begin has its line
   above_or : (ts : List ℕ) (o : Option ℕ) → ((t : ℕ) → o ≡ Some t → m.from ≤ t) → closing (m.from ∷ ts) (above m.from o) ≡ closing (m.from ∷ ts) o
   above_or ts None le = refl
   above_or ts (Some t) le = by_test (nat_lt m.from t) refl
@@ -312,11 +312,11 @@ values_pass cs items time i c there event = values_next cs items time i c there 
 pub values_line : (cs : List IdCode) (items : List BodyItem) (time i : ℕ) (c : IdCode) → slice_get cs i ≡ Some c → c.event ≡ false → values_text (take (i + 1) cs) items time ≡ values_text (take i cs) items time ++ line_if_set c (value_before items c time)
 values_line cs items time i c there event = values_next cs items time i c there ∙ rw event (ap (λ l. values_text (take i cs) items time ++ l) (append-nil (line_if_set c (value_before items c time))))
 
--- the lines up to a place are some of all
+-- the lines up to an index are some of all
 pub values_rest : (cs : List IdCode) (items : List BodyItem) (time i : ℕ) → values_text cs items time ≡ values_text (take i cs) items time ++ values_text (drop i cs) items time
 values_rest cs items time i = ap (λ l. values_text l items time) (sym (take-append-drop i cs)) ∙ values-append (take i cs) (drop i cs) items time
 
--- the code that is read at a place is a code of the header
+-- the code that is read at an index is a code of the header
 pub read_code : (v : HeadView) (h : Header) (i : ℕ) (d : Code) → IsViewOf v h → i < length v.codes.now → (c : IdCode) × (slice_get h.codes i ≡ Some c) × ((get_or v.codes.now i d).event ≡ c.event)
 read_code v h i d views within =
     let same = codes_len v.text.now v.codes.now h.codes views.codes in
@@ -327,7 +327,7 @@ read_code v h i d views within =
     let one : get_or v.codes.now i d ≡ m.0 = cc in
     (there.0, there.1, ap (λ (y : Code). y.event) one ∙ m.2.event_is)
 
--- ---- a time mark, after the start section
+-- ---- a timestamp, after the start section
 
 -- the values that the start section has
 pub values_due : (h : Header) (items : List BodyItem) (m : Cut) → AreCut m h items → m.started ≡ false → HasValues m.table h (λ c. value_before items c m.from)
@@ -338,7 +338,7 @@ stood : (h : Header) (items : List BodyItem) (m : Cut) (t : ℕ) → AreCut m h 
 stood h items m t is (inl s) = inl (sym is.started_is ∙ s)
 stood h items m t is (inr low) = inr low
 
--- the cut goes on
+-- the cut continues
 pub mark_goes : {E : Type 0} (h : Header) (items : List BodyItem) (m m' : Cut) (t : ℕ) (out out' : Device) (r : Result Bool E) → r ≡ Ok false → AreCut m h items → t ≤ m.to → m'.from ≡ m.from → m'.to ≡ m.to → HasBegun h items t m m' out out' ⊎ HasNone t m m' out out'
     → TakesOne (AreCut m' h (items ++ BodyItem.Time t ∷ [])) (Request.Cut m.from m.to) h items (BodyItem.Time t) out out' r
 mark_goes {E} h items m m' t out out' r e is low same_from same_to (inl begun) = record {
@@ -372,7 +372,7 @@ mark_ends h items m m' t out mid out' r r' is high (inr none) closes same =
     already (inl s) = s
     already (inr low) = let le = is.ordered in absurd (omega (arith, le, low, high))
 
--- ---- items that are no time marks
+-- ---- items that are no timestamps
 
 pub no_mark_is : (item : Item) → ((time : ℕ) → item ≢ Time time) → IsNoMark item
 no_mark_is (Time t) none = absurd (none t refl)
@@ -423,13 +423,13 @@ module _ (h : Header) (items : List BodyItem) (m : Cut) (time : ℕ) (is : AreCu
     keeps = goes_still h items m is time low why;
   }
 
-  -- a mark with which the start section is not due
+  -- a timestamp with which the start section is not due
   pub mark_before : nat_le m.from time ≡ false → TakesQuietly (AreCut m h (items ++ BodyItem.Time time ∷ [])) (Request.Cut m.from m.to) h items (BodyItem.Time time)
   mark_before early =
       let order = is.ordered in
       let less = leb-false m.from time early in
       mark_quiet (omega (arith, order, less)) (inr less)
 
-  -- a mark behind it, up to the end
+  -- a timestamp after it, up to the end
   pub mark_within : m.started ≡ true → nat_lt m.to time ≡ false → TakesQuietly (AreCut m h (items ++ BodyItem.Time time ∷ [])) (Request.Cut m.from m.to) h items (BodyItem.Time time)
   mark_within begun low = mark_quiet (ltb-false m.to time low) (inl (sym is.started_is ∙ begun))

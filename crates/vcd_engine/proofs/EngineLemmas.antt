@@ -49,7 +49,7 @@ stops_unmatched t h out (Read input) is = absurd is
 pub marks_push : (items : List BodyItem) (x : BodyItem) → marks (items ++ x ∷ []) ≡ marks items ++ marks (x ∷ [])
 marks_push items x = filter_map-append time_mark items (x ∷ [])
 
--- an item that is no mark
+-- an item that is no timestamp
 pub marks_stay : (items : List BodyItem) (x : BodyItem) → marks (x ∷ []) ≡ [] → marks (items ++ x ∷ []) ≡ marks items
 marks_stay items x e = marks_push items x ∙ ap (λ l. marks items ++ l) e ∙ append-nil (marks items)
 
@@ -62,9 +62,9 @@ none_at test (y ∷ p) x h e = both_false (test y) (list_any test p) (list_any t
     both_false true c d h k = cc
     both_false false c d h k = k h
 
--- ---- the last time mark
+-- ---- the last timestamp
 
--- behind one item more
+-- after one item more
 pub last_more : (codes : List IdCode) (text : List ℕ) (items : List BodyItem) (r : Regs) (item : Item) (x : BodyItem) → IsItem codes text item x → last_of r ≡ last_mark items → last_of (regs_after r item) ≡ last_mark (items ++ x ∷ [])
 last_more codes text items r (Time t) x is last = rw is (sym (ap (last_or None) (marks_push items (BodyItem.Time t)) ∙ last_or-snoc None (marks items) t))
 last_more codes text items r (Begin s) x is last = rw is (last ∙ sym (ap (last_or None) (marks_stay items (BodyItem.Begin (model_section s)) refl)))
@@ -87,7 +87,7 @@ module _ {X : Type 0} {g : Ghosts X} (h : Header) (i : Input) (front : List Toke
   pub few_items : (e : Engine) (old : Feed X g) → Runs e h i front items old → seen old < seen new → seen new < 2 ^ 63 → length items < 2 ^ 63
   few_items e old s further bounded = let n = s.few in omega arith
 
-  -- an engine that has taken it, and goes on
+  -- an engine that has taken it, and continues
   pub runs_on : (e e' : Engine) (old : Feed X g) (item : Item) (x : BodyItem) → Runs e h i front items old → AsItem h.codes new item x → GaveItems h.codes i front (items ++ x ∷ []) new (regs_after e.regs item) → Keeps e'.task_state h (items ++ x ∷ [])
       → ends_early (request_of_engine e) x ≡ false → request_of_engine e' ≡ request_of_engine e → seen old < seen new → e'.view ≡ e.view → e'.regs ≡ regs_after e.regs item → Runs e' h i front (items ++ x ∷ []) new
   runs_on e e' old item x s is gave keeps stays same further view regs = record {

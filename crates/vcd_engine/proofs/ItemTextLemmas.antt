@@ -31,7 +31,7 @@ some_text Scalar code text t = let e = ap length t.2 in omega arith
 some_text Vector code text t = t.0
 some_text RealText code text t = t.0
 
--- the code that the view has at this place is the header's
+-- the code that the view has at this index is the header's
 code_is : (s : HeadShown) (h : Header) (place : ℕ) (c : IdCode) (code : Code) → Views s h → slice_get h.codes place ≡ Some c → slice_get s.codes place ≡ Some code → IsCode s.text code c
 code_is s h place c code views declared there =
     let m = code_at s.text s.codes h.codes place c views.codes declared in

@@ -87,7 +87,7 @@ mark_of_shown names ds i shown = sym (unwrap_or-slice_get (marks_of names ds) i 
 
 -- ---- marks from the last one on
 
--- those from a place on lead on, and so many rows from there have no line
+-- those from an index on lead on, and this many rows from there have no line
 pub record LeadFrom (names : List (List ℕ)) (ds : List Declaration) (marks : List ℕ) (from without : ℕ) : Type 0 where
   pub each : (i : ℕ) → from ≤ i → i < length marks → Leads names ds i (get_or marks i 0)
   pub none : HaveNoLine names ds from without

@@ -18,7 +18,7 @@ lines-some old mid new f xs k d h p q =
     ap (flat_map f) (sym (take-append-drop (k + 1) xs)) ∙ flat_map-append f (take (k + 1) xs) (drop (k + 1) xs) ∙ ap (λ l. l ++ flat_map f (drop (k + 1) xs)) (lines-more f xs k d h) in
     subst (AppendsSome old new) (sym whole) (appends-first old new _ (flat_map f (drop (k + 1) xs)) (appends-some old mid new (flat_map f (take k xs)) (f (get_or xs k d)) p q))
 
--- what holds of all elements holds of the one at a place
+-- what holds of all elements holds of the one at an index
 pub all-at : {Z : Type 0} (P : Z → Type 0) (xs : List Z) (k : ℕ) (d : Z) → k < length xs → AllByRecursion P xs → P (get_or xs k d)
 all-at P [] k d h all = absurd (omega arith)
 all-at P (x ∷ xs) zero d h all = all.0

@@ -61,7 +61,7 @@ code_there s h i r v views at declared none = let known = (row_of_variable s h i
 abbrev pub lines_after : List Declaration → List Declaration → List ℕ
 lines_after earlier ds = flat_map list_line (filter_map (λ o. o) (each_after (with_path []) earlier ds))
 
--- the lines of the first declarations, and of those behind
+-- the lines of the first declarations, and of those after
 pub lines-append : (xs ys : List Declaration) → lines_after [] (xs ++ ys) ≡ lines_after [] xs ++ lines_after xs ys
 lines-append xs ys =
     let front = each_after (with_path []) [] xs in
@@ -97,7 +97,7 @@ lines-pass s h i r views at other = by_kind (row_at s h i r views at)
     by_kind (Declaration.Up, is, row) = lines-other h.declarations i Declaration.Up is refl
     by_kind (Declaration.Var v, is, row) = absurd (other row.own.0)
 
--- a line that was not wholly written, behind those before it
+-- a line that was not wholly written, after those before it
 pub listed-some : (old mid new : Option (List ℕ)) (h : Header) (i : ℕ) (v : Variable) → slice_get h.declarations i ≡ Some (Declaration.Var v) → Appends old mid (lines_after [] (take i h.declarations)) → AppendsSome mid new (line_after (take i h.declarations) v)
     → AppendsSome old new (list_text h)
 listed-some old mid new h i v at front line =

@@ -1,4 +1,4 @@
--- One item that a command takes ahead, behind those before.
+-- One item that a command takes ahead, after those before.
 use Rattle.std.proofs.Common.{◌≡◌, ℕ, ◌+◌, ◌≤◌, ◌<◌, ◌^◌, false, List, [], ◌∷◌, ◌++◌, length, Result, Ok, Err, refl, sym, subst, append_assoc}
 use Rattle.std.specs.Prelude.{IfOk}
 use Rattle.vcd_model.specs.Declarations.{IdCode}
@@ -33,7 +33,7 @@ use Rattle.vcd_engine.proofs.SampleLemmas.{no_marks}
 pub more_quietly : {A E : Type 0} (v : A) (holds : Type 0) (task : Request) (h : Header) (items : List BodyItem) (x : BodyItem) (pending : List ℕ) (out : Device) → TakesQuietly holds task h items x → TakesMore {A = A} {E = E} (λ due. PutsOn {A = A} {E = E} pending pending out out due (Ok v)) holds task h items x (Ok v)
 more_quietly v holds task h items x pending out q = record { due = ([], q.due, none_on pending out); on = q.on; keeps = q.keeps }
 
--- an item that is no mark ends no run
+-- an item that is no timestamp ends no run
 other_goes_on : (t : Request) (x : BodyItem) → marks (x ∷ []) ≡ [] → ends_early t x ≡ false
 other_goes_on Request.Check x none = refl
 other_goes_on Request.Listing x none = refl
@@ -64,7 +64,7 @@ module _ {A E : Type 0} (t : Request) (h : Header) (limit lines : ℕ) (bytes : 
   pub next_given : GaveOneAhead t h limit lines bytes before (passed_of w'.ahead) items next w'.regs
   next_given = record { gave = one.2; known = subst (AreRegsAfter (before ++ (items ++ next ∷ []))) (sym n.regs) one.3 }
 
-  -- the run goes on
+  -- the run continues
   pub next_stands : (a : A) → result ≡ Ok a → StandsAhead t h limit lines bytes before (passed_of w'.ahead) (items ++ next ∷ []) m' w'.regs
   next_stands a e =
       let keeps = subst (λ (q : Result A E). IfOk q (λ _. Keeps m' h ((before ++ items) ++ next ∷ []))) e taken.keeps in

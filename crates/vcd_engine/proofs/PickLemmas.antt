@@ -102,7 +102,7 @@ pub closes : (h : Header) (names : List (List ℕ)) (items : List BodyItem) (las
 unfolding pick_close
 closes h names items last e = ap (closing (times_with [] (pick_kept h names items))) e
 
--- the last time mark, where there is one, is the time of all items
+-- the last timestamp, where there is one, is the time of all items
 pub last_time : (items : List BodyItem) (r : Regs) (t : ℕ) → AreRegsAfter items r → last_of r ≡ Some t → t ≡ time_after items
 last_time items r t known e = by_mark r.marked e
   where

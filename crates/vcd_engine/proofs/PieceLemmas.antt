@@ -130,7 +130,7 @@ next_line_is bytes bytes' line line' time time' e f g i = subst (λ bs. IsLine b
 
 -- ---- an item that was taken ahead
 
--- a change is no mark, and changes no register
+-- a change is no timestamp, and changes no register
 pub no_mark_here : (item : Item) (place : ℕ) (form : Form) → item ≡ Change place form → IsNoMark item
 no_mark_here item place form e = subst IsNoMark (sym e) tt
 

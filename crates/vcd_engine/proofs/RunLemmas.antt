@@ -43,7 +43,7 @@ none_more n m e = omega arith
 
 -- ---- the first step
 
--- behind the header's tokens no item was given
+-- after the header's tokens no item was given
 pub runs_first : {X : Type 0} {g : Ghosts X} (e : Engine) (h : Header) (i : Input) (front : List Token) (f : Feed X g) → Holds e h [] → HasGiven i front f → Runs e h i front [] f
 runs_first e h i front f s st = record {
   holds = s;
@@ -54,7 +54,7 @@ runs_first e h i front f s st = record {
 
 -- ---- several steps
 
--- `out` holds what is due behind these items; several steps took the run from there to `new`
+-- `out` holds what is due after these items; several steps took the run from there to `new`
 module _ {X : Type 0} {g : Ghosts X} (t : Request) (h : Header) (i : Input) (front : List Token) (items more : List BodyItem) (name : List ℕ) (limit chunk : ℕ) (before : Supply) (begin out new : Device) (can : CanRun t h) (on : list_any (ends_early t) (items ++ more) ≡ false) (open_is : Writes begin out (open_text t h items)) (e : Engine) (f : Feed X g) (same : limit_of f ≡ limit) (size : chunk_len_of f ≡ chunk) where
   abbrev text : List ℕ
   text = open_text t h items
@@ -78,7 +78,7 @@ module _ {X : Type 0} {g : Ghosts X} (t : Request) (h : Header) (i : Input) (fro
       by_due (inl d) = stopped_item t h i front all name limit chunk before begin new can on f same size e.regs d.0 (q ∙ add-zero before.failures) d.1 (some_written begin out new text (open_text t h (all ++ d.0 ∷ [])) open_is d.2)
       by_due (inr d) = stopped_close t h i front all name limit chunk before begin new can on f same size e.regs (q ∙ add-zero before.failures) d.0 (some_written begin out new text (open_text t h all ++ close_text t h all) open_is d.1)
 
--- a step behind some items more
+-- a step after some items more
 behind : {X : Type 0} {g : Ghosts X} (t : Request) (h : Header) (i : Input) (front : List Token) (items more : List BodyItem) (e : Engine) (f : Feed X g) (out mid new : Device) (r : Result More Stop) → Grows out mid (open_text t h items) (open_text t h (items ++ more)) → StepGives t h i front (items ++ more) e f mid new r
     → LastGives t h i front items e f out new r more
 behind t h i front items more e f out mid new (Ok Again) w s = (mid, w, s)
@@ -92,14 +92,14 @@ behind t h i front items more e f out mid new (Err Write) w (inr s) =
     inr (s.0, some_on out mid new (open_text t h items) (open_text t h all) (open_text t h all ++ close_text t h all) w (s.1.0, ap (λ l. open_text t h all ++ l) s.1.1, s.1.2))
 behind t h i front items more e f out mid new (Err (Unmatched name)) w s = absurd s
 
--- items that were taken ahead, and a step behind them
+-- items that were taken ahead, and a step after them
 pub steps_behind : {X : Type 0} {g : Ghosts X} (t : Request) (h : Header) (i : Input) (front : List Token) (items more : List BodyItem) (e : Engine) (f : Feed X g) (out out' new : Device) (r : Result More Stop) → list_any (ends_early t) (items ++ more) ≡ false
     → Grows out out' (open_text t h items) (open_text t h (items ++ more)) → StepGives t h i front (items ++ more) e f out' new r → StepsGive t h i front items e f out new r
 steps_behind t h i front items more e f out out' new r on grows s = record { more = more; on = on; last = behind t h i front items more e f out out' new r grows s }
 
--- `out` holds what is due behind these items; some steps took the run from there to `new`
+-- `out` holds what is due after these items; some steps took the run from there to `new`
 module _ {X : Type 0} {g : Ghosts X} (t : Request) (h : Header) (i : Input) (front : List Token) (items : List BodyItem) (begin out new : Device) (open_is : Writes begin out (open_text t h items)) (e : Engine) (f : Feed X g) where
-  -- the run goes on
+  -- the run continues
   pub steps_go_on : StepsGive t h i front items e f out new (Ok Again) → (more : List BodyItem) × Runs e h i front more f × Writes begin new (open_text t h more)
   steps_go_on s =
       let all = items ++ s.more in
@@ -113,7 +113,7 @@ module _ {X : Type 0} {g : Ghosts X} (t : Request) (h : Header) (i : Input) (fro
     pub steps_end : (done : Done) → (supply_of f).failures ≡ before.failures → StepsGive t h i front items e f out new (Ok (Ended done)) → Follows t limit chunk i front h name before (supply_of f) begin new (Ok done)
     steps_end done q s = followed t h i front items s.more name limit chunk before begin out new can s.on open_is e f same size done q s.last
 
-    -- how much was read where it goes on
+    -- how much was read where it continues
     pub steps_read : StepsGive t h i front items e f out new (Ok Again) → ReadsAsNeeded limit chunk before (supply_of f) i front (is_settled_behind t h)
     steps_read s =
         let all = items ++ s.more in

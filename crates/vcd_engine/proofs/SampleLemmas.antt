@@ -27,7 +27,7 @@ use Rattle.vcd_engine.specs.Values.{AreHeld}
 use Rattle.vcd_engine.specs.declared.task_state.sample.Sample.{Sample}
 use Rattle.vcd_engine.proofs.ValuesLemmas.{held_still}
 
--- ---- the times before one that is not below a mark
+-- ---- the times before one that is not below a timestamp
 
 pub first_or_len : (test : ℕ → Bool) (xs : List ℕ) (o : Option ℕ) → o ≡ cond (nat_lt (position_or_len test xs) (length xs)) (Some (position_or_len test xs)) None → unwrap_or o (length xs) ≡ position_or_len test xs
 first_or_len test xs o e = ap (λ p. unwrap_or p (length xs)) e ∙ by_test (nat_lt (position_or_len test xs) (length xs)) refl
@@ -39,7 +39,7 @@ first_or_len test xs o e = ap (λ p. unwrap_or p (length xs)) e ∙ by_test (nat
         let low = prefix_len-le-length (λ x. not (test x)) xs in
         omega arith
 
--- the place of the first that is not below a time
+-- the index of the first that is not below a time
 abbrev pub place : ℕ → List ℕ → ℕ
 place t us = position_or_len (λ u. nat_le t u) us
 
@@ -70,9 +70,9 @@ all_behind : (P : ℕ → Type 0) (xs ys : List ℕ) → AllByRecursion P (xs ++
 all_behind P [] ys all = all
 all_behind P (x ∷ xs) ys all = all_behind P xs ys all.1
 
--- ---- an item that is no mark
+-- ---- an item that is no timestamp
 
--- it is no time mark
+-- it is no timestamp
 pub no_marks : (codes : List IdCode) (text : List ℕ) (item : Item) (x : BodyItem) → IsItem codes text item x → IsNoMark item → marks (x ∷ []) ≡ []
 no_marks codes text (Time t) x is none = absurd none
 no_marks codes text (Begin s) x is none = rw is refl
@@ -100,7 +100,7 @@ module _ (s : Sample) (h : Header) (items : List BodyItem) (x : BodyItem) (is : 
       subst (λ ts. sample_open h ts (names_in s) (items ++ x ∷ []) ≡ sample_open h ts (names_in s) items) (sym is.times_are) (open_same h (names_in s) items x is.done s.rest.now other is.settled is.others)
       ∙ sym (append-nil (open_text (asked_in s) h items))
 
--- ---- a time mark
+-- ---- a timestamp
 
 module _ (s : Sample) (h : Header) (items : List BodyItem) (t : ℕ) (is : AreSampled s h items) where
   -- the times that it settles, and the others
@@ -153,11 +153,11 @@ module _ (s : Sample) (h : Header) (items : List BodyItem) (t : ℕ) (is : AreSa
       subst (λ ts. ends_early (Request.Sample ts (names_in s)) (BodyItem.Time t) ≡ true) (sym times)
       (ended (names_in s) items t is.done due later none (λ e. is.left (sym both ∙ e)) unsettled low)
 
-  -- else the run goes on
+  -- else the run continues
   pub goes_behind : later ≢ [] → ends_early (asked_in s) (BodyItem.Time t) ≡ false
   goes_behind some = subst (λ ts. ends_early (Request.Sample ts (names_in s)) (BodyItem.Time t) ≡ false) (sym times) (not_ended (names_in s) items t is.done due later some high)
 
-  -- which is told by whether there are some left
+  -- which is decided by whether there are some left
   pub ends_is : (l : List ℕ) (b : Bool) → l ≡ later → b ≡ (length l == 0) → b ≡ ends_early (asked_in s) (BodyItem.Time t)
   ends_is [] b e f = f ∙ sym (ends_run (sym e))
   ends_is (u ∷ us) b e f = f ∙ ne_eqb (length (u ∷ us)) 0 (λ z. absurd (omega arith)) ∙ sym (goes_behind (λ none. let wrong : u ∷ us ≡ [] = e ∙ none in cc))
@@ -186,7 +186,7 @@ closes s h items is =
 
 -- ---- items with which no line is due
 
--- no time that is left is below the mark
+-- no time that is left is below the timestamp
 none_below : (t : ℕ) (us : List ℕ) → is_due us t ≡ false → place t us ≡ 0
 none_below t [] e = cc
 none_below t (u ∷ us) e = rw (le-leb t u (ltb-false u t e)) refl

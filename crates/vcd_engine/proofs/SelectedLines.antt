@@ -20,7 +20,7 @@ use Rattle.vcd_view.proofs.RowLemmas.{rows_len, row_at}
 use Rattle.vcd_head.proofs.MarkedHead.{marks_are}
 use Rattle.vcd_engine.proofs.SelectionLemmas.{marked_is, selected_next}
 
--- a variable that is declared at a place, with its path
+-- a variable that is declared at an index, with its path
 abbrev pub declared_at : List Declaration → ℕ → Variable → Selected
 declared_at ds i x = record { path = path_of (take i ds) (Declaration.Var x); variable = x }
 

@@ -32,7 +32,7 @@ use Rattle.vcd_view.specs.declared.view.Kind.TheVariants as kind
 use Rattle.vcd_view.specs.declared.view.Row.{Row}
 use Rattle.vcd_view.proofs.RowLemmas.{row_at, rows_len}
 
--- ---- codes of equal text have one place
+-- ---- codes of equal text have one index
 
 -- a text that is below all is below each
 less_at : (t u : List ℕ) (xs : List (List ℕ)) (i : ℕ) → AllByRecursion (λ y. slice_cmp nat_cmp t y ≡ Less) xs → slice_get xs i ≡ Some u → slice_cmp nat_cmp t u ≡ Less
@@ -43,7 +43,7 @@ less_at t u (x ∷ xs) (suc i) h at = less_at t u xs i h.1 at
 not_less : (t : List ℕ) → slice_cmp nat_cmp t t ≢ Less
 not_less t e = let same = is_eq-slice_cmp t t ∙ (bytes_eq-Decides t t).1 refl in let b = rw e at same in cc
 
--- in a list that rises strictly each text has one place
+-- in a list that rises strictly each text has one index
 one_place : (xs : List (List ℕ)) (i j : ℕ) (t : List ℕ) → IsStrictlySortedBy (slice_cmp nat_cmp) xs → slice_get xs i ≡ Some t → slice_get xs j ≡ Some t → i ≡ j
 unfolding IsStrictlySortedBy
 one_place [] i j t h a b = absurd (none-some t a)
@@ -52,7 +52,7 @@ one_place (x ∷ xs) zero (suc j) t h a b = absurd (not_less t (subst (λ y. sli
 one_place (x ∷ xs) (suc i) zero t h a b = absurd (not_less t (subst (λ y. slice_cmp nat_cmp y t ≡ Less) (same_Some x t b) (less_at x t xs i h.0 a)))
 one_place (x ∷ xs) (suc i) (suc j) t h a b = ap suc (one_place xs i j t h.1 a b)
 
--- where the index has a place, and the text of its code
+-- at which entry of the index a code is, and its text there
 indexed : (ks : List IdCode) (index : List ℕ) (p : ℕ) (k : IdCode) → IsIndex ks index → slice_get ks p ≡ Some k → (i : ℕ) × (slice_get index i ≡ Some p) × (slice_get (map (code_text ks) index) i ≡ Some k.text)
 indexed ks index p k h at =
     let l = slice_get_within ks p k at in
@@ -68,7 +68,7 @@ same_place ks index p q k j h a b e =
     let same = one_place (map (code_text ks) index) x.0 y.0 j.text h.rising (x.2 ∙ ap Some e) y.2 in
     same_Some p q (sym x.1 ∙ ap (slice_get index) same ∙ y.1)
 
--- a place is that of a code just where the texts are equal
+-- an index is that of a code just where the texts are equal
 place_test : (ks : List IdCode) (index : List ℕ) (p q : ℕ) (k j : IdCode) → IsIndex ks index → slice_get ks p ≡ Some k → slice_get ks q ≡ Some j → (p == q) ≡ bytes_eq j.text k.text
 place_test ks index p q k j h a b = by_test (bytes_eq j.text k.text) refl
   where
@@ -98,7 +98,7 @@ among_neither xs ys i a b = among_append xs ys i ∙ rw (a, b) refl
 among_more : (x : ℕ) (xs : List ℕ) (i : ℕ) → i ≢ x → is_among xs i ≡ false → is_among (x ∷ xs) i ≡ false
 among_more x xs i differs h = rw (ne_eqb i x differs) h
 
--- the scopes around a declaration stand before it
+-- the scopes around a declaration come before it
 none_around : (ds : List Declaration) (i : ℕ) → length ds ≤ i → is_among (enclosing ds) i ≡ false
 none_around ds i h = none_below (enclosing ds) (enclosing_below ds)
   where
@@ -106,7 +106,7 @@ none_around ds i h = none_below (enclosing ds) (enclosing_below ds)
     none_below [] all = refl
     none_below (p ∷ ps) all = among_more p ps i (λ e. let l = all.0 in absurd (omega arith)) (none_below ps all.1)
 
--- a place that is neither this one nor that of an enclosing scope is not marked for a declaration
+-- an index that is neither this one nor that of an enclosing scope is not marked for a declaration
 not_own : (names : List (List ℕ)) (earlier : List Declaration) (d : Declaration) (i : ℕ) → i ≢ length earlier → is_among (enclosing earlier) i ≡ false → is_among (own names earlier d) i ≡ false
 not_own names earlier d i differs around = by_test (is_selected names earlier d)
   where
@@ -118,14 +118,14 @@ length_more : (ds : List Declaration) (d : Declaration) → length (ds ++ d ∷ 
 length_more [] d = refl
 length_more (x ∷ ds) d = ap suc (length_more ds d)
 
--- no declaration before the place marks it
+-- no declaration before the index marks it
 none_before : (names : List (List ℕ)) (earlier ds : List Declaration) (i : ℕ) → length earlier + length ds ≤ i → is_among (marked_from names earlier ds) i ≡ false
 none_before names earlier [] i h = refl
 none_before names earlier (d ∷ ds) i h =
     let n = length_more earlier d in
     among_neither (own names earlier d) (marked_from names (earlier ++ d ∷ []) ds) i (not_own names earlier d i (λ e. absurd (omega arith)) (none_around earlier i (omega arith))) (none_before names (earlier ++ d ∷ []) ds i (omega arith))
 
--- a place that is none of an enclosing scope stays so
+-- an index that is none of an enclosing scope stays so
 stays_none : (earlier : List Declaration) (d : Declaration) (i : ℕ) → i < length earlier → is_among (enclosing earlier) i ≡ false → is_among (enclosing (earlier ++ d ∷ [])) i ≡ false
 stays_none earlier (Declaration.Scope type name) i l h = rw (enclosing-scope earlier type name) (among_more (length earlier) (enclosing earlier) i (λ e. absurd (omega arith)) h)
 stays_none earlier Declaration.Up i l h = rw (enclosing-up earlier) (without_first (enclosing earlier) h)
@@ -135,7 +135,7 @@ stays_none earlier Declaration.Up i l h = rw (enclosing-up earlier) (without_fir
     without_first (p ∷ ps) n = (or_parts (i == p) (is_among ps i) n).1
 stays_none earlier (Declaration.Var v) i l h = rw (enclosing-var earlier v) h
 
--- no declaration behind a place that is none of an enclosing scope marks it
+-- no declaration after an index that is none of an enclosing scope marks it
 none_behind : (names : List (List ℕ)) (earlier ds : List Declaration) (i : ℕ) → i < length earlier → is_among (enclosing earlier) i ≡ false → is_among (marked_from names earlier ds) i ≡ false
 none_behind names earlier [] i l h = refl
 none_behind names earlier (d ∷ ds) i l h =
@@ -156,7 +156,7 @@ own_is names earlier d = by_test (is_selected names earlier d)
     by_test true = rw (eq-eqb (length earlier) (length earlier) refl) refl
     by_test false = refl
 
--- the place of a variable is marked just where it is selected
+-- the index of a variable is marked just where it is selected
 pub marked_is : (names : List (List ℕ)) (ds : List Declaration) (i : ℕ) (v : Variable) → slice_get ds i ≡ Some (Declaration.Var v) → is_among (marked_places names ds) i ≡ is_selected names (take i ds) (Declaration.Var v)
 unfolding marked_places
 marked_is names ds i v at =
@@ -174,7 +174,7 @@ marked_is names ds i v at =
     ∙ ap (λ b. b || is_among (own names front d ++ marked_from names (front ++ d ∷ []) rest) i) before ∙ among_append (own names front d) (marked_from names (front ++ d ∷ []) rest) i
     ∙ ap (λ b. is_among (own names front d) i || b) behind ∙ or-false (is_among (own names front d) i) ∙ here
 
--- a mark is 1 just where its place is marked
+-- a mark is 1 just where its index is marked
 mark_test : (names : List (List ℕ)) (ds : List Declaration) (i m : ℕ) → slice_get (marks_of names ds) i ≡ Some m → (m == 1) ≡ is_among (marked_places names ds) i
 unfolding marks_of
 mark_test names ds i m at =
@@ -222,7 +222,7 @@ own_code names earlier v c = by_test (is_selected names earlier (Declaration.Var
 
 -- ---- one row more
 
--- the row is a variable's, it is marked, and its code has this place
+-- the row is a variable's, it is marked, and its code has this index
 abbrev chooses : Row → ℕ → ℕ → Bool
 chooses r m place = sameb the_type r.kind kind.Var && (m == 1) && (place == r.code)
 
@@ -244,12 +244,12 @@ selects_next s h names i r m place c views at mark code = by_kind (row_at s h i 
 
 -- ---- a turn of the loop
 
--- so many rows have chosen what they choose, where a table chose these places before
+-- the first rows have chosen what they choose, where a table chose these indexes before
 abbrev pub HaveChosen : HeadShown → List ℕ → (ℕ → Bool) → (ℕ → Bool) → ℕ → Type 0
 HaveChosen s marks old now i =
     (h : Header) (names : List (List ℕ)) → Views s h → marks ≡ marks_of names h.declarations → (place : ℕ) (c : IdCode) → slice_get h.codes place ≡ Some c → now place ≡ (old place || selects_code (selected names (take i h.declarations)) c)
 
--- the row and the mark at a place
+-- the row and the mark at an index
 pub record AreAt (rows : List Row) (marks : List ℕ) (i : ℕ) (r : Row) (m : ℕ) : Type 0 where
   row : slice_get rows i ≡ Some r
   mark : slice_get marks i ≡ Some m
@@ -263,7 +263,7 @@ pub none_chosen : (s : HeadShown) (marks : List ℕ) (old : ℕ → Bool) → Ha
 unfolding selected
 none_chosen s marks old h names views is place c code = sym (or-false (old place))
 
--- behind the last row the codes of the selected variables are chosen
+-- after the last row the codes of the selected variables are chosen
 pub all_chosen : (s : HeadShown) (marks : List ℕ) (old now : ℕ → Bool) (i : ℕ) (h : Header) (names : List (List ℕ)) (place : ℕ) (c : IdCode) → i ≡ min (length s.rows) (length marks) → HaveChosen s marks old now i → Views s h → marks ≡ marks_of names h.declarations → slice_get h.codes place ≡ Some c
     → now place ≡ (old place || selects_code (selected names h.declarations) c)
 unfolding marks_of
@@ -283,7 +283,7 @@ turned false false true = refl
 turned false false false = refl
 
 module _ (s : HeadShown) (marks : List ℕ) (old now : ℕ → Bool) (i : ℕ) (r : Row) (m : ℕ) (so_far : HaveChosen s marks old now i) (there : AreAt s.rows marks i r m) where
-  -- a place is chosen that was, or that the row chooses
+  -- an index is chosen that was, or that the row chooses
   next : (new : ℕ → Bool) → ((place : ℕ) → new place ≡ (chooses r m place || now place)) → HaveChosen s marks old new (i + 1)
   next new e h names views is place c code =
       let before = selects_code (selected names (take i h.declarations)) c in

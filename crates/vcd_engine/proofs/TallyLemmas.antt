@@ -188,7 +188,7 @@ some_text written.RealText c text good = good.0
 -- ---- a code of a header
 
 module _ (v : HeadView) (h : Header) (items : List BodyItem) (place : ℕ) (c : IdCode) (views : IsViewOf v h) (declared : slice_get h.codes place ≡ Some c) where
-  -- at its place it alone stands
+  -- it alone is at its index
   here : (p : ℕ) (d : IdCode) → slice_get h.codes p ≡ Some d → (p == place) ≡ true → d ≡ c
   here p d there e =
       let one = eqb-true p place e in
@@ -206,7 +206,7 @@ module _ (v : HeadView) (h : Header) (items : List BodyItem) (place : ℕ) (c : 
   self_code : same_code c c ≡ true
   self_code = (bytes_eq-Decides c.text c.text).1 refl
 
-  -- ---- a mark of an event
+  -- ---- a trigger of an event
 
   module _ (d : Change) (of : d.code ≡ c) (event : c.event ≡ true) where
     gives : (p : ℕ) (x : IdCode) → slice_get h.codes p ≡ Some x → (p == place) ≡ false → gives_to x (BodyItem.Changes d) ≡ false
@@ -359,7 +359,7 @@ shown_there v h place d c views shown declared =
     let same : m.0 ≡ d = cc in
     (sym m.2.size_is ∙ ap (λ (y : Code). y.size) same, sym m.2.event_is ∙ ap (λ (y : Code). y.event) same)
 
--- where a look-up told a size, the code has it, and is no event
+-- where a look-up gave a size, the code has it, and is no event
 pub sized_there : (v : HeadView) (h : Header) (place most : ℕ) (c : IdCode) → IsViewOf v h → IsSized v.codes.now (record { place = place; most = most }) → slice_get h.codes place ≡ Some c → most ≢ 0 → (c.size ≡ most) × (c.event ≡ false)
 sized_there v h place most c views (d, there, is) declared some =
     let shown = shown_there v h place d c views there declared in

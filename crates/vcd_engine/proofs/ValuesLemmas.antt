@@ -158,7 +158,7 @@ other_gives codes text End x is none c = rw is refl
 other_gives codes text (Change place form) x is none c = absurd (none place form refl)
 other_gives codes text Finish x is none c = absurd is
 
--- ---- a change whose text is told as a number too
+-- ---- a change whose text is given as a number too
 
 -- the code has the value of its digits
 pub bits_hold : (v : HeadView) (h : Header) (old new : Table) (items : List BodyItem) (i : Item) (text : List ℕ) (b : Bits) (place : ℕ) (form : Form) (x : BodyItem) → IsViewOf v h → AreHeld old h items → i ≡ Change place form → HasBits i text (Some b) → HasGoodText v.codes.now text i → IsItem h.codes text i x

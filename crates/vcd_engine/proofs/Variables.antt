@@ -1,4 +1,4 @@
--- The row of a variable that is read at a place.
+-- The row of a variable that is read at an index.
 use Rattle.std.proofs.Common.{◌≡◌, ◌≢◌, ℕ, Bool, true, false, refl, ◌<◌, length, get_or, slice_get, Some, sym, ◌∙◌}
 use Rattle.vcd_model.specs.Declarations.{Declaration, Variable}
 use Rattle.vcd_model.specs.Header.{Header}
@@ -11,7 +11,7 @@ use Rattle.vcd_view.specs.Shown.{HeadShown}
 use Rattle.vcd_view.specs.Views.{Views}
 use Rattle.vcd_view.proofs.RowLemmas.{read_row, variable_at}
 
--- there is a row at this place, and it is a variable's
+-- there is a row at this index, and it is a variable's
 abbrev pub IsVariable : HeadShown → ℕ → Type 0
 IsVariable s i = (r : Row) × (slice_get s.rows i ≡ Some r) × (r.kind ≡ kind.Var)
 

@@ -42,7 +42,7 @@ walk_begins v a r m out line p within unknown part none = record {
 }
 
 module _ (v : HeadView) (a : Ahead) (r : Regs) (m : TaskState) (begin : Device) (w : Walk) (p : Pieces) (out : Device) (m' : TaskState) (walked : HasWalked v a r m begin w p out m') where
-  -- another look-ahead at the same place will do
+  -- another look-ahead at the same offset will do
   pub walk_same : (a' : Ahead) → (passed_of a' ≡ passed_of w.ahead) × (bytes_of a' ≡ bytes_of w.ahead) × (longest_of a' ≡ longest_of w.ahead) → HasWalked v a r m begin (walk_at a' w.regs w.line) p out m'
   walk_same a' same = record {
     over = (same.2 ∙ walked.over.0, same.1 ∙ walked.over.1);

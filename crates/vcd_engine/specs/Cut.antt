@@ -39,7 +39,7 @@ may_be_kept v r End = true
 may_be_kept v r (Change index form) = not (is_some r.section && is_event_at v index)
 may_be_kept v r Finish = false
 
--- the item is no time mark
+-- the item is no timestamp
 abbrev pub IsNoMark : Item → Type 0
 IsNoMark (Time t) = ⊥
 IsNoMark item = Unit {0}
@@ -48,7 +48,7 @@ IsNoMark item = Unit {0}
 abbrev pub span_in : Cut → Request
 span_in m = Request.Cut m.from m.to
 
--- with a mark of this time the start section was written
+-- with a timestamp of this time the start section was written
 pub record HasBegun (h : Header) (items : List BodyItem) (time : ℕ) (m m' : Cut) (out out' : Device) : Type 0 where
   pub due : m.started ≡ false
   pub come : m.from ≤ time

@@ -117,7 +117,7 @@ StartsOver v holds task out out' result = (h : Header) → IsViewOf v h → Star
 
 -- ---- items
 
--- the last time mark, by the registers
+-- the last timestamp, by the registers
 abbrev pub last_of : Regs → Option ℕ
 last_of r = cond r.marked (Some r.time) None
 
@@ -141,7 +141,7 @@ AtItem v r item text holds = (h : Header) (items : List BodyItem) (before : Regs
 abbrev pub TakesEach : {E : Type 0} → HeadView → Regs → Item → List ℕ → (holds after : Header → List BodyItem → Type 0) → Request → Device → Device → Result Bool E → Type 0
 TakesEach v r item text holds after task out out' result = AtItem v r item text (λ h items x. holds h items → TakesOne (after h (items ++ x ∷ [])) task h items x out out' result)
 
--- what is due with a mark of this time was written, in this way
+-- what is due with a timestamp of this time was written, in this way
 abbrev pub TakesTime : {E : Type 0} → HeadView → ℕ → (holds after : Header → List BodyItem → Type 0) → Request → Device → Device → Result Bool E → Type 0
 TakesTime v time holds after task out out' result = (h : Header) (items : List BodyItem) → IsViewOf v h → holds h items → TakesOne (after h (items ++ BodyItem.Time time ∷ [])) task h items (BodyItem.Time time) out out' result
 

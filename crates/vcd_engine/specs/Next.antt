@@ -36,7 +36,7 @@ walk_at a r line = record { ahead = a; regs = r; line = line }
 abbrev pub HasLine : Walk → Type 0
 HasLine w = IsLine (bytes_of w.ahead) w.line w.regs.time
 
--- a mark with which nothing is due was taken
+-- a timestamp with which nothing is due was taken
 abbrev pub TakesMark : ℕ → TaskState → TaskState → Type 0
 TakesMark time m m' = (h : Header) (items : List BodyItem) → length items < 2 ^ 63 → Keeps m h items → TakesQuietly (Keeps m' h (items ++ BodyItem.Time time ∷ [])) (request_in m) h items (BodyItem.Time time)
 

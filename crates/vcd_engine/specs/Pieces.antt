@@ -12,7 +12,7 @@ use Rattle.vcd_engine.specs.Cut.{IsNoMark}
 use Rattle.vcd_engine.specs.declared.pieces.SpannedItem.{SpannedItem}
 use Rattle.vcd_engine.specs.declared.pieces.Pieces.{Pieces}
 
--- an item that is no time mark; where its size is known, it lies at an offset of these bytes
+-- an item that is no timestamp; where its size is known, it lies at an offset of these bytes
 pub record IsSpanned (v : HeadView) (l : SpannedItem) : Type 0 where
   pub none : IsNoMark l.plain.item
   pub within : (l.from ≤ l.to) × (l.to ≤ length l.bytes.now)

@@ -40,7 +40,7 @@ pub record AreSampled (s : Sample) (h : Header) (items : List BodyItem) : Type 0
   pub others : AllByRecursion (λ t. is_settled items t ≡ false) s.rest.now
   pub left : s.rest.now ≢ []
 
--- a mark of this time is above the first of the times that are left, or none is
+-- a timestamp of this time is above the first of the times that are left, or none is
 abbrev pub is_due : List ℕ → ℕ → Bool
 is_due [] time = true
 is_due (u ∷ us) time = nat_lt u time

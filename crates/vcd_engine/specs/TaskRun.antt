@@ -68,7 +68,7 @@ abbrev pub Finishes : {X W : Type 0} {g : Ghosts X} → (W → Device) → Engin
 Finishes device e old new out out' result = (h : Header) (i : Input) (front : List Token) (name : List ℕ) (begin : Device) → Holds e h [] → HasGiven i front old → Writes begin (device out) (open_text (request_of_engine e) h [])
     → Follows (request_of_engine e) (limit_of old) (chunk_len_of old) i front h name (supply_of old) (supply_of new) begin (device out') result
 
--- it ends early only where a mark may end it
+-- it ends early only where a timestamp may end it
 abbrev pub EndsAsAsked : Request → Result Done Stop → Type 0
 EndsAsAsked task result = IfOk result (λ done. done ≡ Early → may_end_early task ≡ true)
 

@@ -32,7 +32,7 @@ fn put_kept(lines: &mut ItemText, dump: &Dump<'_, '_>, from: u64) -> Result<(), 
     Ok(())
 }
 
-// The dump between these times; its items end with the first mark past the last time.
+// The dump between these times; its items end with the first timestamp past the last time.
 pub(crate) fn put_cut(
     lines: &mut ItemText,
     dump: &Dump<'_, '_>,

@@ -56,7 +56,7 @@ fn edges_of(items: &[Item<'_>], code: &Code<'_>) -> Edges {
     edges
 }
 
-// The marks of an event outside sections.
+// The triggers of an event outside sections.
 fn marks_of(items: &[Item<'_>], code: &Code<'_>) -> Edges {
     let mut edges = NO_EDGES;
     for item in items {

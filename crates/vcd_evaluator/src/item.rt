@@ -23,7 +23,7 @@ pub(crate) struct Item<'t> {
     pub(crate) said: Said<'t>,
     // The line of its first token.
     pub(crate) line: u64,
-    // The greatest time mark before it, 0 if there is none.
+    // The greatest timestamp before it, 0 if there is none.
     pub(crate) time: u64,
     // More sections were begun than ended before it.
     pub(crate) in_section: bool,
@@ -52,8 +52,8 @@ impl<'t> Item<'t> {
         }
     }
 
-    // It may be written: a section's begin or end, or a change that is no mark of an event inside a
-    // section.
+    // It may be written: a section's begin or end, or a change that is no trigger of an event
+    // inside a section.
     pub(crate) fn is_written(&self) -> bool {
         match self.said {
             Said::Time(_) => false,
@@ -70,7 +70,7 @@ pub(crate) struct Body<'t> {
     pub(crate) fault: Option<Fault>,
 }
 
-// The last time mark.
+// The last timestamp.
 pub(crate) fn last_mark(items: &[Item<'_>]) -> Option<u64> {
     items.iter().rev().find_map(|item| item.mark())
 }

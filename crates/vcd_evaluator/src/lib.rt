@@ -13,7 +13,7 @@
 //!   command line
 //! - `header`, `header_reader`: what a header declares, and how it is read; `variables`: paths,
 //!   names and what these select
-//! - `item`, `body_reader`: time marks, sections and changes, and how they are read; `value`:
+//! - `item`, `body_reader`: timestamps, sections and changes, and how they are read; `value`:
 //!   values and the last one at a time
 //! - `text`, `header_text`, `item_text`: texts that are written: a header, and kept items after the
 //!   lines of their times

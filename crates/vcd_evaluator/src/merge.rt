@@ -45,7 +45,7 @@ fn least_scale(inputs: &[Opened<'_>]) -> Scale {
     least
 }
 
-// An item with its times scaled, or the fault that its time mark is too large then.
+// An item with its times scaled, or the fault that its timestamp is too large then.
 fn scaled<'t>(item: &Item<'t>, factor: u64) -> Due<'t> {
     let said = match item.said {
         Said::Time(time) => match time.checked_mul(factor) {
@@ -138,7 +138,7 @@ fn put_merged(
 }
 
 // Writes the changes up to the first fault, and returns it with its input's name; else the line of
-// the greatest mark too.
+// the greatest timestamp too.
 fn put_entries<'t>(
     lines: &mut ItemText,
     entries: &[Entry<'t>],

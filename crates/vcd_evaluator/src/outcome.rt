@@ -86,7 +86,7 @@ fn open_all<'t>(
     Ok(all)
 }
 
-// The time that no mark read is past.
+// The time that no timestamp read is past.
 fn last_time(command: Command<'_>, times: &[u64]) -> u64 {
     match (command, times.last()) {
         (Command::Cut { .. } | Command::Sample { .. }, Some(time)) => *time,
@@ -94,8 +94,8 @@ fn last_time(command: Command<'_>, times: &[u64]) -> u64 {
     }
 }
 
-// Whether some mark is past this time; then the first one is the last item, and what comes after it
-// counts no more.
+// Whether some timestamp is past this time; then the first one is the last item, and what comes
+// after it counts no more.
 fn end_early(body: &mut Body<'_>, last: u64) -> bool {
     let is_past = |item: &Item<'_>| item.mark().is_some_and(|mark| last < mark);
     match body.items.iter().position(is_past) {

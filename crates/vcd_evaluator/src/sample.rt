@@ -34,8 +34,8 @@ fn put_values(text: &mut Text, dump: &Dump<'_, '_>, variables: &[Placed<'_>], ti
     }
 }
 
-// The values of these variables at each time that some mark is past; at the end of the dump at all
-// times.
+// The values of these variables at each time that some timestamp is past; at the end of the dump at
+// all times.
 pub(crate) fn put_sample(
     text: &mut Text,
     dump: &Dump<'_, '_>,

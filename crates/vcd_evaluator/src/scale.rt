@@ -82,7 +82,7 @@ pub(crate) fn read_scale(reader: &mut Reader<'_>) -> Result<Scale, Fault> {
     })
 }
 
-// The unit of a scale, and its number.
+// The unit of a scale.
 fn unit_text(scale: Scale) -> &'static [u8] {
     match scale.exponent / 3 {
         0 => b"fs",
@@ -94,6 +94,7 @@ fn unit_text(scale: Scale) -> &'static [u8] {
     }
 }
 
+// The number of a scale.
 fn factor_text(scale: Scale) -> &'static [u8] {
     match scale.exponent % 3 {
         0 => b"1",

@@ -48,7 +48,7 @@ all_in_turn (x ∷ given) a b c d e inner end = ap (λ l. x ∷ l) (all_in_turn 
 abbrev pub variable_in : (ts : List Token) (v : VariablePhrase) → IsVariable ts v → Variable
 variable_in ts v k = spelled v (k.reference.name.bytes ∷ texts_of k.reference.inner)
 
--- its phrase goes on behind others
+-- its phrase continues after others
 pub variable_so_far : (most : ℕ) (given ts : List Token) (placed : List (Placed HeaderPhrase)) (v : VariablePhrase) (k : IsVariable ts v) → first_failed (start_checks most (declarations_of (phrases_of placed)) Keyword.Var) ≡ None
     → first_failed (var_checks (declarations_of (phrases_of placed)) (v.word.now ∷ k.digits.bytes ∷ []) v.code.now) ≡ None → IsSoFar (header_grammar most) given placed []
     → IsSoFar (header_grammar most) (given ++ ts) (placed ++ record { phrase = HeaderPhrase.Declares (Declaration.Var (variable_in ts v k)); line = k.reference.end.line } ∷ []) []
@@ -111,7 +111,7 @@ four_in_turn (x ∷ ts) a b c d more = ap (λ l. x ∷ l) (four_in_turn ts a b c
 pub var_keyword : (t : List ℕ) → bytes_eq (codes "$var") t ≡ true → keyword_text Keyword.Var ≡ t
 var_keyword t e = (bytes_eq-Decides (keyword_text Keyword.Var) t).0 e
 
--- two tokens that stand one after the other, with a space between
+-- two tokens, one after the other, with a space between
 pub two_joined : (bytes first second : List ℕ) (from at to : ℕ) → from + length first ≡ at → at + 1 + length second ≡ to → at < length bytes → first ≡ slice_range bytes from at → second ≡ slice_range bytes (at + 1) to → get_or bytes at 0 ≡ 32
     → slice_range bytes from to ≡ first ++ 32 ∷ second
 two_joined bytes first second from at to n m inside before behind space =

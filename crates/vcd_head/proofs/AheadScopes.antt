@@ -35,7 +35,7 @@ pub one_in_turn : (ts : List Token) (a b : Token) → (ts ++ a ∷ []) ++ b ∷ 
 one_in_turn [] a b = refl
 one_in_turn (x ∷ ts) a b = ap (λ l. x ∷ l) (one_in_turn ts a b)
 
--- a scope goes on behind other phrases
+-- a scope continues after other phrases
 pub scope_so_far : (most : ℕ) (given ts : List Token) (placed : List (Placed HeaderPhrase)) (s : ScopePhrase) (k : IsScope ts s) → first_failed (start_checks most (declarations_of (phrases_of placed)) Keyword.Scope) ≡ None → IsSoFar (header_grammar most) given placed []
     → IsSoFar (header_grammar most) (given ++ ts) (placed ++ record { phrase = HeaderPhrase.Declares (Declaration.Scope s.word.now s.name.now); line = k.end.line } ∷ []) []
 scope_so_far most given ts placed s k start so_far =
@@ -71,7 +71,7 @@ upscope_so_far most given ts placed k start so_far =
     (phrase_is Keyword.Upscope (k.end.bytes ∷ []) ∙ ap (option_map HeaderPhrase.Declares) (whole_test _ Declaration.Up k.ends)) refl in
     subst (λ (l : List Token). IsSoFar G l (placed ++ record { phrase = HeaderPhrase.Declares Declaration.Up; line = k.end.line } ∷ []) []) (one_in_turn given t0 k.end ∙ ap (λ l. given ++ l) (sym k.are)) s1
 
--- what was taken is of the place that was passed
+-- what was taken is of the index that was passed
 pub taken_ahead : {E : Type 0} (r : Result Bool E) (A B C : Type 0) → (A → C) → IfOk r (λ taken. MatchBool taken A B) → IfOk r (λ taken. MatchBool taken C B)
 taken_ahead (Ok true) A B C f m = f m
 taken_ahead (Ok false) A B C f m = m

@@ -79,7 +79,7 @@ module _ (t : List ℕ) (a : AreBytes t) where
       ap (λ b. cond (not b) (1 + prefix_len (λ x. not (is_key t x)) keys) 0) (test_same k c h.0 (ap first_of e))
       ∙ ap (λ n. cond (not (bytes_eq t c.text)) (1 + n) 0) (place_same keys cs h.1 (ap rest_of e))
 
-  -- the place of a code's key is that of the code
+  -- the index of a code's key is that of the code
   pub finds_key : (keys : List CodeKey) (cs : List IdCode) → AllByRecursion (λ (c : IdCode). AreBytes c.text) cs → AreKeysOf keys cs → Finds cs t (position (is_key t) keys)
   finds_key keys cs h e =
       let len : length keys ≡ length cs = sym (length-map keys shape_of) ∙ ap length e ∙ length-map cs (λ (c : IdCode). shape_in c.text) in
@@ -90,7 +90,7 @@ module _ (t : List ℕ) (a : AreBytes t) where
 
   -- ---- a code more
 
-  -- where its key is put behind the others, they are those of one code more
+  -- where its key is put after the others, they are those of one code more
   pub keys_more : (keys new : List CodeKey) (key : CodeKey) (cs : List IdCode) (c : IdCode) → AreKeysOf keys cs → shape_of key ≡ shape_in t → c.text ≡ t → new ≡ keys ++ key ∷ [] → AreKeysOf new (cs ++ c ∷ [])
   keys_more keys new key cs c e own same behind =
       ap (map shape_of) behind ∙ map-append shape_of keys (key ∷ []) ∙ ap (λ l. l ++ shape_of key ∷ []) e
@@ -111,7 +111,7 @@ module _ (t : List ℕ) (a : AreBytes t) where
   pub len_of : (keys : List CodeKey) (cs : List IdCode) → AreKeysOf keys cs → length keys ≡ length cs
   len_of keys cs e = sym (length-map keys shape_of) ∙ ap length e ∙ length-map cs (λ (c : IdCode). shape_in c.text)
 
-  -- one that is there is at the place of the code with these bytes
+  -- one that is there is at the index of the code with these bytes
   pub finds_entered : (keys : List CodeKey) (cs : List IdCode) (place : ℕ) → AllByRecursion (λ (c : IdCode). AreBytes c.text) cs → AreKeysOf keys cs → place ≡ position_or_len (is_key t) keys → place < length keys → Finds cs t (Some place)
   finds_entered keys cs place h e is l =
       let n = position_or_len (is_key t) keys in

@@ -15,7 +15,7 @@ use Rattle.vcd_view.proofs.ListLemmas.{all_push, all_zip_push, bytes_flip}
 pub find_more : (cs : List IdCode) (t : List ℕ) (c : IdCode) → find (has_text t) (cs ++ c ∷ []) ≡ option_or (find (has_text t) cs) (cond (has_text t c) (Some c) None)
 find_more cs t c = find-append (has_text t) cs (c ∷ [])
 
--- what is found stands in the list
+-- what is found is in the list
 pub listed : (text : List ℕ) (list : List Code) (cs : List IdCode) (place : ℕ) (k : IdCode) → AllZip (IsCode text) list cs → slice_get cs place ≡ Some k → slice_get list place ≡ None → ⊥
 listed text [] [] place k h e n = none-some k e
 listed text [] (x ∷ cs) place k h e n = absurd h

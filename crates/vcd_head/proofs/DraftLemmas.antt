@@ -128,7 +128,7 @@ closed_narrow most d ds others closed h e =
     let is : unwrap_or (slice_get d.scopes.items (length d.scopes.items - 1)) 0 ≡ closed = rw (last, e, slice_get-seam others closed []) refl in
     subst (λ n. n < 2 ^ 32) is (scope_narrow most d ds h)
 
--- and the place of a code
+-- and the index of a code
 pub code_narrow : (most : ℕ) (d : Draft) (ds : List Declaration) (v : Variable) (place : ℕ) → Declares most d ds → length ds < most → slice_get (codes_of (ds ++ Declaration.Var v ∷ [])) place ≡ Some (code_of v) → place < 2 ^ 32
 code_narrow most d ds v place h few at =
     let within = slice_get_within (codes_of (ds ++ Declaration.Var v ∷ [])) place (code_of v) at in
@@ -314,7 +314,7 @@ holds_scale most d ps x h in_range = record {
     again : {ds es : List Declaration} → ds ≡ es → Declares most d ds → Declares most (record d { scale = Some x }) es
     again q k = subst (Declares most (record d { scale = Some x })) q (record { codes = k.codes; rows = k.rows; nested = k.nested; balance = k.balance; held = k.held; few = k.few; allowed = k.allowed })
 
--- a variable, the bytes of whose code come before its own or behind them
+-- a variable, the bytes of whose code come before its own or after them
 pub var_entered : (most : ℕ) (d d' : Draft) (ds : List Declaration) (v : Variable) (r : Row) (before more : List ℕ) → Declares most d ds → length ds < most → v.reference ≢ []
     → d'.text.items ≡ d.text.items ++ (before ++ (v.type ++ (join_with_byte 32 v.reference ++ more))) → length before + length more ≤ length v.code → d'.rows.items ≡ d.rows.items ++ r ∷ [] → HasCodes d'.text.items d'.codes (ds ++ Declaration.Var v ∷ [])
     → slice_get (codes_of (ds ++ Declaration.Var v ∷ [])) r.code ≡ Some (code_of v) → d'.scopes.items ≡ d.scopes.items → r.kind ≡ kind.Var → r.parent ≡ unwrap_or (slice_get d.scopes.items (length d.scopes.items - 1)) 0 → r.start ≡ length (d.text.items ++ before) → r.word ≡ length v.type

@@ -50,7 +50,7 @@ module _ (most : ℕ) (d : Draft) (ps : List HeaderPhrase) (h : IsDraftOf most d
   pub var_may : MayStart most ps kind.Var
   var_may = rw (sym (rows_are most d ps h), lt-ltb (length d.rows.items) most n) refl
 
--- ---- what may stand
+-- ---- what is allowed
 
 first_passes : (b : Bool) (o : Option ℕ) (n : ℕ) → cond b o (Some n) ≡ None → b ≡ true
 first_passes true o n e = refl

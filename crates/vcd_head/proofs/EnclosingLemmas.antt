@@ -43,7 +43,7 @@ other_place k n l m e = absurd (omega arith)
 held_none : (rows : List ℕ) (held : ℕ) → length rows ≡ 128 → IsHeld [] rows held
 held_none rows held l = record { room = l; at = λ k b. absurd (omega arith) }
 
--- one more place
+-- one more index
 held_more : (places rows : List ℕ) (n q : ℕ) → n ≡ length places → IsHeld places rows 128 → IsHeld (places ++ q ∷ []) (set rows (n % 128) q) 128
 held_more places rows n q e h = record {
   room = length-set rows (n % 128) q ∙ h.room;
@@ -58,7 +58,7 @@ held_more places rows n q e h = record {
       ];
 }
 
--- so many scopes were passed, and the walk stands at this row
+-- this many scopes were passed, and the walk is at this row
 pub record HasWalked (h : Header) (row : ℕ) (rows : List ℕ) (passed scope : ℕ) : Type 0 where
   pub inner : List ℕ
   pub split : enclosing (take row h.declarations) ≡ inner ++ enclosing (take scope h.declarations)

@@ -95,7 +95,7 @@ range_push a (suc n) = ap (λ l. a ∷ l) (range_push (a + 1) n ∙ ap (λ k. ra
     one_more : (a n : ℕ) → (a + 1) + n ≡ a + suc n
     one_more a n = omega arith
 
--- the places of one front more
+-- the indexes of one front more
 pub places_more : (fs : List Front) (f : Front) (n : ℕ) → map (λ (x : Front). x.place) fs ≡ range_with_len 0 n → f.place ≡ n → map (λ (x : Front). x.place) (fs ++ f ∷ []) ≡ range_with_len 0 (n + 1)
 places_more fs f n h e = map-append (λ (x : Front). x.place) fs (f ∷ []) ∙ ap (λ l. l ++ f.place ∷ []) h ∙ ap (λ k. range_with_len 0 n ++ k ∷ []) (e ∙ sym (zero-add n)) ∙ sym (range_push 0 n) ∙ ap (range_with_len 0) (sym (add-one n))
 
@@ -159,7 +159,7 @@ texts_are [] p h = tt
 texts_are (c ∷ cs) zero h = h.0
 texts_are (c ∷ cs) (suc p) h = texts_are cs p h.1
 
--- texts that rise at each pair of places are in order
+-- texts that rise at each pair of indexes are in order
 pub sorted_from : {X : Type 0} (f : X → List ℕ) (xs : List X) → ((i j : ℕ) (d : X) → i < j → j < length xs → slice_cmp nat_cmp (f (get_or xs i d)) (f (get_or xs j d)) ≡ Less) → IsStrictlySortedBy (slice_cmp nat_cmp) (map f xs)
 unfolding IsStrictlySortedBy
 sorted_from f [] h = tt

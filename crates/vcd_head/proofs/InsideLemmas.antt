@@ -1,4 +1,4 @@
--- The names that go on inside open scopes.
+-- The names that continue inside open scopes.
 use Rattle.std.proofs.Common.{◌≡◌, ◌≢◌, ◌⊎◌, ℕ, zero, suc, ◌+◌, ◌-◌, ◌<◌, ◌≤◌, Bool, true, false, ◌||◌, ◌==◌, List, [], ◌∷◌, ◌++◌, length, map, take, drop, get_or, set, slice_range, reverse, replicate, slice_get, Option, Some, None, option_map, inl, inr, refl, sym, ap, subst, ◌∙◌, arith}
 use Rattle.std.specs.List.{AllByRecursion, list_any}
 use Rattle.std.proofs.lemmas.Bool.{ne_eqb}
@@ -182,7 +182,7 @@ held_more h names order flags inside entered next inner e held new k s l at = el
 
 -- ---- scopes around a row
 
--- what a path begins with inside this scope, the scopes around the row go on with
+-- what a path begins with inside this scope, the scopes around the row continue with
 abbrev pub IsAround : List Declaration → ℕ → ℕ → Type 0
 IsAround ds row scope = (more : List ℕ) × (scopes_text (take row ds) ≡ front ds (suc scope) ++ more)
 

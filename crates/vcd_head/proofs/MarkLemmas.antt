@@ -1,4 +1,4 @@
--- Marks that are set, one place after the other.
+-- Marks that are set, one index after the other.
 use Rattle.std.proofs.Common.{◌≡◌, ℕ, ◌<◌, ◌≤◌, Bool, true, false, cond, ◌&&◌, ◌||◌, ◌==◌, flat_map, List, [], ◌∷◌, ◌++◌, length, map, take, set, IfSome, get_or, Option, Some, None, inl, inr, refl, sym, ap, subst, ◌∙◌, arith}
 use Rattle.std.specs.List.{range_with_len}
 use Rattle.std.proofs.lemmas.Bool.{cases_eq, eq-eqb, ne_eqb}
@@ -14,7 +14,7 @@ use Rattle.vcd_head.specs.Marks.{AllMarked, Marked, scopes_at}
 use Rattle.vcd_view.specs.Views.{counted_from_one}
 use Rattle.vcd_view.proofs.ParentLemmas.{with_scopes, scopes_around}
 
--- ---- places in a row
+-- ---- indexes in a row
 
 pub marked_none : (marks : List ℕ) → Marked [] marks marks
 marked_none marks = record { kept = refl; marks = λ i l. refl }
@@ -39,7 +39,7 @@ marked_both xs ys old mid new a b = record {
   marks = λ i l. both_or (is_among xs i) (is_among ys i) (get_or old i 0) (get_or mid i 0) (get_or new i 0) (a.marks i l) (b.marks i (omega (arith, a.kept))) ∙ ap (λ b. cond b 1 (get_or old i 0)) (sym (among-append xs ys i));
 }
 
--- one place
+-- one index
 pub marked_one : (marks : List ℕ) (p : ℕ) → p < length marks → Marked (p ∷ []) marks (set marks p 1)
 marked_one marks p l = record {
   kept = length-set marks p 1;
@@ -56,12 +56,12 @@ marked_all places zeros marks n e z m =
 
 -- ---- the scopes around
 
--- 1 plus a place below n, or 0, is at most n
+-- 1 plus an index below n, or 0, is at most n
 pub counted_within : (o : Option ℕ) (n : ℕ) → IfSome o (λ p. p < n) → counted_from_one o ≤ n
 counted_within None n h = omega arith
 counted_within (Some p) n h = h
 
--- what is left to be marked, behind one more place
+-- what is left to be marked, after one more index
 pub walk_on : (ds : List Declaration) (p : ℕ) (marks new : List ℕ) → p < length marks → Marked (with_scopes ds (parent (take p ds))) (set marks p 1) new → Marked (p ∷ enclosing (take p ds)) marks new
 walk_on ds p marks new l m = subst (λ ps. Marked (p ∷ ps) marks new) (sym (scopes_around ds p)) (marked_both (p ∷ []) (with_scopes ds (parent (take p ds))) marks (set marks p 1) new (marked_one marks p l) m)
 
@@ -118,7 +118,7 @@ now_marked ds row n old new e m = λ i l b.
 
 -- ---- names in two groups
 
--- which of two lists has a place
+-- which of two lists has an index
 either : (a b p x y : Bool) → (cond (a || b) p false || (x || y)) ≡ ((cond a p false || x) || (cond b p false || y))
 either false false p x y = refl
 either false true false x y = refl

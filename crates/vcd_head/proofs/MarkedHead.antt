@@ -42,7 +42,7 @@ places_below : (names : List (List ℕ)) (ds : List Declaration) → AllByRecurs
 unfolding marked_places
 places_below names ds = marked_below names [] ds (length ds) (omega arith)
 
--- the place is below n, or not
+-- the index is below n, or not
 by_order : (i n : ℕ) → (i < n) ⊎ (n ≤ i)
 by_order i zero = inr (omega arith)
 by_order zero (suc n) = inl (omega arith)
@@ -70,7 +70,7 @@ mark_at names ds i = by_place (by_order i (length ds))
     by_place (inr l) =
         ap (λ o. unwrap_or o 0 == 1) (slice_get_past marks i (omega (arith, length-map-range_with_len mark 0 (length ds)))) ∙ sym (among_none (length ds) i places l (places_below names ds))
 
--- the marks of names are those places
+-- the marks of names are those indexes
 pub marks_are : (names : List (List ℕ)) (ds : List Declaration) → is_marked (marks_of names ds) ≡ is_among (marked_places names ds)
 marks_are names ds = λ j i. mark_at names ds i j
 

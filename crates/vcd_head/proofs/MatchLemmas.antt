@@ -25,7 +25,7 @@ or_false false x e = e
 
 -- ---- the names, one after the other
 
--- so many names were asked
+-- the first names were asked
 pub record Matching (test : List ℕ → Bool) (names : List (List ℕ)) (place : ℕ) (old new : List Bool) (some : Bool) : Type 0 where
   pub flags : (i : ℕ) (name : List ℕ) → i < place → slice_get names i ≡ Some name → get_or new i false ≡ (get_or old i false || test name)
   pub ahead : (i : ℕ) → place ≤ i → get_or new i false ≡ get_or old i false

@@ -21,7 +21,7 @@ use Rattle.vcd_head.proofs.WriteLemmas.{take-next}
 
 -- ---- a head among them
 
--- the header at a place, which this head shows
+-- the header at an index, which this head shows
 pub record HeaderAt (hs : List Header) (i : ℕ) (head : Head) : Type 0 where
   pub header : Header
   pub at : slice_get hs i ≡ Some header

@@ -71,7 +71,7 @@ ticks_part_down n unit tick l =
 
 -- ---- the answer
 
--- so many ticks, if they are a time
+-- this many ticks, if they are a time
 pub in_range_told : (o : Option ℕ) (r : Result ℕ TickFault) (k : ℕ) → SomeIff o (k < 2 ^ 64) k → r ≡ ok_or o OutOfRange → told r ≡ in_range k
 in_range_told None r k h e = let large : 2 ^ 64 ≤ k = omega (arith, h) in rw (e, le-ltb k (2 ^ 64) large) refl
 in_range_told (Some n) r k h e = let small : k < 2 ^ 64 = h.0 in rw (e, lt-ltb k (2 ^ 64) small) (ap (λ m. Ok m) h.1)

@@ -19,7 +19,7 @@ pub selects-byte : (x y : ℕ) (path name : List ℕ) → selects_path (x ∷ pa
 selects-byte x y path name =
     elim (cases_eq x y) [ inl e ↦ rw (eq-eqb x y e, eq-eqb y x (sym e)) refl | inr n ↦ rw (ne_eqb x y n, ne_eqb y x (λ e. n (sym e))) refl ]
 
--- the byte and what is behind it
+-- the byte and what is after it
 pub selects_behind_byte : (x y : ℕ) (path name : List ℕ) → selects_path (x ∷ path) (y ∷ name) ≡ true → (x ≡ y) × (selects_path path name ≡ true)
 selects_behind_byte x y path name h =
     let both = and_parts (nat_eq x y) (selects_path path name) (sym (selects-byte x y path name) ∙ h) in
@@ -52,7 +52,7 @@ selects-longer (x ∷ path) (y ∷ name) text h =
     let both = selects_behind_byte x y path name h in
     selects_from_byte x y (path ++ 46 ∷ text) name both.0 (selects-longer path name text both.1)
 
--- a path is selected by its front up to a point, or the name goes on behind that point
+-- a path is selected by its front up to a point, or the name continues after that point
 selects_split : (path name text : List ℕ) → selects_path (path ++ 46 ∷ text) name ≡ true → (selects_path path name ≡ true) ⊎ ((rest : List ℕ) × (name ≡ path ++ 46 ∷ rest))
 selects_split [] [] text h = inl refl
 selects_split [] (y ∷ name) text h = let both = selects_behind_byte 46 y text name h in inr (name, ap (λ b. b ∷ name) (sym both.0))
@@ -84,7 +84,7 @@ pub component_differs : (component name text : List ℕ) → selects_path compon
 component_differs component name text not n =
     false_from_ne_true (selects_path (component ++ 46 ∷ text) name) (λ h. elim (selects_split component name text h) [ inl is ↦ cc | inr more ↦ n more.0 more.1 ])
 
--- what stands behind a component and a point
+-- what comes after a component and a point
 pub behind_component : (component name rest : List ℕ) → name ≡ component ++ 46 ∷ rest → rest ≡ drop (length component + 1) name
 behind_component component name rest e = sym (ap (drop (length component + 1)) e ∙ ap (λ n. drop n (component ++ 46 ∷ rest)) (add-one (length component)) ∙ passed component)
   where

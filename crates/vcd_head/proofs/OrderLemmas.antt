@@ -1,4 +1,4 @@
--- Places of names, sorted.
+-- Indexes of names, sorted.
 use Rattle.std.proofs.Common.{◌≡◌, ℕ, zero, suc, ◌+◌, ◌-◌, ◌<◌, ◌≤◌, List, [], ◌++◌, drop, get_or, length, replicate, inl, inr, refl, ◌∙◌, arith}
 use Rattle.std.specs.Cmp.{IsStrictWeakOrder}
 use Rattle.std.specs.List.{All, Contains}
@@ -13,7 +13,7 @@ use Rattle.vcd_head.specs.NameOrder.{IsOrder, comes_before}
 pub before_weak : (names : List (List ℕ)) → IsStrictWeakOrder (comes_before names)
 before_weak names = ranks_by nat_list_cmp_total (λ p. get_or names p [])
 
--- places that are numbered from 0 on
+-- indexes that are numbered from 0 on
 pub numbered_has : (places : List ℕ) (n : ℕ) → length places ≡ n → ((i : ℕ) → i < n → get_or places i 0 ≡ i) → (p : ℕ) → p < n → Contains places p
 numbered_has places n len each p l = (p, omega (arith, len, l), get_or_default places p p 0 (omega (arith, len, l)) ∙ each p l)
 
@@ -29,7 +29,7 @@ read_same x (suc n) (suc k) = read_same x n k
 pub same_left : {X : Type 0} (x : X) (room n i : ℕ) → get_or (drop n (replicate room x)) i x ≡ x
 same_left x room n i = get_or-drop n (replicate room x) i x ∙ read_same x room (n + i)
 
--- sorted places of all names are their order, with zeros behind them
+-- sorted indexes of all names are their order, with zeros after them
 pub order_made : (names : List (List ℕ)) (used rest : List ℕ) (n : ℕ) → n ≡ length names → length used ≡ n → n ≤ 16384 → ((p : ℕ) → p < n → Contains used p) → All (λ p. p < n) used → IsSortedBy (comes_before names) used
     → ((i : ℕ) → get_or rest i 0 ≡ 0) → IsOrder names (used ++ rest)
 order_made names used rest n count len few each within sorted zeros = record {

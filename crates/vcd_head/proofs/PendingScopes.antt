@@ -55,7 +55,7 @@ in_parts ds i d at = sym (take-append-drop (i + 1) ds) ∙ ap (λ l. l ++ drop (
 
 -- ---- which scopes have a variable
 
--- the place of a variable is marked
+-- the index of a variable is marked
 own_mark : (front back : List Declaration) (v : Variable) → is_among (marked_places [] (front ++ Declaration.Var v ∷ back)) (length front) ≡ true
 unfolding marked_places
 own_mark front back v =
@@ -74,7 +74,7 @@ var_marks ds i v at =
     subst (λ (l : List Declaration). AllByRecursion (λ p. is_among (marked_places [] l) p ≡ true) (i ∷ enclosing front)) whole
     (subst (λ n. is_among (marked_places [] (front ++ Declaration.Var v ∷ back)) n ≡ true) (front-length ds i (Declaration.Var v) at) (own_mark front back v), around_marks [] front back v refl)
 
--- a scope that is closed is marked by none of the declarations behind
+-- a scope that is closed is marked by none of the declarations after
 closed_after : (p : ℕ) (e xs : List Declaration) → p < length e → is_among (enclosing e) p ≡ false → is_among (places_after [] e xs) p ≡ false
 closed_after p e [] l h = refl
 closed_after p e (Declaration.Scope type name ∷ xs) l h =
@@ -148,7 +148,7 @@ all_closed m (p ∷ ps) h = ap (λ b. cond b up_line [] ++ up_lines_at m ps) h.0
 
 -- ---- row by row
 
--- whether a place is marked
+-- whether an index is marked
 abbrev pub is_kept : Header → ℕ → Bool
 is_kept h = is_among (marked_places [] h.declarations)
 
@@ -156,8 +156,8 @@ is_kept h = is_among (marked_places [] h.declarations)
 abbrev pub line_in : ℕ → Header → List Declaration → Declaration → List ℕ
 line_in first h = row_line (numbered first h) (is_among (marked_places [] h.declarations))
 
--- behind so many rows this text is written, and these scopes are open, of which so many are pending
--- and so many written
+-- after i rows this text is written, and of the open scopes `pending` are pending and
+-- `written` are written
 pub record IsWritten (first : ℕ) (h : Header) (i pending written : ℕ) (text : List ℕ) : Type 0 where
   pub scopes : List ℕ
   pub are : enclosing (take i h.declarations) ≡ scopes
@@ -271,7 +271,7 @@ module _ (first : ℕ) (h : Header) (i pending written : ℕ) (text : List ℕ) 
                 ∙ ap (λ n. (text ++ closing 0 n) ++ []) (sym some);
           }
 
-  -- a variable, behind which none is pending
+  -- a variable, after which none is pending
   variable_next : (v : Variable) → slice_get h.declarations i ≡ Some (Declaration.Var v) → IsWritten first h (i + 1) 0 (written + pending) (text ++ due h first pending written front (Declaration.Var v))
   variable_next v at =
       let m = is_kept h in
@@ -315,7 +315,7 @@ module _ (first : ℕ) (h : Header) (i pending written : ℕ) (text : List ℕ) 
       let whole : concat (each (line_in first h) D) ≡ (text ++ held) ++ behind = ap (λ l. concat (each (line_in first h) l)) (sym (take-append-drop i D)) ∙ lines-append (line_in first h) front (drop i D) ∙ ap (λ l. l ++ behind) w.split in
       (held ++ (behind ++ ups), ap (λ l. l ++ ups) whole ∙ append_assoc (text ++ held) behind ups ∙ append_assoc text held (behind ++ ups))
 
-  -- behind the last row the scopes that are written are left to close
+  -- after the last row the scopes that are written are left to close
   pub last_lines : i ≡ length h.declarations → (scopes : List ℕ) × (length scopes ≡ written) × (rows_text (numbered first h) (is_kept h) h.declarations ≡ text ++ flat_map (λ p. up_line) scopes)
   unfolding rows_text
   last_lines e =

@@ -120,7 +120,7 @@ var_whole type digits code first inner t n none e d =
     ap (λ o. option_map HeaderPhrase.Declares (option_and_then (variable_with type digits code) o)) (until (first ∷ inner) t (n, none) e)
     ∙ ap (λ b. option_map HeaderPhrase.Declares (cond b (Some (Declaration.Var (record { type = type; size = decimal_value digits; code = code; reference = first ∷ inner }))) None)) d
 
--- a declaration that may not stand here
+-- a declaration that is not allowed here
 pub barred : {X : Type 0} {g : Ghosts X} (most : ℕ) (i : Input) (placed : List (Placed HeaderPhrase)) (k : Kind) (f : Feed X g) (fault : HeadFault) → (token_of f).bytes ≡ keyword_text (keyword_for k) → IsBarred most (phrases_of placed) k fault → ReadsToken most i placed [] f → Fails most i fault f
 barred most i placed k f TooMany e b l = not_begun most i placed (keyword_for k) f 11 e b l
 barred most i placed k f TooDeep e b l = not_begun most i placed (keyword_for k) f 10 e b l

@@ -26,7 +26,7 @@ use Rattle.vcd_view.proofs.LookUpLemmas.{codes_len, texts_range}
 
 -- ---- ranks
 
--- a text that goes on comes later
+-- a text that continues comes later
 goes_on : (x y : List ℕ) → length x < length y → ((i : ℕ) → i < length x → get_or x i 0 ≡ get_or y i 0) → slice_cmp nat_cmp x y ≡ Less
 goes_on [] [] l h = absurd (omega (arith, l))
 goes_on [] (b ∷ bs) l h = refl
@@ -55,11 +55,11 @@ rank_rises x y p q f g m n a b l apart = by_front (cases_lt (front_in 4 x) (fron
     by_front (inl k) = front_less 4 x y f g k
     by_front (inr k) = by_len (omega (arith, k, l, m, n, a, b)) (cases_lt (length x) (length y))
 
--- a rank ends with its place
+-- a rank ends with its index
 rank_place : (bs : List ℕ) (p : ℕ) → p < 16777216 → place_in_rank (rank_of bs p) ≡ p
 rank_place bs p l = mod-mul-add (front_in 4 bs * 8 + length bs) 16777216 p l
 
--- the places of all
+-- the indexes of all
 places_back : (text : List ℕ) (list : List Code) (a n : ℕ) → a + n ≤ 16777216 → map (λ p. place_in_rank (rank_in text list p)) (range_with_len a n) ≡ range_with_len a n
 places_back text list a zero l = refl
 places_back text list a (suc n) l =
@@ -86,7 +86,7 @@ pub ranks_more : (f : ℕ → ℕ) (n r : ℕ) → r ≡ f n → map f (range_wi
 ranks_more f n r e =
     ap (λ x. map f (range_with_len 0 n) ++ x ∷ []) (e ∙ ap f (sym (zero-add n))) ∙ sym (map-append f (range_with_len 0 n) ((0 + n) ∷ [])) ∙ ap (map f) (sym (range_push 0 n)) ∙ ap (λ k. map f (range_with_len 0 k)) (sym (add-one n))
 
--- a place more is left
+-- an index more is left
 pub place_left : (f : ℕ → ℕ) (xs : List ℕ) (i : ℕ) → i < length xs → set (map f (take i xs) ++ drop i xs) i (f (get_or (map f (take i xs) ++ drop i xs) i 0)) ≡ map f (take (suc i) xs) ++ drop (suc i) xs
 place_left f [] i l = absurd (omega (arith, l))
 place_left f (x ∷ xs) zero l = refl

@@ -10,7 +10,7 @@ use Rattle.vcd_view.specs.Views.{Views}
 use Rattle.vcd_view.proofs.LookUpLemmas.{place_is}
 use Rattle.vcd_view.proofs.RowLemmas.{row_of}
 
--- the place of a variable's code, as its row says it
+-- the index of a variable's code, as its row says it
 pub record PlaceRead (h : Header) (r : Row) (v : Variable) : Type 0 where
   pub within : r.code < length h.codes
   pub place : code_place h v.code ≡ r.code

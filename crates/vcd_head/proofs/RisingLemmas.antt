@@ -1,4 +1,4 @@
--- Numbers of codes that rise, and the keys that they stand for.
+-- Numbers of codes that rise, and the keys that they encode.
 use Rattle.std.proofs.Common.{◌≡◌, ℕ, zero, suc, ◌+◌, ◌-◌, ◌<◌, ◌≤◌, ◌==◌, ◌&&◌, ◌||◌, not, nat_eq, nat_lt, Bool, true, false, cond, MatchResult, List, [], ◌∷◌, ◌++◌, length, map, get_or, slice_get, position, bytes_eq, unwrap_or, option_map, Result, Ok, Err, Some, None, refl, sym, ap, subst, ◌∙◌, arith, append_assoc}
 use Rattle.std.specs.Ordering.{nat_cmp}
 use Rattle.std.specs.List.{list_any, position_or_len}
@@ -45,7 +45,7 @@ none_above n m (x ∷ xs) h l =
     let differs : nat_eq m x ≡ false = ne_eqb m x (λ e. omega (arith, e, l, below)) in
     ap (λ b. b || list_any (nat_eq m) xs) differs ∙ none_above x m xs h.1 l
 
--- and rises behind them
+-- and rises after them
 pub rises_more : (n m : ℕ) (xs : List ℕ) → RisesFrom n xs → last_in n xs < m → RisesFrom n (xs ++ m ∷ [])
 rises_more n m [] h l = (l, tt)
 rises_more n m (x ∷ xs) h l = (h.0, rises_more x m xs h.1 l)
@@ -71,7 +71,7 @@ never_falls xs i j h b l = by_test (nat_eq i j) refl
     by_test false q =
         let less = rises_at 0 xs i j h (omega (arith, b, eqb-false i j q)) l in omega (arith, less)
 
--- ---- the place of a number
+-- ---- the index of a number
 
 none_is : {X : Type 0} (p : X → Bool) (xs : List X) → list_any p xs ≡ false → position_or_len p xs ≡ length xs
 none_is p [] n = refl
@@ -88,11 +88,11 @@ some_is p (x ∷ xs) e = by_test (p x) e (some_is p xs)
     by_test true e more = omega arith
     by_test false e more = let l = more e in omega (arith, l)
 
--- what none passes has no place
+-- what none passes has no index
 pub place_none : {X : Type 0} (p : X → Bool) (xs : List X) → list_any p xs ≡ false → position p xs ≡ None
 place_none p xs n = ap (λ i. cond (nat_lt i (length xs)) (Some i) None) (none_is p xs n) ∙ ap (λ b. cond b (Some (length xs)) None) (le-ltb (length xs) (length xs) (omega arith))
 
--- what the first one passes is at its place
+-- what the first one passes is at its index
 pub place_first : {X : Type 0} (p : X → Bool) (xs : List X) (i : ℕ) → position_or_len p xs ≡ i → i < length xs → position p xs ≡ Some i
 place_first p xs i first l = ap (λ n. cond (nat_lt n (length xs)) (Some n) None) first ∙ ap (λ b. cond b (Some i) None) (lt-ltb i (length xs) l)
 
@@ -122,7 +122,7 @@ place_searched m xs r h found = told r (searched xs m r found (λ i j b l. never
         by_side k l true q = let less = f.1 k (ltb-true k i q) in ne_eqb m (get_or xs k 0) (λ e. omega (arith, e, less))
         by_side k l false q = let more = f.2 k (ltb-false k i q) l in ne_eqb m (get_or xs k 0) (λ e. omega (arith, e, more))
 
--- what has a place is there
+-- what has an index is there
 pub place_within : {X : Type 0} (p : X → Bool) (xs : List X) (i : ℕ) → position p xs ≡ Some i → (position_or_len p xs ≡ i) × (i < length xs)
 place_within p xs i e = by_test (nat_lt (position_or_len p xs) (length xs)) refl e
   where
@@ -148,7 +148,7 @@ number_positive m xs i h e =
     let more = above 0 xs (position_or_len (nat_eq m) xs) h first in
     omega (arith, same, more)
 
--- ---- lists one behind the other
+-- ---- lists one after the other
 
 behind : {X : Type 0} (p : X → Bool) (xs ys : List X) → list_any p xs ≡ false → position_or_len p (xs ++ ys) ≡ length xs + position_or_len p ys
 behind p [] ys n = omega arith
@@ -214,13 +214,13 @@ module _ (t : List ℕ) where
       let q = not_zero (key_in t) (number_positive (key_in t) xs i h e) in
       (same_place xs keys q (omega (arith, at.0, at.1)) ∙ at.0, omega (arith, at.1, length_keys xs keys))
 
-  -- the key of a number has its place
+  -- the key of a number has its index
   pub finds_number : (xs : List ℕ) (keys : List CodeKey) (i : ℕ) → Rises xs → position (nat_eq (key_in t)) xs ≡ Some i → position (is_key t) (keys_behind xs keys) ≡ Some i
   finds_number xs keys i h e =
       let at = place_key xs keys i h e in
       place_first (is_key t) (keys_behind xs keys) i at.0 at.1
 
-  -- any other has that in the set, behind all numbers
+  -- any other has that in the set, after all numbers
   pub finds_behind : (xs : List ℕ) (keys : List CodeKey) → position (nat_eq (key_in t)) xs ≡ None → position (is_key t) (keys_behind xs keys) ≡ option_map (λ i. length xs + i) (position (is_key t) keys)
   finds_behind xs keys e =
       let n = none_there (nat_eq (key_in t)) xs e in

@@ -39,7 +39,7 @@ ends_at_point p t = behind_name p 46 t
 pub ends_elsewhere : (p : List ℕ) (b : ℕ) (t : List ℕ) → b ≢ 46 → selects_path (p ++ b ∷ t) p ≡ false
 ends_elsewhere p b t n = behind_name p b t ∙ rw (ne_eqb 46 b (λ e. n (sym e))) refl
 
--- a name does not select all that goes on behind itself
+-- a name does not select all that continues after itself
 pub not_every : (p : List ℕ) → SelectsAll p p → ⊥
 not_every p all = let no = sym (ends_elsewhere p 97 [] (λ e. omega (arith, e))) ∙ all (97 ∷ []) in cc
 
@@ -94,13 +94,13 @@ between (c ∷ q) x (d ∷ y) z a b =
     let rest = between q x y z under over in
     (rest.0, (λ j. same j ∷ rest.1 j))
 
--- ---- names and their places
+-- ---- names and their indexes
 
--- the name at a place of the order
+-- the name at an index of the order
 pub text_is : (names : List (List ℕ)) (order : List ℕ) → IsOrder names order → (i : ℕ) → i < length names → slice_get names (get_or order i 0) ≡ Some (text_at names order i)
 text_is names order o i l = slice_get-get_or names (get_or order i 0) [] (o.places i l)
 
--- the place of a name in the order
+-- the index of a name in the order
 pub found_at : (names : List (List ℕ)) (order : List ℕ) → IsOrder names order → (p : ℕ) (name : List ℕ) → slice_get names p ≡ Some name → (i : ℕ) × (i < length names) × (get_or order i 0 ≡ p) × (text_at names order i ≡ name)
 found_at names order o p name at =
     let i = o.each p (slice_get_within names p name at) in
@@ -164,7 +164,7 @@ module _ (names : List (List ℕ)) (order : List ℕ) (flags : List Bool) (front
 
 -- ---- the names that are the front are flagged, one after the other
 
--- so many of the run were flagged, and no other name
+-- the names of the run before `at` were flagged, and no other name
 pub record Noting (names : List (List ℕ)) (order : List ℕ) (front : List ℕ) (old new : List Bool) (first at : ℕ) : Type 0 where
   pub set_before : (i : ℕ) → first ≤ i → i < at → get_or new (get_or order i 0) false ≡ true
   pub others : (p : ℕ) (name : List ℕ) → slice_get names p ≡ Some name → bytes_eq name front ≡ false → get_or new p false ≡ get_or old p false

@@ -18,7 +18,7 @@ use Rattle.vcd_head.proofs.RunLemmas.{all_behind, between, byte_first, cancel, e
 
 -- ---- one byte more
 
--- a byte that is a point, behind a name that is the front
+-- a byte that is a point, after a name that is the front
 is_at_point : (byte : ℕ) (name front : List ℕ) → ((byte == 46) && bytes_eq name front) ≡ true → (byte ≡ 46) × (name ≡ front)
 is_at_point byte name front e = let both = and_parts (byte == 46) (bytes_eq name front) e in (eqb-true byte 46 both.0, same_bytes name front both.1)
 
@@ -103,9 +103,9 @@ module _ (names : List (List ℕ)) (order : List ℕ) (old new : List Bool) (fro
       by_test false e = inl (m.flags p name at ∙ or_false (get_or old p false) _ e)
       by_test true e = inr (m.flags p name at ∙ or_true (get_or old p false) _ e, selects_behind byte name front (is_at_point byte name front e))
 
--- ---- bytes that all names of the run go on with
+-- ---- bytes that all names of the run continue with
 
--- so many first bytes that are the same
+-- first bytes that are the same
 same_taken : (n : ℕ) (a b : List ℕ) → n ≤ length b → AreShared a b n → take n a ≡ take n b
 same_taken zero a b l s = refl
 same_taken (suc n) [] b l s = absurd (omega (arith, s.0))
@@ -181,7 +181,7 @@ goes_both names order old mid new front more r s a b = record {
   notes = notes_both names (front ++ more) old mid new (notes_behind names front more old mid a.notes) b.notes;
 }
 
--- where no name is in the run, none is in it behind any bytes
+-- where no name is in the run, none is in it after any bytes
 pub goes_empty : (names : List (List ℕ)) (order : List ℕ) (old new : List Bool) (front more : List ℕ) (r : NameRun) → r.end ≤ r.first → GoesOn names order old new front r → GoesOn names order old new (front ++ more) r
 goes_empty names order old new front more r none g =
     let f = g.follows in
@@ -209,7 +209,7 @@ module _ (names : List (List ℕ)) (order : List ℕ) (old mid new : List Bool) 
   f : Follows names order mid path r
   f = g.follows
 
-  -- a name selects the path where it is the path, or selects all behind it
+  -- a name selects the path where it is the path, or selects all after it
   selects_or_not : (i : ℕ) → i < length names → ((r.whole ≡ true) × (get_or mid (get_or order i 0) false ≡ true) × SelectsAll path (text_at names order i)) ⊎ ((selects_path path (text_at names order i) ≡ bytes_eq (text_at names order i) path))
   selects_or_not i l = elim (cases_lt i r.first) [
     | inl b ↦ out (f.outside i l (inl b))

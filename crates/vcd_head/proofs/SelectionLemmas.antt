@@ -26,7 +26,7 @@ there [] i h = absurd (omega arith)
 there (x ∷ xs) zero h = (x, refl)
 there (x ∷ xs) (suc i) h = there xs i (omega arith)
 
--- ---- the marked places, one declaration on
+-- ---- the marked indexes, one declaration on
 
 pub take-next : {X : Type 0} (xs : List X) (i : ℕ) (x : X) → slice_get xs i ≡ Some x → take (suc i) xs ≡ take i xs ++ x ∷ []
 take-next [] i x at = cc

@@ -62,7 +62,7 @@ ends_behind most i placed before t f text e h = record {
   grows = h.grows ∙ sym (joined t h.inner);
 }
 
--- what runs on does so behind one token more
+-- what runs on does so after one token more
 pub runs_behind : (most : ℕ) (placed : List (Placed HeaderPhrase)) (before : List (List ℕ)) (t : List ℕ) → is_end t ≡ false → RunsOn most placed before → RunsOn most placed (before ++ t ∷ [])
 runs_behind most placed before t e runs inner u none =
     let step = runs (t ∷ inner) u (e, none) in (

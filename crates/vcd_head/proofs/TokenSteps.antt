@@ -85,15 +85,15 @@ append_not_nil (y ∷ ys) x e = cc
 pub faultless : {X : Type 0} {g : Ghosts X} (most : ℕ) (i : Input) (placed : List (Placed HeaderPhrase)) (before : List (List ℕ)) (t : List ℕ) (f : Feed X g) → Reads most i placed (before ++ t ∷ []) f → IsGoodSoFar most i f
 faultless most i placed before t f r = good_so_far most i placed (before ++ t ∷ []) f r (λ e. append_not_nil before t (nothing_read most r.given placed (before ++ t ∷ []) r.so_far e).1)
 
--- and behind one
+-- and after one
 pub faultless_phrase : {X : Type 0} {g : Ghosts X} (most : ℕ) (i : Input) (placed : List (Placed HeaderPhrase)) (p : Placed HeaderPhrase) (f : Feed X g) → Reads most i (placed ++ p ∷ []) [] f → IsGoodSoFar most i f
 faultless_phrase most i placed p f r = good_so_far most i (placed ++ p ∷ []) [] f r (λ e. append_not_nil placed p (nothing_read most r.given (placed ++ p ∷ []) [] r.so_far e).0)
 
--- and behind some
+-- and after some
 pub faultless_phrases : {X : Type 0} {g : Ghosts X} (most : ℕ) (i : Input) (placed : List (Placed HeaderPhrase)) (f : Feed X g) → placed ≢ [] → Reads most i placed [] f → IsGoodSoFar most i f
 faultless_phrases most i placed f some r = good_so_far most i placed [] f r (λ e. some (nothing_read most r.given placed [] r.so_far e).0)
 
--- and behind the last
+-- and after the last
 pub faultless_whole : {X : Type 0} {g : Ghosts X} (most : ℕ) (i : Input) (placed : List (Placed HeaderPhrase)) (f : Feed X g) → ReadsWhole most i placed f → IsGoodSoFar most i f
 faultless_whole most i placed f r = (r.given, (r.stands, read_to_shown i r.given f r.stands), r.going, rw (r.whole, IsFaultless) tt)
 

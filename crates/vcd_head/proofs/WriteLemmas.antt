@@ -26,7 +26,7 @@ use Rattle.vcd_view.proofs.ParentLemmas.{around_some, around_none}
 pub scope_text : (type name kind word : List ℕ) → kind ≡ type → word ≡ name → codes "$scope " ++ (kind ++ (32 ∷ (word ++ codes " $end\n"))) ≡ scope_line type name
 scope_text type name kind word t n = rw (t, n) (simp append_assoc)
 
--- one more word behind some
+-- one more word after some
 join-last : (ws : List (List ℕ)) (w : List ℕ) → ws ≢ [] → join_with_byte 32 (ws ++ w ∷ []) ≡ join_with_byte 32 ws ++ 32 ∷ w
 join-last [] w h = absurd (h refl)
 join-last (x ∷ []) w h = refl
@@ -146,7 +146,7 @@ declared_there s h i v l =
 
 -- ---- the lines of the rows
 
--- the lines of the first ones, and of those behind
+-- the lines of the first ones, and of those after
 pub lines-append : {X : Type 0} (f : List X → X → List ℕ) (xs ys : List X) → concat (each f (xs ++ ys)) ≡ concat (each f xs) ++ concat (each_after f xs ys)
 lines-append f xs ys = ap concat (each_after-append f [] xs ys) ∙ concat-append (each f xs) (each_after f xs ys)
 
@@ -160,7 +160,7 @@ pub lines-next : {X : Type 0} (f : List X → X → List ℕ) (ds : List X) (i :
 lines-next f ds i d at =
     ap (λ l. concat (each f l)) (ap (λ n. take n ds) (add-one i) ∙ take-next ds i d at) ∙ lines-append f (take i ds) (d ∷ []) ∙ ap (λ l. concat (each f (take i ds)) ++ l) (append-nil (f (take i ds) d))
 
--- a line that was not wholly written, behind those before it
+-- a line that was not wholly written, after those before it
 pub lines-some : {X : Type 0} (f : List X → X → List ℕ) (old mid new : Option (List ℕ)) (ds : List X) (i : ℕ) (d : X) → slice_get ds i ≡ Some d → Appends old mid (concat (each f (take i ds))) → AppendsSome mid new (f (take i ds) d)
     → AppendsSome old new (concat (each f ds))
 lines-some f old mid new ds i d at front line =

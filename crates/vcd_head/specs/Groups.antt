@@ -31,7 +31,7 @@ FlagsSome g old new run test some = (front : List ℕ) → IsRun g old front run
 abbrev pub AreRising : Group → ℕ → (first end : ℕ) → Type 0
 AreRising g passed first end = Rises (names_of g) g.order passed first end
 
--- after this many bytes the name at an index of its order goes on with the first of these, this
+-- after this many bytes the name at an index of its order continues with the first of these, this
 -- many
 abbrev pub GoesOnWith : Group → ℕ → ℕ → List ℕ → ℕ → Type 0
 GoesOnWith g passed i bytes n = AreShared (next_bytes (names_of g) g.order passed i) bytes n

@@ -1,4 +1,4 @@
--- The names that go on inside scopes.
+-- The names that continue inside scopes.
 use Rattle.std.specs.Prelude.{◌≡◌, ℕ, zero, suc, ◌≤◌, Bool, true, List, [], ◌∷◌, take, reverse, slice_get, Option, Some, IfSome}
 use Rattle.vcd_model.specs.Declarations.{Declaration, Variable, enclosing, path_of}
 use Rattle.vcd_model.specs.Header.{Header}
@@ -37,7 +37,7 @@ IsOpen h g flags o = AreOpen h (names_of g) g.order flags o
 abbrev pub KeepsOpen : HeadView → Group → (old_flags new_flags : List Bool) → (old new : Open) → Type 0
 KeepsOpen view g old_flags new_flags old new = (h : Header) → IsViewOf view h → IsOpen h g old_flags old → IsOpen h g new_flags new
 
--- so, and the flags that were set are of names that select all that goes on after this front
+-- so, and the flags that were set are of names that select all that continues after this front
 pub record HasEntered (h : Header) (names : List (List ℕ)) (order : List ℕ) (front : List ℕ) (old_flags new_flags : List Bool) (new : Open) : Type 0 where
   pub open_scopes : AreOpen h names order new_flags new
   pub notes : Notes names front old_flags new_flags
@@ -71,6 +71,6 @@ ComparesAt view row g old_flags new_flags o some = AnyDeclared view row (λ h d.
 abbrev pub StaysOpen : Inside → (old new : Open) → Type 0
 StaysOpen inner old new = (h : Header) (names : List (List ℕ)) (order : List ℕ) (flags : List Bool) → AreOpen h names order flags old → Follows names order flags (front h.declarations inner.scope) inner.run → AreOpen h names order flags new
 
--- what is given goes on inside the scopes around a row
+-- what is given continues inside the scopes around a row
 abbrev pub GivesAround : HeadView → ℕ → Open → Option Inside → Type 0
 GivesAround view row o r = (h : Header) (names : List (List ℕ)) (order : List ℕ) (flags : List Bool) → IsViewOf view h → AreOpen h names order flags o → IfSome r (λ s. Follows names order flags (scopes_text (take row h.declarations)) s.run)

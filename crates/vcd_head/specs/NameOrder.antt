@@ -53,7 +53,7 @@ pub record IsSplit (names : List (List ℕ)) (order : List ℕ) (passed first en
   pub below : (i : ℕ) → first ≤ i → i < place → next_in names order passed i < least
   pub above : (i : ℕ) → place ≤ i → i < end → least ≤ next_in names order passed i
 
--- the name selects all that goes on after this front of a path
+-- the name selects all that continues after this front of a path
 abbrev pub SelectsAll : List ℕ → List ℕ → Type 0
 SelectsAll front name = (text : List ℕ) → selects_path (front ++ text) name ≡ true
 
@@ -61,6 +61,6 @@ SelectsAll front name = (text : List ℕ) → selects_path (front ++ text) name 
 abbrev pub AreSame : List (List ℕ) → List Bool → Type 0
 AreSame names flags = (p q : ℕ) (name : List ℕ) → slice_get names p ≡ Some name → slice_get names q ≡ Some name → get_or flags p false ≡ get_or flags q false
 
--- the flags that were set are of names that select all that goes on after this front
+-- the flags that were set are of names that select all that continues after this front
 abbrev pub Notes : List (List ℕ) → List ℕ → (old new : List Bool) → Type 0
 Notes names front old new = (p : ℕ) (name : List ℕ) → slice_get names p ≡ Some name → (get_or new p false ≡ get_or old p false) ⊎ ((get_or new p false ≡ true) × SelectsAll front name)

@@ -21,7 +21,7 @@ use Rattle.vcd_view.specs.Shown.{HeadShown}
 use Rattle.vcd_view.specs.Views.{Views}
 use Rattle.vcd_model.specs.Header.{header_of}
 
--- the tokens given so far have no fault, and the header goes on after them
+-- the tokens given so far have no fault, and the header continues after them
 abbrev pub IsGoing : ℕ → List Token → Type 0
 IsGoing most given = (reading_of (header_grammar most) given).ending ≡ AtEnd
 

@@ -4,8 +4,8 @@ use Rattle.vcd_model.specs.Selection.{selects_path}
 use Rattle.vcd_head.specs.NameOrder.{AreSame, IsOrder, Notes, SelectsAll, next_in, text_at}
 use Rattle.vcd_head.specs.declared.names.NameRun.{NameRun}
 
--- the name at an index of the order is flagged and selects all that goes on after the front, as is
--- known, or it selects nothing of that
+-- the name at an index of the order is flagged and selects all that continues after the front, as
+-- is known, or it selects nothing of that
 abbrev pub IsDecided : List (List ℕ) → (order : List ℕ) → List Bool → (front : List ℕ) → Bool → ℕ → Type 0
 IsDecided names order flags front whole i = ((whole ≡ true) × (get_or flags (get_or order i 0) false ≡ true) × SelectsAll front (text_at names order i)) ⊎ ((text : List ℕ) → selects_path (front ++ text) (text_at names order i) ≡ false)
 
@@ -20,7 +20,7 @@ pub record Follows (names : List (List ℕ)) (order : List ℕ) (flags : List Bo
   pub same : AreSame names flags
   pub order_is : IsOrder names order
 
--- the names of a run that go on with this byte
+-- the names of a run that continue with this byte
 pub record Narrows (names : List (List ℕ)) (order : List ℕ) (byte : ℕ) (old new : NameRun) : Type 0 where
   pub up : new.first ≤ new.end
   pub low : old.first ≤ new.first

@@ -91,7 +91,7 @@ fn enter_in_set(alloc: Global, known: &mut Codes, bytes: &[u8]) -> Result<(usize
     Ok((place, new))
 }
 
-/// Puts the bytes of a code to the text, and the code to the others.
+/// Appends the bytes of a code to the text, and the code to the others.
 #[inline(always)]
 fn add(
     text: &mut Vec<u8>,

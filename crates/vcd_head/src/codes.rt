@@ -8,9 +8,9 @@ use indexmap::IndexSet;
 use std::alloc::Global;
 use vcd_view::{Code, CodeSeed, code_in, key_of};
 
-// The codes in order of first declaration, found by their bytes. The set of the kit, in place of a
+// The codes in order of first declaration, found by their bytes. The set of the kit, instead of a
 // table and tree of 800 lines, costs `check` of 184,002 codes some 12 % more, and codes crafted for
-// it 1.0 to 1.4 times as much as others, before 3 to 5 times.
+// it at most 1.4 times as much as others.
 #[derive(Drop)]
 pub(crate) struct Codes {
     pub(crate) list: Vec<Code>,

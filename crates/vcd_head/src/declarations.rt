@@ -110,7 +110,7 @@ pub(crate) fn declare(
     Ok(true)
 }
 
-/// Opens a scope.
+/// Opens a scope in the draft, or fails with `OutOfMemory`.
 #[inline(always)]
 pub(crate) fn open_scope(draft: &mut Draft, scope: ScopePhrase<'_>) -> Result<(), HeadFault>
     ensures opens { IfOk result (λ _. TakesPhrase Kind.Scope

@@ -51,8 +51,8 @@ fn greatest_of(text: &[u8], codes: &[Code], in_order: bool) -> usize
 /// Returns how many entries this many codes get, whose greatest number is `greatest`: the least
 /// power of two that has one for each code, and twice as many if three for each code allow that.
 /// Where each number is that of an entry, no two codes have the same one, so no more are needed.
-// The header of 184,002 codes in order takes 178.7 million instructions and 6,416 page faults, with
-// 1.5 to 3 entries for each code 182.7 and 7,440.
+// With 1.5 to 3 entries for each code the header of 184,002 codes in order takes 2 % more
+// instructions and 16 % more page faults.
 fn count_for(codes: usize, greatest: usize) -> usize
     requires { (0 < codes) × (codes < 2 ^ 60) }
     ensures { result ≤ 3 * codes }

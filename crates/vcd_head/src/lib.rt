@@ -34,8 +34,8 @@
 //! - `head`, `fault`: `Head`; `HeadFault`
 //! - `entries`, `index`: how the entries are filled; the order of the codes by their bytes
 //! - `enclosing`, `path`: the scopes around a declaration, outermost first; paths
-//! - `selection`, `inside`, `names`: which variables names select; the names that go on inside open
-//!   scopes; names in the order of their bytes
+//! - `selection`, `inside`, `names`: which variables names select; the names that continue inside
+//!   open scopes; names in the order of their bytes
 //! - `write`: headers as they are written
 //! - `moment`: `ticks`, a time with a unit in ticks of the header's scale
 //! - `merged`: the header of a merged dump

@@ -35,7 +35,7 @@ pub(crate) struct OpenScopes {
 }
 
 impl OpenScopes {
-    /// Goes on to the scopes that are open after a row of this kind.
+    /// Moves on to the scopes that are open after a row of this kind.
     fn pass(&mut self, kind: Kind)
         ensures { IsPast kind self.old.pending self.old.written self.new.pending self.new.written }
     {

@@ -10,9 +10,9 @@ pub(crate) fn last_of(rising: &[u64]) -> u64
     rising.last().copied().unwrap_or(0)
 }
 
-/// Returns the index of a number among these.
-// A new code is known by one comparison, without a hash: the header of 184,002 codes takes 182.7
-// million instructions and 7,440 page faults, with all codes in the set 214.0 and 9,385.
+/// Returns the index of a number among these, which rise; `None` where it is not there.
+// A new code is known by one comparison, without a hash: with all codes in the set the header of
+// 184,002 codes takes 17 % more instructions and 26 % more page faults.
 #[inline(always)]
 pub(crate) fn place_in(rising: &[u64], number: u64) -> Option<usize>
     ensures { Rises rising.now → result ≡ position (nat_eq number) rising.now }

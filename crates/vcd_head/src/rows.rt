@@ -36,8 +36,8 @@ fn in_32_bits(number: usize) -> u32
     u32::try_from(number).unwrap_or(u32::MAX)
 }
 
-/// Puts a row after the others.
-// The header of 184,002 codes takes 170.8 million instructions, with `Vec::push` 178.7.
+/// Appends a row, or fails with `OutOfMemory`.
+// With `Vec::push` the header of 184,002 codes takes 5 % more instructions.
 #[inline(always)]
 pub(crate) fn push(rows: &mut Vec<Row>, row: WideRow) -> Result<(), HeadFault>
     ensures items { IsNarrow row

@@ -20,7 +20,7 @@ pub(crate) fn skip_to_end<S: Source>(feed: &mut Feed<'_, '_, '_, '_, S>) -> Resu
     }
 }
 
-/// Puts the tokens before the first `$end` to the text, a space before each.
+/// Appends the tokens before the first `$end` to the text, a space before each.
 pub(crate) fn append_to_end<S: Source>(
     feed: &mut Feed<'_, '_, '_, '_, S>,
     text: &mut Vec<u8>,

@@ -164,7 +164,7 @@ inputs-same c want m used e = ap (λ b. inputs_for b m) (merges-is c want e) ∙
     by_command (Command.Edges names) h = refl
     by_command (Command.Merge files) h = ap (map input_named) (files-used m files h)
 
--- those of a command that was used, with this file behind `-i`
+-- those of a command that was used, with this file after `-i`
 abbrev inputs-among : Option Text → Option Command → List (Option Text)
 inputs-among file used = unwrap_or (option_map (λ command. inputs_of command file) used) []
 

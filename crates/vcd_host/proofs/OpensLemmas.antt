@@ -26,7 +26,7 @@ opens-many opens host [] (i ∷ inputs) after o = absurd o
 opens-many opens host (n ∷ names) [] after o = absurd o
 opens-many opens host (n ∷ names) (i ∷ inputs) after o = ap suc (opens-many opens o.0 names inputs after (o.2))
 
--- ---- a step of the loop, at the place i
+-- ---- a step of the loop, at the index i
 
 -- what a function makes of the first elements, with one element more
 pub mapped-more : {A B : Type 0} (f : A → B) (xs : List A) (i : ℕ) (d : A) → i < length xs → map f (take (i + 1) xs) ≡ map f (take i xs) ++ f (get_or xs i d) ∷ []
@@ -50,7 +50,7 @@ pub fresh-more : {H I : Type 0} (opens : H → Option Text → Result I OpenFaul
 fresh-more opens failures name next after inputs inputs' all one =
     subst (λ l. All (λ r. failures r ≡ 0) l) (sym one.3) (All-push (λ r. failures r ≡ 0) inputs one.0 all one.2)
 
--- the names are those before the place, the one there, and those after it
+-- the names are those before the index, the one there, and those after it
 pub split-at : {A B : Type 0} (f : A → B) (xs : List A) (i : ℕ) (d : A) → i < length xs → map f xs ≡ map f (take i xs) ++ f (get_or xs i d) ∷ map f (drop (i + 1) xs)
 split-at f xs i d lt =
     ap (map f) (sym (take-append-drop i xs) ∙ ap (λ l. take i xs ++ l) (drop_more xs i d lt)) ∙ map-append f (take i xs) (get_or xs i d ∷ drop (i + 1) xs)

@@ -32,7 +32,7 @@ pub(crate) struct Buffer {
 
 /// Copies bytes over as many others.
 // As many as `merge` writes most often are read before one is written: else the compiler asks
-// whether the two overlap. `merge` of scalars takes 135.6 an item, without these arms 142.4.
+// whether the two overlap. Without these arms `merge` of scalars takes 5 % more.
 #[inline(always)]
 pub(crate) fn copy(from: &[u8], to: &mut [u8])
     requires { length to.old ≡ length from.now }

@@ -14,8 +14,8 @@ use vcd_text::{Sink, WriteFailed};
 ///
 /// A write of the device fails where it returns any error, also that it was interrupted, and where
 /// it takes nothing. What such a write leaves stays in the buffer.
-// A write that fits is a copy in place. A `BufWriter` sets pointer, length and room of its vector
-// anew: `merge` of scalars takes 135.6 an item, with it 152.6; of 27,505 codes 226.3, 264.3.
+// A write that fits is an inline copy. A `BufWriter` sets pointer, length and room of its vector
+// anew: with it `merge` of 27,505 codes takes 17 % more.
 pub struct Buffered<D: Write + Drop> {
     device: D,
     buffer: Buffer,

@@ -29,7 +29,7 @@ use Rattle.vcd_laws.proofs.HeadCounts.{scopes_written, AreApart, apart_same, apa
 
 -- ---- a run of `check`
 
--- what stands in a dump
+-- what there is in a dump
 abbrev pub tally_of : Header → List BodyItem → Tally
 tally_of h items = record {
   scopes = count_by is_scope h.declarations;

@@ -8,7 +8,7 @@ use Rattle.vcd_model.specs.HeaderReading.{read_header, header_fault_of}
 use Rattle.vcd_model.specs.Job.{Want, outcome}
 use Rattle.vcd_model.specs.Words.{Command}
 
--- ---- header texts and places
+-- ---- header texts and where they may be
 
 empty_date_replaces : on (Want.Pick (codes "a" ∷ [])) "$date x  y $end;$version v $end;$date $end;$timescale 1s $end;$timescale 10 us $end;$var wire 1 ! a $end;$enddefinitions $end;" ≡ gives "$version;^v;$end;$timescale;^10us;$end;$var wire 1 ! a $end;$enddefinitions $end;" "" 0
 unfolding model
@@ -158,7 +158,7 @@ list_reads_no_body : on Want.Listing "$var wire 1 ! a $end;$enddefinitions $end;
 unfolding model
 list_reads_no_body = refl
 
--- lines stand in the order of declaration, each variable once
+-- lines are in the order of declaration, each variable once
 names_in_another_order : on (sample (1 ∷ []) (codes "u" ∷ codes "a" ∷ codes "u" ∷ [])) "$var wire 1 ! a $end;$var real 1 \" r $end;$var event 1 # e $end;$var wire 2 % u $end;$enddefinitions $end;#1;bx %;0!;" ≡ gives "1 a 0;1 u xx;" "" 0
 unfolding model
 names_in_another_order = refl
@@ -331,7 +331,7 @@ all_of_an_input_before_the_next : merged ("$var wire 1 ! a $end;$enddefinitions 
 unfolding model
 all_of_an_input_before_the_next = refl
 
--- a change of an earlier input stands, at the very time of the fault
+-- a change of an earlier input is kept, at the very time of the fault
 earlier_input_at_the_time_of_a_fault : merged ("$var wire 1 ! a $end;$enddefinitions $end;#5;1!;#9;" ∷ "$var wire 1 ! a $end;$enddefinitions $end;#5;?;" ∷ []) ≡ gives "$timescale;^1s;$end;$scope module in1 $end;$var wire 1 ! a $end;$upscope $end;$scope module in2 $end;$var wire 1 \" a $end;$upscope $end;$enddefinitions $end;#5;1!;" "vcdkit: b.vcd:4: unknown command;" 1
 unfolding model
 earlier_input_at_the_time_of_a_fault = refl
@@ -439,7 +439,7 @@ zeros_before_too_many_digits : asked Command.Check "$var wire 1 ! a $end;$enddef
 unfolding model
 zeros_before_too_many_digits = refl
 
--- a failed read behind the mark that ends the run
+-- a failed read after the timestamp that ends the run
 failed_behind_end : outcome (cut "0" "5") limit (codes "(stdin)" ∷ []) (record { bytes = written "$var wire 1 ! a $end;$var real 1 \" r $end;$var event 1 # e $end;$var wire 2 % u $end;$enddefinitions $end;1!;#0;0!;#9;"; mark = Mark.Failed } ∷ []) ≡ gives "$var wire 1 ! a $end;$var real 1 \" r $end;$var event 1 # e $end;$var wire 2 % u $end;$enddefinitions $end;#0;$dumpvars;$end;1!;0!;#5;" "" 0
 unfolding model
 failed_behind_end = refl

@@ -204,7 +204,7 @@ end_mark : (a b t u : ℕ) (o : Bool) (xs : List BodyItem) → b < u
     → kept_of a b t o (BodyItem.Time u ∷ xs) ≡ []
 end_mark a b t u o xs l = rw (lt-ltb b u l, and_right (nat_le a t) false refl) refl
 
--- the mark of a time that is not past the end
+-- the timestamp of a time that is not past the end
 over_time : (a b t u : ℕ) (o : Bool) (w : List ℕ) (xs : List BodyItem) → Stand w t o → t ≤ u
     → u ≤ b → kept_of a b t o (time_items w u ++ xs) ≡ kept_of a b u o xs
 over_time a b t u o w xs s l m = by_any (list_any (λ v. v == u) w) refl
@@ -215,7 +215,7 @@ over_time a b t u o w xs s l m = by_any (list_any (λ v. v == u) w) refl
         ap (λ (n : ℕ). kept_of a b n o xs) same
     by_any false e = no_mark a b t u o xs m
 
--- the mark of a time past the end
+-- the timestamp of a time past the end
 past_time : (a b t u : ℕ) (o : Bool) (w : List ℕ) (xs : List BodyItem) → Stand w t o → t ≤ b
     → b < u → kept_of a b t o (time_items w u ++ xs) ≡ []
 past_time a b t u o w xs s l m = by_any (list_any (λ v. v == u) w) refl

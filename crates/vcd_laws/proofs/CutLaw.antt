@@ -29,7 +29,7 @@ use Rattle.vcd_model.proofs.CutKept.{cuts, cut_mark, closing_above_is, above_is,
 regroup : (h s t u : List ℕ) → h ++ s ++ t ++ u ≡ h ++ (s ++ (t ++ u))
 regroup h s t u = append_assoc (h ++ s) t u ∙ append_assoc h s (t ++ u)
 
--- the text behind the head
+-- the text after the head
 abbrev pub cut_body : Header → ℕ → ℕ → List BodyItem → List ℕ
 cut_body h a b items =
     start_section h a (within b items)
@@ -142,7 +142,7 @@ cut_keeps_items h a b items text small l are fit shut e =
           ∙ sym (later_none h.codes b items c t fit in_time.1);
     }
 
--- ---- what is written behind the head
+-- ---- what is written after the head
 
 pub ends_or_shut : (o : Opened) (b : ℕ) → IsGoodInput o → IsTrue (ends_cut b (items_in o)) ⊎ (fault_in o ≡ None) → (ends_cut b (items_in o) ≡ true) ⊎ (open_behind false (items_in o) ≡ false)
 ends_or_shut o b good (inl h) = inl h

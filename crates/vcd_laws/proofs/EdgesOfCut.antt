@@ -157,7 +157,7 @@ filter_apart test (c ∷ cs) apart = by_test (test c) (filter_apart test cs apar
     by_test true more = ((λ i. apart.0 (from_filter test cs c i).0), more)
     by_test false more = more
 
--- ---- marks of events
+-- ---- triggers of events
 
 module _ (c : IdCode) (codes : List IdCode) (declared : declared_code codes c.text ≡ Some c)
     (loud : c.event ≡ true) where
@@ -207,7 +207,7 @@ module _ (c : IdCode) (codes : List IdCode) (declared : declared_code codes c.te
       let g = one.0 in
       omega arith
 
-  -- no mark inside a section counts
+  -- no trigger inside a section counts
   set_marks : (t : ℕ) (vals : IdCode → Option Value) (cs : List IdCode) (rest : List BodyItem)
       → count_from c t true ((set_items vals cs ++ BodyItem.End ∷ []) ++ rest)
       ≡ count_from c t false rest

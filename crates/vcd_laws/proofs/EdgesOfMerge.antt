@@ -112,7 +112,7 @@ module _ (c : IdCode) (codes : List IdCode) (declared : declared_code codes c.te
           subst (λ (x : IdCode). not (x.event && o) ≡ true) same (rw quiet refl) in
           cc
 
-  -- of an event the marks outside sections are
+  -- of an event the triggers outside sections are
   kept_marks : (t : ℕ) (o : Bool) (items : List BodyItem) → c.event ≡ true → AreFit codes t o items
       → length (changes_kept c (entries_from t o items)) ≡ count_from c t o items
   kept_marks t o [] loud fit = refl
@@ -164,7 +164,7 @@ module _ (c : IdCode) (codes : List IdCode) (declared : declared_code codes c.te
           outside true = refl
           outside false = refl
 
--- ---- marks of what is written
+-- ---- timestamps of what is written
 
 -- all that is written are changes
 abbrev AllChanges : List Entry → Type 0

@@ -43,7 +43,7 @@ declared_at earlier (x ∷ front) back d are =
     (declared_at (earlier ++ x ∷ []) front back d are.1)
 
 module _ (names : List (List ℕ)) (ds : List Declaration) where
-  -- the places that are marked
+  -- the indexes that are marked
   abbrev pub marks : ℕ → Bool
   marks = is_among (marked_places names ds)
 

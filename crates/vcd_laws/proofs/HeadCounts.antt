@@ -1,4 +1,4 @@
--- How many scopes, variables and codes stand in a head that is written.
+-- How many scopes, variables and codes there are in a head that is written.
 use Rattle.std.proofs.Common.{◌≡◌, ℕ, ◌+◌, ◌≤◌, Bool, true, false, cond, ◌&&◌, ◌||◌, List, [], ◌∷◌, ◌++◌, length, filter, filter_map, count_by, bytes_eq, Option, Some, None, inl, inr, refl, sym, ap, ◌∙◌, subst, arith}
 use Rattle.std.specs.List.{list_any, cons_option}
 use Rattle.std.proofs.lemmas.List.{length-append}
@@ -79,7 +79,7 @@ abbrev pub AreApart : {X : Type 0} → List X → Type 0
 AreApart [] = Unit {0}
 AreApart (x ∷ xs) = (In x xs → ⊥) × AreApart xs
 
--- where an element stands
+-- where an element is
 record Placed {X : Type 0} (x : X) (xs : List X) : Type 0 where
   front : List X
   back : List X

@@ -1,4 +1,4 @@
--- A head that was written for some names is written again for them as it stands.
+-- A head that was written for some names is written again for them as it is.
 use Rattle.std.proofs.Common.{◌≡◌, ℕ, zero, suc, ◌<◌, ◌==◌, Bool, true, false, cond, ◌||◌, List, [], ◌∷◌, ◌++◌, length, map, filter, refl, sym, ap, ◌∙◌, subst, arith}
 use Rattle.std.specs.Prelude.{⊤}
 use Rattle.std.specs.List.{AllByRecursion, list_any}
@@ -16,7 +16,7 @@ use Rattle.vcd_model.proofs.MarkedPlaces.{places_at, places_after, places_split,
 
 -- ---- what is inside a scope
 
--- before the scope at this depth is closed, some variable stands
+-- a variable is declared before the scope at this depth is closed
 abbrev uses : ℕ → List Declaration → Bool
 uses d [] = false
 uses d (Declaration.Scope type name ∷ ds) = uses (suc d) ds
@@ -25,7 +25,7 @@ uses zero (Declaration.Up ∷ ds) = false
 uses (suc d) (Declaration.Up ∷ ds) = uses d ds
 
 module _ (names : List (List ℕ)) where
-  -- before it is closed, some selected variable stands
+  -- a selected variable is declared before it is closed
   abbrev pub uses_selected : ℕ → List Declaration → List Declaration → Bool
   uses_selected d earlier [] = false
   uses_selected d earlier (Declaration.Scope type name ∷ ds) =
@@ -62,7 +62,7 @@ module _ (names : List (List ℕ)) where
       list_any-append (λ i. j == i) (places_at names earlier d)
       (places_after names (earlier ++ d ∷ []) ds)
 
-  -- a place that is not open is not marked from here on
+  -- an index that is not open is not marked from here on
   closed_none : (j : ℕ) (ds earlier : List Declaration) (s : List Open) → HasOpen earlier s
       → AreDeclared earlier ds → j < length earlier → NotThere j s
       → is_among (places_after names earlier ds) j ≡ false
@@ -94,7 +94,7 @@ module _ (names : List (List ℕ)) where
       here true e f = rw (e, f) refl
       here false e f = refl
 
-  -- an open one is marked from here on exactly where a selected variable stands in its scope
+  -- an open one is marked from here on exactly where a selected variable is in its scope
   place_used : (j : ℕ) (n : List ℕ) (below : List Open) (ds earlier : List Declaration)
       (above : List Open) → HasOpen earlier (above ++ (j, n) ∷ below) → AreDeclared earlier ds
       → j < length earlier → NotThere j below
@@ -132,7 +132,7 @@ module _ (names : List (List ℕ)) where
       here true f = rw (f, or_true (j == length earlier)) refl
       here false f = refl
 
-  -- a scope is marked exactly where a selected variable stands in it
+  -- a scope is marked exactly where a selected variable is in it
   pub scope_mark : (front back : List Declaration) (type name : List ℕ) (s : List Open)
       → HasOpen front s → AreDeclared front (Declaration.Scope type name ∷ back)
       → is_among (marked_places names (front ++ Declaration.Scope type name ∷ back)) (length front)
@@ -316,7 +316,7 @@ module _ (names : List (List ℕ)) (all : List Declaration) (declared : AreDecla
   all_used = written_used all [] (ups_at own_code marked (enclosing all)) [] has_none declared refl
       (ups_used (enclosing all))
 
--- ---- and is written again as it stands
+-- ---- and is written again as it is
 
 module _ (names : List (List ℕ)) (all : List Declaration) (declared : AreDeclared [] all)
     (chosen : (front back : List Declaration) (v : Variable)

@@ -123,7 +123,7 @@ closing_given t o w (Some e) = by_any (list_any (λ v. v == e) w)
     by_any true = refl
     by_any false = refl
 
--- kept entries and a closing mark
+-- kept entries and a closing timestamp
 given_rest : (codes : List IdCode) (es : List Entry) (t : ℕ) (o : Bool) (w v : List ℕ)
     (mark : Option ℕ) → AreWritable codes t o es → Stand w t o → Insides o es
     → given (entries_from t o (written_items w es ++ closing_items v mark)) ≡ given es

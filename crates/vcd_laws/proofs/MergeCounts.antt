@@ -1,4 +1,4 @@
--- How many scopes, variables, codes and changes stand in what a merge writes.
+-- How many scopes, variables, codes and changes there are in what a merge writes.
 use Rattle.std.proofs.Common.{◌≡◌, ℕ, ◌+◌, Bool, true, false, cond, ◌&&◌, List, [], ◌∷◌, ◌++◌, length, map, filter, flat_map, count_by, sum_by, codes, Some, inl, inr, refl, sym, ap, ◌∙◌, subst, arith}
 use Rattle.std.specs.List.{AllByRecursion}
 use Rattle.std.proofs.lemmas.List.{length-append, length-map}

@@ -1,4 +1,4 @@
--- What a merge names: the fault of one input, or a time mark that is too large.
+-- What a merge names: the fault of one input, or a timestamp that is too large.
 use Rattle.std.proofs.Common.{◌≡◌, ℕ, ◌+◌, ◌<◌, List, [], ◌∷◌, ◌++◌, length, map, find, sum_by, Option, Some, None, Ok, Err, ◌⊎◌, inl, inr, refl, sym, ap, ◌∙◌, subst, arith}
 use Rattle.std.specs.List.{AllByRecursion}
 use Rattle.std.proofs.lemmas.List.{length_push}
@@ -131,7 +131,7 @@ map_split f (i ∷ inputs) (p ∷ earlier) later o e =
     let n = m.place in
     record { front = i ∷ m.front; input = m.input; later = m.later; parts = ap (λ l. i ∷ l) {y = m.front ++ m.input ∷ m.later} m.parts; same = m.same; place = omega arith }
 
--- the fault of an input: its own, or that of a mark which is too large
+-- the fault of an input: its own, or that of a timestamp which is too large
 own_or_mark : (scale : ℕ) (own : Option Fault) (r : Reading BodyPhrase)
     → (scaled_fault scale own r ≡ own)
     ⊎ ((p : Placed BodyPhrase) × (find (placed_is_too_large scale) r.placed ≡ Some p)
@@ -147,7 +147,7 @@ own_or_mark scale own r = by_mark (find (placed_is_too_large scale) r.placed) re
 
 -- ---- the law
 
--- a merge ends well, or names the fault of one input, or a time mark that is too large
+-- a merge ends well, or names the fault of one input, or a timestamp that is too large
 abbrev pub EndsOrNames : ℕ → List ℕ → List (List ℕ) → List Input → Outcome → Type 0
 EndsOrNames limit name names inputs done = EndsWell done
     ⊎ (NamesFaultOfOne limit name names inputs done

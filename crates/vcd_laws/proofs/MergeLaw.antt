@@ -40,7 +40,7 @@ abbrev IsGoodItem : List IdCode → BodyItem → Type 0
 IsGoodItem codes (BodyItem.Changes c) = IsGoodChange codes c × (0 < c.code.size)
 IsGoodItem codes item = ⊤
 
--- no time mark above this time
+-- no timestamp above this time
 abbrev IsUpTo : ℕ → BodyItem → Type 0
 IsUpTo top (BodyItem.Time t) = t ≤ top
 IsUpTo top item = ⊤
@@ -125,7 +125,7 @@ all_merged hs top front (d ∷ ds) before good below =
     all_push [] x h g = (g, tt)
     all_push (y ∷ xs) x h g = (h.0, all_push xs x h.1 g)
 
--- ---- the greatest mark
+-- ---- the greatest timestamp
 
 marks_up_to : (a top : ℕ) (ks : List Keyed) → fold max a (marks (map (λ k. k.entry.item) ks)) ≤ top → AllByRecursion (λ k. IsUpTo top k.entry.item) ks
 marks_up_to a top [] l = tt
@@ -164,7 +164,7 @@ all_from_by_key : (P : Keyed → Type 0) (xs : List Keyed) → AllByRecursion P 
 all_from_by_key P [] h = tt
 all_from_by_key P (x ∷ xs) h = let a = all_from_insert P x (by_key xs) h in (a.0, all_from_by_key P xs a.1)
 
--- each mark leaves the range of times nowhere
+-- each timestamp leaves the range of times nowhere
 small_marks : (scale input : ℕ) (rename : List ℕ → List ℕ) (before items : List BodyItem) → AllByRecursion (λ item. is_too_large scale item ≡ false) items → AllByRecursion (λ k. IsUpTo (2 ^ 64 - 1) k.entry.item) (each_after (keyed_after scale input rename) before items)
 small_marks scale input rename before [] h = tt
 small_marks scale input rename before (x ∷ items) h = (by_item x h.0, small_marks scale input rename (before ++ x ∷ []) items h.1)

@@ -18,7 +18,7 @@ use Rattle.vcd_laws.proofs.PickUses.{chosen, selected_is}
 
 -- ---- one path and one name
 
--- what stands before both makes no difference
+-- what comes before both makes no difference
 same_front : (a path name : List ℕ) → selects_path (a ++ path) (a ++ name) ≡ selects_path path name
 same_front [] path name = refl
 same_front (x ∷ a) path name = rw (eq-eqb x x refl) (same_front a path name)

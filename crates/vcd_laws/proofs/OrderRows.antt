@@ -234,7 +234,7 @@ names_that_overlap : on (Want.Pick (codes "t.u" ∷ codes "t" ∷ [])) "$scope m
 unfolding model
 names_that_overlap = refl
 
--- a change before any mark has time 0, and with no mark there is no closing line
+-- a change before any timestamp has time 0, and with no timestamp there is no closing line
 no_marks : on (Want.Pick (codes "a" ∷ [])) "$var wire 1 ! a $end;$enddefinitions $end;1!;" ≡ gives "$var wire 1 ! a $end;$enddefinitions $end;#0;1!;" "" 0
 unfolding model
 no_marks = refl
@@ -262,7 +262,7 @@ later_header : outcome Want.Merge limit (codes "a.vcd" ∷ codes "b.vcd" ∷ [])
 unfolding model
 later_header = refl
 
--- the greatest mark closes, also where it is of an input without changes
+-- the greatest timestamp closes, also where it is of an input without changes
 greatest_mark_closes : outcome Want.Merge limit (codes "a.vcd" ∷ codes "b.vcd" ∷ []) (clean "$timescale 1us $end;$var wire 1 ! a $end;$enddefinitions $end;#1;1!;" ∷ clean "$timescale 10ns $end;$var wire 1 ! a $end;$enddefinitions $end;#3;#250;" ∷ []) ≡ gives "$timescale;^10ns;$end;$scope module in1 $end;$var wire 1 ! a $end;$upscope $end;$scope module in2 $end;$var wire 1 \" a $end;$upscope $end;$enddefinitions $end;#100;1!;#250;" "" 0
 unfolding model
 greatest_mark_closes = refl
@@ -272,7 +272,7 @@ too_large_alone : outcome Want.Merge limit (codes "a.vcd" ∷ codes "b.vcd" ∷ 
 unfolding model
 too_large_alone = refl
 
--- a fault ends a merge where its place comes; items of a later input at the same time come after it
+-- a fault ends a merge at its position; items of a later input at the same time come after it
 failed_read_waits_in_a_merge : outcome Want.Merge limit (codes "a.vcd" ∷ codes "b.vcd" ∷ []) (clean "$var wire 1 ! a $end;$enddefinitions $end;#1;1!;#3;0!;#9;1!;" ∷ record { bytes = written "$var wire 1 ! a $end;$enddefinitions $end;#2;0!;#5;"; mark = Mark.Failed } ∷ []) ≡ gives "$timescale;^1s;$end;$scope module in1 $end;$var wire 1 ! a $end;$upscope $end;$scope module in2 $end;$var wire 1 \" a $end;$upscope $end;$enddefinitions $end;#1;1!;#2;0\";#3;0!;" "vcdkit: b.vcd: read failed;" 3
 unfolding model
 failed_read_waits_in_a_merge = refl

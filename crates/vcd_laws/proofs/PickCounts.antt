@@ -79,7 +79,7 @@ module _ (c : IdCode) where
         (written_values e.time (next_open o e.item) (w ++ e.time ∷ []) es h.4)
         ∙ sym (values-append (e.item ∷ []) (map (λ (x : Entry). x.item) es) c)
 
-  -- ---- marks of events
+  -- ---- triggers of events
 
   abbrev pub counted : Entry → Bool
   counted e = gives_to c e.item && not e.inside
@@ -245,7 +245,7 @@ module _ (c : IdCode) where
 
 -- ---- the items that a pick is read as
 
--- a picked code has the same values, in order, and as many marks outside sections
+-- a picked code has the same values, in order, and as many triggers outside sections
 pub record KeepsCounts (items others : List BodyItem) (c : IdCode) : Type 0 where
   pub values : c.event ≡ false → values_of items c ≡ values_of others c
   pub marks : event_count c items ≡ event_count c others

@@ -174,7 +174,7 @@ counted : on (Want.Edges some_names) aliased ≡ gives "b 0 0 0;m.c 1 1 0;" "" 0
 unfolding model
 counted = refl
 
--- changes before the first time mark have time 0, and what is written has a mark for it
+-- changes before the first timestamp have time 0, and what is written has a timestamp for it
 abbrev unmarked : String
 unmarked = "$var wire 1 x a $end $enddefinitions $end 0x"
 

@@ -179,7 +179,7 @@ all_kept test (x ∷ xs) = by_test (test x) refl (all_kept test xs)
     by_test true e more = (e, more)
     by_test false e more = more
 
--- ---- the last mark
+-- ---- the last timestamp
 
 abbrev Stands : List ℕ → ℕ → Type 0
 Stands w u = list_any (λ v. v == u) w ≡ true
@@ -231,7 +231,7 @@ last_stands P [] o e f h l = f e l
 last_stands P (x ∷ xs) o e f h l =
     last_stands P xs (Some x) e (λ y q. let same : x ≡ y = cc in subst P same h.0) h.1 l
 
--- a mark that stands is not written again
+-- a timestamp that was written is not written again
 closing_none : (w : List ℕ) (o : Option ℕ) → ((e : ℕ) → o ≡ Some e → Stands w e) → closing w o ≡ []
 closing_none w None f = refl
 closing_none w (Some e) f = rw (f e refl) refl
@@ -240,7 +240,7 @@ pub last_push : (xs : List ℕ) (o : Option ℕ) (e : ℕ) → last_or o (xs ++ 
 last_push [] o e = refl
 last_push (x ∷ xs) o e = last_push xs (Some x) e
 
--- the closing mark of what is read again
+-- the closing timestamp of what is read again
 closing_same : (items : List BodyItem) (w : List ℕ) (mark : Option ℕ)
     → AllByRecursion (Stands w) (marks items)
     → closing w (last_mark (items ++ closing_items w mark)) ≡ closing w mark

@@ -44,7 +44,7 @@ opened_one limit input os e =
     by_fault o (Some g) e = cc
     by_fault o None e = let same : o ∷ [] ≡ os = cc in (o, sym same)
 
--- the outcome behind headers
+-- the outcome after headers
 behind_headers : Want → List (List ℕ) → Result (List Opened) (ℕ × Fault) → Outcome
 behind_headers want names r = elim r [ Err e ↦ fault_outcome [] (name_at names e.0) e.1 | Ok os ↦ over_opened want names os ]
 
@@ -79,7 +79,7 @@ pub merge_case : (names : List (List ℕ)) (os : List Opened) → (over_opened W
 unfolding request_of merge_outcome merge_of
 merge_case names os h = merge_clean names (dumps_of os) (first_fault (dumps_of os)) h
 
--- an outcome that is another has its status, and its output stands behind the same head
+-- an outcome that is another has its status, and its output comes after the same head
 pub same_status : (done other : Outcome) → done ≡ other → done.status ≡ 0 → other.status ≡ 0
 same_status done other e h = subst (λ (d : Outcome). d.status ≡ 0) e h
 
@@ -112,7 +112,7 @@ unfolding named
 all_named names (Some i) done h = cc
 all_named names None done h = refl
 
--- a run that no time mark ended has no fault
+-- a run that no timestamp ended has no fault
 clean_end : (task : Request) (h : Header) (items : List BodyItem) (name : List ℕ) (fault : Option Fault) → (at_end task h items name fault).status ≡ 0
     → (fault ≡ None) × ((at_end task h items name fault).output ≡ open_text task h items ++ close_text task h items)
 clean_end task h items name (Some f) e = absurd (fault_status (open_text task h items) name f e)
@@ -127,7 +127,7 @@ no_end names (BodyItem.Begin s ∷ items) = no_end names items
 no_end names (BodyItem.End ∷ items) = no_end names items
 no_end names (BodyItem.Changes c ∷ items) = no_end names items
 
--- no time mark ends a run of `pick`
+-- no timestamp ends a run of `pick`
 pub pick_body : (names : List (List ℕ)) (h : Header) (items : List BodyItem) (name : List ℕ) (fault : Option Fault) → over_body (Request.Pick names) h items name fault ≡ at_end (Request.Pick names) h items name fault
 unfolding over_body
 pick_body names h items name fault = rw (no_end names items, over_body) refl

@@ -104,7 +104,7 @@ edges_named : on (Want.Edges []) faulty ≡ gives "" "vcdkit: (stdin):3: time go
 unfolding model
 edges_named = refl
 
--- a cut and a sample name it where no mark is above their last time
+-- a cut and a sample name it where no timestamp is above their last time
 cut_named : on (cut "0" "5") faulty ≡ gives "$var wire 1 ! a $end;$enddefinitions $end;#0;$dumpvars;$end;#5;1!;" "vcdkit: (stdin):3: time goes back;" 1
 unfolding model
 cut_named = refl
@@ -157,7 +157,7 @@ too_large : merge_of late fine ≡ gives "$timescale;^100ps;$end;$scope module i
 unfolding model
 too_large = refl
 
--- the law, with its premises met: it names the time mark here, and ends well there
+-- the law, with its premises met: it names the timestamp here, and ends well there
 named_by_merge : (os : List Opened) × (open_from limit [] (clean late ∷ clean fine ∷ []) ≡ Ok os)
 unfolding model
 named_by_merge =

@@ -1,4 +1,4 @@
--- Texts that stand on other lines, under codes in another order, are read alike.
+-- Texts that are on other lines, under codes in another order, are read alike.
 use Rattle.std.proofs.Common.{◌≡◌, ℕ, Bool, true, false, cond, List, [], ◌∷◌, ◌++◌, Option, Some, None, refl, sym, ap, ◌∙◌}
 use Rattle.std.specs.Prelude.{⊤}
 use Rattle.std.proofs.lemmas.List.{map-append}

@@ -33,7 +33,7 @@ use Rattle.vcd_laws.proofs.WholeDumps.{whole_dump, dumps_whole}
 
 -- ---- one input among others
 
--- where an input of a merge stands
+-- where an input of a merge is
 pub record Among (os : List Opened) (earlier later : List Opened) (o : Opened) : Type 0 where
   pub dumps : dumps_of os ≡ map whole_dump earlier ++ whole_dump o ∷ map whole_dump later
   pub headers : headers_of (dumps_of os) ≡ headers_of (map whole_dump earlier)

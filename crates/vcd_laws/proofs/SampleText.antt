@@ -23,7 +23,7 @@ both_parts : (s : ℕ → Bool) (ts : List ℕ) → ((t u : ℕ) → t < u → s
     → IsStrictlyIncreasing ts → filter s ts ++ filter (λ t. not (s t)) ts ≡ ts
 both_parts s ts d up = sym (split_times s (λ t. true) ts d (λ t e. refl) up) ∙ all_true ts
 
--- ---- where a mark ended the run
+-- ---- where a timestamp ended the run
 
 -- the items up to the first that passes a test, and the others
 record IsCut (test : BodyItem → Bool) (items : List BodyItem) : Type 0 where
@@ -45,7 +45,7 @@ is_cut test (x ∷ xs) h = by_test (test x) refl h (is_cut test xs)
       ends = rw e m.ends;
     }
 
--- a mark above a time settles it
+-- a timestamp above a time settles it
 above_settles : (l : ℕ) (items : List BodyItem) → list_any (is_mark_above l) items ≡ true
     → is_settled items l ≡ true
 above_settles l [] h = cc
@@ -110,7 +110,7 @@ sample_ended h t ts names items up early =
     ∙ ap (flat_map (sample_lines vs (p ++ cut.rest))) whole
     ∙ ap (λ (l : List BodyItem). flat_map (sample_lines vs l) (t ∷ ts)) (sym cut.parts)
 
--- a `sample` that a mark ended, or that has no fault, has the lines of each of its times
+-- a `sample` that a timestamp ended, or that has no fault, has the lines of each of its times
 pub sample_is : (h : Header) (times : List ℕ) (names : List (List ℕ)) (items : List BodyItem)
     (name : List ℕ) (fault : Option Fault) → times ≢ [] → IsStrictlyIncreasing times
     → (list_any (ends_early (Request.Sample times names)) items ≡ true) ⊎ (fault ≡ None)
@@ -138,7 +138,7 @@ sample_is h (t ∷ ts) names items name fault some up clean =
         ∙ ap (flat_map (sample_lines vs items))
         (both_parts (is_settled items) (t ∷ ts) (settled_below (marks items)) up)))
 
--- a mark above the last time is above the times
+-- a timestamp above the last time is above the times
 pub above_less : (b l : ℕ) (items : List BodyItem) → l ≤ b → list_any (is_mark_above b) items ≡ true
     → list_any (is_mark_above l) items ≡ true
 above_less b l [] le h = cc
@@ -163,7 +163,7 @@ last_kept : (b t : ℕ) (ts : List ℕ) (l : ℕ) → AllByRecursion (λ u. u �
 last_kept b t [] l h e = let same : t ≡ l = cc in (let k = h.0 in omega arith)
 last_kept b t (u ∷ ts) l h e = last_kept b u ts l h.1 e
 
--- a mark above a bound of the times ends a sample
+-- a timestamp above a bound of the times ends a sample
 pub ends_sample : (b : ℕ) (times : List ℕ) (names : List (List ℕ)) (items : List BodyItem)
     → times ≢ [] → AllByRecursion (λ u. u ≤ b) times → list_any (is_mark_above b) items ≡ true
     → list_any (ends_early (Request.Sample times names)) items ≡ true

@@ -21,7 +21,7 @@ use Rattle.vcd_model.specs.SettledMerge.{Seen, is_settled_merge}
 use Rattle.vcd_model.specs.Ticks.{Moment}
 use Rattle.vcd_model.specs.Tokens.{Token, stream_of, tokens_of}
 
--- a header of 8 tokens; a mark, a change, a mark that goes back, and a change
+-- a header of 8 tokens; a timestamp, a change, a timestamp that goes back, and a change
 abbrev dump : List ℕ
 dump = written "$var wire 1 ! a $end $enddefinitions $end #5 1! #4 0!"
 
@@ -59,12 +59,12 @@ check_to_the_end : settled Want.Check (written "$enddefinitions $end #1 #2") (2 
 unfolding model
 check_to_the_end = refl
 
--- a cut ends at the first mark above its end, not at its end
+-- a cut ends at the first timestamp above its end, not at its end
 cut_to_the_mark : settled (Want.Cut (at 0) (at 5)) (written "$enddefinitions $end #5 #6 #7") (2 ∷ 3 ∷ 4 ∷ 5 ∷ []) ≡ false ∷ false ∷ true ∷ true ∷ []
 unfolding model
 cut_to_the_mark = refl
 
--- a sample at the first mark above its last time
+-- a sample at the first timestamp above its last time
 sample_to_the_mark : settled (Want.Sample (at 1 ∷ at 5 ∷ []) []) (written "$enddefinitions $end #5 #6") (2 ∷ 3 ∷ 4 ∷ []) ≡ false ∷ false ∷ true ∷ []
 unfolding model
 sample_to_the_mark = refl
@@ -158,7 +158,7 @@ first n text = Seen.First (take n (tokens_of text))
 abbrev all : List ℕ → Seen
 all text = Seen.All (stream_of limit (input_of text))
 
--- headers of 12 tokens; the time mark that is token 15 is too large at the scale of the other
+-- headers of 12 tokens; the timestamp that is token 15 is too large at the scale of the other
 abbrev late : List ℕ
 late = written "$timescale 1 ns $end $var wire 1 ! a $end $enddefinitions $end #5 1! #18446744073709551615 0!"
 
@@ -174,7 +174,7 @@ before_it : is_settled_merge (first 14 late ∷ first 18 fine ∷ []) ≡ false
 unfolding model
 before_it = refl
 
--- alone the mark settles nothing
+-- alone the timestamp settles nothing
 late_alone : map (λ n. is_settled Want.Merge 100 (take n (tokens_of late))) (14 ∷ 15 ∷ 16 ∷ []) ≡ false ∷ false ∷ false ∷ []
 unfolding model
 late_alone = refl
@@ -184,7 +184,8 @@ ends_before_it : map is_settled_merge ((first 15 late ∷ all (written "$timesca
 unfolding model
 ends_before_it = refl
 
--- a fault at the very time of the other's last mark: what comes of the first input comes before that of the second, and the other way round
+-- a fault at the very time of the other's last timestamp: the first input comes before the second,
+-- and the other way round
 equal_times : map is_settled_merge ((first 4 (written "$enddefinitions $end #5 ?") ∷ first 3 (written "$enddefinitions $end #5 #6") ∷ []) ∷ (first 3 (written "$enddefinitions $end #5 #6") ∷ first 4 (written "$enddefinitions $end #5 ?") ∷ []) ∷ []) ≡ true ∷ false ∷ []
 unfolding model
 equal_times = refl
@@ -209,11 +210,11 @@ all_known = refl
 
 -- ---- the laws on these, with their premises met
 
--- whatever follows the mark that goes back, `pick` has one outcome
+-- whatever follows the timestamp that goes back, `pick` has one outcome
 abbrev backward : String
 backward = "$var wire 1 ! a $end $enddefinitions $end #5 1! #4 0! #9"
 
--- the source fails behind the mark
+-- the source fails after the timestamp
 abbrev failing : Input
 failing = record { bytes = written "$var wire 1 ! a $end $enddefinitions $end #5 1! #4 "; mark = Mark.Failed }
 
@@ -233,7 +234,7 @@ open_of_a_pick =
     (omega arith, all_short limit (take 10 (tokens_of (written backward))) refl) refl in
     (law.0, law.1, law.4)
 
--- a merge that a time mark settles which is too large, whatever follows in either input
+-- a merge that a timestamp settles which is too large, whatever follows in either input
 abbrev merge_of : String → String → Outcome
 merge_of a b = outcome Want.Merge limit (codes "a.vcd" ∷ codes "b.vcd" ∷ []) (clean a ∷ clean b ∷ [])
 

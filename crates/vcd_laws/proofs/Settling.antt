@@ -204,7 +204,7 @@ alike h s u ts xs ys f =
           ∙ ap (dump_of scale k (body_fault_of u (read_body h.codes (ts ++ ys)))) (sym ey);
     }
 
--- ---- a mark that ends the run
+-- ---- a timestamp that ends the run
 
 first_part : (test : BodyItem → Bool) (p q : List BodyItem) → list_any test p ≡ true
     → (list_any test (p ++ q) ≡ true) × (up_to_first test (p ++ q) ≡ up_to_first test p)

@@ -61,7 +61,7 @@ lesser f a x n l = by_test (key_lt x.key a.key) refl
 never_later : (f : KeyedFault) → Later f f → ⊥
 never_later f l = let n = key_never f.key f.key l in cc
 
--- the same fault so far, or two that stand after f
+-- the same fault so far, or two that come after f
 abbrev Follow : KeyedFault → KeyedFault → KeyedFault → Type 0
 Follow f a b = (b ≡ a) ⊎ (Later f a × Later f b)
 
@@ -114,9 +114,9 @@ first_stays f xs ys (Same x xs' ys' more) h = ap (λ g. Some g) (follows f x x x
     some e = cc
 first_stays f xs ys (More y xs' ys' late more) h = ap (λ g. Some g) (starts f y xs' ys' more late h)
 
--- ---- inputs that go on after the first fault
+-- ---- inputs that continue after the first fault
 
--- an input is the same, or goes on after f
+-- an input is the same, or continues after f
 record GoesOn (f : KeyedFault) (hs : List Header) (n : ℕ) (d d' : Dump) : Type 0 where
   header : d'.header ≡ d.header
   fault : d.fault ≡ None
@@ -294,7 +294,7 @@ pub dump_is : (scale : ℕ) (h : Header) (own : Option Fault) (r : Reading BodyP
 unfolding dump_of
 dump_is scale h own r = refl
 
--- where a mark is too large, or the fault is known, the dump is known
+-- where a timestamp is too large, or the fault is known, the dump is known
 mark_known : (scale : ℕ) (h : Header) (a b : Option Fault) (ps more : List (Placed BodyPhrase)) (p : Placed BodyPhrase)
     → find (placed_is_too_large scale) ps ≡ Some p → dump_with scale h a (ps ++ more) ≡ dump_with scale h b ps
 mark_known scale h a b ps more p e =
@@ -303,11 +303,11 @@ mark_known scale h a b ps more p e =
     ∙ ap (λ (o : Option (Placed BodyPhrase)). record { header = h; items = items_of (phrases_of (before_first (placed_is_too_large scale) ps)); fault = mark_or a o }) f.0
     ∙ ap (λ (o : Option (Placed BodyPhrase)). record { header = h; items = items_of (phrases_of (before_first (placed_is_too_large scale) ps)); fault = mark_or b o }) (sym e)
 
--- a dump is this one, or it goes on from it
+-- a dump is this one, or it continues from it
 abbrev Continues : Dump → Dump → Type 0
 Continues d d' = (d' ≡ d) ⊎ ((d'.header ≡ d.header) × (d.fault ≡ None) × ((more : List BodyItem) × (d'.items ≡ d.items ++ more)))
 
--- where no mark is too large
+-- where no timestamp is too large
 none_known : (scale : ℕ) (h : Header) (a b : Option Fault) (ps more : List (Placed BodyPhrase))
     → find (placed_is_too_large scale) ps ≡ None → b ≡ None
     → Continues (dump_with scale h b ps) (dump_with scale h a (ps ++ more))
@@ -368,7 +368,7 @@ body_known scale h s rest xs =
         inl (mark_known scale h (body_fault_of s (read_body h.codes (rest ++ xs))) (fault_met (read_body h.codes rest).ending) (read_body h.codes rest).placed more p e)
     by_mark None e more parts = by_ending (read_body h.codes rest).ending refl e more parts
 
--- an input of which this is known: its dump is the known one, or it goes on from that; and not
+-- an input of which this is known: its dump is the known one, or it continues from that; and not
 -- where all is known
 abbrev DumpOf : List Header → SeenBody → Dump → Type 0
 DumpOf hs s d' = (d' ≡ dump_seen hs s) ⊎ ((is_some s.whole ≡ false) × (d'.header ≡ (dump_seen hs s).header) × ((dump_seen hs s).fault ≡ None) × ((more : List BodyItem) × (d'.items ≡ (dump_seen hs s).items ++ more)))
@@ -416,7 +416,7 @@ or_parts : (a b : Bool) → (a || b) ≡ true → (a ≡ true) ⊎ (b ≡ true)
 or_parts true b e = inl refl
 or_parts false b e = inr e
 
--- an input at its end does not go on
+-- an input at its end does not continue
 ended_same : (hs : List Header) (s : SeenBody) (d' : Dump) → is_at_its_end s (dump_seen hs s) ≡ true → DumpOf hs s d'
     → d' ≡ dump_seen hs s
 ended_same hs s d' e (inl same) = same

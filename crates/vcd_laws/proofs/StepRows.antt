@@ -14,11 +14,11 @@ use Rattle.vcd_laws.proofs.RowText.{written, clean}
 abbrev opened : String → List Opened
 opened s = elim (open_from 1048576 [] (clean s ∷ [])) [ Ok os ↦ os | Err e ↦ [] ]
 
--- what stands before all items, then what each of these items appends
+-- what comes before all items, then what each of these items appends
 abbrev steps_of : (List BodyItem → List ℕ) → List BodyItem → List (List ℕ)
 steps_of text items = text [] ∷ map (λ n. drop (length (text (take n items))) (text (take (n + 1) items))) (range_with_len 0 (length items))
 
--- the steps of a run, and the fault behind them
+-- the steps of a run, and the fault after them
 pub record Steps : Type 0 where
   pub appended : List (List ℕ)
   pub fault : Option Fault
@@ -26,23 +26,24 @@ pub record Steps : Type 0 where
 abbrev steps : Request → String → List Steps
 steps task s = map (λ o. record { appended = steps_of (open_text task o.header) (items_in o); fault = fault_in o }) (opened s)
 
--- the change appends its time and its line, the marks nothing; behind them the input ends in a
+-- the change appends its time and its line, the timestamps nothing; after them the input ends in a
 -- change
 pick_steps : steps (Request.Pick (codes "tb" ∷ [])) "$timescale 1ns $end;$scope module tb $end;$var wire 1 ! clk $end;$var reg 4 \" q [3:0] $end;$upscope $end;$enddefinitions $end;#0;0!;#5;b10" ≡ record { appended = written "$timescale;^1ns;$end;$scope module tb $end;$var wire 1 ! clk $end;$var reg 4 \" q [3:0] $end;$upscope $end;$enddefinitions $end;" ∷ written "" ∷ written "#0;0!;" ∷ written "" ∷ []; fault = Some (record { number = 2; line = 10 }) } ∷ []
 unfolding model
 pick_steps = refl
 
--- nothing but the head before the start section is due; the mark above 15 appends the line of 15
+-- nothing but the head before the start section is due; the timestamp above 15 appends the line of
+-- 15
 cut_steps : steps (Request.Cut 10 15) "$var wire 1 ! a $end;$var real 1 \" r $end;$var event 1 # e $end;$var wire 2 % u $end;$enddefinitions $end;#9;0!;r1.5 \";1#;#10;1!;1#;#20;" ≡ record { appended = written "$var wire 1 ! a $end;$var real 1 \" r $end;$var event 1 # e $end;$var wire 2 % u $end;$enddefinitions $end;" ∷ written "" ∷ written "" ∷ written "" ∷ written "" ∷ written "#10;$dumpvars;0!;r1.5 \";$end;" ∷ written "1!;" ∷ written "1#;" ∷ written "#15;" ∷ []; fault = None } ∷ []
 unfolding model
 cut_steps = refl
 
--- what follows the mark that ends a cut adds nothing
+-- what follows the timestamp that ends a cut adds nothing
 cut_steps_past_its_end : steps (Request.Cut 3 5) "$var wire 1 ! a $end;$enddefinitions $end;0!;#4;1!;#6;0!;#7;1!;" ≡ record { appended = written "$var wire 1 ! a $end;$enddefinitions $end;" ∷ written "" ∷ written "#3;$dumpvars;0!;$end;" ∷ written "#4;1!;" ∷ written "#5;" ∷ written "" ∷ written "" ∷ written "" ∷ []; fault = None } ∷ []
 unfolding model
 cut_steps_past_its_end = refl
 
--- the lines of a time are due at the first mark above it
+-- the lines of a time are due at the first timestamp above it
 sample_steps : steps (Request.Sample (1 ∷ []) []) "$var wire 4 ! v $end;$var wire 8 \" w $end;$enddefinitions $end;#1;b1 !;#2;?;" ≡ record { appended = written "" ∷ written "" ∷ written "" ∷ written "1 v 0001;1 w -;" ∷ []; fault = Some (record { number = 3; line = 7 }) } ∷ []
 unfolding model
 sample_steps = refl
@@ -63,7 +64,7 @@ two_dumps =
     record { header = with_codes ("!" ∷ "\"" ∷ []) (Some (pos 1)); items = digit false "\"" "1" ∷ BodyItem.Time 2 ∷ BodyItem.Begin SectionKind.Off ∷ []; fault = None }
     ∷ record { header = with_codes ("!" ∷ []) None; items = BodyItem.Time 7 ∷ digit false "!" "0" ∷ []; fault = None } ∷ []
 
--- an item where it stands in a merge
+-- an item, by its position in a merge
 abbrev keyed : ℕ → ℕ → ℕ → Bool → BodyItem → Keyed
 keyed time input place inside item = record { key = record { time = time; input = input; place = place }; entry = record { time = time; inside = inside; item = item } }
 
@@ -104,7 +105,7 @@ abbrev at_five : Bool → BodyItem → Entry
 at_five inside item = record { time = 5; inside = inside; item = item }
 
 -- What each adds where no time is written yet, where its own is and where another is: a change, one
--- in a section, a mark of an event, one in a section, a begin, an end and a time mark.
+-- in a section, a trigger of an event, one in a section, a begin, an end and a timestamp.
 lines_due : map (λ written. map (due_with written) (at_five false (digit false "!" "1") ∷ at_five true (digit false "!" "x") ∷ at_five false (digit true "!" "x") ∷ at_five true (digit true "!" "1") ∷ at_five false (BodyItem.Begin SectionKind.All) ∷ at_five true BodyItem.End ∷ at_five false (BodyItem.Time 9) ∷ [])) (None ∷ Some 5 ∷ Some 4 ∷ []) ≡ (written "#5;1!;" ∷ written "#5;x!;" ∷ written "#5;1!;" ∷ [] ∷ [] ∷ [] ∷ [] ∷ []) ∷ (written "1!;" ∷ written "x!;" ∷ written "1!;" ∷ [] ∷ [] ∷ [] ∷ [] ∷ []) ∷ (written "#5;1!;" ∷ written "#5;x!;" ∷ written "#5;1!;" ∷ [] ∷ [] ∷ [] ∷ [] ∷ []) ∷ []
 unfolding model
 lines_due = refl

@@ -57,7 +57,7 @@ change code size form text = BodyItem.Changes (record { code = record { text = c
 abbrev three : List IdCode
 three = record { text = codes "!"; size = 2; event = false } ∷ record { text = codes "!!"; size = 1; event = false } ∷ record { text = codes "#"; size = 1; event = false } ∷ []
 
--- changes before, at and after the marks 3 and 7, some in a section
+-- changes before, at and after the timestamps 3 and 7, some in a section
 abbrev history : List BodyItem
 history = change "!" 2 ChangeForm.Scalar "X" ∷ BodyItem.Time 3 ∷ change "!!" 1 ChangeForm.Scalar "0" ∷ BodyItem.Begin SectionKind.Off ∷ change "!" 2 ChangeForm.RealText "1.5" ∷ BodyItem.End ∷ BodyItem.Time 7 ∷ change "!" 2 ChangeForm.Vector "1" ∷ []
 
@@ -150,7 +150,7 @@ no_unknown_commands : map (λ s. is_unknown_command (codes s)) ("$" ∷ "end" �
 unfolding model
 no_unknown_commands = refl
 
--- what begins a change, a time mark or a section is out of place, and other bytes begin nothing
+-- what begins a change, a timestamp or a section is out of place, and other bytes begin nothing
 begins_a_change_in_a_header : map (λ s. header_fault 16777216 [] [] (codes s)) ("#" ∷ "0" ∷ "1" ∷ "x" ∷ "X" ∷ "z" ∷ "Z" ∷ "b" ∷ "B" ∷ "r" ∷ "R" ∷ "2" ∷ "a" ∷ []) ≡ replicate 11 (Some 4) ++ Some 3 ∷ Some 3 ∷ []
 unfolding model
 begins_a_change_in_a_header = refl
@@ -161,7 +161,7 @@ sections_in_a_header = refl
 
 -- ---- limits of a header
 
--- the fault of a token that begins a phrase behind as many open scopes, where this many
+-- the fault of a token that begins a phrase after as many open scopes, where this many
 -- declarations are allowed
 abbrev behind_scopes : ℕ → ℕ → String → Option ℕ
 behind_scopes most scopes token = header_fault most (replicate scopes (HeaderPhrase.Declares (Declaration.Scope (codes "module") (codes "s")))) [] (codes token)
@@ -330,7 +330,7 @@ empty = record { declarations = []; codes = []; date = []; version = []; scale =
 abbrev windows : WindowSize
 windows = record { chunk = 65536; token = 64; value = 64 }
 
--- so many bytes of texts, and nothing else
+-- this many bytes of texts, and nothing else
 abbrev kept : ℕ → ViewSize
 kept n = record { text = n; rows = 0; codes = 0; index = 0; look_up = 0 }
 

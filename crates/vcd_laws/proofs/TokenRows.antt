@@ -18,7 +18,7 @@ lines_of_carriage_returns : outcome Want.Check limit (codes "(stdin)" ∷ []) (r
 unfolding model
 lines_of_carriage_returns = refl
 
--- every other byte may stand in a token
+-- every other byte may be in a token
 other_bytes_in_a_name : outcome Want.Listing limit (codes "(stdin)" ∷ []) (record { bytes = written "$var wire 1 ! a" ++ (0 ∷ 1 ∷ 8 ∷ 14 ∷ 31 ∷ 127 ∷ 133 ∷ 160 ∷ 255 ∷ []) ++ written "b $end;$enddefinitions $end;"; mark = Mark.Clean } ∷ []) ≡ record { output = written "a" ++ (0 ∷ 1 ∷ 8 ∷ 14 ∷ 31 ∷ 127 ∷ 133 ∷ 160 ∷ 255 ∷ []) ++ written "b wire 1 !;"; message = []; status = 0 }
 unfolding model
 other_bytes_in_a_name = refl
@@ -88,7 +88,7 @@ longest_input text e = rw e
 too_long_input : (text : List ℕ) → length text ≡ 2 ^ 63 → too_much_input text ≡ record { fault = 21; place = 9223372036854775807; line = line_at text 9223372036854775807 } ∷ []
 too_long_input text e = rw e
 
--- at one place too much input counts before a token that is too long
+-- at one offset too much input counts before a token that is too long
 too_much_before_too_long : (limit : ℕ) (i : Input) → too_much_input i.bytes ≡ record { fault = 21; place = 9; line = 1 } ∷ [] → too_long_tokens limit i.bytes ≡ record { fault = 1; place = 9; line = 1 } ∷ [] → failed_read i ≡ []
     → first_halt limit i ≡ Some (record { fault = 21; place = 9; line = 1 })
 unfolding first_halt

@@ -97,7 +97,7 @@ changes_often : changes_of often
 unfolding model
 changes_often = refl
 
--- Without a time mark in the input, a pick of less than was picked may have one for changes that it
+-- Without a timestamp in the input, a pick of less than was picked may have one for changes that it
 -- leaves out.
 abbrev no_mark : String
 no_mark = "$var wire 1 x a $end $var wire 1 y b $end $enddefinitions $end 0x"
@@ -112,7 +112,7 @@ picked_of_both : over_written (Want.Pick (codes "b" ∷ [])) (Want.Pick (codes "
 unfolding model
 picked_of_both = refl
 
--- A code as long as the token limit leaves no place for a digit before it.
+-- A code as long as the token limit leaves no room for a digit before it.
 abbrev long_code : String
 long_code = "$var wire 1 cccccccccccccccccccccccccccccccccccccccccccccccccccccccccccccccc a $end $enddefinitions $end #0 b1 cccccccccccccccccccccccccccccccccccccccccccccccccccccccccccccccc"
 

@@ -102,7 +102,7 @@ sample_is names (Ok times) want h e = decided (not (has_unit times) && not (do_r
     decided false r e = let same : Want.Sample times names ≡ want = cc in let p = h times refl in subst IsJob same (p.0, p.1, r refl)
 sample_is names (Err f) want h e = cc
 
--- there is a part before each comma and behind the last
+-- there is a part before each comma and after the last
 some_part : (test : ℕ → Bool) (text : List ℕ) → 0 < length (slice_split test text)
 some_part test [] = omega arith
 some_part test (b ∷ bs) = by_byte (test b) (slice_split test bs)

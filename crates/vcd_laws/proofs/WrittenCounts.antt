@@ -1,4 +1,4 @@
--- How many marks, sections and changes stand in what is written, and its last mark.
+-- How many timestamps, sections and changes there are in what is written, and its last timestamp.
 use Rattle.std.proofs.Common.{◌≡◌, ℕ, ◌+◌, ◌≤◌, ◌==◌, Bool, true, false, cond, not, List, [], ◌∷◌, ◌++◌, length, map, filter_map, count_by, Option, Some, None, refl, sym, ap, ◌∙◌, subst, arith}
 use Rattle.std.specs.List.{list_any, last_or}
 use Rattle.std.proofs.lemmas.List.{append_assoc, append-nil, length-append}
@@ -15,7 +15,7 @@ use Rattle.vcd_model.proofs.ItemStates.{next_open, time_behind}
 use Rattle.vcd_model.proofs.Rewritten.{read_item, time_items, written_items, IsWritable, AreWritable, last_time, Stand, stand_more, at_most}
 use Rattle.vcd_model.proofs.Assembled.{Parts, parts_items, closing_items}
 
--- a closing mark, and the items before it
+-- a closing timestamp, and the items before it
 abbrev rest_items : List ℕ → List Entry → Option ℕ → List BodyItem
 rest_items w es mark = written_items w es ++ closing_items (w ++ map (λ e. e.time) es) mark
 
@@ -31,7 +31,7 @@ rest_more w e es mark =
     ∙ sym (append_assoc (time_items w e.time) (read_item e.item ∷ [])
     (rest_items (w ++ e.time ∷ []) es mark))
 
--- ---- marks
+-- ---- timestamps
 
 -- whether a time is the first of its kind
 abbrev is_first : List ℕ → ℕ → Bool
@@ -81,13 +81,13 @@ marks_are codes t o w (e ∷ es) mark h =
     ∙ sym (sum_by-cons (λ b. cond b 1 0) (is_first w e.time)
     (each_after is_first (w ++ e.time ∷ []) (map (λ (x : Entry). x.time) es ++ as_list mark)))
 
--- ---- the last mark
+-- ---- the last timestamp
 
 last_or-append : (o : Option ℕ) (xs ys : List ℕ) → last_or o (xs ++ ys) ≡ last_or (last_or o xs) ys
 last_or-append o [] ys = refl
 last_or-append o (x ∷ xs) ys = last_or-append (Some x) xs ys
 
--- a time that stands already is the last one
+-- a time that is written already is the last one
 abbrev Held : Option ℕ → List ℕ → ℕ → Type 0
 Held before w t = list_any (λ u. u == t) w ≡ true → before ≡ Some t
 
@@ -128,7 +128,7 @@ last_is codes t o before w (e ∷ es) mark h s held late =
 
 -- ---- sections and changes
 
--- a count that a time mark adds nothing to
+-- a count that a timestamp adds nothing to
 module _ (test : BodyItem → Bool) (no_times : (t : ℕ) → test (BodyItem.Time t) ≡ false) where
   in_time : (w : List ℕ) (t : ℕ) → count_by test (time_items w t) ≡ 0
   in_time w t = by_any (list_any (λ u. u == t) w)
@@ -193,7 +193,8 @@ changes_are (BodyItem.Changes c ∷ items) =
 
 -- ---- all parts of what is written
 
--- items with so many distinct marks, sections and changes, and the last of these times
+-- items with these numbers of distinct timestamps, sections and changes, and the last of these
+-- times
 pub record HasCounts (items : List BodyItem) (times : List ℕ) (sections changes : ℕ) : Type 0 where
   pub marks_are : length (marks items) ≡ distinct times
   pub sections_are : count_by is_begin items ≡ sections

@@ -48,7 +48,7 @@ Suits h (Want.Sample times names) =
 Suits h (Want.Edges names) = first_unmatched names h.declarations ≡ None
 Suits h Want.Merge = Unit {0}
 
--- a run needs no more than these items: a list needs none, a cut and a sample end at a time mark
+-- a run needs no more than these items: a list needs none, a cut and a sample end at a timestamp
 -- above their last time
 abbrev pub EndsBefore : Header → List BodyItem → Want → Type 0
 EndsBefore h items Want.Listing = Unit {0}
@@ -91,12 +91,12 @@ abbrev pub header_in : ℕ → Input → Header
 header_in limit input =
     header_of (phrases_of (read_header declarations_allowed (stream_of limit input)).placed)
 
--- the first time mark of an input that is too large in the merge of these
+-- the first timestamp of an input that is too large in the merge of these
 abbrev pub first_too_large : List Opened → Opened → Option (Placed BodyPhrase)
 first_too_large os o =
     find (placed_is_too_large (factor (map (λ p. p.header) os) o.header)) (body_of o).placed
 
--- an input has a time mark that is too large in the merge, and the run names the first of them
+-- an input has a timestamp that is too large in the merge, and the run names the first of them
 pub record NamesTooLarge (os : List Opened) (names : List (List ℕ)) (done : Outcome) : Type 0 where
   pub earlier : List Opened
   pub input : Opened
@@ -108,7 +108,7 @@ pub record NamesTooLarge (os : List Opened) (names : List (List ℕ)) (done : Ou
       (record { number = 20; line = mark.line })
 
 -- where `check` of each input has status 0, and all have no more declarations than may be read in a
--- run, `merge` ends well, or names a time mark that is too large where one is
+-- run, `merge` ends well, or names a timestamp that is too large where one is
 abbrev pub CheckedMergeIsSafe : Type 0
 CheckedMergeIsSafe = (limit : ℕ) (name : List ℕ) (names : List (List ℕ)) (inputs : List Input)
     → AllByRecursion (λ i. (run_of Want.Check limit name i).status ≡ 0) inputs
@@ -130,7 +130,7 @@ pub record NamesFaultOfOne (limit : ℕ) (name : List ℕ) (names : List (List �
   pub named : NamesFault done (name_at names (length earlier)) fault
 
 -- where inputs have fewer declarations in all than may be read in a run, their merge ends well, or
--- names what `check` names of one of them, or names a time mark that is too large where one is
+-- names what `check` names of one of them, or names a timestamp that is too large where one is
 abbrev pub MergeNamesTheFault : Type 0
 MergeNamesTheFault = (limit : ℕ) (name : List ℕ) (names : List (List ℕ)) (inputs : List Input)
     → sum_by (λ i. length (header_in limit i).declarations) inputs < declarations_allowed

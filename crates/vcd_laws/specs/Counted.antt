@@ -19,7 +19,7 @@ use Rattle.vcd_model.specs.Job.{Want, IsJob}
 use Rattle.vcd_laws.specs.Dumps.{IsReadable, AreReadable, over_written, over_merged}
 use Rattle.vcd_laws.specs.OverCut.{as_list}
 
--- what `check` counts, and the last time mark
+-- what `check` counts, and the last timestamp
 pub record Tally : Type 0 where
   pub scopes : ℕ
   pub variables : ℕ
@@ -55,12 +55,12 @@ distinct times = count_by (λ b. b) (each (λ earlier t. not (list_any (λ u. u 
 abbrev pub changes_in : List Entry → ℕ
 changes_in kept = count_by (λ e. is_change e.item) kept
 
--- the times of what `pick` writes: those of the kept entries, and the last mark
+-- the times of what `pick` writes: those of the kept entries, and the last timestamp
 abbrev pub pick_times : Header → List (List ℕ) → List BodyItem → List ℕ
 pick_times h names items = map (λ e. e.time) (pick_kept h names items) ++ as_list (last_mark items)
 
--- `check` of what `pick` wrote counts the selected variables and what is kept; the last mark is
--- that of the input, where it has one
+-- `check` of what `pick` wrote counts the selected variables and what is kept; the last timestamp
+-- is that of the input, where it has one
 abbrev pub CheckOfPick : Type 0
 CheckOfPick = (limit : ℕ) (name : List ℕ) (names : List (List ℕ)) (input : Input) (o : Opened)
     → IsReadable (Want.Pick names) limit name input o
@@ -74,8 +74,8 @@ CheckOfPick = (limit : ℕ) (name : List ℕ) (names : List (List ℕ)) (input :
       last = last_or None (pick_times o.header names (items_in o));
     })
 
--- the last time that `cut` writes: b where a mark above it ends the run, else the last mark of the
--- input where that is above a
+-- the last time that `cut` writes: b where a timestamp above it ends the run, else the last
+-- timestamp of the input where that is above a
 abbrev pub cut_closing : ℕ → ℕ → List BodyItem → List ℕ
 cut_closing a b items = cond (ends_cut b items) (b ∷ [])
     (filter (nat_lt a) (as_list (last_mark items)))
@@ -105,11 +105,11 @@ CheckOfCut = (limit : ℕ) (name : List ℕ) (from to : Moment) (input : Input) 
       last = last_or None (cut_times a b (items_in o));
     })
 
--- the times of what `merge` writes: those of the kept entries, and the greatest mark
+-- the times of what `merge` writes: those of the kept entries, and the greatest timestamp
 abbrev pub merge_times : List Keyed → List ℕ
 merge_times ks = map (λ e. e.time) (merge_kept ks) ++ as_list (greatest_mark ks)
 
--- how many changes of an input a merge keeps: all but the marks of events inside sections
+-- how many changes of an input a merge keeps: all but the triggers of events inside sections
 abbrev pub merged_changes : Dump → ℕ
 merged_changes d = length (kept_by (λ e. is_change e.item) (entries d.items))
 

@@ -41,7 +41,7 @@ PickKeeps = (limit : ℕ) (input : Input) (o : Opened) (names : List (List ℕ))
     (λ text. KeepsValues (filter (selects_code (selected names o.header.declarations))
     o.header.codes) text (λ t. Unit {0}) (items_in o))
 
--- the text of `cut`: a time mark above `b` ends the run, else the end of the input does
+-- the text of `cut`: a timestamp above `b` ends the run, else the end of the input does
 abbrev pub cut_text : Header → ℕ → ℕ → List BodyItem → List ℕ
 cut_text h a b items = elim (ends_cut b items) [
   | Bool.true ↦ open_text (Cut a b) h (within b items)

@@ -70,7 +70,7 @@ abbrev pub values_in_cut : ℕ → ℕ → List BodyItem → IdCode → List Val
 values_in_cut a b items c =
     as_list (value_before items c a) ++ values_of (map (λ e. e.item) (cut_kept a b items)) c
 
--- the counts of a code in a cut: of these values; of an event, the marks that are kept
+-- the counts of a code in a cut: of these values; of an event, the triggers that are kept
 abbrev pub counts_in_cut : ℕ → ℕ → List BodyItem → IdCode → Counts
 counts_in_cut a b items c =
     cond c.event

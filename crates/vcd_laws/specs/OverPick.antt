@@ -88,7 +88,7 @@ PickTwice = (limit : ℕ) (name : List ℕ) (names : List (List ℕ)) (input : I
     ≡ outcome (Want.Pick names) limit (name ∷ []) (input ∷ [])
 
 -- `pick` of what `pick` wrote is `pick` of the input, for what the names of both select, where the
--- input has a time mark
+-- input has a timestamp
 abbrev pub PickOfPick : Type 0
 PickOfPick = (limit : ℕ) (name : List ℕ) (names wanted both : List (List ℕ)) (input : Input)
     (o : Opened)

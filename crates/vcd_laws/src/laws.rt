@@ -140,8 +140,8 @@ pub fn pick_twice()
     ensures { PickTwice }
 {}
 
-/// `pick` of what `pick` wrote is `pick` of its input, for what both select, where it has a time
-/// mark.
+/// `pick` of what `pick` wrote is `pick` of its input, for what both select, where it has a
+/// timestamp.
 pub fn pick_of_pick()
     ensures { PickOfPick }
 {}
@@ -273,13 +273,13 @@ pub fn clean_is_checked()
     ensures { CleanIsChecked }
 {}
 
-/// Where `check` of each input ends well, their merge ends well, or names a time mark that is too
+/// Where `check` of each input ends well, their merge ends well, or names a timestamp that is too
 /// large.
 pub fn checked_merge_is_safe()
     ensures { CheckedMergeIsSafe }
 {}
 
-/// A merge ends well, or names what `check` names of one of its inputs, or a time mark that is too
+/// A merge ends well, or names what `check` names of one of its inputs, or a timestamp that is too
 /// large.
 pub fn merge_names_the_fault()
     ensures { MergeNamesTheFault }

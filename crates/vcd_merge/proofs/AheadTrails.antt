@@ -54,7 +54,7 @@ module _ (v : HeadView) (s t : MergeStage) (p : Plain) (item : TakesItem v s.ahe
     puts = λ w scale first h items x same views known now number few at. let y : x ≡ BodyItem.Time time = subst (λ (i : Item). IsItem h.codes p.text.now i x) e at in rw (y, written, out) (appends-none s.out.held, refl);
   }
 
--- ---- one item more behind others
+-- ---- one item more after others
 
 module _ (scale first : ℕ) (h : Header) (limit lines : ℕ) (bytes : List ℕ) (behind : List BodyItem) (few : first + length h.codes < 2 ^ 64) (v : HeadView) (views : IsViewOf v h) (s t : MergeStage) (result : Result (Unit {0}) WriteFailed) (n : TakesNext v s t result) (over : LooksOver limit bytes s.ahead) (factor : s.visit.factor ≡ scale) (first_is : s.visit.first ≡ first) (items : List BodyItem) (at : IsAhead scale h limit lines bytes behind (passed_of s.ahead) items s.regs s.visit.time) where
   pub one : (x : BodyItem) × IsItem h.codes n.plain.text.now n.plain.item x × GaveAhead h.codes limit lines bytes (passed_of t.ahead) behind (items ++ x ∷ []) × AreRegsAfter (behind ++ (items ++ x ∷ [])) (regs_after s.regs n.plain.item)
@@ -111,7 +111,7 @@ module _ (scale first : ℕ) (h : Header) (limit lines : ℕ) (bytes : List ℕ)
           writes = subst (λ w. Writes m.out t.out (due_with w (entry_for scale first h (behind ++ m.items) next))) same (subst (λ d. Writes d t.out (due_with s.visit.written (entry_for scale first h (behind ++ m.items) next))) out_is o.writes);
         }
 
-    -- the run goes on with it
+    -- the run continues with it
     pub runs_on : result ≡ Ok tt → t.visit.time < before → RunsTo t (Ok false)
     runs_on e early =
         let m = r.mid in
@@ -142,7 +142,7 @@ module _ (shown : HeadShown) (stands : Merging → Unit {0} → List ℕ → Reg
   abbrev pub Shows : HeadView → Type 0
   Shows v = parts v ≡ shown
 
-  -- where a run goes on, the walk takes more items, and it goes on after them or ends
+  -- where a run continues, the walk takes more items, and it continues after them or ends
   abbrev pub Runs : MergeStage → Result Bool WriteFailed → Type 0
   Runs z ended = (scale first lines : ℕ) (h : Header) (behind : List BodyItem) (start : StageAhead) → Views shown h → s.visit.factor ≡ scale → s.visit.first ≡ first → first + length h.codes < 2 ^ 64
       → RunsAhead scale first h (longest_of s.ahead) lines (bytes_of s.ahead) behind {E = WriteFailed} s.visit.before start (passed_of s.ahead) s.regs s.visit.time s.visit.written s.out (Ok false)

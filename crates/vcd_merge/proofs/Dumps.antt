@@ -1,4 +1,4 @@
--- The dump that an input is in a merge: its items up to its first time mark that is too large, or
+-- The dump that an input is in a merge: its items up to its first timestamp that is too large, or
 -- up to its own fault.
 use Rattle.std.proofs.Common.{◌≡◌, ℕ, true, false, List, [], ◌∷◌, ◌++◌, Option, Some, sym, ap, subst, ◌∙◌, append_assoc}
 use Rattle.std.specs.List.{AllByRecursion}
@@ -34,7 +34,7 @@ module _ (scale limit : ℕ) (h : Header) (front : List Token) (i : Input) (item
             ∙ ap (λ (f : Option Fault). record { header = h; items = items; fault = f }) b.fault_is;
       }
 
-  -- a time mark that was given, and that is too large
+  -- a timestamp that was given, and that is too large
   pub marked_dump : {X : Type 0} {g : Ghosts X} (f : Feed X g) (time : ℕ) (r : Regs) → limit_of f ≡ limit → is_too_large scale (BodyItem.Time time) ≡ true → GaveItem h.codes i front items (BodyItem.Time time) f r → HasDump scale limit h front i items (Some (record { number = 20; line = (token_of f).line }))
   marked_dump f time r same large m =
       let first = m.gave.stands.given_first in

@@ -16,7 +16,7 @@ use Rattle.vcd_merge.specs.declared.seat.Seat.{Seat}
 use Rattle.vcd_merge.proofs.MergeSteps.{next_first, same_header, same_or_not, seat_spot}
 use Rattle.vcd_merge.proofs.PartLemmas.{get_other, get_set, same_some}
 
--- ---- inputs that go on
+-- ---- inputs that continue
 
 pub go_still : (ds : List Dump) (seats : List Seat) → GoOn ds seats ds seats
 go_still ds seats = λ k d y at_d at_y on. record { dump = d; seat = y; dump_at = at_d; seat_at = at_y; unfinished = on; header = refl; more = []; items = sym (append-nil d.items) }
@@ -36,7 +36,7 @@ go_through ds ms es seats mids news first second = λ k e y at_e at_y on.
       items = g.items ∙ ap (λ (l : List BodyItem). l ++ g.more) f.items ∙ append_assoc f.dump.items f.more g.more;
     }
 
--- one input alone goes on, which had not finished
+-- one input alone continues, which had not finished
 module _ (ds es : List Dump) (seats news : List Seat) (k : ℕ) (next : IsNext seats k) (seats_stay : (j : ℕ) → j ≢ k → slice_get news j ≡ slice_get seats j) (d : Dump) (at : slice_get ds k ≡ Some d) where
   go_by : (e : Dump) (more : List BodyItem) → slice_get es k ≡ Some e → e.header ≡ d.header → e.items ≡ d.items ++ more → ((j : ℕ) → j ≢ k → slice_get es j ≡ slice_get ds j) → GoOn ds seats es news
   go_by e more own header items dumps_stay = λ j c y at_c at_y on. by_place j c y (same_or_not j k) at_c at_y on

@@ -145,7 +145,7 @@ module _ {X : Type 0} (rest : X → Option (List ℕ)) (hs : List Header) (lanes
     stopped Write t = inl (k, d, t.0, taken t.0 t.1, (due_with s.written (entry_for scale first l.header d.items t.0), open_with t.0, t.2), all_read t.3)
     stopped (Unmatched name) t = t
 
--- the marks, by the seats
+-- the timestamps, by the seats
 pub are_marked : {X : Type 0} (rest : X → Option (List ℕ)) (hs : List Header) (lanes : List Lane) (ds : List Dump) (s : Standing X) → AreGiven rest hs lanes ds s → length s.sources ≡ length s.seats → AreMarked hs ds s.seats
 are_marked rest hs lanes ds s g same = record {
   dumps_are = g.dumps_are;

@@ -1,4 +1,4 @@
--- The closing line of a merge: the greatest time mark of the merged items is that of the seats.
+-- The closing line of a merge: the greatest timestamp of the merged items is that of the seats.
 use Rattle.std.proofs.Common.{◌≡◌, ℕ, suc, ◌+◌, ◌*◌, ◌≤◌, max, Bool, true, false, cond, not, List, [], ◌∷◌, ◌++◌, length, map, slice_get, Option, Some, None, refl, sym, ap, subst, ◌∙◌, arith}
 use Rattle.std.specs.Prelude.{fold, ⊤}
 use Rattle.std.specs.List.{AllByRecursion}
@@ -65,7 +65,7 @@ most_of t (s ∷ ss) e = by_mark s.regs.marked (gs ss) refl e (λ u f. most_of u
     by_mark false None f e more = cc
     by_mark false (Some u) f e more = let g : u ≡ t = cc in ((λ h. cc), most_more u t ss (omega arith) (more u f))
 
--- an input without a mark stands at 0
+-- an input without a timestamp is at 0
 own_low : (t : ℕ) (s : Seat) → (s.regs.marked ≡ true → s.time ≤ t) → (scale : ℕ) (items : List BodyItem) → s.time ≡ scale * time_after items → s.regs.marked ≡ not (is_empty (marks items)) → s.time ≤ t
 own_low t s most scale items time marked = by_marks (marks items) refl
   where
@@ -97,7 +97,7 @@ greatest_is hs ds seats m =
     ∙ same_marks hs 0 [] ds seats m.many m.time m.marked
     ∙ sym (seats_gs None seats)
 
--- ---- no item stands later
+-- ---- no item is later
 
 rest_most : (hs : List Header) (n t : ℕ) (es : List Header) (ds : List Dump) (ss : List Seat) → length ds ≡ length ss
     → ((k : ℕ) (d : Dump) (s : Seat) → slice_get ds k ≡ Some d → slice_get ss k ≡ Some s → s.time ≡ factor hs d.header * time_after d.items)

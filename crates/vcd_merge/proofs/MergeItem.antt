@@ -29,7 +29,7 @@ use Rattle.vcd_body.specs.declared.item.Regs.{Regs}
 pub section_is : (items : List BodyItem) (r : Regs) → AreRegsAfter items r → is_some r.section ≡ leaves_open items
 section_is items r known = sym (leaves_open_is items (time_after items) (is_some r.section) (record { time = refl; opens = known.ended }))
 
--- codes have different texts, so a code stands at its first place
+-- codes have different texts, so a code is at the first index with its text
 pub place_is : (s : HeadShown) (h : Header) (place : ℕ) (c : IdCode) → Views s h → slice_get h.codes place ≡ Some c → code_place h c.text ≡ place
 place_is s h place c v e = place_of h.codes s.index place c v.index e
 
@@ -65,7 +65,7 @@ some_digits codes place Scalar text good other = let e = ap (λ (l : List ℕ). 
 some_digits codes place Vector text good other = good.2.0
 some_digits codes place RealText text good other = absurd (other refl)
 
--- the size that a look-up told, where it is one
+-- the size that a look-up gave, where it is one
 sized_is : (y : Code) (most : ℕ) → most ≡ most_of y → most ≢ 0 → (y.event ≡ false) × (y.size ≡ most)
 sized_is y most is some = by_parts y.event (nat_le (2 ^ 32) y.size) refl refl
   where

@@ -57,7 +57,7 @@ IsReadSo limit chunk hs ds seats k l old new left = (new ≡ old) ⊎ ReadInTurn
 abbrev pub IsRead : (limit chunk : ℕ) → List Header → List Dump → List Seat → ℕ → Lane → (old new : Supply) → Input → Type 0
 IsRead limit chunk hs ds seats k l old new left = IsLeft l.input old new left × IsReadSo limit chunk hs ds seats k l old new left
 
--- other inputs may go on
+-- other inputs may continue
 still_so : (limit chunk : ℕ) (hs : List Header) (ds es : List Dump) (seats news : List Seat) (k : ℕ) (l : Lane) (old new : Supply) (left : Input) → GoOn ds seats es news → IsReadSo limit chunk hs ds seats k l old new left → IsReadSo limit chunk hs es news k l old new left
 still_so limit chunk hs ds es seats news k l old new left go (inl same) = inl same
 still_so limit chunk hs ds es seats news k l old new left go (inr r) = inr (turn_on limit chunk hs ds es seats news k l left new.rest go r)
@@ -88,7 +88,7 @@ module _ {X : Type 0} (rest : X → Option (List ℕ)) (failures : X → ℕ) (h
         (ap (λ (s : Supply). s.failures) is, inl is);
   }
 
-  -- other inputs may go on
+  -- other inputs may continue
   pub still_read : (ds es : List Dump) (seats news : List Seat) (xs : List X) → GoOn ds seats es news → AreReadSoFar ds seats xs → AreReadSoFar es news xs
   still_read ds es seats news xs go so_far = record {
     each = λ j l old new at_l at_old at_new. let e = so_far.each j l old new at_l at_old at_new in (e.0, still_so limit chunk hs ds es seats news j l old new l.input go e.1);

@@ -16,7 +16,7 @@ use Rattle.vcd_merge.proofs.MergeReads.{AreReadSoFar, read_along}
 use Rattle.vcd_merge.proofs.MergeRuns.{keeps_limit}
 
 module _ {X : Type 0} (rest : X → Option (List ℕ)) (failures : X → ℕ) (hs : List Header) (lanes : List Lane) (alone : Bool) (ds : List Dump) (s s' : Standing X) (out new : Device) (result : Result More Stop) (r : RunGives rest failures hs lanes alone ds s s' out new result) where
-  -- what is due after it stands on the output
+  -- what is due after it is on the output
   pub mid_writes : (begin : Device) → Writes begin out (merge_open hs (merged_items ds)) → Writes begin r.between (merge_open hs (merged_items r.dumps))
   mid_writes begin w = subst (Writes begin r.between) (sym r.grows.1) (both-written begin out r.between (merge_open hs (merged_items ds)) r.grows.0 w r.grows.2)
 

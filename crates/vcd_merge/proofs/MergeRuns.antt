@@ -55,7 +55,7 @@ plain ns k r e = let z : get_or ns k 0 + reads_failed r ≡ get_or ns k 0 = omeg
 at_any : {A : Type 0} (ns ms : List ℕ) (k j : ℕ) (r : Result A Stop) → reads_failed r ≡ 0 → ms ≡ failures_with ns k r → ms ≡ failures_with ns j r
 at_any ns ms k j r none e = e ∙ plain ns k r none ∙ sym (plain ns j r none)
 
--- a step that goes on leaves the failures
+-- a step that continues leaves the failures
 pub same_failures : (ns ms : List ℕ) (k : ℕ) (r : Result More Stop) → r ≡ Ok Again → ms ≡ failures_with ns k r → ms ≡ ns
 same_failures ns ms k r again e = e ∙ plain ns k r (ap (λ (x : Result More Stop). reads_failed x) again)
 
@@ -128,7 +128,7 @@ module _ {X : Type 0} (rest : X → _) (failures : X → ℕ) (hs : List Header)
           so_far.each j l old new at_l at_old (get_map (supply rest failures) s.sources j y.0 y.1 ∙ ap (λ (z : Supply). Some z) supplies);
     }
 
-    -- the merge goes on: it holds an item more, or the same, and the output has what is due
+    -- the merge continues: it holds an item more, or the same, and the output has what is due
     pub advances_on : (begin out new : Device) (k : ℕ) → Writes begin out (merge_open hs (merged_items ds)) → map failures s'.sources ≡ failures_with {A = More} (map failures s.sources) k (Ok Again) → Gives rest hs lanes ds s s' out new (Ok Again)
         → (es : List Dump) × Holds rest hs lanes es s' × Writes begin new (merge_open hs (merged_items es)) × AreReadTo es s'.seats
     advances_on begin out new k w counts (inl t) =
@@ -174,7 +174,7 @@ module _ {X : Type 0} (rest : X → _) (failures : X → ℕ) (hs : List Header)
         fits : (k : ℕ) (x : whole.Whole hs limit) → slice_get ws.list k ≡ Some x → P k x
         fits k x at = let i : 0 + k ≡ k = omega arith in subst (λ (j : ℕ). P j x) i (fit_at hs limit P 0 k ws.list x at ws.fit)
 
-        -- the faults of the others stand after its place
+        -- the faults of the others come after its position
         others_later : (k : ℕ) (x : whole.Whole hs limit) (old new : Supply) (r : ReadInTurn limit chunk hs es ends k x.lane x.left new.rest) (i : ℕ) (d : Dump) (f : Fault) → i ≢ k → slice_get (entire_of hs limit ws.list) i ≡ Some d → d.fault ≡ Some f
             → key_lt (key_after (factor hs x.lane.header) k r.items) (key_after (factor hs d.header) i d.items) ≡ true
         others_later k x old new r i d f other at e =
@@ -229,7 +229,7 @@ module _ {X : Type 0} (rest : X → _) (failures : X → ℕ) (hs : List Header)
       nothing_more : Writes out new [] → Writes begin new (merge_open hs (merged_items ds))
       nothing_more none = subst (Writes begin new) (append-nil (merge_open hs (merged_items ds))) (both-written begin out new (merge_open hs (merged_items ds)) [] w none)
 
-      -- what stands on the output before this fault is that of its outcome
+      -- what is on the output before this fault is that of its outcome
       output_is : (input : ℕ) (f : Fault) → Writes out new [] → let o = fault_outcome (merge_open hs (merged_items ds)) (name_at names input) f in (o ≡ fault_outcome o.output (name_at names input) f) × Writes begin new o.output
       output_is input f none =
           let e = fault_output (merge_open hs (merged_items ds)) (name_at names input) f in
@@ -302,7 +302,7 @@ module _ {X : Type 0} (rest : X → _) (failures : X → ℕ) (hs : List Header)
           all_whole (BackFits rest hs lanes ds s limit is_limit ready holds.given t.input t.next) ds s.seats ws (λ j x p. p.later) (Err Write) (new_many {A = More} k (Err Write) counts) (unread (counts ∙ plain {A = More} (map failures s.sources) k (Err Write) refl) t.unread) (λ j x p. p.left)
           (kept_some rest hs lanes ds s limit is_limit ready holds.given t.input t.next names begin out new w t.writes)
 
-      -- it has stopped: the fault is the first of the merged inputs, and what stands is what comes
+      -- it has stopped: the fault is the first of the merged inputs, and the output is what comes
       -- before it; or a write failed
       pub stopped_merge : (stop : Stop) (k : ℕ) → IsNext s.seats k → map failures s'.sources ≡ failures_with {A = More} (map failures s.sources) k (Err stop) → Gives rest hs lanes ds s s' out new (Err stop) → IsFollowed (Err stop)
       stopped_merge (Faulty input line fault) k next counts gives = faulty_merge input line fault k counts gives

@@ -56,7 +56,7 @@ one_more R n old mid v h l here = record {
     below_n : (j : ℕ) → j < n + 1 → (j ≡ n → ⊥) → j < n
     below_n j m other = elim (cases_lt j n) [ inl less ↦ less | inr more ↦ absurd (other (omega arith)) ]
 
--- the seat at a place, with what the merge adds
+-- the seat at an index, with what the merge adds
 pub as_begun : (seats : List Seat) (n : ℕ) (s d : Seat) (a b scale first : ℕ) → slice_get seats n ≡ Some s → a ≡ scale → b ≡ first → begun a b (get_or seats n d) ≡ begun scale first s
 as_begun seats n s d a b scale first at e f = ap (begun a b) (get_or_from_slice_get seats n s d at) ∙ ap (λ x. begun x b s) e ∙ ap (λ x. begun scale x s) f
 

@@ -1,4 +1,4 @@
--- What a merge holds behind one item more of the input whose turn it is, and where that input has
+-- What a merge holds after one item more of the input whose turn it is, and where that input has
 -- finished.
 use Rattle.std.proofs.Common.{◌≡◌, ◌≢◌, ℕ, zero, suc, ◌*◌, ◌<◌, ◌≤◌, true, false, List, [], ◌∷◌, ◌++◌, length, take, map, slice_get, Option, Some, None, refl, sym, ap, subst, ◌∙◌, arith, ◌⊎◌, inl, inr}
 use Rattle.std.specs.Prelude.{option_map}
@@ -22,7 +22,7 @@ use Rattle.vcd_model.proofs.MergeOrder.{key_chain}
 use Rattle.vcd_model.proofs.MergedLists.{all_with_item, headers_stay}
 use Rattle.vcd_merge.proofs.PartLemmas.{get_other, get_set}
 
--- ---- places
+-- ---- positions
 
 pub some_at : {X : Type 0} (xs : List X) (k : ℕ) → k < length xs → (x : X) × (slice_get xs k ≡ Some x)
 some_at [] k h = absurd (omega arith)
@@ -100,11 +100,11 @@ module _ {X : Type 0} (rest : X → Option (List ℕ)) (hs : List Header) (lanes
       ap (λ (y : Seat). y.time) (sym p.2) ∙ a.time_is ∙ ap (λ (h : Header). factor hs h * time_after d.items) (same_header k l.0 d l.1 b)
 
   module _ (k : ℕ) (d : Dump) (l : Lane) (next : IsNext s.seats k) (same : length s.sources ≡ length s.seats) (at_d : slice_get ds k ≡ Some d) (at_l : slice_get lanes k ≡ Some l) where
-    -- all items stand before the place where the next one comes
+    -- all items come before the position where the next one comes
     pub all_before : AllByRecursion (λ y. key_lt y.key (key_after (factor hs d.header) k d.items) ≡ true) (keyed_rest hs 0 [] ds)
     all_before = g.before k d next.seat at_d next.there next.unfinished
 
-    -- the place of the next item goes before those of the other inputs
+    -- the position of the next item goes before those of the other inputs
     pub next_first : (j : ℕ) (c : Dump) (y : Seat) → j ≢ k → slice_get ds j ≡ Some c → slice_get s.seats j ≡ Some y → y.finished ≡ false → key_lt (key_after (factor hs d.header) k d.items) (key_after (factor hs c.header) j c.items) ≡ true
     next_first j c y other a b on =
         let t = time_at k d next.seat same at_d next.there in
@@ -115,7 +115,7 @@ module _ {X : Type 0} (rest : X → Option (List ℕ)) (hs : List Header) (lanes
         by_least (inl m) t u = inl (omega arith)
         by_least (inr m) t u = let e = m.0 in inr (omega arith, inl (apart k j other m.1))
 
-    -- what is left: the same but for the input, which stands at p
+    -- what is left: the same but for the input, which is at p
     module _ (s' : Standing X) (p : Spot) (heads : s'.heads ≡ s.heads) (many : length s'.seats ≡ length s.seats) (sources : length s'.sources ≡ length s'.seats) (at_p : spot_at rest s'.seats s'.sources s'.chunks s'.tokens k ≡ Some p)
         (others : (j : ℕ) → j ≢ k → spot_at rest s'.seats s'.sources s'.chunks s'.tokens j ≡ spot_at rest s.seats s.sources s.chunks s.tokens j) where
       other_seat : (j : ℕ) (y : Seat) → j ≢ k → slice_get s'.seats j ≡ Some y → slice_get s.seats j ≡ Some y

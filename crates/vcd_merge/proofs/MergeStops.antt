@@ -31,14 +31,14 @@ use Rattle.vcd_merge.proofs.WholesFit.{grown_all, late_all, others_all}
 use Rattle.vcd_merge.proofs.WholesOpened.{entire_headers}
 use Rattle.vcd_merge.proofs.WholeInputs.{finished, goes_on}
 
--- a fault of the input stands after any place that was reached while it had not finished
+-- a fault of the input comes after any position that was reached while it had not finished
 abbrev pub HasLaterFault : (hs : List Header) (limit : ℕ) → List Seat → (k : ℕ) → Whole hs limit → Type 0
 HasLaterFault hs limit seats k w = (b : Key) → ((y : Seat) → slice_get seats k ≡ Some y → y.finished ≡ false → key_lt b (key_after (factor hs w.dump.header) k w.dump.items) ≡ true) → (f : Fault) → w.fault ≡ Some f → key_lt b (key_after (factor hs w.dump.header) k w.items) ≡ true
 
 -- what is left after a step of it
 module _ {X : Type 0} (rest : X → _) (hs : List Header) (lanes : List Lane) (ds : List Dump) (s s' : Standing X) (limit : ℕ) (is_limit : part_len (length s.seats) s.tokens ≡ limit) (ready : IsReady s) (seats : length s'.seats ≡ length s.seats)
     (tokens : length s'.tokens ≡ length s.tokens) (g : AreGiven rest hs lanes ds s') where
-  -- what is known of the input at a place
+  -- what is known of the input at an index
   record Known (k : ℕ) (l : Lane) (d : Dump) : Type 0 where
     spot : Spot
     there : slice_get s'.seats k ≡ Some spot.seat
@@ -71,7 +71,7 @@ module _ {X : Type 0} (rest : X → _) (hs : List Header) (lanes : List Lane) (d
       let d = len_map (λ (x : Lane). x.header) lanes in
       omega (arith, a, b, c, d)
 
-  -- the input at a place has more items, or it has finished
+  -- the input at an index has more items, or it has finished
   pub record MayGo (k : ℕ) (w : Whole hs limit) : Type 0 where
     pub seat : Seat
     pub there : slice_get s'.seats k ≡ Some seat
@@ -105,7 +105,7 @@ module _ {X : Type 0} (rest : X → _) (hs : List Header) (lanes : List Lane) (d
     abbrev pub here : Key
     here = key_after (factor hs w.dump.header) k w.dump.items
 
-    -- it has no more items before a key that is not after its place
+    -- it has no more items before a key that is not after its position
     pub grown_of : (m.seat.finished ≡ false → key_lt here b ≡ false) → GrownOne b hs k w.dump (entire hs limit w)
     grown_of late = record { header = refl; more = m.more; items = m.items; late = by_end m.seat.finished refl }
       where
@@ -127,7 +127,7 @@ module _ {X : Type 0} (rest : X → _) (hs : List Header) (lanes : List Lane) (d
     pub fault_late : (m.seat.finished ≡ false → key_lt here b ≡ false) → (f : Fault) → w.fault ≡ Some f → key_lt (key_after (factor hs w.dump.header) k w.items) b ≡ false
     fault_late late f e = subst (λ (l : List BodyItem). key_lt (key_after (factor hs w.dump.header) k l) b ≡ false) (sym m.items) (still_late b (factor hs w.dump.header) k w.dump.items m.more (late (unfinished f e)))
 
-  -- a fault of it stands after any place that was reached
+  -- a fault of it comes after any position that was reached
   pub faults_after : (k : ℕ) (w : Whole hs limit) → MayGo k w → HasLaterFault hs limit s'.seats k w
   faults_after k w m = λ b later f e. fault_later b k w m (later m.seat m.there) f e
 
@@ -163,7 +163,7 @@ module _ {X : Type 0} (rest : X → _) (hs : List Header) (lanes : List Lane) (d
         ∙ clean names ds
         ∙ ap (λ (h : List Header). clean_outcome (merge_open h (merged_items ds) ++ merge_close (merged_items ds))) g.dumps_are
 
--- ---- a write failed with an item: what stands goes on
+-- ---- a write failed with an item: the outcome begins with what is on the output
 
 module _ {X : Type 0} (rest : X → _) (hs : List Header) (lanes : List Lane) (ds : List Dump) (s s' : Standing X) (limit : ℕ) (is_limit : part_len (length s.seats) s.tokens ≡ limit) (ready : IsReady s) (seats : length s'.seats ≡ length s.seats)
     (tokens : length s'.tokens ≡ length s.tokens) (k : ℕ) (d : Dump) (x : BodyItem) (t : Takes rest hs lanes ds s' k d x) where
@@ -182,7 +182,7 @@ module _ {X : Type 0} (rest : X → _) (hs : List Header) (lanes : List Lane) (d
     pub left : w.left ≡ w.lane.input
     pub later : HasLaterFault hs limit s'.seats n w
 
-  -- the place of any other item is behind this one
+  -- the position of any other item is after this one
   late_at : (j : ℕ) (c : Dump) (y : Seat) → slice_get es j ≡ Some c → slice_get s'.seats j ≡ Some y → y.finished ≡ false → key_lt (key_after (factor hs c.header) j c.items) behind ≡ false
   late_at j c y at_c at_y on =
       let b = key_after (factor hs c.header) j c.items in
@@ -243,7 +243,7 @@ module _ {X : Type 0} (rest : X → _) (hs : List Header) (lanes : List Lane) (d
     pub left : w.left ≡ w.lane.input
     pub later : HasLaterFault hs limit s.seats n w
 
-  -- no key stands before itself
+  -- no key comes before itself
   not_itself : (a : Key) → key_lt a a ≡ false
   not_itself a = by_test (key_lt a a) refl
     where

@@ -1,4 +1,4 @@
--- What a merge holds behind several items of the input whose turn it is.
+-- What a merge holds after several items of the input whose turn it is.
 use Rattle.std.proofs.Common.{◌≡◌, ◌≢◌, ℕ, ◌+◌, ◌-◌, ◌*◌, ◌<◌, ◌≤◌, ◌⊎◌, Bool, true, false, List, [], ◌∷◌, ◌++◌, length, map, take, slice_get, slice_set, Option, Some, None, Result, Ok, Err, refl, sym, ap, subst, ◌∙◌, arith, inl, inr, append-nil, append_assoc}
 use Rattle.std.specs.Prelude.{All, option_map}
 use Rattle.std.proofs.lemmas.List.{set-get_or}
@@ -285,7 +285,7 @@ module _ {X : Type 0} (rest : X → Option (List ℕ)) (failures : X → ℕ) (h
       subst (λ (w : Option ℕ). Turns k (factor hs f.lane.header) (first_number (take k hs)) f.lane m.dump.items w s'.written p t.turns.mid.out out' r) (sym m.written_is)
       (subst (λ (xs : List BodyItem). Turns k (factor hs f.lane.header) (first_number (take k hs)) f.lane xs t.turns.mid.written s'.written p t.turns.mid.out out' r) (sym m.items_are) last)
 
-  -- where it goes on all was passed on
+  -- where it continues, all was passed on
   gave : {A : Type 0} (u : A) (t : IsTurned (Ok u)) → Gave (Ok u) t
   gave {A} u t = by_last t.turns.last
     where
@@ -333,7 +333,7 @@ module _ {X : Type 0} (rest : X → Option (List ℕ)) (failures : X → ℕ) (h
       by_one = λ e. (there r t).by_one (none e);
     }
 
-  -- it goes on
+  -- it continues
   pub went_on : {A : Type 0} (u : A) → IsTurned (Ok u) → RunGives rest failures hs lanes alone ds s s' out out' (Ok Again)
   went_on {A} u t =
       let m = there (Ok u) t in

@@ -16,7 +16,7 @@ before_both a i b j c k (inr l) (inl m) = let e = l.0 in inl (omega (arith, m, e
 before_both a i b j c k (inr l) (inr m) = let e = l.0 in let f = m.0 in let g = l.1 in let h = m.1 in inr (omega (arith, e, f), omega (arith, g, h))
 
 module _ (In : ℕ → Type 0) (time : ℕ → ℕ) (xs : List ℕ) (len : ℕ) (o : AreInOrder In time xs len) (k : ℕ) where
-  -- from a place on that comes before k, all do
+  -- from an index on that comes before k, all do
   pub sooner_from : (middle : ℕ) → ComesBefore (time (get_or xs middle 0)) (get_or xs middle 0) (time k) k → (p : ℕ) → middle ≤ p → p < len → ComesBefore (time (get_or xs p 0)) (get_or xs p 0) (time k) k
   sooner_from middle first p from within = by_order (cases_lt middle p)
     where
@@ -24,7 +24,7 @@ module _ (In : ℕ → Type 0) (time : ℕ → ℕ) (xs : List ℕ) (len : ℕ) 
       by_order (inl l) = before_both _ _ _ _ _ _ (o.falls middle p l within) first
       by_order (inr l) = let e : middle ≡ p = omega (arith, l, from) in subst (λ (q : ℕ). ComesBefore (time (get_or xs q 0)) (get_or xs q 0) (time k) k) e first
 
-  -- up to a place before which k comes, it comes before all
+  -- up to an index before which k comes, it comes before all
   pub later_to : (middle : ℕ) → middle < len → ComesBefore (time k) k (time (get_or xs middle 0)) (get_or xs middle 0) → (p : ℕ) → p < middle + 1 → ComesBefore (time k) k (time (get_or xs p 0)) (get_or xs p 0)
   later_to middle within last p upto = by_order (cases_lt p middle)
     where
@@ -32,7 +32,7 @@ module _ (In : ℕ → Type 0) (time : ℕ → ℕ) (xs : List ℕ) (len : ℕ) 
       by_order (inl l) = before_both _ _ _ _ _ _ last (o.falls p middle l within)
       by_order (inr l) = let e : middle ≡ p = omega (arith, l, upto) in subst (λ (q : ℕ). ComesBefore (time k) k (time (get_or xs q 0)) (get_or xs q 0)) e last
 
-  -- k goes in at a place: behind it stand those that come before it
+  -- k goes in at an index: after it are those that come before it
   pub with_one : (ys : List ℕ) (at : ℕ) → at ≤ len
       → ((p : ℕ) → p < at → get_or ys p 0 ≡ get_or xs p 0) → get_or ys at 0 ≡ k → ((p : ℕ) → at ≤ p → p < len → get_or ys (p + 1) 0 ≡ get_or xs p 0)
       → ((p : ℕ) → at ≤ p → p < len → ComesBefore (time (get_or xs p 0)) (get_or xs p 0) (time k) k)
@@ -40,7 +40,7 @@ module _ (In : ℕ → Type 0) (time : ℕ → ℕ) (xs : List ℕ) (len : ℕ) 
       → AreInOrder (λ j. In j ⊎ (j ≡ k)) time ys (len + 1)
   with_one ys at most below here above sooner later = record { there = there; all = all; falls = falls }
     where
-      -- what stands at a place now: one of those before, or k
+      -- what is at an index now: one of those before, or k
       Old : ℕ → ℕ → Type 0
       Old p q = (q < len) × (get_or ys p 0 ≡ get_or xs q 0) × (((p < at) × (q ≡ p)) ⊎ ((at ≤ q) × (q + 1 ≡ p)))
 
@@ -118,7 +118,7 @@ said_so In Now time now xs len to back same o = record {
     same_before j k e f (inl l) = inl (omega (arith, l, e, f))
     same_before j k e f (inr l) = let g = l.0 in inr (omega (arith, g, e, f), l.1)
 
--- without the one in the last place
+-- without the last one
 pub without_last : (In : ℕ → Type 0) (time : ℕ → ℕ) (xs : List ℕ) (len : ℕ) → AreInOrder In time xs (len + 1) → AreInOrder (λ j. In j × (j ≢ get_or xs len 0)) time xs len
 without_last In time xs len o = record {
   there = λ p w. (o.there p (omega (arith, w)), apart p w);
@@ -145,7 +145,7 @@ pub not_in : (seats : List Seat) (n out j k : ℕ) → (n ≤ k) ⊎ (k ≡ out)
 not_in seats n out j k (inl l) w e = let h = w.within in omega (arith, l, h, e)
 not_in seats n out j k (inr l) w e = w.other (e ∙ l)
 
--- where the seat at a place is known, so is whether an input waits
+-- where the seat at an index is known, so is whether an input waits
 module _ (seats : List Seat) (k : ℕ) (x : Seat) (here : slice_get seats k ≡ Some x) where
   one_seat : (s : Seat) → Some x ≡ Some s → x ≡ s
   one_seat s e = cc
@@ -185,7 +185,7 @@ module _ (seats : List Seat) (k : ℕ) (x : Seat) (here : slice_get seats k ≡ 
       old : (j : ℕ) → Waits seats m m j → Waits seats n out j
       old j w = let b = back j w.within (apart j w) in record { within = b.0; other = b.1; seat = w.seat; there = w.there; unfinished = w.unfinished }
 
--- what was copied one place up, and then has one more in the gap
+-- what was copied one index up, and then has one more in the gap
 pub record MovesUp (xs ys : List ℕ) (at len k : ℕ) : Type 0 where
   pub below : (p : ℕ) → p < at → get_or ys p 0 ≡ get_or xs p 0
   pub here : get_or ys at 0 ≡ k
@@ -235,7 +235,7 @@ module _ (xs zs : List ℕ) (at len : ℕ) (most : at ≤ len) (room : len < len
 pub time_is : (seats : List Seat) (j : ℕ) (s : Seat) → slice_get seats j ≡ Some s → time_of seats j ≡ s.time
 time_is seats j s e = get_or-map (λ (x : Seat). x.time) seats j s 0 (slice_get_within seats j s e) ∙ ap (λ (x : Seat). x.time) (get_or_from_slice_get seats j s s e)
 
--- where the first place is empty, all have finished
+-- where the first entry is empty, all have finished
 pub none_waits : (seats : List Seat) (xs : List ℕ) → IsOrder seats (length seats) (length seats) xs 0 → All (λ (s : Seat). s.finished ≡ true) seats
 none_waits seats xs o = λ k d within. by_flag k within (get_or seats k d) (slice_get-get_or seats k d within) (get_or seats k d).finished refl
   where
@@ -244,7 +244,7 @@ none_waits seats xs o = λ k d within. by_flag k within (get_or seats k d) (slic
     by_flag k within s at false e = let p = o.all k (record { within = within; other = λ f. omega (arith, within, f); seat = s; there = at; unfinished = e }) in let h = p.1 in absurd (omega (arith, h))
 
 module _ (seats : List Seat) (xs : List ℕ) (last : ℕ) (o : IsOrder seats (length seats) (length seats) xs (last + 1)) where
-  -- the input in the last place is next
+  -- the input of the last entry is next
   pub last_is_next : IsNext seats (get_or xs last 0)
   last_is_next = let w = o.there last (omega arith) in record { seat = w.seat; there = w.there; unfinished = w.unfinished; least = λ j s at going. least w j s at going }
     where
@@ -286,7 +286,7 @@ module _ (seats : List Seat) (k : ℕ) (xs : List ℕ) where
   pub alone_before : (before : ℕ) → IsOrder seats (length seats) k xs 0 → IsFirstBefore seats k before
   alone_before before o t less j s apart at going = let p = o.all j (record { within = slice_get_within seats j s at; other = apart; seat = s; there = at; unfinished = going }) in let h = p.1 in absurd (omega (arith, h))
 
-  -- before the time of the one in the last place, or at that time where its number is greater
+  -- before the time of the last entry, or at that time where its number is greater
   pub before_last : (last before : ℕ) → IsOrder seats (length seats) k xs (last + 1) → ((t : ℕ) → t < before → (t < time_of seats (get_or xs last 0)) ⊎ ((t ≡ time_of seats (get_or xs last 0)) × (k < get_or xs last 0))) → IsFirstBefore seats k before
   before_last last before o low t less j s apart at going = by_place (o.all j (record { within = slice_get_within seats j s at; other = apart; seat = s; there = at; unfinished = going }))
     where

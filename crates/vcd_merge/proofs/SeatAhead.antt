@@ -1,4 +1,4 @@
--- Where an input of a merge stands behind items that lie ahead in its feed's chunk.
+-- The position of an input of a merge after items that lie ahead in its feed's chunk.
 use Rattle.std.proofs.Common.{◌≡◌, ◌≢◌, ℕ, ◌*◌, Bool, true, false, List, [], ◌∷◌, ◌++◌, Option, Result, Ok, Err, length, refl, sym, ap, subst, ◌∙◌, arith, append-nil, append_assoc, inl}
 use Rattle.std.specs.List.{AllByRecursion}
 use Rattle.vcd_model.specs.Items.{BodyItem}
@@ -61,7 +61,7 @@ module _ {X : Type 0} {g : Ghosts X} (scale first : ℕ) (l : Lane) (behind : Li
       → GivesOne scale first l (behind ++ b.items) b.written written (spot_with (seat_with s r time) new) x
   one_at new b x n r time written out one last = (on, seat_at new _ n (b.items ++ x ∷ []) r time (append_assoc behind b.items (x ∷ [])) one.ahead last.gave, one.written_is, no_more_at_last l l.input (behind ++ b.items) new x r last)
 
-  -- ---- the feed as it would be behind some of them
+  -- ---- the feed as it would be after some of them
 
   module _ (n : ℕ) (ts : List Token) (passed : Passed (limit_of f) (lines_of f) (ahead_of f) n ts) where
     feed_at : Feed X g

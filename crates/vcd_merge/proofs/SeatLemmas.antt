@@ -1,4 +1,4 @@
--- Where an input of a merge stands behind one item more, at its end, and at a fault, and how much
+-- Where an input of a merge is after one item more, at its end, and at a fault, and how much
 -- of it was read.
 use Rattle.std.proofs.Common.{◌≡◌, ℕ, ◌+◌, ◌*◌, ◌^◌, ◌<◌, ◌≤◌, Bool, true, false, List, [], ◌∷◌, ◌++◌, Option, None, Err, refl, sym, ap, ◌∙◌, arith}
 use Rattle.std.proofs.lemmas.Bool.{le-leb, lt-leb}
@@ -59,9 +59,9 @@ module _ {X : Type 0} {g : Ghosts X} (l : Lane) (left : Input) (items : List Bod
   pub no_more_at_item : (x : BodyItem) (r : Regs) → GaveItem l.header.codes left l.front items x f r → NoMore
   no_more_at_item x r m = no_more_at_last x r (last_given l.header.codes left l.front items x f r m)
 
--- ---- where it stands
+-- ---- its position
 
--- the seat behind an item
+-- the seat after an item
 abbrev pub seat_with : Seat → Regs → ℕ → Bool → Seat
 seat_with s r time b = record { parked = s.parked; regs = r; factor = s.factor; time = time; first = s.first; finished = b }
 
@@ -73,7 +73,7 @@ module _ {X : Type 0} {g : Ghosts X} (scale first : ℕ) (l : Lane) (items : Lis
   parks : (more : List BodyItem) (f : Feed X g) (r : Regs) → GaveItems l.header.codes l.input l.front more f r → GaveParked l.header.codes l.input l.front more (g.rest f.source.now) f.chunk.now f.token.now f.parked r
   parks more f r a = record { given = a.given; placed = a.placed; stands = a.stands; so_far = a.so_far; items_are = a.items_are; known = a.known }
 
-  -- behind one item more
+  -- after one item more
   pub turned : (s : Seat) (r : Regs) (time : ℕ) (b : Bool) (old new : Feed X g) (x : BodyItem) → AtSeat scale first l items (spot_with s old) → GaveItems l.header.codes l.input l.front (items ++ x ∷ []) new r → is_too_large scale x ≡ false
       → time ≡ scale * r.time → b ≡ false → AtSeat scale first l (items ++ x ∷ []) (spot_with (seat_with s r time b) new)
   turned s r time b old new x a gave small at on = record {
@@ -111,6 +111,6 @@ large scale time h = le-leb (2 ^ 64) (time * scale) h
 pub not_large : (scale time : ℕ) → time * scale < 2 ^ 64 → is_too_large scale (BodyItem.Time time) ≡ false
 not_large scale time h = lt-leb (2 ^ 64) (time * scale) h
 
--- an item that is no time mark leaves the time
+-- an item that is no timestamp leaves the time
 pub timed : (scale : ℕ) (items : List BodyItem) (s : Seat) (r : Regs) → AreRegsAfter items s.regs → r.time ≡ s.regs.time → s.time ≡ scale * time_after items → s.time ≡ scale * r.time
 timed scale items s r known e time = time ∙ ap (λ n. scale * n) (sym known.time_is ∙ sym e)

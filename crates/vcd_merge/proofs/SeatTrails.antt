@@ -92,7 +92,7 @@ turns_after k scale first l items written written' s out mid new (Err (Unmatched
 -- ---- over a feed
 
 module _ {X A : Type 0} {g : Ghosts X} (failures : X → ℕ) (k scale first : ℕ) (l : Lane) (before : ℕ) (a : Stage X) (xs : List BodyItem) (written written' : Option ℕ) (seat seat' : Seat) (feed feed' : Feed X g) (out out' : Device) (u : A) where
-  -- an input that has not finished and is still early goes on by an item
+  -- an input that has not finished and is still early continues by an item
   pub goes_on : seat'.finished ≡ false → seat'.time < before → failures (source_of feed') ≡ failures (source_of feed) → HasNotFailed feed' → chunk_len_of feed' ≡ chunk_len_of feed → limit_of feed' ≡ limit_of feed
       → Reaches g.rest failures scale first l before a (stage_with xs written seat feed out) → Turns k scale first l xs written written' (spot_with seat' feed') out out' (Ok u)
       → (ys : List BodyItem) × AtSeat scale first l ys (spot_with seat' feed') × Reaches g.rest failures scale first l before a (stage_with ys written' seat' feed' out')

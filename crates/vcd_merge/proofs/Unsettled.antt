@@ -1,4 +1,4 @@
--- What does not settle a merge: the first tokens of one input, where its items stand before the
+-- What does not settle a merge: the first tokens of one input, where its items come before the
 -- faults of all others.
 use Rattle.std.proofs.Common.{◌≡◌, ◌≢◌, ℕ, zero, suc, ◌+◌, Bool, true, false, ◌&&◌, ◌||◌, List, [], ◌∷◌, map, slice_get, slice_set, Option, Some, None, ◌⊎◌, inl, inr, refl, sym, ap, subst, ◌∙◌, arith}
 use Rattle.std.specs.List.{AllByRecursion}
@@ -31,7 +31,7 @@ set_same [] k x at = refl
 set_same (y ∷ xs) zero x at = let same : y ≡ x = cc in ap (λ z. z ∷ xs) (sym same)
 set_same (y ∷ xs) (suc k) x at = ap (λ l. y ∷ l) (set_same xs k x at)
 
--- from what is known of the fault at each place
+-- from what is known of the fault at each index
 late_each : (b : Key) (hs : List Header) (n : ℕ) (ds : List Dump) → ((i : ℕ) (d : Dump) (f : Fault) → slice_get ds i ≡ Some d → d.fault ≡ Some f → key_lt (key_after (factor hs d.header) (n + i) d.items) b ≡ false) → AreLate b hs n ds
 late_each b hs n [] each = tt
 late_each b hs n (d ∷ ds) each = (
@@ -97,7 +97,7 @@ module _ (hs : List Header) (os : List Opened) (ds : List Dump) (k : ℕ) (o : O
   abbrev own : Dump
   own = record { header = o.header; items = items; fault = None }
 
-  -- no fault of the others stands before its place
+  -- no fault of the others comes before its position
   late : AreLate here hs 0 (slice_set ds k own)
   late = late_each here hs 0 (slice_set ds k own) (λ i d f at_d e. let z : i ≡ 0 + i = omega arith in subst (λ (m : ℕ). key_lt (key_after (factor hs d.header) m d.items) here ≡ false) z (by_place i d f (same_or_not i k) at_d e))
     where

@@ -1,4 +1,4 @@
--- An input of a merge as a whole: behind the items so far come others, or it has ended.
+-- An input of a merge as a whole: after the items so far come others, or it has ended.
 use Rattle.std.proofs.Common.{◌≡◌, ℕ, true, false, List, [], ◌++◌, length, Option, None, sym, ap, subst, ◌∙◌, append_assoc, append-nil}
 use Rattle.std.specs.Prelude.{find}
 use Rattle.std.specs.List.{AllByRecursion, before_first}

@@ -10,7 +10,7 @@ pub record IsNext (seats : List Seat) (k : ℕ) : Type 0 where
   pub unfinished : seat.finished ≡ false
   pub least : (j : ℕ) (s : Seat) → slice_get seats j ≡ Some s → s.finished ≡ false → (seat.time < s.time) ⊎ ((seat.time ≡ s.time) × (k ≤ j))
 
--- the greatest of the times of those that had a time mark
+-- the greatest of the times of those that had a timestamp
 abbrev pub greater_time : Seat → Option ℕ → Option ℕ
 greater_time s None = Some s.time
 greater_time s (Some t) = Some (max t s.time)

@@ -111,7 +111,7 @@ abbrev pub GoBefore : List Header → List Dump → List Seat → Type 0
 GoBefore hs ds seats = (k : ℕ) (d : Dump) (s : Seat) → slice_get ds k ≡ Some d → slice_get seats k ≡ Some s → s.finished ≡ false
     → AllByRecursion (λ y. key_lt y.key (key_after (factor hs d.header) k d.items) ≡ true) (keyed_rest hs 0 [] ds)
 
--- each seat tells the time of its input, and whether there was a time mark
+-- each seat tells the time of its input, and whether there was a timestamp
 pub record AreMarked (hs : List Header) (ds : List Dump) (seats : List Seat) : Type 0 where
   pub dumps_are : headers_of ds ≡ hs
   pub many : length ds ≡ length seats

@@ -59,7 +59,7 @@ pub record GaveParked (codes : List IdCode) (i : Input) (front : List Token) (it
   pub items_are : items_of (phrases_of placed) ≡ items
   pub known : AreRegsAfter items r
 
--- an input is this dump: its items up to its first time mark that is too large, or up to its own
+-- an input is this dump: its items up to its first timestamp that is too large, or up to its own
 -- fault
 pub record HasDump (scale limit : ℕ) (h : Header) (front : List Token) (i : Input) (items : List BodyItem) (fault : Option Fault) : Type 0 where
   pub rest : List Token

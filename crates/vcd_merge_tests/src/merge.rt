@@ -218,7 +218,7 @@ fn no_items(rt: HostRuntime) -> Result<(), Fail> {
     Ok(())
 }
 
-// Two time scales. Both have changes at 2 ns, and the last mark of the second has none.
+// Two time scales. Both have changes at 2 ns, and the last timestamp of the second has none.
 const COARSE: &[u8] =
     b"$timescale 1ns $end\n$var wire 1 ! clk $end\n$enddefinitions $end\n#0\n0!\n#2\n1!\n#4\n0!\n";
 

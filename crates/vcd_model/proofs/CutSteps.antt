@@ -26,7 +26,7 @@ from_on a = λ e. nat_le a e.time
 abbrev pub cut_entries : ℕ → List BodyItem → List Entry
 cut_entries a p = kept_by (from_on a) (entries p)
 
--- ---- where the start section stands
+-- ---- where the start section is written
 
 above_zero : (a : ℕ) → (a == 0) ≡ false → 0 < a
 above_zero zero e = cc
@@ -37,7 +37,7 @@ not_started a p e =
     let o = or_parts (a == 0) (list_any (nat_le a) (marks p)) e in
     all_below a 0 (marks p) [] (above_zero a o.0) (ap (list_any (nat_le a)) (append-nil (marks p)) ∙ o.1)
 
--- it stands where the time has come
+-- it is written where the time has come
 pub started_is : (a : ℕ) (p : List BodyItem) → is_started a p ≡ nat_le a (time_after p)
 started_is a p = by_case (is_started a p) refl
   where
@@ -45,11 +45,11 @@ started_is a p = by_case (is_started a p) refl
     by_case true e = e ∙ sym (le-leb a (time_after p) (due a p e))
     by_case false e = e ∙ sym (lt-leb a (time_after p) (not_started a p e))
 
--- an item that is no mark changes nothing of it
+-- an item that is no timestamp changes nothing of it
 pub started_same : (a : ℕ) (p : List BodyItem) (x : BodyItem) → marks (x ∷ []) ≡ [] → is_started a (p ++ x ∷ []) ≡ is_started a p
 started_same a p x e = ap (λ ms. (a == 0) || list_any (nat_le a) ms) (marks-append p (x ∷ []) ∙ ap (λ l. marks p ++ l) e ∙ append-nil (marks p))
 
--- a mark of at least a does
+-- a timestamp of at least a does
 pub started_by : (a : ℕ) (p : List BodyItem) (t : ℕ) → a ≤ t → is_started a (p ++ BodyItem.Time t ∷ []) ≡ true
 started_by a p t le = rw (marks-append p (BodyItem.Time t ∷ []), list_any-append (nat_le a) (marks p) (t ∷ []), le-leb a t le) (or_true (a == 0) (list_any (nat_le a) (marks p)))
   where
@@ -69,7 +69,7 @@ unstarted_by a p t lt = rw (marks-append p (BodyItem.Time t ∷ []), list_any-ap
 
 -- ---- the values before a time
 
--- no mark gives a value
+-- no timestamp gives a value
 value_at_mark : (c : IdCode) (a : ℕ) (p : List BodyItem) (t : ℕ) → value_before (p ++ BodyItem.Time t ∷ []) c a ≡ value_before p c a
 value_at_mark c a p t =
     last_value_is c (λ u. nat_lt u a) (p ++ BodyItem.Time t ∷ []) ∙ ap (latest (gives_at c (λ u. nat_lt u a))) (entries-append p (BodyItem.Time t ∷ []))
@@ -101,7 +101,7 @@ value_new c a p d low e =
 -- ---- the text with one item more
 
 module _ (h : Header) (a b : ℕ) (p : List BodyItem) (on : ends_cut b p ≡ false) where
-  -- no mark above b
+  -- no timestamp above b
   pub still_on : (x : BodyItem) → is_mark_above b x ≡ false → ends_cut b (p ++ x ∷ []) ≡ false
   still_on x e = rw (list_any-append (is_mark_above b) p (x ∷ []), on, e) refl
 
@@ -111,14 +111,14 @@ module _ (h : Header) (a b : ℕ) (p : List BodyItem) (on : ends_cut b p ≡ fal
   open_next : (x : BodyItem) → is_mark_above b x ≡ false → cut_open h a b (p ++ x ∷ []) ≡ so_far h a (p ++ x ∷ [])
   open_next x e = so_far_is h a b (p ++ x ∷ []) (still_on x e)
 
-  -- behind a mark above b
+  -- after a timestamp above b
   open_last : (x : BodyItem) → is_mark_above b x ≡ true → cut_open h a b (p ++ x ∷ []) ≡ so_far h a (p ++ x ∷ []) ++ time_unless (a ∷ times_of (cut_entries a (p ++ x ∷ []))) b
   open_last x e =
       let all : within b (p ++ x ∷ []) ≡ p ++ x ∷ [] = goes_on (is_mark_above b) p (x ∷ []) on ∙ rw e refl in
       let ends : ends_cut b (p ++ x ∷ []) ≡ true = list_any-append (is_mark_above b) p (x ∷ []) ∙ rw (on, e) refl in
       whole_is h a b (p ++ x ∷ []) ∙ rw (all, ends) refl
 
-  -- where the start section stands
+  -- where the start section is written
   started_text : is_started a p ≡ true → so_far h a p ≡ (head_for h [] ++ start_section h a p) ++ text_after (a ∷ []) (cut_entries a p)
   started_text s = rw s refl
 
@@ -145,7 +145,7 @@ module _ (h : Header) (a b : ℕ) (p : List BodyItem) (on : ends_cut b p ≡ fal
       by_case true s = open_next x low ∙ started_next x s ∙ ap (λ es. (head_for h [] ++ start_section h a p) ++ text_after (a ∷ []) es) (kept_same (from_on a) p x k) ∙ sym (open_here ∙ started_text s)
       by_case false s = open_next x low ∙ rw (same ∙ s, none_kept a (p ++ x ∷ []) (same ∙ s)) (append-nil _ ∙ append-nil (head_for h [])) ∙ sym (open_here ∙ unstarted_text s)
 
-  -- ---- a time mark
+  -- ---- a timestamp
 
   pub mark_kept : (t : ℕ) → keeps (from_on a) p (BodyItem.Time t) ≡ false
   mark_kept t = none (nat_le a (time_after p))
@@ -219,11 +219,11 @@ rise_to : (low high higher : ℕ) (ts : List ℕ) → Rise low high ts → high 
 rise_to low high higher [] r le = omega arith
 rise_to low high higher (t ∷ ts) r le = (r.0, rise_to t high higher ts r.1 le)
 
--- a look at the last one is enough for a time behind all items
+-- a look at the last one is enough for a time after all items
 pub last_tells : (a : ℕ) (p : List BodyItem) (t : ℕ) → a ≤ t → time_after p ≤ t → time_unless (a ∷ times_of (cut_entries a p)) t ≡ time_due (last_or None (a ∷ times_of (cut_entries a p))) t
 last_tells a p t from behind = last_is_enough t a (times_of (cut_entries a p)) (rise_at a 0 t (times_of (cut_entries a p)) (rise_to 0 (time_after p) t (times_of (cut_entries a p)) (kept_rise (from_on a) [] p) behind) (all_from a (entries p)) from)
 
--- no mark above b
+-- no timestamp above b
 pub at_most : (b : ℕ) (p : List BodyItem) → ends_cut b p ≡ false → time_after p ≤ b
 at_most b p e = below 0 (marks p) (omega arith) (none_above p e)
   where

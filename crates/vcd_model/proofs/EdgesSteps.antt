@@ -83,7 +83,7 @@ with_value n (Some u) v = record {
   falls = n.falls + cond (goes (byte "1") (byte "0") (u, v)) 1 0;
 }
 
--- counts with one mark more of an event, inside a section or not
+-- counts with one trigger more of an event, inside a section or not
 abbrev pub with_mark : Counts → Bool → Counts
 with_mark n inside = record { changes = n.changes + cond (not inside) 1 0; rises = n.rises; falls = n.falls }
 
@@ -123,7 +123,7 @@ module _ (c : IdCode) (items : List BodyItem) where
   pub counts_new : (d : Change) → same_code c d.code ≡ true → c.event ≡ false → counts_for (items ++ BodyItem.Changes d ∷ []) c ≡ with_value (counts_for items c) (final_value items c) (value_of d)
   counts_new d e event = rw (event, values_new c items d e, counts_more (values_of items c) (value_of d), final_is c items) refl
 
-  -- a mark of it, where it is one
+  -- a trigger of it, where it is one
   pub counts_mark : (d : Change) → same_code c d.code ≡ true → c.event ≡ true → counts_for (items ++ BodyItem.Changes d ∷ []) c ≡ with_mark (counts_for items c) (leaves_open items)
   counts_mark d e event = rw (event, events_more (BodyItem.Changes d), e) refl
 

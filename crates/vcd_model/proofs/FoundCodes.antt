@@ -20,7 +20,7 @@ find_all P test (x ∷ xs) y h e = by_test (test x) e (find_all P test xs y h.1)
     by_test true f more = let same : x ≡ y = cc in subst P same h.0
     by_test false f more = more f
 
--- what is found first in a list is so in a part of it that it stands in
+-- what is found first in a list is so in a part of it that has it
 pub find-filter : {X : Type 0} (test keep : X → Bool) (xs : List X) (y : X) → find test xs ≡ Some y → keep y ≡ true → find test (filter keep xs) ≡ Some y
 find-filter test keep [] y e k = cc
 find-filter test keep (x ∷ xs) y e k = by_test (test x) (keep x) refl refl e (λ f. find-filter test keep xs y f k)

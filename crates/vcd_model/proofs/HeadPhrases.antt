@@ -278,7 +278,7 @@ module _ (most : ℕ) where
   abbrev pub read_on : List (Placed HeaderPhrase) → List Token → Reading HeaderPhrase
   read_on done ts = read_from (header_grammar most) done [] ts
 
-  -- reading goes on after these phrases more
+  -- reading continues after these phrases more
   pub record ReadsPhrases (done : List (Placed HeaderPhrase)) (ps : List HeaderPhrase)
       (ts : List Token) (more : List (List ℕ)) : Type 0 where
     pub placed : List (Placed HeaderPhrase)

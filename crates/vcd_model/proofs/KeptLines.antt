@@ -22,7 +22,7 @@ kept_times chosen items = map (λ e. e.time) (kept_by chosen (entries items))
 abbrev pub last_time : (Entry → Bool) → List BodyItem → Option ℕ
 last_time chosen items = last_or None (kept_times chosen items)
 
--- is the item kept behind these items
+-- is the item kept after these items
 abbrev pub keeps : (Entry → Bool) → List BodyItem → BodyItem → Bool
 keeps chosen items x = chosen (entry_after items x) && may_keep x (leaves_open items)
 
@@ -47,7 +47,7 @@ rise_from lower low high (t ∷ ts) l r = let m = r.0 in (omega arith, r.1)
 abbrev pub times_behind : (Entry → Bool) → List BodyItem → List BodyItem → List ℕ
 times_behind chosen earlier items = map (λ e. e.time) (kept_by chosen (each_after entry_after earlier items))
 
--- the times of kept entries rise up to the time behind all items
+-- the times of kept entries rise up to the time after all items
 pub kept_rise : (chosen : Entry → Bool) (b q : List BodyItem) → Rise (time_after b) (time_after (b ++ q)) (times_behind chosen b q)
 kept_rise chosen b [] = time_after-append b []
 kept_rise chosen b (x ∷ q) =
@@ -76,7 +76,7 @@ last_is_enough t u (v ∷ ts) r = by_test (u == t) refl (last_is_enough t v ts r
         ap (λ (b : Bool). cond (b || list_any (λ w. w == t) ts) [] (time_line t)) (sym there) ∙ later
     by_test false e later = later
 
--- where the line of the time behind all items is asked for, a look at the last written time is
+-- where the line of the time after all items is asked for, a look at the last written time is
 -- enough
 pub time_unless_last : (chosen : Entry → Bool) (items : List BodyItem) → time_unless (kept_times chosen items) (time_after items) ≡ time_due (last_time chosen items) (time_after items)
 time_unless_last chosen items = by_times (kept_times chosen items) (kept_rise chosen [] items)
@@ -98,7 +98,7 @@ kept_more chosen items x k e =
 pub kept_same : (chosen : Entry → Bool) (items : List BodyItem) (x : BodyItem) → keeps chosen items x ≡ false → kept_by chosen (entries (items ++ x ∷ [])) ≡ kept_by chosen (entries items)
 kept_same chosen items x e = kept_more chosen items x false e ∙ append-nil (kept_by chosen (entries items))
 
--- a kept item adds its line, behind the line of its time where that is due
+-- a kept item adds its line, after the line of its time where that is due
 pub text_kept : (chosen : Entry → Bool) (items : List BodyItem) (x : BodyItem) → keeps chosen items x ≡ true
     → text_after [] (kept_by chosen (entries (items ++ x ∷ []))) ≡ text_after [] (kept_by chosen (entries items)) ++ (time_due (last_time chosen items) (time_after items) ++ item_line x)
 text_kept chosen items x e =
@@ -122,7 +122,7 @@ last_kept chosen items x e =
     ∙ ap (last_or None) (map-append (λ (e : Entry). e.time) (kept_by chosen (entries items)) (entry_after items x ∷ []))
     ∙ last_or-snoc None (kept_times chosen items) (time_after items)
 
--- behind an item that is not kept the last written time is the same
+-- after an item that is not kept the last written time is the same
 pub last_dropped : (chosen : Entry → Bool) (items : List BodyItem) (x : BodyItem) → keeps chosen items x ≡ false → last_time chosen (items ++ x ∷ []) ≡ last_time chosen items
 last_dropped chosen items x e = ap (λ es. last_or None (map (λ e. e.time) es)) (kept_same chosen items x e)
 
@@ -137,7 +137,7 @@ pub pick_open_none : (h : Header) (names : List (List ℕ)) → pick_open h name
 unfolding pick_open
 pick_open_none h names = append-nil (head_for h names)
 
--- a kept item adds its line, behind the line of its time where that is due
+-- a kept item adds its line, after the line of its time where that is due
 pub pick_open_kept : (h : Header) (names : List (List ℕ)) (items : List BodyItem) (x : BodyItem) → keeps (picked_by h names) items x ≡ true
     → pick_open h names (items ++ x ∷ []) ≡ pick_open h names items ++ (time_due (last_time (picked_by h names) items) (time_after items) ++ item_line x)
 unfolding pick_open
@@ -150,12 +150,12 @@ pub pick_open_dropped : (h : Header) (names : List (List ℕ)) (items : List Bod
 unfolding pick_open
 pick_open_dropped h names items x e = ap (λ l. head_for h names ++ l) (text_dropped (picked_by h names) items x e)
 
--- without a time mark nothing follows at the end
+-- without a timestamp nothing follows at the end
 pub pick_close_none : (h : Header) (names : List (List ℕ)) (items : List BodyItem) → last_mark items ≡ None → pick_close h names items ≡ []
 unfolding pick_close
 pick_close_none h names items e = ap (closing (kept_times (picked_by h names) items)) e
 
--- where the last time mark is the greatest, its line follows where it is due
+-- where the last timestamp is the greatest, its line follows where it is due
 pub pick_close_some : (h : Header) (names : List (List ℕ)) (items : List BodyItem) (t : ℕ) → last_mark items ≡ Some t → t ≡ time_after items → pick_close h names items ≡ time_due (last_time (picked_by h names) items) t
 unfolding pick_close
 pick_close_some h names items t e same =

@@ -1,4 +1,4 @@
--- The marked places are those of the selected variables, and of the scopes around them.
+-- The marked indexes are those of the selected variables, and of the scopes around them.
 use Rattle.std.proofs.Common.{◌≡◌, ℕ, zero, suc, ◌+◌, ◌<◌, ◌≤◌, ◌==◌, Bool, true, false, cond, ◌||◌, List, [], ◌∷◌, ◌++◌, length, map, flat_map, slice_get, Some, refl, sym, ap, ◌∙◌, subst, arith}
 use Rattle.std.specs.List.{AllByRecursion, list_any}
 use Rattle.std.proofs.lemmas.List.{append_assoc, length_push}
@@ -61,7 +61,7 @@ module _ (names : List (List ℕ)) where
       ∙ flat_map-append (λ (ps : List ℕ). ps) (each_after places_at earlier front)
       (each_after places_at (earlier ++ front) back)
 
-  -- places that are marked for earlier declarations are before this one
+  -- indexes that are marked for earlier declarations are before this one
   pub places_below : (n : ℕ) (earlier ds : List Declaration) → length earlier + length ds ≤ n
       → AllByRecursion (λ i. i < n) (places_after earlier ds)
   places_below n earlier [] l = tt
@@ -134,7 +134,7 @@ module _ (names : List (List ℕ)) where
       or_true true = refl
       or_true false = refl
 
-  -- where a variable stands among declarations
+  -- where a variable is among declarations
   marked_split : (front back : List Declaration) (v : Variable)
       → marked_places names (front ++ Declaration.Var v ∷ back) ≡ places_after [] front
       ++ (places_at front (Declaration.Var v)

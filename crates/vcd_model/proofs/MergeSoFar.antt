@@ -1,5 +1,5 @@
 -- The outcome of a merge, by what was merged of its inputs: where one of them has the first fault,
--- and where they go on.
+-- and where they continue.
 use Rattle.std.proofs.Common.{◌≡◌, ℕ, ◌+◌, ◌<◌, ◌≤◌, Bool, true, false, cond, ◌==◌, List, [], ◌∷◌, ◌++◌, Option, Some, None, refl, sym, ap, subst, ◌∙◌, arith, ◌⊎◌, inl, inr, append-nil, append_assoc}
 use Rattle.std.specs.Prelude.{filter, filter_map, fold, option_map, ⊤}
 use Rattle.std.specs.List.{AllByRecursion, reduce, cons_option}
@@ -43,7 +43,7 @@ none_between a b h = by_other (key_lt b (after_key a)) refl
     by_other true e = absurd (clash (key_before a b h) (key_before b (after_key a) e))
     by_other false e = refl
 
--- what is not behind a key is before the one after it
+-- what is not after a key is before the one after it
 pub up_to : (y a : Key) → key_lt a y ≡ false → key_lt y (after_key a) ≡ true
 up_to y a h = before_key y (after_key a) (by_time (not_behind a y h) (cases_lt y.time a.time))
   where
@@ -55,7 +55,7 @@ up_to y a h = before_key y (after_key a) (by_time (not_behind a y h) (cases_lt y
     by_time n (inl l) = inl l
     by_time n (inr l) = let t = n.time in let e : y.time ≡ a.time = omega arith in by_input n e (cases_lt y.input a.input)
 
--- ---- a place behind more items
+-- ---- a position after more items
 
 pub still_later : (b : Key) (scale input : ℕ) (items more : List BodyItem) → key_lt b (key_after scale input items) ≡ true → key_lt b (key_after scale input (items ++ more)) ≡ true
 still_later b scale input items [] h = rw append-nil h
@@ -91,7 +91,7 @@ up_to_last (y ∷ xs) x s = (up_to y.key x.key (all_back (λ z. key_lt z.key y.k
 
 -- ---- faults
 
--- no fault of these inputs stands before this key
+-- no fault of these inputs comes before this key
 abbrev pub AreLate : Key → List Header → ℕ → List Dump → Type 0
 AreLate b hs n [] = ⊤
 AreLate b hs n (d ∷ ds) = ((f : Fault) → d.fault ≡ Some f → key_lt (key_after (factor hs d.header) n d.items) b ≡ false) × AreLate b hs (n + 1) ds
@@ -117,7 +117,7 @@ pub first_all : (P : KeyedFault → Type 0) (xs : List KeyedFault) (f : KeyedFau
 first_all P [] f e h = cc
 first_all P (x ∷ xs) f e h = let same : fold earlier_fault x xs ≡ f = cc in subst P same (kept_by_fold P x xs h.0 h.1)
 
--- the first fault does not stand before it either
+-- the first fault does not come before it either
 pub first_late : (b : Key) (hs : List Header) (ds : List Dump) (f : KeyedFault) → headers_of ds ≡ hs → first_fault ds ≡ Some f → AreLate b hs 0 ds → key_lt f.key b ≡ false
 unfolding first_fault
 first_late b hs ds f headers e late =
@@ -148,14 +148,14 @@ filter_all test [] h = refl
 filter_all test (x ∷ xs) h = rw h.0 (ap (λ l. x ∷ l) (filter_all test xs h.1))
 
 module _ (names : List (List ℕ)) (hs : List Header) (ds ds' : List Dump) (b : Key) (headers : headers_of ds ≡ hs) (headers' : headers_of ds' ≡ hs) (grown : AreGrown b hs 0 ds ds') (all : AllByRecursion (λ y. key_lt y.key b ≡ true) (keyed_rest hs 0 [] ds)) where
-  -- the first fault stands at this key: the output is that of what was merged so far
+  -- the first fault is at this key: the output is that of what was merged so far
   pub fault_outcome_is : (f : Fault) → first_fault ds' ≡ Some (record { key = b; fault = f }) → merge_outcome names ds' ≡ fault_outcome (merge_open hs (merged_items ds)) (name_at names b.input) f
   fault_outcome_is f e =
       with_fault names ds' (record { key = b; fault = f }) e
       ∙ ap (λ (h : List Header). fault_outcome (merge_open h (items_before (record { key = b; fault = f }) (merged_items ds'))) (name_at names b.input) f) headers'
       ∙ ap (λ (l : List Keyed). fault_outcome (merge_open hs l) (name_at names b.input) f) (before_fault hs ds ds' b headers headers' grown all (record { key = b; fault = f }) refl)
 
-  -- no fault stands before this key: the output begins with that of what was merged so far
+  -- no fault comes before this key: the output begins with that of what was merged so far
   pub outcome_begins : AreLate b hs 0 ds' → IsPrefixOf (merge_open hs (merged_items ds)) (merge_outcome names ds').output
   outcome_begins late = by_fault (first_fault ds') refl
     where

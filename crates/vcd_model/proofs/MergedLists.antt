@@ -38,7 +38,7 @@ own_more hs n es d x rest =
     let f = keyed_after (factor hs d.header) n (renamed es d.header) in
     ap (λ l. l ++ rest) (each_after-append f [] d.items (x ∷ [])) ∙ append_assoc (each f d.items) (f d.items x ∷ []) rest
 
--- an item more stands somewhere among the others
+-- an item more is somewhere among the others
 split_at : (hs : List Header) (n m : ℕ) (es : List Header) (ds : List Dump) (k : ℕ) (d : Dump) (x : BodyItem) → m ≡ n + k → slice_get ds k ≡ Some d
     → (xs : List Keyed) × (ys : List Keyed) × (keyed_rest hs n es ds ≡ xs ++ ys) × (keyed_rest hs n es (with_item ds k d x) ≡ xs ++ keyed_after (factor hs d.header) m (renamed (es ++ take k (headers_of ds)) d.header) d.items x ∷ ys)
 split_at hs n m es [] k d x e at = cc

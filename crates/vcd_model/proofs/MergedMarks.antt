@@ -1,4 +1,4 @@
--- The greatest time mark of the merged items, input by input.
+-- The greatest timestamp of the merged items, input by input.
 use Rattle.std.proofs.Common.{◌≡◌, ℕ, ◌*◌, ◌<◌, ◌≤◌, max, Bool, true, false, cond, not, List, [], ◌∷◌, ◌++◌, map, Option, Some, None, refl, sym, ap, subst, ◌∙◌, arith, ◌⊎◌, inl, inr, append_assoc}
 use Rattle.std.specs.Prelude.{fold}
 use Rattle.std.specs.List.{AllByRecursion, reduce, cons_option}
@@ -46,11 +46,11 @@ reduce_is (t ∷ u ∷ us) = ap (λ n. Some n) (fold_max t u us) ∙ ap (greater
 
 -- ---- of the merged items
 
--- the time of a time mark
+-- the time of a timestamp
 abbrev mark_in : Keyed → Option ℕ
 mark_in k = time_mark k.entry.item
 
--- the greatest time mark of these items, none where there is none
+-- the greatest timestamp of these items, none where there is none
 abbrev pub greatest_in : List Keyed → Option ℕ
 greatest_in [] = None
 greatest_in (k ∷ ks) = greater_of (mark_in k) (greatest_in ks)
@@ -79,7 +79,7 @@ pub append_greatest : (xs ys : List Keyed) → greatest_in (xs ++ ys) ≡ greate
 append_greatest [] ys = refl
 append_greatest (x ∷ xs) ys = ap (greater_of (mark_in x)) (append_greatest xs ys) ∙ sym (greater_assoc (mark_in x) (greatest_in xs) (greatest_in ys))
 
--- of one input: its last mark, scaled
+-- of one input: its last timestamp, scaled
 mul_max : (s t u : ℕ) → s * max t u ≡ max (s * t) (s * u)
 mul_max s t u = by_order (cases_lt t u)
   where
@@ -91,7 +91,7 @@ scaled_greatest : (s t : ℕ) (ts : List ℕ) → greatest_of (map (λ n. s * n)
 scaled_greatest s t [] = refl
 scaled_greatest s t (u ∷ ts) = ap (greater_of (Some (s * t))) (scaled_greatest s u ts) ∙ ap (λ n. Some n) (sym (mul_max s t (fold max u ts)) ∙ ap (λ n. s * n) (sym (fold_max t u ts)))
 
--- the mark that an input had, if any
+-- the timestamp that an input had, if any
 abbrev own_mark : ℕ → List BodyItem → Option ℕ
 own_mark s items = cond (not (is_empty (marks items))) (Some (s * time_after items)) None
 
@@ -109,9 +109,9 @@ keyed_greatest s n rename before (BodyItem.Begin k ∷ items) = keyed_greatest s
 keyed_greatest s n rename before (BodyItem.End ∷ items) = keyed_greatest s n rename (before ++ BodyItem.End ∷ []) items
 keyed_greatest s n rename before (BodyItem.Changes c ∷ items) = keyed_greatest s n rename (before ++ BodyItem.Changes c ∷ []) items
 
--- ---- no item stands later
+-- ---- no item is later
 
--- where the last time of an input is at most t, all its items stand at times up to t
+-- where the last time of an input is at most t, all its items are at times up to t
 pub own_most : (s n t : ℕ) (rename : List ℕ → List ℕ) (before items : List BodyItem) → s * time_after (before ++ items) ≤ t → AllByRecursion (λ y. y.key.time ≤ t) (each_after (keyed_after s n rename) before items)
 own_most s n t rename before [] h = tt
 own_most s n t rename before (x ∷ items) h =

@@ -1,4 +1,4 @@
--- The merged list of whole inputs, by what was merged of them so far: what comes before a place,
+-- The merged list of whole inputs, by what was merged of them so far: what comes before a position,
 -- and the first fault.
 use Rattle.std.proofs.Common.{◌≡◌, ℕ, zero, suc, ◌+◌, Bool, true, false, cond, List, [], ◌∷◌, ◌++◌, length, slice_get, Option, Some, None, refl, sym, ap, ◌∙◌, arith, ◌⊎◌, inl, inr, append-nil}
 use Rattle.std.specs.Prelude.{filter, filter_map, fold, option_map, ⊤}
@@ -18,7 +18,7 @@ use Rattle.vcd_model.proofs.MergeChanges.{later_key}
 use Rattle.vcd_model.proofs.MergeOrder.{IsSorted, filter-by_key, key_chain, key_never, key_trans}
 use Rattle.vcd_model.proofs.MergedLists.{merged_by_input}
 
--- ---- inputs that go on after a place
+-- ---- inputs that continue after a position
 
 -- an input has more items, but none before this key
 pub record GrownOne (b : Key) (hs : List Header) (n : ℕ) (d d' : Dump) : Type 0 where
@@ -40,7 +40,7 @@ filter_all : {X : Type 0} (test : X → Bool) (xs : List X) → AllByRecursion (
 filter_all test [] h = refl
 filter_all test (x ∷ xs) h = rw h.0 (ap (λ l. x ∷ l) (filter_all test xs h.1))
 
--- the items after a place that is not before the key
+-- the items after a position that is not before the key
 pub late_none : (b : Key) (hs : List Header) (n : ℕ) (es : List Header) (h : Header) (before items : List BodyItem) → key_lt (key_after (factor hs h) n before) b ≡ false → filter (λ y. key_lt y.key b) (from hs n es h before items) ≡ []
 late_none b hs n es h before [] e = refl
 late_none b hs n es h before (x ∷ items) e =
@@ -135,12 +135,12 @@ first_of : (f : KeyedFault) (xs ys : List KeyedFault) → AllByRecursion (λ g. 
 first_of f [] ys h k = ap (λ g. Some g) (stays f ys k)
 first_of f (x ∷ xs) ys h k = ap (λ g. Some g) (reaches f x xs ys h.0 h.1 k)
 
--- no fault of these inputs stands at or before this key
+-- no fault of these inputs is at or before this key
 abbrev pub NoneBefore : Key → List Header → ℕ → List Dump → Type 0
 NoneBefore b hs n [] = ⊤
 NoneBefore b hs n (d ∷ ds) = ((f : Fault) → d.fault ≡ Some f → key_lt b (key_after (factor hs d.header) n d.items) ≡ true) × NoneBefore b hs (n + 1) ds
 
--- .. but for the input at a place
+-- .. but for the input at an index
 abbrev pub OthersLater : Key → List Header → ℕ → ℕ → List Dump → Type 0
 OthersLater b hs n k [] = ⊤
 OthersLater b hs n zero (d ∷ ds) = NoneBefore b hs (n + 1) ds
@@ -155,7 +155,7 @@ none_before b hs n (d ∷ ds) h = by_fault d.fault h.0 (none_before b hs (n + 1)
     by_fault None h more = more
     by_fault (Some f) h more = (h f refl, more)
 
--- the fault of the input at a place, among the others
+-- the fault of the input at an index, among the others
 fault_among : (b : Key) (hs : List Header) (n m k : ℕ) (ds : List Dump) (d : Dump) (f : Fault) → m ≡ n + k → slice_get ds k ≡ Some d → d.fault ≡ Some f → b ≡ key_after (factor hs d.header) m d.items → OthersLater b hs n k ds
     → (xs : List KeyedFault) × (ys : List KeyedFault) × (faults_rest hs n ds ≡ xs ++ record { key = b; fault = f } ∷ ys) × AllByRecursion (λ g. key_lt b g.key ≡ true) xs × AllByRecursion (λ g. key_lt b g.key ≡ true) ys
 fault_among b hs n m k [] d f e at fault key later = cc

@@ -43,7 +43,7 @@ time_at_most items t e = none_above t 0 (marks items) (omega arith) e
 pub value_now : (items : List BodyItem) (c : IdCode) (t : ℕ) → is_settled items t ≡ false → value_at items c t ≡ final_value items c
 value_now items c t e = value_at_is c t items (time_at_most items t e)
 
--- a time mark gives no value
+-- a timestamp gives no value
 value_at_mark : (items : List BodyItem) (t : ℕ) (c : IdCode) (u : ℕ) → value_at (items ++ BodyItem.Time t ∷ []) c u ≡ value_at items c u
 value_at_mark items t c u =
     last_value_is c (λ v. nat_le v u) (items ++ BodyItem.Time t ∷ []) ∙ ap (latest (gives_at c (λ v. nat_le v u))) (entries-append items (BodyItem.Time t ∷ []))
@@ -65,7 +65,7 @@ pub none_settled : (ts : List ℕ) → AreSettled false [] ts
 none_settled [] = tt
 none_settled (t ∷ ts) = (refl, none_settled ts)
 
--- an item that is no mark settles none
+-- an item that is no timestamp settles none
 pub settled_same : (items : List BodyItem) (x : BodyItem) (t : ℕ) → marks (x ∷ []) ≡ [] → is_settled (items ++ x ∷ []) t ≡ is_settled items t
 settled_same items x t e = ap (list_any (nat_lt t)) (marks-append items (x ∷ []) ∙ ap (λ l. marks items ++ l) e ∙ append-nil (marks items))
 
@@ -78,7 +78,7 @@ pub still_settled : (items : List BodyItem) (x : BodyItem) (ts : List ℕ) → A
 still_settled items x [] h = tt
 still_settled items x (t ∷ ts) h = (settled_more items (x ∷ []) t h.0, still_settled items x ts h.1)
 
--- a mark settles the times below it
+-- a timestamp settles the times below it
 settled_with : (items : List BodyItem) (t u : ℕ) → is_settled (items ++ BodyItem.Time t ∷ []) u ≡ (is_settled items u || (nat_lt u t || false))
 settled_with items t u = ap (list_any (nat_lt u)) (marks-append items (BodyItem.Time t ∷ [])) ∙ list_any-append (nat_lt u) (marks items) (t ∷ [])
 
@@ -145,14 +145,14 @@ module _ (h : Header) (names : List (List ℕ)) (items : List BodyItem) (done re
 pub open_none : (h : Header) (times : List ℕ) (names : List (List ℕ)) → sample_open h times names [] ≡ []
 open_none h times names = open_is h names [] [] times tt (none_settled times)
 
--- an item that is no mark: nothing is due
+-- an item that is no timestamp: nothing is due
 pub open_same : (h : Header) (names : List (List ℕ)) (items : List BodyItem) (x : BodyItem) (done rest : List ℕ) → marks (x ∷ []) ≡ [] → AreSettled true items done → AreSettled false items rest
     → sample_open h (done ++ rest) names (items ++ x ∷ []) ≡ sample_open h (done ++ rest) names items
 open_same h names items x done rest e settled others =
     open_is h names (items ++ x ∷ []) done rest (all_settled_same true items x done e settled) (all_settled_same false items x rest e others)
     ∙ lines_still h names items done rest settled others x ∙ sym (open_is h names items done rest settled others)
 
--- a mark: the lines of the times that it settles, with the values before it
+-- a timestamp: the lines of the times that it settles, with the values before it
 pub open_at_mark : (h : Header) (names : List (List ℕ)) (items : List BodyItem) (t : ℕ) (done rest : List ℕ) → AreSettled true (items ++ BodyItem.Time t ∷ []) done → AreSettled false (items ++ BodyItem.Time t ∷ []) rest
     → sample_open h (done ++ rest) names (items ++ BodyItem.Time t ∷ []) ≡ lines_of h names items done
 open_at_mark h names items t done rest settled others =
@@ -167,7 +167,7 @@ module _ (h : Header) (names : List (List ℕ)) (items : List BodyItem) (t : ℕ
       both [] s = all_settled_by items t below low
       both (u ∷ ts) s = (settled_more items (BodyItem.Time t ∷ []) u s.0, both ts s.1)
 
-  -- the lines of the times below a mark are due with it
+  -- the lines of the times below a timestamp are due with it
   pub due_at_mark : sample_open h (done ++ (below ++ others)) names (items ++ BodyItem.Time t ∷ []) ≡ sample_open h (done ++ (below ++ others)) names items ++ lines_of h names items below
   due_at_mark =
       ap (λ ts. sample_open h ts names (items ++ BodyItem.Time t ∷ [])) (sym (append_assoc done below others))
@@ -175,7 +175,7 @@ module _ (h : Header) (names : List (List ℕ)) (items : List BodyItem) (t : ℕ
       ∙ flat_map-append (sample_lines (selected names h.declarations) items) done below
       ∙ ap (λ l. l ++ lines_of h names items below) (sym (open_is h names items done (below ++ others) settled unsettled))
 
--- ---- whether a mark ends the run
+-- ---- whether a timestamp ends the run
 
 -- the last of times that all pass
 last_passes : (P : ℕ → Type 0) (o : Option ℕ) (done : List ℕ) (u : ℕ) (rest : List ℕ) → AllByRecursion P (u ∷ rest) → (l : ℕ) × (last_or o (done ++ u ∷ rest) ≡ Some l) × P l
@@ -209,7 +209,7 @@ goes_on names items t done u rest after =
     let o = or_parts (is_settled items last.0) (nat_lt last.0 t || false) (sym (settled_with items t last.0) ∙ last.2) in
     early_is names items t last.0 (done ++ u ∷ rest) last.1 o.0 ∙ last.2
 
--- nor does an item that is no mark
+-- nor does an item that is no timestamp
 pub goes_on_other : (names : List (List ℕ)) (times : List ℕ) (x : BodyItem) → marks (x ∷ []) ≡ [] → ends_early (Request.Sample times names) x ≡ false
 goes_on_other names times x e = by_last (last_or None times) x e
   where

@@ -83,7 +83,7 @@ enclosing-var ds v = walk_after ds (Declaration.Var v) ∙ sym (enclosing_is ds)
 
 -- ---- the open scopes as a state that goes forward
 
--- these places, innermost first, are those of the scopes that the declarations leave open, and no
+-- these indexes, innermost first, are those of the scopes that the declarations leave open, and no
 -- more were closed than opened
 pub record LeavesOpen (ds : List Declaration) (scopes : List ℕ) : Type 0 where
   pub are : enclosing ds ≡ scopes
@@ -126,7 +126,7 @@ open_scopes_is ds scopes is = let n = is.count in omega arith
 
 -- ---- the innermost scope, and those around it
 
--- the place is that of a scope, and these are the places of the scopes around it
+-- the index is that of a scope, and these are the indexes of the scopes around it
 pub record IsInnermost (ds : List Declaration) (p : ℕ) (around : List ℕ) : Type 0 where
   pub before : p < length ds
   pub type : List ℕ
@@ -134,7 +134,7 @@ pub record IsInnermost (ds : List Declaration) (p : ℕ) (around : List ℕ) : T
   pub at : slice_get ds p ≡ Some (Declaration.Scope type name)
   pub outer : enclosing (take p ds) ≡ around
 
--- a walk back stops at the nearest scope that is open, and goes on from it
+-- a walk back stops at the nearest scope that is open, and continues from it
 record Stops (back : List Declaration) (p : ℕ) (around : List ℕ) : Type 0 where
   nearer : List Declaration
   type : List ℕ
@@ -176,7 +176,7 @@ innermost ds p around e =
       outer = ap enclosing cut ∙ enclosing_is front ∙ ap (walk zero) (reverse-reverse s.farther) ∙ s.rest;
     }
 
--- the places of enclosing scopes are before the declaration
+-- the indexes of enclosing scopes are before the declaration
 below : (closed : ℕ) (back : List Declaration) (n : ℕ) → length back ≤ n → AllByRecursion (λ i. i < n) (walk closed back)
 unfolding walk
 below closed [] n h = tt
@@ -194,7 +194,7 @@ slice_get-take [] (suc n) i h = refl
 slice_get-take (x ∷ xs) (suc n) zero h = refl
 slice_get-take (x ∷ xs) (suc n) (suc i) h = slice_get-take xs n i (omega arith)
 
--- names at places that are before n stand among the first n declarations
+-- names at indexes below n are among the first n declarations
 names-take : (ds : List Declaration) (n : ℕ) (places : List ℕ) → AllByRecursion (λ i. i < n) places → names_at (take n ds) (reverse places) ≡ names_at ds (reverse places)
 names-take ds n [] h = refl
 names-take ds n (i ∷ places) h =

@@ -6,7 +6,7 @@ use Rattle.vcd_model.specs.Reading.Ending.{AtFault, AtEnd, AtLast}
 use Rattle.vcd_model.specs.SoFar.{IsSoFar, IsWhole}
 
 module _ {P : Type 0} (g : Grammar P) where
-  -- reading on behind a phrase, which may be the last of its kind
+  -- reading on after a phrase, which may be the last of its kind
   abbrev pub behind_phrase : List (Placed P) → List Token → Bool → Reading P
   behind_phrase placed ts true = record { placed = placed; before = []; ending = AtLast; rest = ts }
   behind_phrase placed ts false = read_from g placed [] ts
@@ -31,7 +31,7 @@ module _ {P : Type 0} (g : Grammar P) where
   token_step placed before t ts None None e f = rw (e, read_from, f) refl
   token_step placed before t ts None (Some p) e f = rw (e, read_from, f) (behind_is (placed ++ record { phrase = p; line = t.line } ∷ []) ts (g.is_last p))
 
-  -- a reading that ends with its tokens goes on from there
+  -- a reading that ends with its tokens continues from there
   abbrev GoesOn : List Token → Type 0
   GoesOn xs = (placed placed' : List (Placed P)) (before before' : List (List ℕ)) (ys : List Token)
       → read_from g placed before xs ≡ record { placed = placed'; before = before'; ending = AtEnd; rest = [] } → read_from g placed before (xs ++ ys) ≡ read_from g placed' before' ys
@@ -88,7 +88,7 @@ module _ {P : Type 0} (g : Grammar P) where
       → reading_of g (given ++ t ∷ more) ≡ record { placed = placed; before = before; ending = AtFault (record { number = n; line = t.line }); rest = t ∷ more }
   faulty-token given placed before t more n h e = at_next given placed before t more (Some n) (g.phrase (before ++ t.bytes ∷ [])) h e refl
 
-  -- ---- behind the last phrase of the kind nothing is read
+  -- ---- after the last phrase of the kind nothing is read
 
   abbrev Stops : List Token → Type 0
   Stops xs = (placed placed' : List (Placed P)) (before : List (List ℕ)) (ys : List Token)
@@ -118,7 +118,7 @@ module _ {P : Type 0} (g : Grammar P) where
 
   -- ---- before the last token
 
-  -- where reading goes on behind these tokens and one more, it goes on behind them; if all are
+  -- where reading continues after these tokens and one more, it continues after them; if all are
   -- whole phrases, the last one is whole with the last token
   pub record AllButLast (placed : List (Placed P)) (before : List (List ℕ)) (xs : List Token) (whole : List (Placed P)) (inner : List (List ℕ)) : Type 0 where
     pub earlier : List (Placed P)
@@ -169,7 +169,7 @@ module _ {P : Type 0} (g : Grammar P) where
       let q = g.phrase (before ++ x.bytes ∷ []) in
       cut_token xs (cuts_last xs) placed whole before inner x t o q (token_step placed before x xs o q refl refl) (sym (token_step placed before x (xs ++ t ∷ []) o q refl refl) ∙ h)
 
-  -- tokens behind which reading goes on, without the last of them
+  -- tokens after which reading continues, without the last of them
   pub without-last : (xs : List Token) (t : Token) (whole : List (Placed P)) (inner : List (List ℕ)) → IsSoFar g (xs ++ t ∷ []) whole inner → AllButLast [] [] xs whole inner
   unfolding reading_of
   without-last xs t whole inner h = cuts_last xs [] whole [] inner t h

@@ -13,7 +13,7 @@ use Rattle.vcd_model.proofs.ScopeLemmas.{LeavesOpen, none_open, scope_open, up_o
 
 -- ---- the open scopes, with their names
 
--- an open scope: its place, and its name
+-- an open scope: its index, and its name
 abbrev pub Open : Type 0
 Open = ℕ × List ℕ
 

@@ -1,5 +1,5 @@
 -- When what is known of the inputs of a merge settles it, so that no more of any of them need be
--- read (profile). A fault of one input, its own or a time mark that is too large, settles the
+-- read (profile). A fault of one input, its own or a timestamp that is too large, settles the
 -- others once they have come past it.
 use Rattle.std.specs.Prelude.{ℕ, ◌+◌, Bool, true, false, ◌&&◌, ◌||◌, is_some, List, [], ◌∷◌, ◌++◌, map, Option, Some, None}
 use Rattle.vcd_model.specs.Tokens.{Token, Stream}

@@ -1,4 +1,4 @@
--- Readings that go on: the tokens so far are good phrases, and maybe the first tokens of one more.
+-- Unfinished readings: the tokens so far are good phrases, and maybe the first tokens of one more.
 use Rattle.std.specs.Prelude.{◌≡◌, ℕ, List, []}
 use Rattle.vcd_model.specs.Tokens.{Token}
 use Rattle.vcd_model.specs.Reading.{Placed, Grammar, reading_of}

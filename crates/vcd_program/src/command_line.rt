@@ -68,7 +68,7 @@ fn run_matches<H: Host, W: Sink, E: Sink, B: BuildHasher>(
 }
 
 /// What `clap` advises for a word that is no option, where the word asks for a file for the output,
-/// and what is said in its place: such a word is nothing to pass as a value.
+/// and what is said instead: such a word is nothing to pass as a value.
 const O_AS_A_VALUE: &str = "tip: to pass '-o' as a value, use '-- -o'";
 
 const OUTPUT_AS_A_VALUE: &str = "tip: to pass '--output' as a value, use '-- --output'";

@@ -70,7 +70,7 @@ lanes_value v long all = sum_is v long ∙ ap (λ l. fold_l (λ s x. s + x) 0 (z
 
 -- ---- the last n of eight lanes, with zeros before them
 
--- the last bytes of v, with digits 0 in place of the first m
+-- the last bytes of v, with digits 0 for the first m
 abbrev pub padded : ℕ → List ℕ → List ℕ
 padded m v = replicate m 48 ++ drop m v
 
@@ -127,7 +127,7 @@ lanes_kept n v few long =
     ∙ cleared (8 - n) n v (omega arith)
     ∙ sym (zip2_splat (λ x y. (x + (2 ^ 8 - y)) % 2 ^ 8) (padded (8 - n) v) 8 48 (length-padded (8 - n) v (omega arith) ∙ long))
 
--- the last n of the eight bytes before a place
+-- the last n of the eight bytes before an offset
 pub last_of_eight : (bytes : List ℕ) (to n : ℕ) → 8 ≤ to → n ≤ 8 → drop (8 - n) (chunk (to - 8) 8 bytes) ≡ slice_range bytes (to - n) to
 last_of_eight bytes to n le few =
     let all : 8 ≡ 8 - n + n = omega arith in

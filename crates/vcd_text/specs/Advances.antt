@@ -5,7 +5,7 @@ use Rattle.vcd_text.specs.declared.device.Source.{Ghosts}
 use Rattle.vcd_text.specs.declared.feed.Feed.{Feed}
 use Rattle.vcd_text.specs.declared.answer.Halt.TheVariants as halt
 
--- how a call ends: the reading goes on, or it has ended or is refused, or the source has failed
+-- how a call ends: the reading continues, or it has ended or is refused, or the source has failed
 pub data CallEnd : Type 0 where
   GoesOn : CallEnd
   Ends : CallEnd

@@ -29,7 +29,8 @@ fn few_digits(bytes: &[u8], to: usize, n: usize) -> Option<u64>
     Some(u64::from(worth.strict_reduce_sum()))
 }
 
-/// Returns the number that the bytes from one offset up to another spell, as `decimal_of` does.
+/// Returns the number that the bytes from one offset up to another spell, as `decimal_of` does;
+/// `None` where that has none.
 // At most 16 are read by one or two looks at eight bytes: digit by digit the times of a dump of
 // Icarus Verilog take 25 of 104 instructions an item of its `check`. With more than eight digits no
 // look begins before the first: a turn of a merge begins at its time.

@@ -147,7 +147,7 @@ fn tell_one_ahead(ahead: &mut Ahead<'_>, told: &mut Told) -> bool {
     true
 }
 
-// Tells the tokens ahead, and goes on with the feed after them.
+// Records the tokens ahead, and continues with the feed after them.
 fn tell_ahead(feed: &mut Feed<'_, '_, '_, '_, Watch<Pieces<'_>>>, told: &mut Told)
     ensures { source_of feed.new ≡ source_of feed.old }
 {

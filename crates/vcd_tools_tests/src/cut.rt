@@ -9,7 +9,7 @@ pub(crate) const KINDS: &[u8] =
         $enddefinitions $end\n\
         #9\n0!\nr1.5 \"\n1#\n#10\n1!\n1#\n#20\nr2 \"\n#21\n0!\n";
 
-// A dump of these variables with a change before the first time mark.
+// A dump of these variables with a change before the first timestamp.
 const UNMARKED: &[u8] =
     b"$var wire 1 ! a $end\n$var real 1 \" r $end\n$var event 1 # e $end\n$var wire 2 % u $end\n\
         $enddefinitions $end\n\

@@ -16,7 +16,7 @@ const SHORT_SAMPLED: &[u8] =
     b"0 v -\n0 w -\n1 v 0010\n1 w 00000001\n2 v xx10\n2 w 00000001\n3 v zzx0\n3 w 00000001\n\
         4 v 0x10\n4 w 00000001\n";
 
-// A dump with a word that is no item after its second time mark.
+// A dump with a word that is no item after its second timestamp.
 const FAULTY: &[u8] =
     b"$var wire 4 ! v $end\n$var wire 8 \" w $end\n$enddefinitions $end\n#1\nb1 !\n#2\n?\n";
 

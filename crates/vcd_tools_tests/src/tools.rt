@@ -202,8 +202,8 @@ fn a_report_ends_where_a_write_fails(rt: HostRuntime) -> Result<(), Fail> {
     Ok(())
 }
 
-// What is written before the first step of a task, after each step that goes on, and after the last
-// one, and what that one returns; of a task that is refused as it begins, why.
+// What is written before the first step of a task, after each step but the last, and after the
+// last one, and what that one returns; of a task that is refused as it begins, why.
 #[derive(Clone, Copy)]
 struct Steps<'a> {
     before: &'a [u8],
@@ -212,7 +212,7 @@ struct Steps<'a> {
     after_last: &'a [u8],
 }
 
-// Whether an engine goes on after its next step, and this is written then.
+// Whether an engine continues after its next step, and this is written then.
 fn steps_on<S: Source>(
     engine: &mut Engine<'_, '_, '_>,
     feed: &mut Feed<'_, '_, '_, '_, S>,
@@ -442,8 +442,8 @@ fn steps_of_a_pick_write_what_is_due(rt: HostRuntime) -> Result<(), Fail> {
     Ok(())
 }
 
-// What is written of the cut of `KINDS` at first, with the mark 10, and with each change of that
-// time.
+// What is written of the cut of `KINDS` at first, with the timestamp 10, and with each change of
+// that time.
 const CUT: &[u8] =
     b"$var wire 1 ! a $end\n$var real 1 \" r $end\n$var event 1 # e $end\n$var wire 2 % u $end\n\
         $enddefinitions $end\n";

@@ -7,7 +7,7 @@ use std::hash::{BuildHasher, Hasher};
 
 /// Two numbers by which codes are hashed. Who does not know them cannot choose codes whose hashes
 /// fall together.
-// 100,000 codes crafted for a seed that is known take 7.5 s, others 0.1 s.
+// Codes crafted for a seed that is known, 100,000 of them, take 75 times as long as others.
 #[derive(Clone, Copy, PartialEq, Eq, Debug)]
 pub struct CodeSeed {
     /// What a word is multiplied by, to 128 bits.

@@ -32,7 +32,7 @@ module _ (old new : Arg) (r : Rule) (before : IsLocal old r) where
   pub with_required : (required : Bool) → new ≡ record old { required = required } → IsLocal new (record r { required = required })
   with_required required e = (ap rule_of e ∙ ap (λ (r : Rule). record r { required = required }) before.0, ap (λ (a : Arg). a.global) e ∙ before.1)
 
-  -- the word that stands where there is none
+  -- the word that is taken where there is none
   pub with_default : (word : Bor Text) → new ≡ record old { default_vals = One word } → IsLocal new (record r { defaults = word.now ∷ [] })
   with_default word e = (ap rule_of e ∙ ap (λ (r : Rule). record r { defaults = word.now ∷ [] }) before.0, ap (λ (a : Arg). a.global) e ∙ before.1)
 

@@ -66,7 +66,7 @@ two_files : fault_of program_app (said ("list" ∷ "a.vcd" ∷ "b.vcd" ∷ [])) 
 unfolding clap_on_literals
 two_files = refl
 
--- ---- where names stand, a word is a name
+-- ---- where names are, a word is a name
 
 names_alone : file ("pick" ∷ "a.vcd" ∷ "tb" ∷ []) ≡ None
 unfolding clap_on_literals

@@ -127,7 +127,7 @@ module _ (scale : Option ℤ) (ns : List ℕ) (us : List (Option ℤ)) (names : 
 abbrev pub so_far : Option ℤ → List ℕ → List (Option ℤ) → ℕ → List (Result ℕ ℕ)
 so_far scale ns us p = found (take p ns) ++ all_ticks scale (drop p ns) (drop p us)
 
--- the time at a place
+-- the time at an index
 abbrev pub time_at : List ℕ → List (Option ℤ) → ℕ → ℕ → Option ℤ → Moment
 time_at ns us p n u = record { number = get_or ns p n; unit = get_or us p u }
 
@@ -167,7 +167,7 @@ refused_at None m ms ks rest OutOfRange t e = absurd (unscaled m false t)
 refused_at (Some scale) m ms ks rest OutOfRange t e =
     (ap (list_all is_ok) e ∙ not_all ks 22 rest, rw (all_scaled scale ms) refl)
 
--- the list from a place on
+-- the list from an index on
 from_place : (scale : Option ℤ) (ns : List ℕ) (us : List (Option ℤ)) (p n : ℕ) (u : Option ℤ) → length us ≡ length ns → p < length ns
     → all_ticks scale (drop p ns) (drop p us) ≡ moment_ticks scale (time_at ns us p n u) false ∷ all_ticks scale (drop (suc p) ns) (drop (suc p) us)
 from_place scale [] us p n u e l = absurd (omega arith)
@@ -229,7 +229,7 @@ asked_of ns us long some rises =
     let one : 0 < length ns.items = omega (arith, some, ns.ok.0) in
     and_from _ _ (and_from _ _ (eq-eqb _ _ long) (not_none ns.items one)) (either (has_units us.items) (do_rise ns.items) rises)
 
--- and still may once other numbers and units of as many times are in their place
+-- and still may once they are replaced by as many other numbers and units
 pub asked_again : (ns ms : List ℕ) (us vs : List (Option ℤ)) → (length us == length ns && not (is_empty ns) && (has_units us || do_rise ns)) ≡ true → length vs ≡ length ms → length ms ≡ length ns → (has_units vs || do_rise ms) ≡ true
     → (length vs == length ms && not (is_empty ms) && (has_units vs || do_rise ms)) ≡ true
 asked_again ns ms us vs told paired many order =

@@ -166,7 +166,7 @@ fault_of_words OutOfMemory a h = absurd h
 
 -- ---- a sample
 
--- a list at one of its places
+-- a list at one of its indexes
 at_place : (all : List (List ℕ)) (n : ℕ) (word : List ℕ) → n < length all → word ≡ get_or all n word → all ≡ take n all ++ word ∷ drop (suc n) all
 at_place all n word l e = sym (take-append-drop n all) ∙ ap (λ rest. take n all ++ rest) (drop-cons all n word l ∙ ap (λ w. w ∷ drop (suc n) all) (sym e))
 

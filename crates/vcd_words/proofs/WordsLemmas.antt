@@ -94,7 +94,7 @@ fault-in NotRising asked e = e
 fault-in TooManyFiles asked e = e
 fault-in OutOfMemory asked e = absurd e
 
--- ---- what stands after the command that was used
+-- ---- what comes after the command that was used
 
 -- the first word of an option
 pub first-after : (used : Option (Text × List Row)) (rows : List Row) (id : Text) → Some rows ≡ option_map (λ u. u.1) used → first_of id rows ≡ option_and_then (λ u. first_of id u.1) used

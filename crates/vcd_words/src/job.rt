@@ -62,7 +62,8 @@ impl Want {
         matches!(self, Want::Merge)
     }
 
-    /// Returns the names that have to select something.
+    /// Returns the names that have to select something; none where the command takes no names, or
+    /// all variables.
     pub fn names(&self) -> &[String]
         ensures { map string_bytes result.now ≡ names_asked self.now }
     {

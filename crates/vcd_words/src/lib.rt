@@ -2,7 +2,7 @@
 //!
 //! `command_of` says which words are taken, and `job_of` which `Job` their matches ask for, or why
 //! they ask for none. Both are the definitions' (`specs/Words` of `vcd_model`). Times with units
-//! are ticks only once a header is read: `write_ticks` puts those of a sample in ticks, in place.
+//! are ticks only once a header is read: `write_ticks` converts those of a sample in place.
 //! It opens no file and writes nothing.
 //!
 //! # The modules
@@ -13,7 +13,7 @@
 //! - `job`: `Job`, `Want` with its names, `UseFault`; `job_of`
 //! - `moment_word`: the times that words are, and the fault of those that are none; a cut and a
 //!   sample at such times
-//! - `sample_ticks`: ticks in place of the numbers of a sample's times
+//! - `sample_ticks`: ticks instead of the numbers of a sample's times
 //! - `refusal`: why times are refused, once the header is read
 //!
 //! In `specs/`: `Words`, what the command line takes and asks for; `Times` and `Ticks`, its times;

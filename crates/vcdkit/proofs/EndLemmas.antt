@@ -143,7 +143,7 @@ module _ (limit chunk : ℕ) (names texts : List (List ℕ)) (old new : List Sup
       let s = stops is_header_over (λ most ts e. e) _ h in
       record { lefts = s.lefts; read = s.read; needed = needed _ _ s; leaves = writes-none out }
 
--- ---- a merge behind its headers
+-- ---- a merge after its headers
 
 merge_due : (limit : ℕ) (names : List (List ℕ)) (inputs : List Input) (opened : List Opened) → open_from limit [] inputs ≡ Ok opened → outcome Want.Merge limit names inputs ≡ merge_outcome names (dumps_of opened)
 unfolding outcome request_of

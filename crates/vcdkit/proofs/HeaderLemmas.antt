@@ -44,7 +44,7 @@ use Rattle.vcdkit.specs.Inputs.{Begins, HasFailed, IsBegun, IsNew}
 
 -- ---- what settles a run
 
--- a header that goes on is not over
+-- a header that continues is not over
 pub going_header : (most : ℕ) (given : List Token) → IsGoing most given → is_header_over most given ≡ false
 unfolding is_header_over
 going_header most given e = rw e refl
@@ -59,7 +59,7 @@ pub unsettled_header : (wanted : Want) (most : ℕ) (given : List Token) → is_
 unfolding is_header_over is_settled
 unsettled_header wanted most given e = settled_going wanted (reading_of (header_grammar most) given) (reading_of (header_grammar most) given).ending e
 
--- a whole header leaves it to the tokens behind it
+-- a whole header leaves it to the tokens after it
 pub settled_run : (wanted : Want) (most : ℕ) (given ts : List Token) (placed : List (Placed HeaderPhrase)) → IsWhole (header_grammar most) given placed
     → is_settled wanted most (given ++ ts) ≡ is_settled_by (request_of (header_of (phrases_of placed)).scale wanted) (header_of (phrases_of placed)) ts
 unfolding is_settled
@@ -147,7 +147,7 @@ module _ {X : Type 0} {x : Ghosts X} (most limit chunk : ℕ) (i : Input) (befor
     abbrev EndsWith : Failure → Type 0
     EndsWith why = HasFailed most limit chunk place i before (supply_of feed) why
 
-    -- the fault stands at the line
+    -- the fault has the line
     placed : (n : ℕ) (left : Input) → HasFault most (limit_of feed) left n (token_of feed).line → HasFault most limit left n line
     placed n left f = ap (λ m. header_fault_of (stream_of m left) (read_header most (stream_of m left))) (sym l) ∙ f ∙ ap (λ m. Some (record { number = n; line = m })) (sym is)
 
@@ -229,10 +229,10 @@ none_read most limit chunk place i before = record {
   is_why = tt;
 }
 
--- ---- behind the header
+-- ---- after the header
 
 module _ (most limit chunk : ℕ) (i : Input) (l : Lane) (before mid : Supply) (b : IsBegun most limit chunk i l before mid) where
-  -- nothing was read behind the header
+  -- nothing was read after the header
   pub header_only : (after : Supply) → after.rest ≡ mid.rest → ReadsAsNeeded limit chunk before after i [] (is_header_over most)
   header_only after same =
       ToToken b.before b.last (subst (λ ts. IsPrefixOf ts (stream_of limit i).tokens) b.is b.given_first) (going_header most b.before b.going)
@@ -247,12 +247,12 @@ module _ (most limit chunk : ℕ) (i : Input) (l : Lane) (before mid : Supply) (
     is_why = tt;
   }
 
-  -- what is left behind the header is what is left of the input
+  -- what is left after the header is what is left of the input
   pub left_since : (after : Supply) (left : Input) → IsLeft i mid after left → IsLeft i before after left
   left_since after left (inl is) = inl (is.0 ∙ b.failures, is.1)
   left_since after left (inr is) = inr (is.0 ∙ ap (λ n. n + 1) b.failures, is.1, is.2, is.3)
 
-  -- what was read, for work that the tokens behind the header settle
+  -- what was read, for work that the tokens after the header settle
   module _ (settled behind : List Token → Bool) (on : (ts : List Token) → is_header_over most ts ≡ false → settled ts ≡ false) (since : (ts : List Token) → behind ts ≡ false → settled (l.front ++ ts) ≡ false) where
     pub all_read : (after : Supply) (left : Input) → IsLeft i mid after left → ReadsAsNeeded limit chunk mid after left l.front behind → ReadsAsNeeded limit chunk before after left [] settled
     all_read after left (inl is) (Nothing same) =
@@ -276,6 +276,6 @@ module _ (most limit chunk : ℕ) (i : Input) (l : Lane) (before mid : Supply) (
   pub header_read : (left : Input) (rest : List Token) → (stream_of limit left).tokens ≡ l.front ++ rest → header_of (phrases_of (read_header most (stream_of limit left)).placed) ≡ l.header
   header_read left rest e = ap (λ (r : Reading HeaderPhrase). header_of (phrases_of r.placed)) (reading_is left rest e) ∙ sym b.header_is
 
-  -- and these tokens behind it
+  -- and these tokens after it
   pub rest_read : (left : Input) (rest : List Token) → (stream_of limit left).tokens ≡ l.front ++ rest → (read_header most (stream_of limit left)).rest ≡ rest
   rest_read left rest e = ap (λ (r : Reading HeaderPhrase). r.rest) (reading_is left rest e)

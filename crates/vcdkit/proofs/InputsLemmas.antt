@@ -36,7 +36,7 @@ begun_more limit chunk earlier (u ∷ texts) (a ∷ old) (c ∷ new) (m ∷ lane
 )
 begun_more limit chunk earlier texts old new lanes text s t l b one = absurd b
 
--- or it ended the run, before any behind it was read
+-- or it ended the run, before any after it was read
 pub stops_at : (limit chunk place : ℕ) (earlier : List Header) (texts more : List (List ℕ)) (old new behind : List Supply) (lanes : List Lane) (text : List ℕ) (s t : Supply) (at : ℕ) (why : Failure) → AreBegun limit chunk earlier texts old new lanes
     → at ≡ place + length texts → length behind ≡ length more → HasFailed (allowed_after (earlier ++ headers_in lanes)) limit chunk at (whole text) s t why
     → Stops limit chunk place earlier (texts ++ text ∷ more) (old ++ s ∷ behind) (new ++ t ∷ behind) why
@@ -115,7 +115,7 @@ first_here limit earlier i inputs (Stopped (Unmatched name)) w = absurd w
 first_here limit earlier i inputs (Refused why) w = absurd w
 first_here limit earlier i inputs OutOfMemory w = tt
 
--- or of one behind it
+-- or of one after it
 first_behind : (limit chunk : ℕ) (earlier : List Header) (i : Input) (inputs : List Input) (l : Lane) (s t : Supply) (why : Failure) → IsBegun (allowed_after earlier) limit chunk i l s t → IsFirst limit (earlier ++ l.header ∷ []) inputs why → IsFirst limit earlier (i ∷ inputs) why
 first_behind limit chunk earlier i inputs l s t (Stopped (Dump input line fault)) b f =
     (f.0, opens limit chunk earlier i i inputs l s t b.given_first.0 b b.given_first.1 ∙ ap (with_opened (record { header = l.header; stream = stream_of limit i; rest = b.given_first.0 })) f.1)
@@ -161,9 +161,9 @@ module _ (settled : ℕ → List Token → Bool) (on : (most : ℕ) (ts : List T
       }
   stops_read place earlier texts old new why many stops = absurd stops
 
--- ---- a merge behind the headers
+-- ---- a merge after the headers
 
--- what settles an input of a merge behind its header
+-- what settles an input of a merge after its header
 merge_settled : (most : ℕ) (limit chunk : ℕ) (i : Input) (l : Lane) (s t : Supply) (ts : List Token) → IsBegun most limit chunk i l s t → is_settled Want.Merge most (l.front ++ ts) ≡ is_settled_behind Request.Merge l.header ts
 unfolding request_of
 merge_settled most limit chunk i l s t ts b =

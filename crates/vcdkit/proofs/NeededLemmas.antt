@@ -54,7 +54,7 @@ seen_header most limit chunk earlier i l s t b seen rest ss allowed tokens =
     ap (λ (r : Reading HeaderPhrase). seen_at seen r r.ending (headers_seen (earlier ++ header_of (phrases_of r.placed) ∷ []) ss)) reading
     ∙ ap (λ (h : Header). seen_before (record { header = h; rest = rest; whole = whole_of seen }) (headers_seen (earlier ++ h ∷ []) ss)) (sym b.header_is)
 
--- one whose header goes on
+-- one whose header continues
 seen_going : (earlier : List Header) (ts : List Token) (ss : List Seen) → is_header_over (allowed_after earlier) ts ≡ false → headers_seen earlier (Seen.First ts ∷ ss) ≡ NotWhole
 unfolding is_header_over
 seen_going earlier ts ss going =
@@ -83,7 +83,7 @@ passed_more limit chunk pre earlier i left l s t rest b tokens passed = λ ss no
 
 -- ---- headers alone
 
--- of the inputs from this place on, no more was read than what settles a merge of all of them
+-- of the inputs from this index on, no more was read than what settles a merge of all of them
 abbrev pub AreNeededFrom : (limit chunk : ℕ) → (all : List Input) → ℕ → (old new : List Supply) → List Input → Type 0
 AreNeededFrom limit chunk all n old new inputs = (k : ℕ) (s t : Supply) (i : Input) → slice_get old k ≡ Some s → slice_get new k ≡ Some t → slice_get inputs k ≡ Some i → ReadsAsNeeded limit chunk s t i [] (settles_among limit all (n + k))
 
@@ -123,7 +123,7 @@ shifted pre more i = sym (append_assoc pre (i ∷ []) more)
 pub none_passed : (limit : ℕ) → ArePassed limit [] []
 none_passed limit = λ ss e. e
 
--- ---- a merge behind the headers
+-- ---- a merge after the headers
 
 -- the headers and what is known after them
 module _ (limit chunk : ℕ) where
@@ -163,7 +163,7 @@ settled_since : (limit chunk : ℕ) (texts : List (List ℕ)) (old mid new : Lis
 unfolding is_settled_merge
 settled_since limit chunk texts old mid new lanes lefts opened b left o k l ts at = ap settles_merge (first_known limit chunk [] texts old mid new lanes lefts opened b left o k l ts at)
 
--- what was read behind the headers, and with them
+-- what was read after the headers, and with them
 module _ (limit chunk : ℕ) (all : List Input) (behind : ℕ → Header → List Token → Bool) where
   from_headers : (pre : List Input) (earlier : List Header) (texts : List (List ℕ)) (old mid new : List Supply) (lanes : List Lane) (lefts : List Input) (opened : List Opened) → all ≡ pre ++ lefts → ArePassed limit pre earlier → AreBegun limit chunk earlier texts old mid lanes
       → AreLeft limit chunk lanes mid new lefts → AreOpened limit lanes lefts opened

@@ -78,7 +78,7 @@ get_within [] k x at = cc
 get_within (z ∷ xs) zero x at = omega arith
 get_within (z ∷ xs) (suc k) x at = let h = get_within xs k x at in omega arith
 
--- a read of the reader at a place failed, and of no other
+-- a read of the reader at an index failed, and of no other
 pub counts_at : {X : Type 0} (f : X → ℕ) (old xs : List X) (k : ℕ) (x y : X) (why : Option Failure) → map f xs ≡ map f old → slice_get xs k ≡ Some x → CountsRead k (f x) (f y) why → CountsReads (map f old) (map f (slice_set xs k y)) why
 counts_at f old xs k x y None same at c = set_own f xs k x y at c ∙ same
 counts_at f old xs k x y (Some (Stopped (Dump input line fault))) same at c = set_own f xs k x y at c ∙ same
@@ -215,7 +215,7 @@ module _ {X : Type 0} (limit chunk n : ℕ) (rest : X → Option (List ℕ)) (fa
           limit_same : part_len n tokens' ≡ part_len n tokens
           limit_same = ap (λ m. m / n) tl
 
-          -- the others stand as they stood
+          -- the others are as they were
           place_before : (j : ℕ) → j < k → place_of n rest (seats ++ seat ∷ []) (slice_set now k after) chunks' tokens' j ≡ place_of n rest seats now chunks tokens j
           place_before j below =
               let apart : j ≢ k = λ e. absurd (omega (arith, e)) in

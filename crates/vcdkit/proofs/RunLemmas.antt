@@ -148,7 +148,7 @@ listed limit chunk i front h name before old out out' r l st t f answer = record
 
 -- ---- after the header
 
--- the place of the only input is 0
+-- the index of the only input is 0
 leaves-placed : (task : Request) (asked : List (List ℕ)) (o : Outcome) (name : List ℕ) (out out' : Device) (r : Result Done Stop) → names_of task ≡ asked → Belongs task o name out out' r → Leaves asked o name out out' (end_of r 0)
 leaves-placed task asked o name out out' (Ok done) same b = b
 leaves-placed task asked o name out out' (Err (Dump input line fault)) same b = (task, same, (refl, b.1, b.2, b.3))
@@ -271,7 +271,7 @@ refused wanted limit chunk i name before after out failure.OutOfMemory h = recor
   leaves = writes-none out;
 }
 
--- ---- behind the header
+-- ---- after the header
 
 -- a header that is not over settles nothing
 going : (wanted : Want) (r : Result Done Failure) (ts : List Token) → is_header_over declarations_allowed ts ≡ false → settles wanted r ts ≡ false
@@ -280,7 +280,7 @@ going wanted (Err (failure.Stopped stop)) ts e = unsettled_header (model_want wa
 going wanted (Err (failure.Refused why)) ts e = unsettled_header (model_want wanted) declarations_allowed ts e
 going wanted (Err failure.OutOfMemory) ts e = e
 
--- what settles a run behind its header
+-- what settles a run after its header
 abbrev is_settled_in : Want → Header → List Token → Bool
 is_settled_in wanted h = is_settled_by (request_of h.scale (model_want wanted)) h
 

@@ -64,7 +64,7 @@ fn say_both<E: Sink>(err: &mut E, first: &str, second: &str, status: u8) -> u8
     status
 }
 
-/// Returns the name at this index.
+/// Returns the name at this index, empty where there is none.
 fn name_of(names: &[String], place: usize) -> &str
     ensures { result.now ≡ name_at (map string_bytes names.now) place }
 {

@@ -72,8 +72,8 @@ pub extern "C" fn vcdkit_run(
     }
 }
 
-/// Finds the changes of the variables with this identifier code, from the place of the reading on,
-/// as many as there are rows, and returns the status, as `changes` of `vcd_changes` does.
+/// Finds the changes of the variables with this identifier code, from the `Place` of the reading
+/// on, as many as there are rows, and returns the status, as `changes` of `vcd_changes` does.
 #[unsafe(no_mangle)]
 pub extern "C" fn vcdkit_changes(
     alloc: Global,

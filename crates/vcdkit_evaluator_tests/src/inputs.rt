@@ -50,12 +50,12 @@ pub(crate) fn sections() -> &'static [u8] {
         #5\n$dumpoff\nx!\nbx \"\n$end\n"
 }
 
-// A fault after a time mark.
+// A fault after a timestamp.
 pub(crate) fn faulty() -> &'static [u8] {
     b"$var wire 4 ! v $end\n$var wire 8 \" w $end\n$enddefinitions $end\n#1\nb1 !\n#2\n?\n"
 }
 
-// A mark of an event inside a section.
+// A trigger of an event inside a section.
 pub(crate) fn marked() -> &'static [u8] {
     b"$var wire 1 ! a $end\n$var real 1 \" r $end\n$var event 1 # e $end\n$var wire 2 % u $end\n\
         $enddefinitions $end\n\

@@ -5,7 +5,7 @@ use super::runs::{
 };
 use vcd_words::Words;
 
-// A dump with a change before its first time mark, and its cut from 0 to 5.
+// A dump with a change before its first timestamp, and its cut from 0 to 5.
 const UNMARKED: &[u8] =
     b"$var wire 1 ! a $end\n$var real 1 \" r $end\n$var event 1 # e $end\n$var wire 2 % u $end\n\
         $enddefinitions $end\n\

@@ -179,9 +179,9 @@ fn inputs_are_merged(rt: HostRuntime) {
 }
 
 // Scopes: one for each input, and 7, 4 and 2 that hold a variable. Variables: 24, 19 and 12. Codes:
-// 18, 9 and 12. Changes: 202, 72 and 84; the marks of events inside sections, 9 in the first dump,
-// are not written. Times: 54 with a change, and the last, 122 ns in femtoseconds. No section is
-// written. A script apart from the program counted them in the three files.
+// 18, 9 and 12. Changes: 202, 72 and 84; the triggers of events inside sections, 9 in the first
+// dump, are not written. Times: 54 with a change, and the last, 122 ns in femtoseconds. No section
+// is written. A script apart from the program counted them in the three files.
 const PRODUCED_COUNTS: &[u8] =
     b"scopes 16\nvariables 55\ncodes 39\ntimes 55\nsections 0\nchanges 358\nlast 122000000\n";
 

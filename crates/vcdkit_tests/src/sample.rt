@@ -5,7 +5,7 @@ use super::runs::{
 };
 use vcd_words::Words;
 
-// A dump with a fault after its second time mark.
+// A dump with a fault after its second timestamp.
 const FAULTY: &[u8] =
     b"$var wire 4 ! v $end\n$var wire 8 \" w $end\n$enddefinitions $end\n#1\nb1 !\n#2\n?\n";
 

@@ -11,7 +11,7 @@ use Rattle.vcd_body.specs.Reads.{GaveItems}
 use Rattle.vcd_changes.specs.Rows.{rows_of}
 use Rattle.vcd_changes.proofs.rows.collect.Given as goal
 
--- others were read behind the items, and the rows so far have their changes of the code
+-- others were read after the items, and the rows so far have their changes of the code
 abbrev pub invariant-items : goal.invariant-items
 invariant-items g l = Advances g.S.Source.failures l.fn.feed l.feed CallEnd.GoesOn
     × (l.count ≤ length l.rows)

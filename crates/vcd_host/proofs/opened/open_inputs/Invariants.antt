@@ -3,7 +3,7 @@ use Rattle.std.specs.Prelude.{All}
 use Rattle.vcd_host.specs.Opens.{called, text_of, Opens}
 use Rattle.vcd_host.proofs.opened.open_inputs.Given as goal
 
--- those before this place were opened
+-- those before this index were opened
 abbrev pub invariant-loop-name : goal.invariant-loop-name
 invariant-loop-name g l = record {
   opened : Opens g.H.Host.opens l.fn.host (map text_of (take l.name-index l.asked)) l.opened.readers.items l.host;

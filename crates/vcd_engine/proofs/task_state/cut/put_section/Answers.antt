@@ -16,7 +16,7 @@ use Rattle.vcd_engine.proofs.CutLemmas.{line_at, read_code, values_line, values_
 use Rattle.vcd_engine.proofs.task_state.cut.put_section.Goals as goal
 use Rattle.vcd_engine.proofs.task_state.cut.put_section.Goals.{then-not-declared+in_ok-put_short, else-not-declared}
 
--- what stands before the values
+-- what is written before the values
 abbrev front : ℕ → List ℕ
 front time = time_line time ++ as_line (keyword_text Keyword.DumpVars)
 
