@@ -1,4 +1,4 @@
 pub mod AskedLemmas
 mod AskedRows
 pub mod OpensLemmas
-mod RoomLemmas
+mod LentOutputLemmas

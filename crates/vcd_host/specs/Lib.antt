@@ -1,6 +1,7 @@
 pub mod Buffer
 pub mod Buffered
-pub mod Room
+pub mod Fills
+pub mod LentOutput
 pub mod Asked
 pub mod Opens
 pub mod Names

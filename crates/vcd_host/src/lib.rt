@@ -2,7 +2,7 @@
 //!
 //! `inputs_of` returns which inputs the matches of a command line name, and `open_inputs` opens
 //! them on a `Host`, in order, up to the first that cannot be opened. `Buffered` is an `Output`
-//! over any device of `std::io::Write`, `Room` one over bytes that were lent.
+//! over any device of `std::io::Write`, `LentOutput` one over bytes that were lent.
 //!
 //! # The modules
 //!
@@ -11,11 +11,11 @@
 //! - `opened`: inputs that are opened one by one
 //! - `buffer`: bytes that wait, in memory that is taken once
 //! - `buffered`: an output whose bytes wait in a buffer
-//! - `room`: an output that is bytes that were lent
+//! - `lent_output`: an output that is bytes that were lent
 //! - `gone`: what found no room there, which only clauses read
 //!
-//! In `specs/`: `Asked`; `Opens`, which inputs were opened; `Buffer`, `Buffered`, `Room`, what an
-//! output has taken.
+//! In `specs/`: `Asked`; `Opens`, which inputs were opened; `Buffer`, `Buffered`, `LentOutput`,
+//! what an output has taken; `Fills`, what is at the front of bytes that were lent.
 #![tactic(auto)]
 
 mod asked;
@@ -23,11 +23,11 @@ mod buffer;
 mod buffered;
 mod gone;
 mod host;
+mod lent_output;
 mod opened;
-mod room;
 
 pub use asked::inputs_of;
 pub use buffered::Buffered;
 pub use host::{Host, OpenFault, Output};
+pub use lent_output::LentOutput;
 pub use opened::{OpenStop, Opened, called, open_inputs};
-pub use room::Room;

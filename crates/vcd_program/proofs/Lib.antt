@@ -1,4 +1,4 @@
 mod MemoryLemmas
-mod RoomLemmas
+mod LentLemmas
 mod RunsLemmas
 mod Statuses

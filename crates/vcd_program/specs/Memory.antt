@@ -13,7 +13,7 @@ use Rattle.vcd_words.specs.Words.{program_app, words_used}
 use Rattle.vcdkit.specs.Message.{unopened_outcome}
 use Rattle.vcd_host.specs.Opens.{called}
 use Rattle.vcd_host.specs.Asked.{inputs_asked}
-use Rattle.vcd_host.specs.Room.{Fills}
+pub use Rattle.vcd_host.specs.Fills.{Fills}
 use Rattle.vcd_program.specs.Runs.{answer_outcome}
 use Rattle.vcd_host.specs.declared.host.OpenFault.{OpenFault}
 use Rattle.vcd_host.specs.declared.host.OpenFault.TheVariants.{Unopened, OutOfMemory}

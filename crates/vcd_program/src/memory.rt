@@ -5,7 +5,7 @@ ghost use Rattle.vcd_program.specs.Names.{bytes_in, bytes_named, end_of, IsLeftA
 use crate::command_line::run_program;
 use std::alloc::{AllocError, Global};
 use std::hash::{BuildHasher, BuildHasherDefault, FoldHasher};
-use vcd_host::{Host, OpenFault, Room};
+use vcd_host::{Host, LentOutput, OpenFault};
 use vcd_text::{Bytes, Sink, Watch};
 
 /// A file in memory.
@@ -150,12 +150,12 @@ pub struct Filled {
 
 /// Runs the program on these words over files in memory, with an output and an error stream to
 /// which nothing was written yet, and returns its exit status.
-fn run_into_rooms<B: BuildHasher>(
+fn run_into_lent<B: BuildHasher>(
     alloc: Global,
     words: &[String],
     memory: &mut Memory<'_>,
-    out: &mut Room<'_>,
-    err: &mut Room<'_>,
+    out: &mut LentOutput<'_>,
+    err: &mut LentOutput<'_>,
     hasher: &B,
 ) -> u8
     requires memory { noted memory.old ≡ [] }
@@ -191,9 +191,9 @@ pub fn run_into_memory<B: BuildHasher>(
         input,
         opened: Vec::new(alloc),
     };
-    let mut out = Room::new(out);
-    let mut err = Room::new(err);
-    let status = run_into_rooms(alloc, words, &mut memory, &mut out, &mut err, hasher);
+    let mut out = LentOutput::new(out);
+    let mut err = LentOutput::new(err);
+    let status = run_into_lent(alloc, words, &mut memory, &mut out, &mut err, hasher);
     let output = out.len()?;
     let message = err.len()?;
     Some(Filled {

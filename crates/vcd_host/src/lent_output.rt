@@ -12,7 +12,7 @@ const UNCOUNTED: u64 = 9_223_372_036_854_775_808;
 /// Bytes that were lent, which are filled from the front. What finds no room there is counted and
 /// let go. No write fails.
 #[derive(Drop)]
-pub struct Room<'a> {
+pub struct LentOutput<'a> {
     bytes: &'a mut [u8],
     used: usize,
     // How many bytes found no room, where they are fewer than 2^63.
@@ -24,15 +24,16 @@ pub struct Room<'a> {
     ghost order: { 0 < over → used ≡ length bytes.now },
 }
 
-impl<'a> Room<'a> {
-    ghost use Rattle.vcd_host.specs.Room.{Fills, held, written};
+impl<'a> LentOutput<'a> {
+    ghost use Rattle.vcd_host.specs.Fills.{Fills};
+    ghost use Rattle.vcd_host.specs.LentOutput.{held, written};
 
     /// Returns these bytes, none of which is filled.
-    pub fn new(bytes: &'a mut [u8]) -> Room<'a>
+    pub fn new(bytes: &'a mut [u8]) -> LentOutput<'a>
         ensures loan { result.bytes.ghost_name ≡ bytes.entry.ghost_name }
         ensures empty { written result ≡ [] }
     {
-        Room {
+        LentOutput {
             bytes,
             used: 0,
             over: 0,
@@ -73,11 +74,11 @@ impl<'a> Room<'a> {
     }
 }
 
-impl Sink for Room<'_> {
-    ghost use Rattle.vcd_host.specs.Room.{held};
+impl Sink for LentOutput<'_> {
+    ghost use Rattle.vcd_host.specs.LentOutput.{held};
 
-    ghost device = { λ room. record {
-      held = Some (held room);
+    ghost device = { λ sink. record {
+      held = Some (held sink);
       failures = 0;
       last_failed = false;
     } };
@@ -136,7 +137,7 @@ impl Sink for Room<'_> {
 }
 
 /// It keeps nothing in a buffer.
-impl Output for Room<'_> {
+impl Output for LentOutput<'_> {
     ghost flushes = { λ old done new. (done ≡ true) × (new ≡ old) };
 
     fn flush(&mut self) -> Result<(), WriteFailed> {

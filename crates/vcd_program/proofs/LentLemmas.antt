@@ -12,18 +12,19 @@ use Rattle.vcdkit.specs.Message.{Shows}
 use Rattle.vcdkit.specs.Run.{IsOutcome}
 use Rattle.vcdkit.specs.Run.IsOutcome.{Whole, Part}
 use Rattle.vcd_program.specs.Memory.{IsLeftAs, IsLeftIn, OpensIn, noted}
-use Rattle.vcd_host.specs.Room.{Fills, held, written}
+use Rattle.vcd_host.specs.Fills.{Fills}
+use Rattle.vcd_host.specs.LentOutput.{held, written}
 use Rattle.vcd_program.specs.Runs.{Fails, Finishes, Leaves, Runs, RunsOn}
 use Rattle.vcd_program.specs.declared.memory.Memory.{Memory}
 use Rattle.vcd_program.specs.declared.memory.MemoryFile.{MemoryFile}
-use Rattle.vcd_host.specs.declared.room.Room.{Room}
+use Rattle.vcd_host.specs.declared.lent_output.LentOutput.{LentOutput}
 use Rattle.vcd_program.proofs.MemoryLemmas.{bytes_of, holding, left-by, no_failures, none_failed, texts-of}
 
--- what a room tells of itself
-abbrev room_device : Room → Device
-room_device room = holding false (held room)
+-- what such an output says of itself
+abbrev output_device : LentOutput → Device
+output_device sink = holding false (held sink)
 
-abbrev flushes : Room → Bool → Room → Type 0
+abbrev flushes : LentOutput → Bool → LentOutput → Type 0
 flushes old done new = (done ≡ true) × (new ≡ old)
 
 -- the name of the loan is as it was
@@ -93,20 +94,20 @@ module _ (n n' m m' status : ℕ) (ws vs : List ℕ) where
   words-after words host after (RunsOn.NoMatches why is only same (inr fails)) = let o = fails-after (codes "out of memory") fails in (o.0, o.1, RunsOn.NoMatches why is only same (inr o.2))
 
 -- what is left in the end: the same loans, and in them what the program leaves
-pub left-in-rooms : (words : List Text) (files : List MemoryFile) (input : Text) (host after : Memory) (status : ℕ) (out out' err err' : Room) → host.files.now ≡ files → host.input.now ≡ input → noted host ≡ [] → written out ≡ [] → written err ≡ []
-    → Finishes room_device flushes (λ out_now err_now n. RunsOn words OpensIn bytes_of no_failures none_failed host after (room_device out) out_now (room_device err) err_now n) out' (room_device err') status
+pub left-in-outputs : (words : List Text) (files : List MemoryFile) (input : Text) (host after : Memory) (status : ℕ) (out out' err err' : LentOutput) → host.files.now ≡ files → host.input.now ≡ input → noted host ≡ [] → written out ≡ [] → written err ≡ []
+    → Finishes output_device flushes (λ out_now err_now n. RunsOn words OpensIn bytes_of no_failures none_failed host after (output_device out) out_now (output_device err) err_now n) out' (output_device err') status
     → (out'.bytes.ghost_name ≡ out.bytes.ghost_name) × (err'.bytes.ghost_name ≡ err.bytes.ghost_name) × IsLeftAs words files input (written out') (written err') status
-left-in-rooms words files input host after status out out' err err' f i n no_out no_err (Finishes.Flushed before left flushed held same) =
-    let now = subst (λ (room : Room). RunsOn words OpensIn bytes_of no_failures none_failed host after (room_device out) (room_device room) (room_device err) (room_device err') status) (sym flushed.1) left in
-    let from_out = subst (λ l. RunsOn words OpensIn bytes_of no_failures none_failed host after (holding false (out.bytes.ghost_name ∷ l)) (room_device out') (room_device err) (room_device err') status) no_out now in
-    let from_err = subst (λ l. RunsOn words OpensIn bytes_of no_failures none_failed host after (holding false (out.bytes.ghost_name ∷ [])) (room_device out') (holding false (err.bytes.ghost_name ∷ l)) (room_device err') status) no_err from_out in
+left-in-outputs words files input host after status out out' err err' f i n no_out no_err (Finishes.Flushed before left flushed held same) =
+    let now = subst (λ (sink : LentOutput). RunsOn words OpensIn bytes_of no_failures none_failed host after (output_device out) (output_device sink) (output_device err) (output_device err') status) (sym flushed.1) left in
+    let from_out = subst (λ l. RunsOn words OpensIn bytes_of no_failures none_failed host after (holding false (out.bytes.ghost_name ∷ l)) (output_device out') (output_device err) (output_device err') status) no_out now in
+    let from_err = subst (λ l. RunsOn words OpensIn bytes_of no_failures none_failed host after (holding false (out.bytes.ghost_name ∷ [])) (output_device out') (holding false (err.bytes.ghost_name ∷ l)) (output_device err') status) no_err from_out in
     let bare = words-after out.bytes.ghost_name out'.bytes.ghost_name err.bytes.ghost_name err'.bytes.ghost_name status (written out') (written err') words host after from_err in
     (bare.0, bare.1, (noted after, left-by false false words files input host after _ (written out') (written err') status f i n (refl, refl, refl, refl) bare.2))
-left-in-rooms words files input host after status out out' err err' f i n no_out no_err (Finishes.Failed before left machine fails held same) = let bad : false ≡ true = fails.0 in cc
-left-in-rooms words files input host after status out out' err err' f i n no_out no_err (Finishes.Unflushed before shown was left below fails held same then status_is) = let bad : false ≡ true = fails.0 in cc
+left-in-outputs words files input host after status out out' err err' f i n no_out no_err (Finishes.Failed before left machine fails held same) = let bad : false ≡ true = fails.0 in cc
+left-in-outputs words files input host after status out out' err err' f i n no_out no_err (Finishes.Unflushed before shown was left below fails held same then status_is) = let bad : false ≡ true = fails.0 in cc
 
--- the same in the bytes that were lent, once the rooms are given up
-pub left-in-lent : (words : List Text) (files : List MemoryFile) (input : Text) (out err : Room) (filled_out : List ℕ) (used_out : ℕ) (filled_err : List ℕ) (used_err status : ℕ) → filled_out ≡ out.bytes.now → filled_err ≡ err.bytes.now
+-- the same in the bytes that were lent, once the outputs are given up
+pub left-in-lent : (words : List Text) (files : List MemoryFile) (input : Text) (out err : LentOutput) (filled_out : List ℕ) (used_out : ℕ) (filled_err : List ℕ) (used_err status : ℕ) → filled_out ≡ out.bytes.now → filled_err ≡ err.bytes.now
     → IsLeftAs words files input (written out) (written err) status → Fills out.bytes.now used_out (written out) → Fills err.bytes.now used_err (written err) → IsLeftIn words files input filled_out used_out filled_err used_err status
 left-in-lent words files input out err filled_out used_out filled_err used_err status is_out is_err left fills_out fills_err =
     record {

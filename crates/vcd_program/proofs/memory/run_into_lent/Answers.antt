@@ -1,0 +1,13 @@
+use Rattle.std.proofs.Common.{map, refl, string_bytes}
+use Rattle.vcd_program.proofs.LentLemmas.{left-in-outputs}
+use Rattle.vcd_program.proofs.memory.run_into_lent.Goals as goal
+
+pub returns-clause-out_loan : goal.returns-clause-out_loan
+returns-clause-out_loan g c =
+    (left-in-outputs (map string_bytes c.args.words.now) c.args.memory.now.files.now c.args.memory.now.input.now c.args.memory.now c.run_program.new.host c.run_program.result c.args.out.now c.run_program.new.out c.args.err.now c.run_program.new.err
+    refl refl c.requires.memory c.requires.out c.requires.err c.run_program.ensures).0
+
+pub returns-clause-left : goal.returns-clause-left
+returns-clause-left g c =
+    (left-in-outputs (map string_bytes c.args.words.now) c.args.memory.now.files.now c.args.memory.now.input.now c.args.memory.now c.run_program.new.host c.run_program.result c.args.out.now c.run_program.new.out c.args.err.now c.run_program.new.err
+    refl refl c.requires.memory c.requires.out c.requires.err c.run_program.ensures).2
