@@ -47,7 +47,8 @@ def failing_files(runs):
     for name in ("/", "/proc/self/mem"):
         line = b"vcdkit: " + name.encode() + b": read failed\n"
         for before, after in COMMANDS:
-            runs.wants("%s %s" % (before[0], name), (b"", line, 3), runs.run(before + [name] + after))
+            runs.wants("%s %s" % (before[0], name), (b"", line, 3),
+                       runs.run(before + [name] + after))
     with open("/dev/full", "wb") as full:
         for words in (["check", SAMPLE], ["list", SAMPLE], ["cut", SAMPLE], ["merge", SAMPLE],
                       ["--help"], ["--version"]):
