@@ -108,7 +108,9 @@ impl<'a> Table<'a> {
         }
     }
 
-    /// Sets the value of the code at an index to digits, and counts its step where it differs.
+    /// Sets the value of the code at an index to these digits. If it differs from the value before,
+    /// both taken at `size` bits, the first counter grows, and that of rises or falls by the last
+    /// digit. An empty text changes nothing.
     #[inline(always)]
     fn follow_digits(&mut self, code: usize, size: usize, text: &[u8])
         ensures { SetsCode code (with_change size Form.Vector text.now) self.old self.new }

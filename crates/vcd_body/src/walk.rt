@@ -69,7 +69,7 @@ pub trait Visit<C>: Drop {
     // Whether no other item is to be taken.
     ghost over: { Self → Bool };
 
-    /// Returns whether the walk ends before a time mark with this time, and leaves it.
+    /// Returns whether the walk ends before a timestamp with this time, and leaves it.
     fn ends_before(&self, command: &C, time: u64) -> bool
         ensures { result ≡ is_left self.now command.now time };
 
@@ -77,7 +77,7 @@ pub trait Visit<C>: Drop {
     fn is_over(&self) -> bool
         ensures { result ≡ over self.now };
 
-    /// Takes a time mark, which lies at `extent`. The registers are those before it.
+    /// Takes a timestamp, which lies at `extent`. The registers are those before it.
     fn take_mark(
         &mut self,
         command: &mut C,
@@ -225,7 +225,7 @@ fn take_mark<'a, C, V: Visit<C>>(
 }
 
 /// Takes the change that the tokens of a vector are, which lies at `extent`, and returns that it was
-/// no mark. None where they are no such change, and then nothing has changed.
+/// no timestamp. `None` where they are no such change, and then nothing has changed.
 // Whether the digits have a number is asked once: what is done with it follows in each arm. The arm
 // for digits of a known number takes 5 % off `merge` of 27,505 codes and of Verilator's. To `check`
 // it adds 6 %.
@@ -334,8 +334,9 @@ fn take_short<C, V: Visit<C>, W: Sink>(
     Some(taken)
 }
 
-/// Takes the changes that come next, as long as each is a `0` or a `1` with a code of one byte on a
-/// line of its own.
+/// Takes the next changes while each is a `0` or `1` with a one-byte code on its own line. Returns
+/// the walk where another item or a short chunk ends it, or where a write fails. `take_lines` calls
+/// it for the changes between two timestamps.
 #[inline(always)]
 fn take_shorts<'a, C, V: Visit<C>, H: Viewed, W: Sink>(
     command: &mut C,

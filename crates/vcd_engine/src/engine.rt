@@ -274,7 +274,8 @@ impl<'v, 'n, 'r> Engine<'v, 'n, 'r> {
         self.task_state.close(self.view, self.regs, out)
     }
 
-    /// Takes all items that are left, to the end of the run. Fails where a step does.
+    /// Runs the items that are left, writes what is due with each and at the end, and returns what
+    /// ended the run: the end of the body, or an item. Fails where a step does.
     fn finish<S: Source, W: Sink>(
         &mut self,
         feed: &mut Feed<'_, '_, '_, '_, S>,

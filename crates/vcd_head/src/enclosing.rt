@@ -49,7 +49,8 @@ impl Enclosing {
         }
     }
 
-    /// Returns the row of the next scope.
+    /// Returns the row of the next scope inwards, or `None` after the innermost. `view` has to show
+    /// the header of the row in every call.
     #[inline(always)]
     pub(crate) fn next(&mut self, view: HeadView<'_>) -> Option<usize>
         ensures gives { (h : Header) (row : ℕ) (rest : List ℕ) → IsViewOf view.entry h

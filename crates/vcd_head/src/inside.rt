@@ -139,7 +139,8 @@ impl Open {
         });
     }
 
-    /// Holds what is inside one more scope, if there is room.
+    /// Keeps the names that continue in one more scope, now the innermost one entered. Where 1,000
+    /// are entered nothing changes, and `compare` looks at each name by itself.
     fn hold(&mut self, inner: Inside)
         ensures { StaysOpen inner self.old self.new }
     {

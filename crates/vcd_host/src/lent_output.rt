@@ -52,7 +52,7 @@ impl<'a> LentOutput<'a> {
         Some(self.used as u64 + self.over)
     }
 
-    /// Takes bytes for which there is not room enough, and returns how many: from the front those
+    /// Takes bytes that fill the room or more, and returns how many: from the front those
     /// for which there is, or all of them where there is no room at all.
     #[cold]
     #[inline(never)]

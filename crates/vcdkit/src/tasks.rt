@@ -25,9 +25,9 @@ fn cut_of<'w>(from: Moment, to: Moment, view: HeadView<'_>) -> Result<Task<'w>, 
     Ok(Task::Cut { from, to })
 }
 
-/// Returns the task over the items of a body, its times in ticks of the header that is shown; those
-/// of a sample are ticks already. A list is none, since it reads no body, nor is a merge, which
-/// reads several.
+/// Returns the task that is wanted, a cut's times turned into ticks of the header that is shown;
+/// `None` for a list, which reads no body, and for a merge, which reads several. Fails where a
+/// cut's time has no ticks, or they are out of order. `write_ticks` has done a sample's before.
 pub(crate) fn task_of<'w>(want: &'w Want, view: HeadView<'_>) -> Result<Option<Task<'w>>, Refusal>
     requires asked { is_asked want.now ≡ true }
     requires ticks { HasTicks want.now }
