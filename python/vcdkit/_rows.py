@@ -1,7 +1,7 @@
 """Rows: those that vcdkit writes, and those of a table, from the steps of a body (_body.steps)."""
 import gc
 import itertools
-from typing import Any, Dict, Iterable, Iterator, List, Mapping, Optional, Sequence, Tuple
+from typing import Any, Dict, Iterable, Iterator, List, Optional, Sequence, Tuple
 
 from . import _body
 from .values import Edges, Signal
@@ -63,39 +63,18 @@ class Signals(Sequence[Signal]):
         return "<%d signals>" % self._count
 
 
-class Counts(Mapping[str, Edges]):
-    """The Edges of each path, in the order of declaration. The rows of `edges` are taken apart when
-    the first one is asked for; dict() of it is a dict."""
-
-    def __init__(self, rows: str):
-        self._rows = rows
-        self._edges: Optional[Dict[str, Edges]] = None
-
-    def _all(self) -> Dict[str, Edges]:
-        if self._edges is None:
-            words = words_of(self._rows)
-            counts = (map(int, words[at::4]) for at in (1, 2, 3))
-            self._edges = dict(zip(words[0::4], tuples(Edges, *counts)))
-            self._rows = ""
-        return self._edges
-
-    def __len__(self) -> int:
-        return len(self._all())
-
-    def __getitem__(self, path: str) -> Edges:
-        return self._all()[path]
-
-    def __iter__(self) -> Iterator[str]:
-        return iter(self._all())
-
-    def items(self):
-        return self._all().items()
-
-    def values(self):
-        return self._all().values()
-
-    def __repr__(self) -> str:
-        return repr(self._all())
+def counts_of(rows: str) -> Dict[str, Edges]:
+    """Returns the Edges of each path, from the rows of `edges`. Paths with the same counts, as most
+    have, share one."""
+    made: Dict[str, Edges] = {}
+    found: Dict[str, Edges] = {}
+    for row in rows.split("\n")[:-1]:
+        path, _, counts = row.partition(" ")
+        one = made.get(counts)
+        if one is None:
+            one = made[counts] = Edges(*map(int, counts.split(" ")))
+        found[path] = one
+    return found
 
 
 class _Values:

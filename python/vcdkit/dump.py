@@ -3,8 +3,7 @@ import contextlib
 import numbers
 import os
 import re
-from typing import (Any, BinaryIO, Dict, Iterable, Iterator, List, Mapping, Optional, Sequence,
-                    Tuple, Union)
+from typing import Any, BinaryIO, Dict, Iterable, Iterator, List, Optional, Sequence, Tuple, Union
 
 from . import _body, _library, _program, _rows
 from ._body import Header
@@ -203,10 +202,10 @@ class Dump:
                 found[int(time)][path] = value_of(value)
         return {time: found[ticks] for time, ticks in asked.items()}
 
-    def edges(self, names: Names = ()) -> Mapping[str, Edges]:
+    def edges(self, names: Names = ()) -> Dict[str, Edges]:
         """Returns of each path how often its value changes, and its least significant bit rises and
         falls; of an event its triggers. Without names of all signals."""
-        return _rows.Counts(self._answer("edges", ["--", *_list(names)]))
+        return _rows.counts_of(self._answer("edges", ["--", *_list(names)]))
 
     def changes(self, name: str, digits: bool = False) -> Tuple[Any, Any]:
         """Returns the times, in ticks, and the values of one signal: one for each value that the
