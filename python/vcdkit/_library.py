@@ -42,9 +42,15 @@ class _Buffer(ctypes.Structure):
                 ("internal", ctypes.c_void_p)]
 
 
-ctypes.pythonapi.PyObject_GetBuffer.argtypes = [ctypes.py_object, ctypes.c_void_p, ctypes.c_int]
-ctypes.pythonapi.PyBuffer_Release.argtypes = [ctypes.c_void_p]
-ctypes.pythonapi.PyBuffer_Release.restype = None
+_python = ctypes.pythonapi
+_python.PyObject_GetBuffer.argtypes = [ctypes.py_object, ctypes.c_void_p, ctypes.c_int]
+_python.PyBuffer_Release.argtypes, _python.PyBuffer_Release.restype = [ctypes.c_void_p], None
+_python.PyBytes_FromStringAndSize.argtypes = [ctypes.c_char_p, ctypes.c_ssize_t]
+_python.PyBytes_FromStringAndSize.restype = ctypes.c_void_p
+_python.PyBytes_AsString.argtypes = [ctypes.c_void_p]
+_python.PyBytes_AsString.restype = ctypes.c_void_p
+_python._PyBytes_Resize.argtypes = [ctypes.c_void_p, ctypes.c_ssize_t]
+_python.Py_DecRef.argtypes, _python.Py_DecRef.restype = [ctypes.c_void_p], None
 
 _loaded: Dict[str, ctypes.CDLL] = {}
 
@@ -94,7 +100,7 @@ class _Lender:
             # The object's own bytes, which a NUL ends, so that the pointer is never null.
             return ctypes.cast(ctypes.c_char_p(data), ctypes.c_void_p).value, len(data)
         buffer = _Buffer()
-        ctypes.pythonapi.PyObject_GetBuffer(data, ctypes.byref(buffer), 0)
+        _python.PyObject_GetBuffer(data, ctypes.byref(buffer), 0)
         self.buffers.append(buffer)
         return buffer.buf, len(data)
 
@@ -103,12 +109,31 @@ class _Lender:
 
     def __exit__(self, *_) -> None:
         for buffer in self.buffers:
-            ctypes.pythonapi.PyBuffer_Release(ctypes.byref(buffer))
+            _python.PyBuffer_Release(ctypes.byref(buffer))
+
+
+class _Filled:
+    """Bytes that the library fills: a new `bytes` object, of which a page is taken once it is
+    written. Nobody else has it yet, so it can be shortened as it lies, without a copy."""
+
+    def __init__(self, room: int):
+        self.owned = ctypes.c_void_p()
+        self.owned.value = _python.PyBytes_FromStringAndSize(None, room)
+        self.at = _python.PyBytes_AsString(self.owned)
+
+    def first(self, length: int) -> bytes:
+        """Returns the first bytes; to be called once."""
+        _python._PyBytes_Resize(ctypes.byref(self.owned), length)
+        return ctypes.cast(self.owned, ctypes.py_object).value
+
+    def __del__(self) -> None:
+        _python.Py_DecRef(self.owned)
 
 
 def run(words: Sequence[str], given: Data = b"", files: Sequence[Tuple[bytes, Data]] = (),
         room: int = 1 << 16) -> Tuple[int, bytes, bytes]:
     """Returns the status, the output and the message of these words over standard input and files.
+    The output is the object that the library wrote to, with no copy.
 
     `room` is how long the output may be; where it is longer, the command runs a second time."""
     with _Lender() as lender:
@@ -120,16 +145,14 @@ def run(words: Sequence[str], given: Data = b"", files: Sequence[Tuple[bytes, Da
                  len(named), seed)
         used, said_used, said_room = ctypes.c_uint64(0), ctypes.c_uint64(0), 1 << 16
         while True:
-            said = ctypes.create_string_buffer(said_room)
-            with mmap.mmap(-1, room) as out:  # of which a page is taken once it is written
-                with _Lender() as of_call:
-                    status = _library().vcdkit_run(
-                        *asked, *of_call.lend(out), ctypes.byref(used), ctypes.addressof(said),
-                        said_room, ctypes.byref(said_used))
-                if status == OUT_OF_MEMORY:
-                    raise RunFailed("out of memory")
-                if used.value <= room and said_used.value <= said_room:
-                    return status, out[:used.value], said.raw[:said_used.value]
+            out, said = _Filled(room), ctypes.create_string_buffer(said_room)
+            status = _library().vcdkit_run(
+                *asked, out.at, room, ctypes.byref(used), ctypes.addressof(said), said_room,
+                ctypes.byref(said_used))
+            if status == OUT_OF_MEMORY:
+                raise RunFailed("out of memory")
+            if used.value <= room and said_used.value <= said_room:
+                return status, out.first(used.value), said.raw[:said_used.value]
             room, said_room = max(room, used.value), max(said_room, said_used.value)
 
 
