@@ -1,5 +1,5 @@
 # make         proves the program and the crates that it uses, builds it as ./vcdkit and shows it on
-#     a sample dump
+#     a sample dump. A processor that would be idle proves vcd_changes, for make library
 # make CPU=x86-64-v3    the same for a newer processor, whose instructions it may use; such a
 #     program says so and ends where they lack
 # make test    the gate: every proof that no earlier run on this machine passed, must-fail edits,
@@ -12,8 +12,8 @@
 # make static  links ./vcdkit-static, the program without any shared library: seconds after make
 # make dist    a tarball, Debian packages and a wheel of it in dist/, with documents, man page,
 #     completions, scripts and the Python package; with ./libvcdkit.so too, where it is
-# make library ./libvcdkit.a, ./libvcdkit.so and ./vcdkit.pc, for callers in C and Python: minutes
-#     after make
+# make library ./libvcdkit.a, ./libvcdkit.so and ./vcdkit.pc, for callers in C and Python: two or
+#     three minutes after make
 # make dist-check          tries them without the kit, and that they come out the same byte for
 #     byte: a minute
 # make clean   drops what was built, and what the proofs kept

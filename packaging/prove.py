@@ -3,9 +3,10 @@
 `rt COMMAND WORD ..` in it, and shows how far it is.
 
 Crates that do not need each other are proved at the same time, on as many processors as there are,
-and as 4 GB of available memory for each allow. rt locks the folders of a crate and of those below
-it while it works. So what is proved beside another crate is proved in a copy in the temporary
-folder (TMPDIR), most of it links, and what rt built and kept there is moved back.
+and as 4 GB of available memory for each allow. A processor that would be idle proves a crate of the
+library meanwhile (BESIDE). rt locks the folders of a crate and of those below it while it works. So
+what is proved beside another crate is proved in a copy in the temporary folder (TMPDIR), most of it
+links, and what rt built and kept there is moved back.
 
 What rt and the prover write goes to the file make.log of the top folder, with what the program
 writes, each line after its crate's name. The screen has a line for each crate that was proved:
@@ -33,6 +34,9 @@ LINKED = (".oantt", ".a")
 # Each process of a proof loads the crates below again. Where this is most of the work, one is
 # faster: it proves vcd_program in 121 s of processor, and four take 265.
 BY_ONE = ("vcd_program",)
+# Proved with a crate that does not need them, by one process where a processor would be idle: the
+# last crates of the program leave three of four idle, and `make library` then has one crate left.
+BESIDE = {"vcdkit_main": ("vcd_changes",)}
 SOURCES, BUILT, KEPT = ("src", "specs", "proofs"), "out/rlib", "out/incremental"
 SO_FAR = re.compile(r"so far: (\d+) of (\d+) functions")
 VERDICT = re.compile(r"logic=proved functions=(\d+)")
@@ -179,11 +183,14 @@ class Proof:
     """The proof of a crate and of those below it."""
 
     def __init__(self, crate, log):
-        self.below, self.log, self.screen = crates_below(crate), log, Screen()
+        self.log, self.screen, self.lanes, self.below = log, Screen(), lanes(), {}
+        self.beside = BESIDE.get(crate, ()) if self.lanes > 1 else ()
+        for name in (*self.beside, crate):
+            self.below.update(crates_below(name))
         self.order, self.said = [*self.below], queue.Queue()
         self.left = [it for it in self.order
                      if it == crate or not is_built([*self.below[it], it], it)]
-        self.running, self.done, self.lanes, self.chain = [], [], lanes(), {}
+        self.running, self.done, self.chain = [], [], {}
         for name in reversed(self.order):
             above = [self.chain[it] for it in self.order if name in self.below[it]]
             self.chain[name] = sum(map(os.path.getsize, sources_of(name))) + max(above, default=0)
@@ -191,9 +198,9 @@ class Proof:
     def jobs(self, crate):
         """Returns how many processes are to prove a crate: one for some; else half as many as there
         are processors, or as many where no other crate that is left can be proved beside it."""
-        if crate in BY_ONE:
+        if crate in (*BY_ONE, *self.beside):
             return 1
-        others = {*self.left, *(run.crate for run in self.running)} - {crate}
+        others = {*self.left, *(run.crate for run in self.running)} - {crate, *self.beside}
         is_alone = all(it in self.below[crate] or crate in self.below[it] for it in others)
         return self.lanes if is_alone else max(self.lanes // 2, 1)
 
@@ -214,7 +221,8 @@ class Proof:
         lacking = {*self.left, *(run.crate for run in self.running)}
         for crate in sorted(self.left[:-1], key=self.chain.get, reverse=True):
             jobs, at_work = self.jobs(crate), sum(run.jobs for run in self.running)
-            if not lacking & self.below[crate] and at_work + jobs <= 3 * self.lanes // 2:
+            most = self.lanes if crate in self.beside else 3 * self.lanes // 2
+            if not lacking & self.below[crate] and at_work + jobs <= most:
                 flags = ["--jobs", str(jobs)] if self.lanes > 1 else []
                 self.start(crate, ["lib", *flags], jobs, stdin=subprocess.DEVNULL)
 
