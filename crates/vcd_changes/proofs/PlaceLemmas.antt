@@ -59,7 +59,7 @@ pub has_not_failed : {X : Type 0} {g : Ghosts X} (f : Feed X g) (dump : List ℕ
 has_not_failed {X} {g} f dump given h = open_phase f.parked.phase (length f.token.now) (g.rest f.source.now) f.chunk.now f.parked dump given h.at
 
 -- the next call resumes where the items end that a feed has given
-pub is_after : {X : Type 0} {g : Ghosts X} (codes : List IdCode) (i : Input) (front : List Token) (items : List BodyItem) (f : Feed X g) (r : Regs) (o : Offset) → GaveItems codes i front items f r → limit_of f ≡ 65536 → chunk_len_of f ≡ 65536
+pub is_after : {X : Type 0} {g : Ghosts X} (codes : List IdCode) (i : Input) (front : List Token) (items : List BodyItem) (f : Feed X g) (r : Regs) (o : Offset) → GaveItems codes i front items f r → limit_of f ≡ 65536 → chunk_len_of f ≡ 8192
     → ((j : Input) (given : List Token) → HasGiven j given f → HasGivenTo (chunk_len_of f) (limit_of f) o j given) → IsOffset o → IsAfter codes i front items (place_of o r)
 is_after codes i front items f r o gave limit chunk to comes = record {
   given = gave.given;

@@ -59,7 +59,7 @@ pub record IsAfter (codes : List IdCode) (i : Input) (front : List Token) (items
   pub placed : List (Placed BodyPhrase)
   pub begun : p.begun ≢ 0
   pub comes : IsOffset p.offset
-  pub stands : HasGivenTo 65536 65536 p.offset i (front ++ given)
+  pub stands : HasGivenTo 8192 65536 p.offset i (front ++ given)
   pub so_far : IsSoFar (body_grammar codes) given placed []
   pub items_are : items_of (phrases_of placed) ≡ items
   pub known : AreRegsAfter items (regs_of p)

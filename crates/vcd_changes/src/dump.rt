@@ -20,8 +20,12 @@ use vcd_head::{HeadFault, HeadView, read_head_with_hasher};
 use vcd_text::{Bytes, Feed};
 use vcd_view::find;
 
-/// The most bytes that a token may have, and how many are read in one call.
+/// The most bytes that a token may have.
 const LIMIT: usize = 65_536;
+
+/// The most bytes that are read in one call. Few, since each call of `changes` reads so many of the
+/// header and of the body, also where its rows are full long before their end.
+const CHUNK: usize = 8_192;
 
 /// The most scopes, variables and `$upscope` that a header may have.
 const MOST: u64 = 16_777_216;
@@ -64,7 +68,7 @@ fn read_on(
     reading: &mut Reading,
     rows: &mut [ChangeRow],
 ) -> u8
-    requires { (limit_of feed.old ≡ 65536) × (chunk_len_of feed.old ≡ 65536) }
+    requires { (limit_of feed.old ≡ 65536) × (chunk_len_of feed.old ≡ 8192) }
     ensures finds { (h : Header) (dump : List ℕ) (front : List Token) (items : List BodyItem)
         (code : IdCode) → IsViewOf view.entry h
         → GaveItems h.codes (whole dump) front items feed.old regs
@@ -128,7 +132,7 @@ fn read_changes<B: BuildHasher>(
     ensures most { reading.new.count ≤ length rows.new }
     ensures none { IfErr result (λ _. reading.new.count ≡ 0) }
 {
-    let mut chunk = vec![in alloc; 0u8; LIMIT]?;
+    let mut chunk = vec![in alloc; 0u8; CHUNK]?;
     let mut token = vec![in alloc; 0u8; LIMIT]?;
     let mut value = vec![in alloc; 0u8; LIMIT]?;
     let mut source = Bytes { rest: dump };

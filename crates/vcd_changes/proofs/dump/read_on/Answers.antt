@@ -15,7 +15,7 @@ returns-in-Ok-clause-finds c = λ h dump front items code views gave at.
     let s = c.collect-ended.ensures.reads h (whole dump) front items code views gave at in
     let ends = subst (EndsSo h.codes (whole dump) front (items ++ s.more) f c.collect-ended.new.regs c.collect-ended.new.count c.collect-ended.new.rows) c.in-Ok.is s.ends in
     let limit : limit_of f ≡ 65536 = c.collect-ended.ensures.advances.limit ∙ c.requires.0 in
-    let chunk : chunk_len_of f ≡ 65536 = c.collect-ended.ensures.advances.chunk ∙ c.requires.1 in
+    let chunk : chunk_len_of f ≡ 8192 = c.collect-ended.ensures.advances.chunk ∙ c.requires.1 in
     record {
       more = s.more;
       rows_are = s.rows_are;
