@@ -8,11 +8,11 @@ int main(int count, char **words) {
         return fputs("changes FILE CODE\n", stderr), 2;
     struct vcdkit_bytes dump = file_of(words[1]), code = bytes_of(words[2]);
     struct vcdkit_reading reading = {{0}, 0, 0, 0};
-    struct vcdkit_change changes[256];
+    struct vcdkit_change changes[4096];
     uint8_t status;
     do {
         status = vcdkit_changes(dump.at, dump.length, code.at, code.length, seed(), &reading,
-                                changes, 256);
+                                changes, 4096);
         for (uint64_t at = 0; at < reading.count; at++)
             printf("%" PRIu64 " %" PRIx64 " %" PRIx64 "\n", changes[at].time, changes[at].value,
                    changes[at].known);
