@@ -1,9 +1,7 @@
 -- Variables that lie ahead: their tokens are a phrase more.
-use Rattle.std.proofs.Common.{◌≡◌, ℕ, ◌+◌, ◌-◌, ◌<◌, true, List, [], ◌∷◌, ◌++◌, length, take, drop, get_or, slice_range, Bool, false, Some, None, bytes_eq, codes, refl, sym, ap, subst, ◌∙◌, arith}
+use Rattle.std.proofs.Common.{◌≡◌, ℕ, true, List, [], ◌∷◌, ◌++◌, Bool, false, Some, None, bytes_eq, codes, refl, sym, ap, subst, ◌∙◌}
 use Rattle.std.proofs.lemmas.Slice.Eq.{bytes_eq-Decides}
-use Rattle.std.proofs.lemmas.List.{append_assoc, append-nil, drop_more, length-append, map-append}
-use Rattle.std.proofs.lemmas.List.Folds.{drop_split}
-use Rattle.vcd_head.proofs.DraftLemmas.{take_front}
+use Rattle.std.proofs.lemmas.List.{append_assoc, append-nil, map-append}
 use Rattle.vcd_model.specs.Checks.{first_failed}
 use Rattle.vcd_model.specs.Declarations.{Declaration, Variable}
 use Rattle.vcd_model.specs.HeaderChecks.{agrees, header_fault, start_checks, var_checks}
@@ -29,7 +27,7 @@ use Rattle.vcd_head.proofs.TextSteps.{runs_behind}
 use Rattle.vcd_head.proofs.WordLemmas.{size_found, size_parts}
 
 -- tokens of a phrase that runs on
-runs_so_far : (most : ℕ) (placed : List (Placed HeaderPhrase)) (before : List (List ℕ)) (given inner : List Token) → RunsOn most placed before → NoEnds (texts_of inner) → IsSoFar (header_grammar most) given placed before
+pub runs_so_far : (most : ℕ) (placed : List (Placed HeaderPhrase)) (before : List (List ℕ)) (given inner : List Token) → RunsOn most placed before → NoEnds (texts_of inner) → IsSoFar (header_grammar most) given placed before
     → IsSoFar (header_grammar most) (given ++ inner) placed (before ++ texts_of inner)
 runs_so_far most placed before given [] runs none s = rw (append-nil given, append-nil before) s
 runs_so_far most placed before given (t ∷ inner) runs none s =
@@ -110,14 +108,3 @@ four_in_turn (x ∷ ts) a b c d more = ap (λ l. x ∷ l) (four_in_turn ts a b c
 -- the keyword of a variable
 pub var_keyword : (t : List ℕ) → bytes_eq (codes "$var") t ≡ true → keyword_text Keyword.Var ≡ t
 var_keyword t e = (bytes_eq-Decides (keyword_text Keyword.Var) t).0 e
-
--- two tokens, one after the other, with a space between
-pub two_joined : (bytes first second : List ℕ) (from at to : ℕ) → from + length first ≡ at → at + 1 + length second ≡ to → at < length bytes → first ≡ slice_range bytes from at → second ≡ slice_range bytes (at + 1) to → get_or bytes at 0 ≡ 32
-    → slice_range bytes from to ≡ first ++ 32 ∷ second
-two_joined bytes first second from at to n m inside before behind space =
-    let d1 : drop from bytes ≡ first ++ drop at bytes = drop_split bytes from at (omega arith) ∙ ap (λ l. l ++ drop at bytes) (sym before) in
-    let d2 : drop at bytes ≡ 32 ∷ drop (at + 1) bytes = drop_more bytes at 0 inside ∙ ap (λ x. x ∷ drop (at + 1) bytes) space in
-    let d3 : drop (at + 1) bytes ≡ second ++ drop to bytes = drop_split bytes (at + 1) to (omega arith) ∙ ap (λ l. l ++ drop to bytes) (sym behind) in
-    let all : drop from bytes ≡ (first ++ 32 ∷ second) ++ drop to bytes = d1 ∙ ap (λ l. first ++ l) (d2 ∙ ap (λ l. 32 ∷ l) d3) ∙ sym (append_assoc first (32 ∷ second) (drop to bytes)) in
-    let len : to - from ≡ length (first ++ 32 ∷ second) = omega (arith, length-append first (32 ∷ second)) in
-    ap (take (to - from)) all ∙ ap (λ k. take k ((first ++ 32 ∷ second) ++ drop to bytes)) len ∙ take_front (first ++ 32 ∷ second) (drop to bytes)

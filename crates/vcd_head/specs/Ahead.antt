@@ -1,5 +1,5 @@
 -- Variables and scopes whose phrases lie ahead.
-use Rattle.std.specs.Prelude.{◌≡◌, ℕ, ◌-◌, ◌<◌, ◌≤◌, Bool, true, false, MatchBool, List, [], ◌∷◌, ◌++◌, length, map, slice_range, Option, Some, IfSome, Result, IfOk}
+use Rattle.std.specs.Prelude.{◌≡◌, ℕ, ◌<◌, ◌≤◌, Bool, true, false, MatchBool, List, [], ◌∷◌, ◌++◌, length, map, Option, Some, IfSome, Result, IfOk}
 use Rattle.std.specs.List.{join_with_byte, list_all}
 use Rattle.vcd_model.specs.Bytes.{is_code_byte}
 use Rattle.vcd_model.specs.Keywords.{Keyword, keyword_text, is_end}
@@ -12,6 +12,7 @@ use Rattle.vcd_head.specs.declared.declarations.ScopePhrase.{ScopePhrase}
 use Rattle.vcd_head.specs.declared.declarations.VariablePhrase.{VariablePhrase}
 use Rattle.vcd_head.specs.declared.draft.Draft.{Draft}
 use Rattle.vcd_head.specs.declared.fault.HeadFault.{HeadFault}
+use Rattle.vcd_head.specs.Declares.{whole}
 use Rattle.vcd_head.specs.Draft.{DraftsOn}
 use Rattle.vcd_view.specs.Keywords.{NoEnds}
 use Rattle.vcd_head.specs.Words.{size_in}
@@ -46,8 +47,8 @@ pub record IsReference (ts : List Token) (r : Reference) : Type 0 where
   pub name_on : is_end name.bytes ≡ false
   pub none : NoEnds (texts_of inner)
   pub ends : is_end end.bytes ≡ true
-  pub name_len : r.name ≡ length name.bytes
-  pub text_is : r.text.now ≡ join_with_byte 32 (name.bytes ∷ texts_of inner)
+  pub name_is : r.name.now ≡ name.bytes
+  pub text_is : whole r ≡ join_with_byte 32 (name.bytes ∷ texts_of inner)
 
 -- the tokens are the phrase of this variable
 pub record IsVariable (ts : List Token) (v : VariablePhrase) : Type 0 where
@@ -90,10 +91,6 @@ pub record MovesAhead {A : Type 0} (old new : Ahead) (o : Option A) : Type 0 whe
   pub further : IfSome o (λ _. passed_of old < passed_of new)
   pub within : IfSome o (λ _. passed_of new ≤ length (bytes_of old))
   pub same : LooksOn old new
-
--- the token ends one byte before the position that was reached
-abbrev pub EndsBefore : List ℕ → ℕ → List ℕ → Type 0
-EndsBefore bytes behind token = token ≡ slice_range bytes (behind - length token - 1) (behind - 1)
 
 -- where a phrase that lies ahead is this one, the draft holds it, if it was taken
 abbrev pub TakesNext : ℕ → (List Token → Type 0) → (old new : Draft) → Result Bool HeadFault → Type 0

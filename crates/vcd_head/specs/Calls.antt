@@ -1,9 +1,9 @@
 -- What calls promise that read the tokens of a header.
 use Rattle.std.specs.Global.{Vec}
-use Rattle.std.specs.Prelude.{◌≡◌, ℕ, Bool, false, List, [], ◌∷◌, ◌++◌, Option, Result, MatchBool, MatchResult}
+use Rattle.std.specs.Prelude.{ℕ, Bool, List, Option, Result, MatchBool, MatchResult}
 use Rattle.vcd_model.specs.HeaderPhrases.{HeaderPhrase}
 use Rattle.vcd_model.specs.Input.{Input}
-use Rattle.vcd_model.specs.Keywords.{Keyword, is_end}
+use Rattle.vcd_model.specs.Keywords.{Keyword}
 use Rattle.vcd_model.specs.HeaderReading.{header_grammar}
 use Rattle.vcd_model.specs.Reading.{Placed}
 use Rattle.vcd_model.specs.SoFar.{IsSoFar}
@@ -16,7 +16,7 @@ use Rattle.vcd_view.specs.declared.keyword.Keyword.{Keyword as WordOf}
 use Rattle.vcd_head.specs.Draft.{AtFirstToken, AtKeyword, AtOther, DraftsAll, DraftsBehind, DraftsUpTo, goes_on}
 use Rattle.vcd_head.specs.Fault.{call_end}
 use Rattle.vcd_head.specs.Reads.{Fails, Reads, ReadsToken}
-use Rattle.vcd_head.specs.Texts.{EndsThere, ReferencePut, RunsOn, Welcomes, WordRead}
+use Rattle.vcd_head.specs.Texts.{EndsThere, RunsOn, Welcomes, WordRead}
 use Rattle.vcd_head.specs.declared.draft.Draft.{Draft}
 use Rattle.vcd_head.specs.declared.fault.HeadFault.{HeadFault}
 
@@ -51,12 +51,6 @@ ReadsOne old new r = (most : ℕ) (i : Input) (placed : List (Placed HeaderPhras
 -- after these first tokens, which a word may follow, one was read, or `$end` was looked at
 abbrev pub ReadsWord : {X : Type 0} {g : Ghosts X} → Feed X g → Feed X g → Result (Option (Vec ℕ)) HeadFault → Type 0
 ReadsWord old new r = (most : ℕ) (i : Input) (placed : List (Placed HeaderPhrase)) (before : List (List ℕ)) → Welcomes most placed before → Reads most i placed before old → OrFails most i new (WordRead most i placed before new) r
-
--- after these first tokens, which a reference may follow, one was read and put to a text, or `$end`
--- was looked at
-abbrev pub ReadsReference : {X : Type 0} {g : Ghosts X} → Feed X g → Feed X g → (text new_text : List ℕ) → Result (Option ℕ) HeadFault → Type 0
-ReadsReference old new text new_text r = (most : ℕ) (i : Input) (placed : List (Placed HeaderPhrase)) (before : List (List ℕ)) → Welcomes most placed before → ((t : List ℕ) → is_end t ≡ false → RunsOn most placed (before ++ t ∷ []))
-    → Reads most i placed before old → OrFails most i new (ReferencePut most i placed before new text new_text) r
 
 -- so it is however many declarations are allowed
 abbrev pub ReadsText : {X A : Type 0} {g : Ghosts X} → Keyword → (old : Draft) → Feed X g → (new : Draft) → Feed X g → Result A HeadFault → Type 0

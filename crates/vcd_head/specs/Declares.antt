@@ -1,5 +1,5 @@
 -- What the declarations of a header are checked for, and what becomes of a draft that takes one.
-use Rattle.std.specs.Prelude.{◌≡◌, ◌≢◌, ℕ, Bool, List, [], ◌∷◌, ◌++◌, length, MatchBool, Some, None, Result, IfOk}
+use Rattle.std.specs.Prelude.{◌≡◌, ◌≢◌, ℕ, Bool, List, [], ◌∷◌, ◌++◌, length, MatchBool, Some, None, option_map, unwrap_or, Result, IfOk}
 use Rattle.std.specs.List.{join_with_byte}
 use Rattle.vcd_model.specs.Checks.{first_failed}
 use Rattle.vcd_model.specs.Declarations.{Declaration, Variable, first_token}
@@ -42,11 +42,15 @@ abbrev pub TakesVariable : Variable → Draft → Draft → Bool → Type 0
 TakesVariable v old new taken = (most : ℕ) (ps : List HeaderPhrase) → IsDraftOf most old ps → MayStart most ps kind.Var
     → (taken ≡ agrees (declarations_of ps) v) × MatchBool taken (IsDraftOf most new (ps ++ HeaderPhrase.Declares (Declaration.Var v) ∷ [])) (IsDraftOf most new ps)
 
+-- its tokens, with a space between
+abbrev pub whole : Reference → List ℕ
+whole r = r.name.now ++ unwrap_or (option_map (λ more. 32 ∷ more.now) r.more) []
+
 -- it says these tokens
 pub record Spells (r : Reference) (reference : List (List ℕ)) : Type 0 where
   pub named : reference ≢ []
-  pub text_is : r.text.now ≡ join_with_byte 32 reference
-  pub name_is : r.name ≡ length (first_token reference)
+  pub text_is : whole r ≡ join_with_byte 32 reference
+  pub name_is : length r.name.now ≡ length (first_token reference)
 
 -- the variable of the phrase, with this reference
 abbrev pub spelled : VariablePhrase → List (List ℕ) → Variable

@@ -17,7 +17,6 @@ pub use Rattle.vcd_model.specs.Scales.{exponent_of, scale_text}
 pub use Rattle.vcd_model.specs.Selection.{first_unmatched, is_selected, is_variable, marked_places, selects_path}
 pub use Rattle.vcd_model.specs.Ticks.{moment_ticks, ticks}
 pub use Rattle.vcd_text.specs.Advances.{CallEnd}
-pub use Rattle.vcd_text.specs.Ahead.{TakesToken, bytes_of}
 pub use Rattle.vcd_text.specs.Device.{Counts, Puts, PutsTo, PutsWhere, TakenBy, Takes}
 pub use Rattle.vcd_text.specs.Feed.{seen, source_of, token_of}
 pub use Rattle.vcd_view.specs.Entries.{KeepsRight, are_right, is_right, text_in}
@@ -28,10 +27,10 @@ pub use Rattle.vcd_view.specs.Shown.{parts}
 pub use Rattle.vcd_view.specs.Views.{AreHeld, IsIndex, IsSize, IsViewOf, Views, counted_from_one, reference_of, type_of}
 pub use Rattle.vcd_view.specs.declared.view.Code.{Code}
 pub use Rattle.vcd_view.specs.declared.view.Scale.{Scale}
-pub use Rattle.vcd_head.specs.Ahead.{DraftsAhead, DraftsNext, EndsBefore, Gives, GivesToken, GoesOnWithin, IsReference, IsScope, IsUpscope, IsVariable, LooksOn, MovesAhead, PassesOn, PassesTokens, TakesNext}
-pub use Rattle.vcd_head.specs.Calls.{MovesFurther, MovesOn, OrFails, ReadsAhead, ReadsAll, ReadsAny, ReadsEnd, ReadsNext, ReadsOne, ReadsOther, ReadsPhrase, ReadsReference, ReadsRest, ReadsText, ReadsToEnd, ReadsWord}
+pub use Rattle.vcd_head.specs.Ahead.{DraftsAhead, DraftsNext, Gives, GivesToken, GoesOnWithin, IsReference, IsScope, IsUpscope, IsVariable, LooksOn, MovesAhead, PassesOn, PassesTokens, TakesNext}
+pub use Rattle.vcd_head.specs.Calls.{MovesFurther, MovesOn, OrFails, ReadsAhead, ReadsAll, ReadsAny, ReadsEnd, ReadsNext, ReadsOne, ReadsOther, ReadsPhrase, ReadsRest, ReadsText, ReadsToEnd, ReadsWord}
 pub use Rattle.vcd_head.specs.Codes.{HasNone, Rises, is_of, keys_of}
-pub use Rattle.vcd_head.specs.Declares.{DeclaresVariable, IsBarred, MayStart, Takes as TakesPhrase}
+pub use Rattle.vcd_head.specs.Declares.{DeclaresVariable, IsBarred, MayStart, Takes as TakesPhrase, whole}
 pub use Rattle.vcd_head.specs.Draft.{IsDraftOf, IsNew, goes_on}
 pub use Rattle.vcd_head.specs.Entered.{Allows, Enters, EntersKey, IsNewCode, code_with}
 pub use Rattle.vcd_head.specs.Fault.{call_end, fault_number}
@@ -52,7 +51,7 @@ pub use Rattle.vcd_head.specs.Scaled.{ReadsScale}
 pub use Rattle.vcd_head.specs.ScopesLeft.{GivesNext, LeavesScopes, Walks, scopes_around}
 pub use Rattle.vcd_head.specs.Selects.{IsBehind as GoesOnAfter, selects_after}
 pub use Rattle.vcd_head.specs.Shown.{shown}
-pub use Rattle.vcd_head.specs.Texts.{spaced}
+pub use Rattle.vcd_head.specs.Texts.{AppendsAhead, spaced}
 pub use Rattle.vcd_head.specs.Variables.{ReadsCode, ReadsFront, ReadsSize}
 pub use Rattle.vcd_head.specs.Words.{power_in, size_in, unit_in}
 pub use Rattle.vcd_head.specs.Written.{TakesHeader, TakesRow}

@@ -1,7 +1,7 @@
 // Variables and scopes whose phrases are whole ahead in the chunk: their tokens cost no change of
 // the feed.
-ghost use Rattle.std.specs.Prelude.{◌≡◌, ◌+◌, ◌-◌, ◌≤◌, ◌∷◌, ◌++◌, length, IfSome, IfErr};
-ghost use Rattle.vcd_head.specs.Names.{DraftsAhead, DraftsNext, EndsBefore, Gives, GivesToken, GoesOnWithin, IsReference, IsScope, IsUpscope, IsVariable, LooksOn, MovesAhead, MovesOn, PassesOn, PassesTokens, ReadsAhead, TakesNext, TakesToken, bytes_of};
+ghost use Rattle.std.specs.Prelude.{◌≡◌, IfSome, IfErr};
+ghost use Rattle.vcd_head.specs.Names.{DraftsAhead, DraftsNext, Gives, GivesToken, GoesOnWithin, IsReference, IsScope, IsUpscope, IsVariable, LooksOn, MovesAhead, MovesOn, PassesOn, PassesTokens, ReadsAhead, TakesNext};
 
 use crate::ahead_scopes::{scope_ahead, upscope_ahead};
 use crate::declarations::{
@@ -18,41 +18,13 @@ use vcd_view::Kind;
 #[inline(always)]
 pub(crate) fn token_ahead<'a>(ahead: &mut Ahead<'a>) -> Option<&'a [u8]>
     ensures one { IfSome result (λ token. GivesToken ahead.old ahead.new token.now) }
-    ensures takes { IfSome result (λ token. TakesToken ahead.old ahead.new token.now) }
     ensures moves { MovesAhead ahead.old ahead.new result }
 {
     ahead.next()
 }
 
-/// Returns two tokens as these bytes have them, if there is one space between. One white byte was
-/// passed after each.
-#[inline(always)]
-fn joined<'a>(
-    bytes: &'a [u8],
-    first: &[u8],
-    first_end: usize,
-    second: &[u8],
-    second_end: usize,
-) -> Option<&'a [u8]>
-    requires first { (length first.now + 1 ≤ first_end)
-        × EndsBefore bytes.now first_end first.now }
-    requires second { (first_end + length second.now + 1 ≤ second_end)
-        × EndsBefore bytes.now second_end second.now }
-    requires within { second_end ≤ length bytes.now }
-    ensures { IfSome result (λ text. text.now ≡ first.now ++ 32 ∷ second.now) }
-{
-    if second_end - second.len() - 1 != first_end {
-        return None;
-    }
-    if bytes[first_end - 1] != b' ' {
-        return None;
-    }
-    let start = first_end - first.len() - 1;
-    Some(&bytes[start..second_end - 1])
-}
-
 /// Passes the reference that comes next and the `$end` after it, and returns the reference, if it
-/// has one token, or two with one space between.
+/// has one token or two.
 #[inline(always)]
 fn reference_ahead<'a>(ahead: &mut Ahead<'a>) -> Option<Reference<'a>>
     ensures gives { Gives IsReference ahead.old ahead.new result }
@@ -62,22 +34,17 @@ fn reference_ahead<'a>(ahead: &mut Ahead<'a>) -> Option<Reference<'a>>
     if is_end(name) {
         return None;
     }
-    let behind_name = ahead.passed();
     let range = token_ahead(ahead)?;
     if is_end(range) {
-        return Some(Reference {
-            name: name.len(),
-            text: name,
-        });
+        return Some(Reference { name, more: None });
     }
-    let text = joined(ahead.bytes(), name, behind_name, range, ahead.passed())?;
     let end = token_ahead(ahead)?;
     if !is_end(end) {
         return None;
     }
     Some(Reference {
-        name: name.len(),
-        text,
+        name,
+        more: Some(range),
     })
 }
 

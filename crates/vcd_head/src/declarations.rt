@@ -1,6 +1,6 @@
 // What the declarations of a header are checked for, and what becomes of the head.
-ghost use Rattle.std.specs.Prelude.{◌≡◌, List, IfOk, IfErr, MatchResult};
-ghost use Rattle.vcd_head.specs.Names.{CallEnd, Declaration, DeclaresVariable, HeaderPhrase, IsBarred, IsDraftOf, MayStart, TakesPhrase, call_end};
+ghost use Rattle.std.specs.Prelude.{◌≡◌, List, ◌++◌, length, IfOk, IfErr, MatchResult};
+ghost use Rattle.vcd_head.specs.Names.{CallEnd, Declaration, DeclaresVariable, HeaderPhrase, IsBarred, IsDraftOf, MayStart, TakesPhrase, call_end, whole};
 
 use crate::code_place::enter_code;
 use crate::draft::Draft;
@@ -26,10 +26,10 @@ pub(crate) struct VariablePhrase<'a> {
 // What a phrase refers to a variable by.
 #[derive(Clone, Copy)]
 pub(crate) struct Reference<'a> {
-    // The length of its first token in bytes.
-    pub(crate) name: usize,
-    // The tokens of the reference, with a space between.
-    pub(crate) text: &'a [u8],
+    // Its first token.
+    pub(crate) name: &'a [u8],
+    // The tokens after that, with a space between; `None` where it has no others.
+    pub(crate) more: Option<&'a [u8]>,
 }
 
 // What the phrase of a scope says.
@@ -93,21 +93,36 @@ pub(crate) fn declare(
     };
     let start = draft.text.len();
     draft.text.extend_from_slice(variable.word)?;
-    draft.text.extend_from_slice(variable.reference.text)?;
     let word = variable.word.len();
-    let all = variable.reference.text.len();
+    let all = add_reference(&mut draft.text, variable.reference)?;
     let parent = draft.parent();
     let row = WideRow {
         kind: Kind::Var,
         parent,
         start,
         word,
-        name: variable.reference.name,
+        name: variable.reference.name.len(),
         all,
         code: place,
     };
     push(&mut draft.rows, row)?;
     Ok(true)
+}
+
+/// Appends the tokens of a reference to the text, with a space between, and returns their length.
+#[inline(always)]
+fn add_reference(text: &mut Vec<u8>, reference: Reference<'_>) -> Result<usize, HeadFault>
+    ensures text { IfOk result (λ _. text.new.items ≡ text.old.items ++ whole reference.entry) }
+    ensures len { IfOk result (λ len. len ≡ length (whole reference.entry)) }
+    ensures memory { IfErr result (λ fault. fault ≡ HeadFault.OutOfMemory) }
+{
+    let start = text.len();
+    text.extend_from_slice(reference.name)?;
+    if let Some(more) = reference.more {
+        text.push(b' ')?;
+        text.extend_from_slice(more)?;
+    }
+    Ok(text.len() - start)
 }
 
 /// Opens a scope in the draft, or fails with `OutOfMemory`.

@@ -29,6 +29,7 @@ pub(crate) fn next_token<S: Source>(feed: &mut Feed<'_, '_, '_, '_, S>) -> Resul
 pub(crate) fn next_ends<S: Source>(feed: &mut Feed<'_, '_, '_, '_, S>) -> Result<bool, HeadFault>
     requires { S.failures (source_of feed.old) < 2 ^ 64 - 1 }
     ensures reads { ReadsOne feed.old feed.new result }
+    ensures next { ReadsNext feed.old feed.new result }
     ensures end { IfOk result (λ ends. ends ≡ is_end (token_of feed.new).bytes) }
     ensures goes { MovesFurther S.failures feed.old feed.new result }
 {

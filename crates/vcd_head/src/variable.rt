@@ -6,7 +6,7 @@ use crate::codes::Codes;
 use crate::declarations::{Reference, VariablePhrase, check_start, declare};
 use crate::draft::Draft;
 use crate::fault::HeadFault;
-use crate::texts::append_reference;
+use crate::texts::append_to_end;
 use crate::tokens::{next_token, next_word};
 use crate::words::{is_code, is_event, size_of};
 use std::alloc::Global;
@@ -91,15 +91,19 @@ pub(crate) fn read_variable<S: Source>(
 {
     check_start(draft, most, Kind::Var)?;
     let front = read_front(alloc, feed, &draft.codes)?;
-    let mut text = Vec::new(alloc);
-    let Some(name) = append_reference(feed, &mut text)? else {
+    let Some(name) = next_word(alloc, feed)? else {
         return Err(HeadFault::BadVariable);
     };
+    let mut more = Vec::new(alloc);
+    append_to_end(feed, &mut more)?;
     let variable = VariablePhrase {
         word: &front.word,
         size: front.size,
         code: &front.code,
-        reference: Reference { name, text: &text },
+        reference: Reference {
+            name: &name,
+            more: more.get(1..),
+        },
     };
     if !declare(alloc, draft, variable)? {
         return Err(HeadFault::CodeDiffers);

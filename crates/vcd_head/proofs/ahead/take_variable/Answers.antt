@@ -1,4 +1,4 @@
-use Rattle.std.proofs.Common.{◌∷◌, sym, ◌∙◌, arith}
+use Rattle.std.proofs.Common.{◌∷◌, length, sym, ap, ◌∙◌, arith}
 use Rattle.std.proofs.lemmas.Result.{IfOk-weaker}
 use Rattle.vcd_model.specs.Reading.{phrases_of}
 use Rattle.vcd_head.specs.Ahead.{TakenOn, texts_of}
@@ -22,4 +22,4 @@ returns-clause-takes c = λ given more a k.
     let z3 = size.1 in
     IfOk-weaker c.declare.result (TakesVariable (variable_in more variable k) d new) (TakenOn c.args.most given more new) (λ taken takes. variable_taken c.args.most given more d new variable a k start.1 taken takes)
     (c.declare.ensures.declares (k.reference.name.bytes ∷ texts_of k.reference.inner) (record { some = omega arith; most = omega arith })
-    (record { named = some_token k.reference.name.bytes (texts_of k.reference.inner); text_is = k.reference.text_is; name_is = k.reference.name_len }))
+    (record { named = some_token k.reference.name.bytes (texts_of k.reference.inner); text_is = k.reference.text_is; name_is = ap length k.reference.name_is }))

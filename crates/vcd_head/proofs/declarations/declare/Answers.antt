@@ -5,7 +5,7 @@ use Rattle.vcd_model.specs.Declarations.{Declaration, code_of}
 use Rattle.vcd_model.specs.HeaderPhrases.{declarations_of}
 use Rattle.vcd_view.specs.declared.view.Kind.TheVariants as kind
 use Rattle.vcd_view.specs.declared.view.Row.{Row}
-use Rattle.vcd_head.specs.Declares.{spelled}
+use Rattle.vcd_head.specs.Declares.{spelled, whole}
 use Rattle.vcd_head.specs.Draft.{HasCodes}
 use Rattle.vcd_head.proofs.CodeChecks.{not_some}
 use Rattle.vcd_head.proofs.DraftLemmas.{code_narrow, scope_narrow, var_entered, holds_declared, holds_same, has_codes_grow}
@@ -34,13 +34,13 @@ returns-clause-declares c = λ reference size spells most ps h start.
     let middle = c.enter_code.new.text.items in
     let known = c.enter_code.new.known in
     let join = join_with_byte 32 reference in
-    let text : c.extend_from_slice-2.new.self.items ≡ middle ++ (type ++ join) = c.in_ok-extend_from_slice-2.ensures.items ∙ ap (λ l. l ++ variable.reference.text.now) c.in_ok-extend_from_slice.ensures.items ∙ append_assoc middle type variable.reference.text.now ∙ ap (λ l. middle ++ (type ++ l)) spells.text_is in
-    let grown : c.extend_from_slice-2.new.self.items ≡ old ++ (held.more ++ (type ++ (join ++ []))) = text ∙ ap (λ t. t ++ (type ++ join)) held.grown ∙ append_assoc old held.more (type ++ join) ∙ ap (λ l. old ++ (held.more ++ (type ++ l))) (sym (append-nil join)) in
-    let codes : HasCodes c.extend_from_slice-2.new.self.items known (ds ++ Declaration.Var v ∷ []) = subst (λ t. HasCodes t known (ds ++ Declaration.Var v ∷ [])) (sym text) (has_codes_grow middle (type ++ join) known (ds ++ Declaration.Var v ∷ []) held.held_codes) in
+    let text : c.add_reference.new.text.items ≡ middle ++ (type ++ join) = c.in_ok-all.ensures.text ∙ ap (λ l. l ++ whole variable.reference) c.in_ok-extend_from_slice.ensures.items ∙ append_assoc middle type (whole variable.reference) ∙ ap (λ l. middle ++ (type ++ l)) spells.text_is in
+    let grown : c.add_reference.new.text.items ≡ old ++ (held.more ++ (type ++ (join ++ []))) = text ∙ ap (λ t. t ++ (type ++ join)) held.grown ∙ append_assoc old held.more (type ++ join) ∙ ap (λ l. old ++ (held.more ++ (type ++ l))) (sym (append-nil join)) in
+    let codes : HasCodes c.add_reference.new.text.items known (ds ++ Declaration.Var v ∷ []) = subst (λ t. HasCodes t known (ds ++ Declaration.Var v ∷ [])) (sym text) (has_codes_grow middle (type ++ join) known (ds ++ Declaration.Var v ∷ []) held.held_codes) in
     let length_grown = ap length held.grown in
     let from : c.len-start.result ≡ length (old ++ held.more) = omega (arith, length_grown) in
-    let all : length variable.reference.text.now ≡ length join = ap length spells.text_is in
-    let row : Row = record { kind = kind.Var; parent = c.parent-parent.result; start = c.len-start.result; word = length type; name = variable.reference.name; all = length variable.reference.text.now; code = c.in-Some.place } in (
+    let all : c.in_ok-all.all ≡ length join = c.in_ok-all.ensures.len ∙ ap length spells.text_is in
+    let row : Row = record { kind = kind.Var; parent = c.parent-parent.result; start = c.len-start.result; word = length type; name = length variable.reference.name.now; all = c.in_ok-all.all; code = c.in-Some.place } in (
       sym e.0,
       holds_declared most d _ ps (Declaration.Var v) h
           (var_entered most d _ ds v row held.more [] h.declares few spells.named grown (omega (arith, held.short)) (c.in_ok-push.ensures.items (record { parent = subst (λ n. n < 2 ^ 32) (sym c.parent-parent.ensures) (scope_narrow most d ds h.declares); code = code_narrow most d ds v c.in-Some.place h.declares few held.held_at })) codes held.held_at refl

@@ -1,4 +1,4 @@
-use Rattle.std.proofs.Common.{◌≡◌, [], ◌∷◌, ◌++◌, refl, sym, ap, subst, ◌∙◌, arith}
+use Rattle.std.proofs.Common.{◌≡◌, [], ◌∷◌, ◌++◌, length, option_map, unwrap_or, refl, sym, ap, subst, ◌∙◌, arith}
 use Rattle.std.specs.List.{join_with_byte}
 use Rattle.std.proofs.lemmas.Bool.{false≢true, MatchBool-at_true}
 use Rattle.std.proofs.lemmas.Result.{err_from_is_err_and}
@@ -11,13 +11,13 @@ use Rattle.vcd_model.specs.Reading.{phrases_of}
 use Rattle.vcd_text.specs.Feed.{token_of}
 use Rattle.vcd_view.specs.declared.view.Kind.TheVariants as kind
 use Rattle.vcd_view.specs.Views.{IsSize}
-use Rattle.vcd_head.specs.Declares.{spelled}
+use Rattle.vcd_head.specs.Declares.{spelled, whole}
+use Rattle.vcd_head.specs.declared.declarations.Reference.{Reference}
 use Rattle.vcd_head.specs.declared.declarations.VariablePhrase.{VariablePhrase}
 use Rattle.vcd_head.specs.Draft.{IsDraftOf}
 use Rattle.vcd_head.specs.Texts.{spaced}
-use Rattle.vcd_head.proofs.CodeChecks.{not_some}
-use Rattle.vcd_head.proofs.TokenSteps.{faultless_phrase, stays}
-use Rattle.vcd_head.proofs.TextSteps.{joined}
+use Rattle.vcd_head.proofs.TokenSteps.{faultless_phrase, stays, word_none, word_some}
+use Rattle.vcd_head.proofs.TextSteps.{joined, spaced_left}
 use Rattle.vcd_head.proofs.WordLemmas.{size_found, size_parts}
 use Rattle.vcd_head.proofs.PhraseLemmas.{barred, begun, ended, refused_inside, var_welcomes_reference, var_runs, var_whole}
 use Rattle.vcd_head.proofs.DraftSteps.{carried, failed_not}
@@ -55,7 +55,7 @@ returns-in_err-name-clause-reads g c =
     let digits = f1.digits in
     let sf = size_found digits front.size f1.size_is in
     let code = front.code.items in
-    c.in_err-name.ensures.reads c.args.most i b.placed (keyword_text Keyword.Var ∷ type ∷ digits ∷ code ∷ []) (var_welcomes_reference c.args.most b.placed type digits code) (λ t n. var_runs c.args.most b.placed type digits code t n) f1.reads)
+    c.in_err-name.ensures.reads c.args.most i b.placed (keyword_text Keyword.Var ∷ type ∷ digits ∷ code ∷ []) (var_welcomes_reference c.args.most b.placed type digits code) f1.reads)
 
 pub returns-in_default-clause-reads : goal.returns-in_default-clause-reads
 returns-in_default-clause-reads g c = λ i b.
@@ -67,9 +67,26 @@ returns-in_default-clause-reads g c = λ i b.
     let digits = f1.digits in
     let sf = size_found digits front.size f1.size_is in
     let code = front.code.items in
-    let put = c.in_ok-name.ensures.reads c.args.most i b.placed (keyword_text Keyword.Var ∷ type ∷ digits ∷ code ∷ []) (var_welcomes_reference c.args.most b.placed type digits code) (λ t n. var_runs c.args.most b.placed type digits code t n) f1.reads in
-    let e = (rw (not_some c.in_ok-name.field-0 c.in_default.not-Some) at put) in
-    refused_inside c.args.most i b.placed Keyword.Var c.append_reference.new.feed (type ∷ digits ∷ code ∷ []) 7 (failed_not _ 7 e.1) e.0
+    let put = c.in_ok-name.ensures.reads c.args.most i b.placed (keyword_text Keyword.Var ∷ type ∷ digits ∷ code ∷ []) (var_welcomes_reference c.args.most b.placed type digits code) f1.reads in
+    let e = word_none c.args.most i b.placed (keyword_text Keyword.Var ∷ type ∷ digits ∷ code ∷ []) c.next_word.new.feed c.in_ok-name.field-0 c.in_default.not-Some put in
+    refused_inside c.args.most i b.placed Keyword.Var c.next_word.new.feed (type ∷ digits ∷ code ∷ []) 7 (failed_not _ 7 e.1) e.0
+
+pub returns-in_err-append_to_end-clause-reads : goal.returns-in_err-append_to_end-clause-reads
+returns-in_err-append_to_end-clause-reads g c =
+    let p = err_from_is_err_and c.from_residual-in_err-append_to_end.result c.from_residual-in_err-append_to_end.ensures.1 in
+    rw (p.1, p.2) (λ i b.
+    let start = c.in_ok-check_start.ensures.checks (phrases_of b.placed) b.holds in
+    let r0 = begun c.args.most i b.placed Keyword.Var c.args.feed.now b.keyword start refl b.token_read in
+    let f1 = c.in_ok-front.ensures.reads c.args.most i b.placed c.args.draft.now.text.items b.holds.declares.codes r0 in
+    let front = c.in_ok-front.front in
+    let type = front.word.items in
+    let digits = f1.digits in
+    let sf = size_found digits front.size f1.size_is in
+    let code = front.code.items in
+    let put = c.in_ok-name.ensures.reads c.args.most i b.placed (keyword_text Keyword.Var ∷ type ∷ digits ∷ code ∷ []) (var_welcomes_reference c.args.most b.placed type digits code) f1.reads in
+    let word = word_some c.args.most i b.placed (keyword_text Keyword.Var ∷ type ∷ digits ∷ code ∷ []) c.next_word.new.feed c.in_ok-name.field-0 c.in-Some.name c.in-Some.is put in
+    let first = c.in-Some.name.items in
+    c.in_err-append_to_end.ensures.reads c.args.most i b.placed (keyword_text Keyword.Var ∷ type ∷ digits ∷ code ∷ first ∷ []) (var_runs c.args.most b.placed type digits code first word.1) word.0)
 
 pub returns-in_err-declare-clause-reads : goal.returns-in_err-declare-clause-reads
 returns-in_err-declare-clause-reads g c =
@@ -84,13 +101,14 @@ returns-in_err-declare-clause-reads g c =
     let sf = size_found digits front.size f1.size_is in
     let code = front.code.items in
     let sp = size_parts digits sf.0 in
-    let put = c.in_ok-name.ensures.reads c.args.most i b.placed (keyword_text Keyword.Var ∷ type ∷ digits ∷ code ∷ []) (var_welcomes_reference c.args.most b.placed type digits code) (λ t n. var_runs c.args.most b.placed type digits code t n) f1.reads in
-    let e5 = (rw c.in-Some.is at put) in
-    let first = e5.first in
-    let inner = e5.ends_there.inner in
+    let put = c.in_ok-name.ensures.reads c.args.most i b.placed (keyword_text Keyword.Var ∷ type ∷ digits ∷ code ∷ []) (var_welcomes_reference c.args.most b.placed type digits code) f1.reads in
+    let word = word_some c.args.most i b.placed (keyword_text Keyword.Var ∷ type ∷ digits ∷ code ∷ []) c.next_word.new.feed c.in_ok-name.field-0 c.in-Some.name c.in-Some.is put in
+    let first = c.in-Some.name.items in
+    let e5 = c.in_ok-append_to_end.ensures.reads c.args.most i b.placed (keyword_text Keyword.Var ∷ type ∷ digits ∷ code ∷ first ∷ []) (var_runs c.args.most b.placed type digits code first word.1) word.0 in
+    let inner = e5.inner in
     let v : Variable = record { type = type; size = decimal_value digits; code = code; reference = first ∷ inner } in
-    let r5 = ended c.args.most i b.placed Keyword.Var c.append_reference.new.feed (type ∷ digits ∷ code ∷ first ∷ inner) (HeaderPhrase.Declares (Declaration.Var v)) refl (var_whole type digits code first inner (token_of c.append_reference.new.feed).bytes e5.is_token e5.ends_there.none e5.ends_there.ends sp.0) refl e5.ends_there.token_read in
-    faultless_phrase c.args.most i b.placed (record { phrase = HeaderPhrase.Declares (Declaration.Var v); line = (token_of c.append_reference.new.feed).line }) c.append_reference.new.feed r5)
+    let r5 = ended c.args.most i b.placed Keyword.Var c.append_to_end.new.feed (type ∷ digits ∷ code ∷ first ∷ inner) (HeaderPhrase.Declares (Declaration.Var v)) refl (var_whole type digits code first inner (token_of c.append_to_end.new.feed).bytes word.1 e5.none e5.ends sp.0) refl e5.token_read in
+    faultless_phrase c.args.most i b.placed (record { phrase = HeaderPhrase.Declares (Declaration.Var v); line = (token_of c.append_to_end.new.feed).line }) c.append_to_end.new.feed r5)
 
 pub returns-then-not-branch-clause-reads : goal.returns-then-not-branch-clause-reads
 returns-then-not-branch-clause-reads g c = λ i b.
@@ -103,17 +121,19 @@ returns-then-not-branch-clause-reads g c = λ i b.
     let sf = size_found digits front.size f1.size_is in
     let code = front.code.items in
     let sp = size_parts digits sf.0 in
-    let put = c.in_ok-name.ensures.reads c.args.most i b.placed (keyword_text Keyword.Var ∷ type ∷ digits ∷ code ∷ []) (var_welcomes_reference c.args.most b.placed type digits code) (λ t n. var_runs c.args.most b.placed type digits code t n) f1.reads in
-    let e5 = (rw c.in-Some.is at put) in
-    let first = e5.first in
-    let inner = e5.ends_there.inner in
+    let put = c.in_ok-name.ensures.reads c.args.most i b.placed (keyword_text Keyword.Var ∷ type ∷ digits ∷ code ∷ []) (var_welcomes_reference c.args.most b.placed type digits code) f1.reads in
+    let word = word_some c.args.most i b.placed (keyword_text Keyword.Var ∷ type ∷ digits ∷ code ∷ []) c.next_word.new.feed c.in_ok-name.field-0 c.in-Some.name c.in-Some.is put in
+    let first = c.in-Some.name.items in
+    let e5 = c.in_ok-append_to_end.ensures.reads c.args.most i b.placed (keyword_text Keyword.Var ∷ type ∷ digits ∷ code ∷ first ∷ []) (var_runs c.args.most b.placed type digits code first word.1) word.0 in
+    let inner = e5.inner in
     let v : Variable = record { type = type; size = decimal_value digits; code = code; reference = first ∷ inner } in
     let ds = declarations_of (phrases_of b.placed) in
     let size : IsSize front.size = record { some = omega (arith, sp.1, sf.1); most = omega (arith, sp.2, sf.1) } in
-    let text_is : c.deref-3.result.now ≡ join_with_byte 32 (first ∷ inner) = c.deref-3.ensures.value ∙ e5.ends_there.grows ∙ ap (λ l. l ++ (first ++ spaced inner)) c.new-text.ensures.items ∙ sym (joined first inner) in
-    let said : VariablePhrase = record { word = c.deref.result; size = front.size; code = c.deref-2.result; reference = record { name = c.in-Some.name; text = c.deref-3.result } } in
+    let name : Reference = record { name = c.deref-3.result; more = c.get.result } in
+    let text_is : whole name ≡ join_with_byte 32 (first ∷ inner) = ap (λ l. l ++ unwrap_or (option_map (λ more. 32 ∷ more.now) c.get.result) []) c.deref-3.ensures.value ∙ ap (λ l. first ++ l) (spaced_left inner c.deref-4.result.now c.get.result (c.deref-4.ensures.value ∙ e5.grows ∙ ap (λ l. l ++ spaced inner) c.new-more.ensures.items) c.get.ensures.lookup) ∙ sym (joined first inner) in
+    let said : VariablePhrase = record { word = c.deref.result; size = front.size; code = c.deref-2.result; reference = name } in
     let is : spelled said (first ∷ inner) ≡ v = λ j. record { type = c.deref.ensures.value j; size = sym sf.1 j; code = c.deref-2.ensures.value j; reference = first ∷ inner } in
-    let takes = c.in_ok-declare.ensures.declares (first ∷ inner) size (record { named = some_token first inner; text_is = text_is; name_is = e5.name_is }) c.args.most (phrases_of b.placed) b.holds start in
+    let takes = c.in_ok-declare.ensures.declares (first ∷ inner) size (record { named = some_token first inner; text_is = text_is; name_is = ap length c.deref-3.ensures.value }) c.args.most (phrases_of b.placed) b.holds start in
     absurd (false≢true (sym c.if-not-branch.true ∙ takes.0 ∙ ap (agrees ds) is ∙ f1.allowed))
 
 pub returns-clause-reads : goal.returns-clause-reads
@@ -127,17 +147,19 @@ returns-clause-reads g c = λ i b.
     let sf = size_found digits front.size f1.size_is in
     let code = front.code.items in
     let sp = size_parts digits sf.0 in
-    let put = c.in_ok-name.ensures.reads c.args.most i b.placed (keyword_text Keyword.Var ∷ type ∷ digits ∷ code ∷ []) (var_welcomes_reference c.args.most b.placed type digits code) (λ t n. var_runs c.args.most b.placed type digits code t n) f1.reads in
-    let e5 = (rw c.in-Some.is at put) in
-    let first = e5.first in
-    let inner = e5.ends_there.inner in
+    let put = c.in_ok-name.ensures.reads c.args.most i b.placed (keyword_text Keyword.Var ∷ type ∷ digits ∷ code ∷ []) (var_welcomes_reference c.args.most b.placed type digits code) f1.reads in
+    let word = word_some c.args.most i b.placed (keyword_text Keyword.Var ∷ type ∷ digits ∷ code ∷ []) c.next_word.new.feed c.in_ok-name.field-0 c.in-Some.name c.in-Some.is put in
+    let first = c.in-Some.name.items in
+    let e5 = c.in_ok-append_to_end.ensures.reads c.args.most i b.placed (keyword_text Keyword.Var ∷ type ∷ digits ∷ code ∷ first ∷ []) (var_runs c.args.most b.placed type digits code first word.1) word.0 in
+    let inner = e5.inner in
     let v : Variable = record { type = type; size = decimal_value digits; code = code; reference = first ∷ inner } in
-    let r5 = ended c.args.most i b.placed Keyword.Var c.append_reference.new.feed (type ∷ digits ∷ code ∷ first ∷ inner) (HeaderPhrase.Declares (Declaration.Var v)) refl (var_whole type digits code first inner (token_of c.append_reference.new.feed).bytes e5.is_token e5.ends_there.none e5.ends_there.ends sp.0) refl e5.ends_there.token_read in
+    let r5 = ended c.args.most i b.placed Keyword.Var c.append_to_end.new.feed (type ∷ digits ∷ code ∷ first ∷ inner) (HeaderPhrase.Declares (Declaration.Var v)) refl (var_whole type digits code first inner (token_of c.append_to_end.new.feed).bytes word.1 e5.none e5.ends sp.0) refl e5.token_read in
     let ds = declarations_of (phrases_of b.placed) in
     let size : IsSize front.size = record { some = omega (arith, sp.1, sf.1); most = omega (arith, sp.2, sf.1) } in
-    let text_is : c.deref-3.result.now ≡ join_with_byte 32 (first ∷ inner) = c.deref-3.ensures.value ∙ e5.ends_there.grows ∙ ap (λ l. l ++ (first ++ spaced inner)) c.new-text.ensures.items ∙ sym (joined first inner) in
-    let said : VariablePhrase = record { word = c.deref.result; size = front.size; code = c.deref-2.result; reference = record { name = c.in-Some.name; text = c.deref-3.result } } in
+    let name : Reference = record { name = c.deref-3.result; more = c.get.result } in
+    let text_is : whole name ≡ join_with_byte 32 (first ∷ inner) = ap (λ l. l ++ unwrap_or (option_map (λ more. 32 ∷ more.now) c.get.result) []) c.deref-3.ensures.value ∙ ap (λ l. first ++ l) (spaced_left inner c.deref-4.result.now c.get.result (c.deref-4.ensures.value ∙ e5.grows ∙ ap (λ l. l ++ spaced inner) c.new-more.ensures.items) c.get.ensures.lookup) ∙ sym (joined first inner) in
+    let said : VariablePhrase = record { word = c.deref.result; size = front.size; code = c.deref-2.result; reference = name } in
     let is : spelled said (first ∷ inner) ≡ v = λ j. record { type = c.deref.ensures.value j; size = sym sf.1 j; code = c.deref-2.ensures.value j; reference = first ∷ inner } in
-    let takes = c.in_ok-declare.ensures.declares (first ∷ inner) size (record { named = some_token first inner; text_is = text_is; name_is = e5.name_is }) c.args.most (phrases_of b.placed) b.holds start in
-    carried c.args.most i _ c.append_reference.new.feed b.placed (record { phrase = HeaderPhrase.Declares (Declaration.Var v); line = (token_of c.append_reference.new.feed).line }) r5
+    let takes = c.in_ok-declare.ensures.declares (first ∷ inner) size (record { named = some_token first inner; text_is = text_is; name_is = ap length c.deref-3.ensures.value }) c.args.most (phrases_of b.placed) b.holds start in
+    carried c.args.most i _ c.append_to_end.new.feed b.placed (record { phrase = HeaderPhrase.Declares (Declaration.Var v); line = (token_of c.append_to_end.new.feed).line }) r5
     (subst (λ (u : Variable). IsDraftOf c.args.most c.declare.new.draft (phrases_of b.placed ++ HeaderPhrase.Declares (Declaration.Var u) ∷ [])) is (MatchBool-at_true _ _ c.if-not-branch.false takes.1))
