@@ -1,6 +1,6 @@
 -- Lines that are in some bytes but for digits on the left that are not needed.
 use Rattle.std.proofs.Common.{◌≡◌, ◌≢◌, ℕ, zero, suc, ◌+◌, ◌-◌, ◌≤◌, ◌<◌, ◌==◌, false, List, [], ◌∷◌, ◌++◌, length, replicate, take, drop, Option, Some, None, IfSome, SomeIff, sym, ap, ap₂, subst, ◌∙◌, append_assoc, arith}
-use Rattle.std.specs.Prelude.{slice_range}
+use Rattle.std.specs.Prelude.{slice_index, slice_range}
 use Rattle.std.specs.Char.{to_ascii_lowercase}
 use Rattle.std.specs.Str.{str_to_ascii_lowercase}
 use Rattle.std.proofs.lemmas.List.{drop-append-le, drop-drop, drop-map, drop-take, length-append, length-drop, length-map, length-replicate}
@@ -12,9 +12,10 @@ use Rattle.vcd_text.proofs.Places.{length-slice_range}
 use Rattle.vcd_body.specs.declared.item.Form.TheVariants as form
 use Rattle.vcd_body.specs.Ahead.{HasBits}
 use Rattle.vcd_body.specs.Binary.{binary_digits}
-use Rattle.vcd_body.specs.Spelled.{HasChange, bytes_without}
+use Rattle.vcd_body.specs.Spelled.{HasChange, bytes_without, line_without}
 use Rattle.vcd_body.specs.declared.bits.Bits.{Bits}
 use Rattle.vcd_body.specs.declared.item.Item.{Item}
+use Rattle.vcd_body.proofs.LineLemmas.{one_byte}
 use Rattle.vcd_body.proofs.Shortest.{extend_wide}
 
 -- ---- digits
@@ -93,11 +94,21 @@ without_none bytes from to within =
     let none : from + 1 + 0 ≡ from + 1 = omega arith in
     ap₂ (λ (a b : ℕ). slice_range bytes from (from + 1) ++ slice_range bytes a b) none (sym all) ∙ slice_range-append bytes from (from + 1) (to - (from + 1)) (omega arith) ∙ ap (slice_range bytes from) all
 
+-- the bytes before a line feed, and it
+pub line_there : (bytes : List ℕ) (from to k : ℕ) → from + 2 + k ≤ to → to ≤ length bytes → slice_index bytes (to - 1) ≡ 10 → bytes_without bytes from to k ≡ line_without bytes from to k
+line_there bytes from to k few within last =
+    let first = slice_range bytes from (from + 1) in
+    let rest = slice_range bytes (from + 1 + k) (to - 1) in
+    let all : to - 1 + 1 ≡ to = omega arith in
+    let end : slice_range bytes (to - 1) (to - 1 + 1) ≡ 10 ∷ [] = one_byte bytes (to - 1) (omega arith) ∙ ap (λ b. b ∷ []) last in
+    let both : rest ++ 10 ∷ [] ≡ slice_range bytes (from + 1 + k) to = ap (λ l. rest ++ l) (sym end) ∙ slice_range-append bytes (from + 1 + k) (to - 1) 1 (omega arith) ∙ ap (slice_range bytes (from + 1 + k)) all in
+    ap (λ l. first ++ l) (sym both) ∙ sym (append_assoc first rest (10 ∷ []))
+
 -- the bytes of a change are one or more, and of digits or a number as many more as these
-pub bit_within : (bytes : List ℕ) (from to : ℕ) (text code : List ℕ) → HasChange bytes from to form.Scalar text code → from + 1 ≤ to
+pub bit_within : (bytes : List ℕ) (from to : ℕ) (text code : List ℕ) → HasChange bytes from to form.Scalar text code → from + 2 ≤ to
 bit_within bytes from to text code (digit, is, t) = let order = t.before.order in let ends = t.ends in omega arith
 
-pub text_within : (bytes : List ℕ) (from to : ℕ) (text code : List ℕ) → HasChange bytes from to form.Vector text code → from + 1 + length text ≤ to
+pub text_within : (bytes : List ℕ) (from to : ℕ) (text code : List ℕ) → HasChange bytes from to form.Vector text code → from + 2 + length text ≤ to
 text_within bytes from to text code (letter, middle, t, u) =
     let order = t.before.order in
     let order' = u.before.order in
@@ -128,22 +139,21 @@ same_front : (xs ys zs ws : List ℕ) → length xs ≡ length ys → xs ++ zs �
 same_front xs ys zs ws long e = sym (take-append_seam xs zs) ∙ ap (take (length xs)) e ∙ ap (λ n. take n (ys ++ ws)) long ∙ take-append_seam ys ws
 
 -- what comes before the blank before the code is the front of the line
-pub front_there : (bytes : List ℕ) (from to k code_at : ℕ) (front code : List ℕ) → from + 1 + k ≤ to → to ≤ length bytes → to ≡ code_at + length code + 1 → 0 < length front → bytes_without bytes from to k ≡ front ++ (32 ∷ code ++ 10 ∷ [])
+pub front_there : (bytes : List ℕ) (from to k code_at : ℕ) (front code : List ℕ) → from + 2 + k ≤ to → to ≤ length bytes → to ≡ code_at + length code + 1 → 0 < length front → bytes_without bytes from (to - 1) k ≡ front ++ (32 ∷ code)
     → (from + 2 + k ≤ code_at) × (bytes_without bytes from (code_at - 1) k ≡ front)
 front_there bytes from to k code_at front code within inside ends some e =
     let first = slice_range bytes from (from + 1) in
-    let line = 32 ∷ code ++ 10 ∷ [] in
+    let line = 32 ∷ code in
     let middle = slice_range bytes (from + 1 + k) (code_at - 1) in
-    let last = slice_range bytes (code_at - 1) to in
+    let last = slice_range bytes (code_at - 1) (to - 1) in
     let long = ap length e in
     let long_first : length first ≡ 1 = length-slice_range bytes from (from + 1) (omega arith) ∙ omega arith in
-    let long_rest = length-slice_range bytes (from + 1 + k) to inside in
-    let left = length-append first (slice_range bytes (from + 1 + k) to) in
+    let long_rest = length-slice_range bytes (from + 1 + k) (to - 1) (omega arith) in
+    let left = length-append first (slice_range bytes (from + 1 + k) (to - 1)) in
     let right = length-append front line in
-    let code_long = length-append code (10 ∷ []) in
     let room : from + 2 + k ≤ code_at = omega arith in
     let long_middle = length-slice_range bytes (from + 1 + k) (code_at - 1) (omega arith) in
-    let all : code_at - 1 + (length code + 2) ≡ to = omega arith in
-    let split : middle ++ last ≡ slice_range bytes (from + 1 + k) to = subst (λ n. middle ++ slice_range bytes (code_at - 1) n ≡ slice_range bytes (from + 1 + k) n) all (slice_range-append bytes (from + 1 + k) (code_at - 1) (length code + 2) (omega arith)) in
+    let all : code_at - 1 + (length code + 1) ≡ to - 1 = omega arith in
+    let split : middle ++ last ≡ slice_range bytes (from + 1 + k) (to - 1) = subst (λ n. middle ++ slice_range bytes (code_at - 1) n ≡ slice_range bytes (from + 1 + k) n) all (slice_range-append bytes (from + 1 + k) (code_at - 1) (length code + 1) (omega arith)) in
     let both = length-append first middle in
     (room, same_front (first ++ middle) front last line (omega arith) (append_assoc first middle last ∙ ap (λ l. first ++ l) split ∙ e))

@@ -85,6 +85,19 @@ of_sized v h view place most (y, there, is) some f text code bytes from to at st
 pub token_there : (bytes : List ℕ) (from to : ℕ) (token : List ℕ) → from + length token + 1 ≤ to → to ≤ length bytes → AreWhite bytes from (to - length token - 1) → token ≡ slice_range bytes (to - length token - 1) (to - 1) → HasToken bytes from to token
 token_there bytes from to token further within before place = record { start = to - length token - 1; before = before; ends = omega arith; within = within; token_is = place }
 
+-- so it is from its first byte on
+pub token_begun : (bytes : List ℕ) (from to : ℕ) (token : List ℕ) → HasToken bytes from to token → HasToken bytes (to - 1 - length token) to token
+token_begun bytes from to token t =
+    let ends = t.ends in
+    let start : t.start ≡ to - 1 - length token = omega arith in
+    record {
+      start = to - 1 - length token;
+      before = record { order = omega arith; white = λ k on less. absurd (omega (arith, on, less)) };
+      ends = omega arith;
+      within = t.within;
+      token_is = t.token_is ∙ ap (λ a. slice_range bytes a (to - 1)) start;
+    }
+
 -- a digit and a code right after it
 pub scalar_there : (bytes : List ℕ) (from to : ℕ) (token text : List ℕ) (digit : ℕ) (rest : List ℕ) → token ≡ digit ∷ rest → text ≡ take 1 token → HasToken bytes from to token → HasChange bytes from to form.Scalar text (drop 1 token)
 scalar_there bytes from to token text digit rest e is t = (digit, is ∙ ap (take 1) e, subst (HasToken bytes from to) (e ∙ ap (λ l. digit ∷ drop 1 l) (sym e)) t)
@@ -219,10 +232,17 @@ token_line bytes from to token x t e last =
     let one : slice_range bytes (from + n) (from + n + 1) ≡ x ∷ [] = one_byte bytes (from + n) (omega arith) ∙ ap (λ b. b ∷ []) (ap (slice_index bytes) (sym end) ∙ last) in
     ap (slice_range bytes from) e ∙ sym (slice_range-append bytes from (from + n) 1 (omega arith)) ∙ ap₂ (λ (a b : List ℕ). a ++ b) (sym is) one
 
+-- without that byte
+token_text : (bytes : List ℕ) (from to : ℕ) (token : List ℕ) → HasToken bytes from to token → to ≡ from + length token + 1 → slice_range bytes from (to - 1) ≡ token
+token_text bytes from to token t e =
+    let ends = t.ends in
+    let start : t.start ≡ from = omega arith in
+    sym (t.token_is ∙ ap (λ a. slice_range bytes a (to - 1)) start)
+
 -- two tokens with a blank between them
 pub both_line : (bytes : List ℕ) (from middle to : ℕ) (letter first : ℕ) (text code : List ℕ) → HasToken bytes from middle (letter ∷ text) → HasToken bytes middle to code → to ≡ from + length text + length code + 3
-    → slice_index bytes from ≡ first → slice_index bytes (from + 1 + length text) ≡ 32 → slice_index bytes (to - 1) ≡ 10 → slice_range bytes from to ≡ first ∷ text ++ (32 ∷ code ++ 10 ∷ [])
-both_line bytes from middle to letter first text code t u e begins blank last =
+    → slice_index bytes from ≡ first → slice_index bytes (from + 1 + length text) ≡ 32 → slice_range bytes from (to - 1) ≡ first ∷ text ++ (32 ∷ code)
+both_line bytes from middle to letter first text code t u e begins blank =
     let one = t.before.order in
     let two = u.before.order in
     let ends = t.ends in
@@ -232,13 +252,13 @@ both_line bytes from middle to letter first text code t u e begins blank last =
     let between : middle - 1 ≡ from + 1 + length text = omega arith in
     let start : t.start ≡ from = omega arith in
     let end : middle - 1 ≡ from + length (letter ∷ text) = omega arith in
-    let whole : middle + (to - middle) ≡ to = omega arith in
+    let whole : middle + (to - 1 - middle) ≡ to - 1 = omega arith in
     let none : from + 0 ≡ from = omega arith in
     let is : letter ∷ text ≡ slice_range bytes from (from + length (letter ∷ text)) = t.token_is ∙ ap₂ (slice_range bytes) start end in
     let same : letter ≡ first = byte_there (letter ∷ text) bytes from (length (letter ∷ text)) 0 (omega arith) is ∙ ap (slice_index bytes) none ∙ begins in
     let front : slice_range bytes from middle ≡ (first ∷ text) ++ 32 ∷ [] = token_line bytes from middle (letter ∷ text) 32 t first_end (ap (slice_index bytes) between ∙ blank) ∙ ap (λ d. (d ∷ text) ++ 32 ∷ []) same in
-    let back : slice_range bytes middle to ≡ code ++ 10 ∷ [] = token_line bytes middle to code 10 u second_end last in
-    ap (slice_range bytes from) (sym whole) ∙ sym (slice_range-append bytes from middle (to - middle) (omega arith)) ∙ ap₂ (λ (a b : List ℕ). a ++ b) front (ap (slice_range bytes middle) whole ∙ back) ∙ append_assoc (first ∷ text) (32 ∷ []) (code ++ 10 ∷ [])
+    let back : slice_range bytes middle (to - 1) ≡ code = token_text bytes middle to code u second_end in
+    ap (slice_range bytes from) (sym whole) ∙ sym (slice_range-append bytes from middle (to - 1 - middle) (omega arith)) ∙ ap₂ (λ (a b : List ℕ). a ++ b) front (ap (slice_range bytes middle) whole ∙ back) ∙ append_assoc (first ∷ text) (32 ∷ []) code
 
 -- where the first byte is not white, a token begins with it
 begins_there : (bytes : List ℕ) (from start first : ℕ) → AreWhite bytes from start → slice_index bytes from ≡ first → is_white_space first ≡ false → start ≡ from
@@ -264,8 +284,8 @@ module _ (bytes : List ℕ) (from to first code_at : ℕ) (text : List ℕ) (e :
       let q = and_parts (from + 1 + length text + 1 == code_at) (slice_index bytes from == first) p.0 in
       text_of bytes from middle letter text t (begins_there bytes from t.start first t.before (eqb-true (slice_index bytes from) first q.1) other)
 
-  pub both_line_there : (code : List ℕ) → HasChange bytes from to form.Vector text code → slice_index bytes (to - 1) ≡ 10 → to ≡ code_at + length code + 1 → slice_range bytes from to ≡ first ∷ text ++ (32 ∷ code ++ 10 ∷ [])
-  both_line_there code (letter, middle, t, u) last long =
+  pub both_line_there : (code : List ℕ) → HasChange bytes from to form.Vector text code → to ≡ code_at + length code + 1 → slice_range bytes from (to - 1) ≡ first ∷ text ++ (32 ∷ code)
+  both_line_there code (letter, middle, t, u) long =
       let p = and_parts ((from + 1 + length text + 1 == code_at) && (slice_index bytes from == first)) (slice_index bytes (from + 1 + length text) == 32) e in
       let q = and_parts (from + 1 + length text + 1 == code_at) (slice_index bytes from == first) p.0 in
       let room = eqb-true (from + 1 + length text + 1) code_at q.0 in
@@ -273,12 +293,12 @@ module _ (bytes : List ℕ) (from to first code_at : ℕ) (text : List ℕ) (e :
       let two = u.before.order in
       let ends = t.ends in
       let ends' = u.ends in
-      both_line bytes from middle to letter first text code t u (omega arith) (eqb-true (slice_index bytes from) first q.1) (eqb-true (slice_index bytes (from + 1 + length text)) 32 p.1) last
+      both_line bytes from middle to letter first text code t u (omega arith) (eqb-true (slice_index bytes from) first q.1) (eqb-true (slice_index bytes (from + 1 + length text)) 32 p.1)
 
--- a digit in lower case, its code and a line feed
-pub bit_line_there : (bytes : List ℕ) (from to code_at : ℕ) (text code : List ℕ) → ((from + 1 == code_at) && not (bit_and (slice_index bytes from) 32 == 0)) ≡ true → HasChange bytes from to form.Scalar text code → slice_index bytes (to - 1) ≡ 10 → to ≡ code_at + length code + 1 → slice_index bytes from < 256
-    → slice_range bytes from to ≡ str_to_ascii_lowercase text ++ (code ++ 10 ∷ [])
-bit_line_there bytes from to code_at text code e (digit, is, t) last long fits =
+-- a digit in lower case and its code
+pub bit_line_there : (bytes : List ℕ) (from to code_at : ℕ) (text code : List ℕ) → ((from + 1 == code_at) && not (bit_and (slice_index bytes from) 32 == 0)) ≡ true → HasChange bytes from to form.Scalar text code → to ≡ code_at + length code + 1 → slice_index bytes from < 256
+    → slice_range bytes from (to - 1) ≡ str_to_ascii_lowercase text ++ code
+bit_line_there bytes from to code_at text code e (digit, is, t) long fits =
     let p = and_parts (from + 1 == code_at) (not (bit_and (slice_index bytes from) 32 == 0)) e in
     let room = eqb-true (from + 1) code_at p.0 in
     let ends = t.ends in
@@ -288,7 +308,7 @@ bit_line_there bytes from to code_at text code e (digit, is, t) last long fits =
     let none : from + 0 ≡ from = omega arith in
     let here : digit ≡ slice_index bytes from = byte_there (digit ∷ code) bytes from (length (digit ∷ code)) 0 (omega arith) (t.token_is ∙ ap₂ (slice_range bytes) start end) ∙ ap (slice_index bytes) none in
     let lower : to_ascii_lowercase digit ≡ digit = subst (λ d. to_ascii_lowercase d ≡ d) (sym here) (lower_alone (slice_index bytes from) fits (flip _ p.1)) in
-    token_line bytes from to (digit ∷ code) 10 t (omega arith) last ∙ ap (λ d. d ∷ code ++ 10 ∷ []) (sym lower) ∙ ap (λ l. str_to_ascii_lowercase l ++ (code ++ 10 ∷ [])) (sym is)
+    token_text bytes from to (digit ∷ code) t (omega arith) ∙ ap (λ d. d ∷ code) (sym lower) ∙ ap (λ l. str_to_ascii_lowercase l ++ code) (sym is)
 
 -- ---- digits
 

@@ -14,13 +14,13 @@ use Rattle.vcd_body.specs.declared.item.Item.TheVariants as item
 use Rattle.vcd_body.specs.declared.item.Regs.{Regs}
 use Rattle.vcd_body.specs.declared.words.PhraseKind.TheVariants as kind
 use Rattle.vcd_body.proofs.AheadLemmas.{passes_same, scalar_taken}
-use Rattle.vcd_body.proofs.LineLemmas.{token_there, scalar_there, scalar_places}
+use Rattle.vcd_body.proofs.LineLemmas.{token_begun, token_there, scalar_there, scalar_places}
 use Rattle.vcd_body.proofs.WordLemmas.{scalar_begins}
 
 -- where its token was taken, it was
 pub scalar_takes : (v : HeadView) (a a' : Ahead) (r : Regs) (o : Opening) (f : Found) (text : Bor (List ℕ)) → Opens a a' o → (o.kind ≡ kind.Bit) ⊎ (o.kind ≡ kind.Scalar)
     → IsFoundScalar v o.token.now f → text.now ≡ take 1 o.token.now
-    → TakesItem v a a' r (record { item = item.Change f.place form.Scalar; text = text; most = f.most; at = passed_of a' - 1 - length o.token.now; code_at = passed_of a' - 1 - length o.token.now + 1; bits = None })
+    → TakesItem v a a' r (record { item = item.Change f.place form.Scalar; text = text; most = f.most; begin = passed_of a' - 1 - length o.token.now; at = passed_of a' - 1 - length o.token.now; code_at = passed_of a' - 1 - length o.token.now + 1; bits = None })
 scalar_takes v a a' r o f text opens is found text_is =
     let token = o.token.now in
     let bytes = bytes_of a in
@@ -31,6 +31,7 @@ scalar_takes v a a' r o f text opens is found text_is =
     let less : from < to = omega (arith, further) in
     let begins = scalar_begins token o.kind is opens.begins in
     let there = token_there bytes from to token taken.further taken.within taken.before taken.place in
+    let begun = token_begun bytes from to token there in
     record {
       gives = λ h limit lines bytes before items views over k g.
           let one = passes_same limit (longest_of a) lines bytes (bytes_of a) from to (start_of a' token) token over.0 over.1 (taken.gives lines) g.tokens g.passed in
@@ -43,6 +44,7 @@ scalar_takes v a a' r o f text opens is found text_is =
       sized = found.sized;
       bits = tt;
       spelled = (drop 1 token, scalar_there bytes _ _ token _ begins.0 begins.1 begins.3 text_is there, found.names, scalar_places bytes _ _ token _ begins.0 begins.1 begins.3 text_is there);
+      begun = (drop 1 token, scalar_there bytes _ _ token _ begins.0 begins.1 begins.3 text_is begun, found.names, scalar_places bytes _ _ token _ begins.0 begins.1 begins.3 text_is begun);
       further = less;
       within = subst (λ (bs : _). to ≤ length bs) (sym taken.same.0) taken.within;
       same = taken.same;

@@ -1,5 +1,5 @@
 -- When bytes are the line of the change that they spell, and what is left out of them else.
-use Rattle.std.specs.Prelude.{◌≡◌, ℕ, ◌+◌, ◌-◌, ◌<◌, ◌≤◌, false, List, [], ◌∷◌, ◌++◌, drop, length, slice_index, slice_range, Option, IfSome}
+use Rattle.std.specs.Prelude.{◌≡◌, ℕ, ◌+◌, ◌-◌, ◌<◌, ◌≤◌, false, List, [], ◌∷◌, ◌++◌, drop, length, slice_range, Option, IfSome}
 use Rattle.std.specs.Str.{str_to_ascii_lowercase}
 use Rattle.vcd_model.specs.Values.{extend, short}
 use Rattle.vcd_body.specs.Binary.{binary_digits}
@@ -11,13 +11,13 @@ use Rattle.vcd_body.specs.declared.bits.Bits.{Bits}
 use Rattle.vcd_body.specs.declared.item.Form.{Form}
 use Rattle.vcd_body.specs.declared.item.Form.TheVariants as form
 
--- a digit and a code, which begins at this offset, are the line
+-- a digit and a code, which begins at this offset, and a line feed are the line
 abbrev pub IsDigitLine : List ℕ → ℕ → ℕ → ℕ → Type 0
-IsDigitLine bytes from to code_at = (text code : List ℕ) → HasChange bytes from to form.Scalar text code → slice_index bytes (to - 1) ≡ 10 → to ≡ code_at + length code + 1 → slice_range bytes from to ≡ str_to_ascii_lowercase text ++ (code ++ 10 ∷ [])
+IsDigitLine bytes from to code_at = (text code : List ℕ) → HasChange bytes from to form.Scalar text code → to ≡ code_at + length code + 1 → slice_range bytes from (to - 1) ≡ str_to_ascii_lowercase text ++ code
 
--- a letter, a text, a blank and a code, which begins at this offset, are the line
+-- a letter, a text, a blank and a code, which begins at this offset, and a line feed are the line
 abbrev pub IsTextLine : List ℕ → ℕ → ℕ → ℕ → List ℕ → ℕ → Type 0
-IsTextLine bytes from to first text code_at = (code : List ℕ) → HasChange bytes from to form.Vector text code → slice_index bytes (to - 1) ≡ 10 → to ≡ code_at + length code + 1 → slice_range bytes from to ≡ first ∷ text ++ (32 ∷ code ++ 10 ∷ [])
+IsTextLine bytes from to first text code_at = (code : List ℕ) → HasChange bytes from to form.Vector text code → to ≡ code_at + length code + 1 → slice_range bytes from (to - 1) ≡ first ∷ text ++ (32 ∷ code)
 
 -- there may be the number of these digits
 abbrev pub MayBe : Option Bits → List ℕ → Type 0
@@ -27,20 +27,21 @@ MayBe bits digits = IfSome bits (λ b. digits ≡ binary_digits b.len b.number)
 abbrev pub LeavesShortest : List ℕ → Option Bits → ℕ → Type 0
 LeavesShortest digits bits k = (k ≤ length digits) × (MayBe bits digits → (size : ℕ) → drop k digits ≡ short (extend (str_to_ascii_lowercase digits) size))
 
--- without this many after the `b` the bytes are the line
+-- without this many after the `b` the bytes before the last one, and a line feed, are the line
 abbrev pub LeavesLine : List ℕ → ℕ → ℕ → List ℕ → Option Bits → ℕ → ℕ → Type 0
-LeavesLine bytes from to digits bits code_at k = (k ≤ length digits) × ((code : List ℕ) → HasChange bytes from to form.Vector digits code → slice_index bytes (to - 1) ≡ 10 → to ≡ code_at + length code + 1 → MayBe bits digits → (size : ℕ)
-    → bytes_without bytes from to k ≡ 98 ∷ short (extend (str_to_ascii_lowercase digits) size) ++ (32 ∷ code ++ 10 ∷ []))
+LeavesLine bytes from to digits bits code_at k = (k ≤ length digits) × ((code : List ℕ) → HasChange bytes from to form.Vector digits code → to ≡ code_at + length code + 1 → MayBe bits digits → (size : ℕ)
+    → bytes_without bytes from (to - 1) k ≡ 98 ∷ short (extend (str_to_ascii_lowercase digits) size) ++ (32 ∷ code))
 
 -- the line of a change of a code of this size is this front, a blank, the code and a line feed,
 -- whatever the code
 abbrev pub IsFront : ℕ → Form → List ℕ → List ℕ → Type 0
 IsFront size form text front = (code : List ℕ) → line_under code size false form text ≡ front ++ (32 ∷ code ++ 10 ∷ [])
 
--- without this many after the first one the bytes are the line, whose number of digits is this
+-- without this many after the first one the bytes before the last one, and a line feed, are the
+-- line, whose number of digits is this
 abbrev pub LeavesText : List ℕ → ℕ → ℕ → ℕ → Form → List ℕ → Option Bits → ℕ → ℕ → Type 0
-LeavesText bytes from to size form text bits code_at k = (from + 1 + k ≤ to) × (front : List ℕ) × (0 < length front) × IsFront size form text front
-    × ((code : List ℕ) → HasChange bytes from to form text code → slice_index bytes (to - 1) ≡ 10 → to ≡ code_at + length code + 1 → MayBe bits text → bytes_without bytes from to k ≡ front ++ (32 ∷ code ++ 10 ∷ []))
+LeavesText bytes from to size form text bits code_at k = (from + 2 + k ≤ to) × (front : List ℕ) × (0 < length front) × IsFront size form text front
+    × ((code : List ℕ) → HasChange bytes from to form text code → to ≡ code_at + length code + 1 → MayBe bits text → bytes_without bytes from (to - 1) k ≡ front ++ (32 ∷ code))
 
 -- without this many after the first one the bytes before the blank before the code are the front
 abbrev pub LeavesFront : List ℕ → ℕ → ℕ → Form → List ℕ → ℕ → ℕ → Type 0

@@ -59,6 +59,11 @@ HasSpelled v bytes from to at code_at text item = Unit {0}
 abbrev pub bytes_without : List ℕ → ℕ → ℕ → ℕ → List ℕ
 bytes_without bytes from to n = slice_range bytes from (from + 1) ++ slice_range bytes (from + 1 + n) to
 
+-- those up to the last one before another offset, without this many after the first one, and a line
+-- feed
+abbrev pub line_without : List ℕ → ℕ → ℕ → ℕ → List ℕ
+line_without bytes from to n = bytes_without bytes from (to - 1) n ++ 10 ∷ []
+
 -- a text is at an offset of these bytes
 pub record StandsAt (bytes : List ℕ) (at : ℕ) (text : List ℕ) : Type 0 where
   pub within : at ≤ length bytes

@@ -73,6 +73,8 @@ pub record TakesItem (v : HeadView) (a a' : Ahead) (r : Regs) (p : Plain) : Type
   pub bits : HasBits p.item p.text.now p.bits
   -- it is spelled by the bytes that were passed with it
   pub spelled : HasSpelled v (bytes_of a) (passed_of a) (passed_of a') p.at p.code_at p.text.now p.item
+  -- and by those from its first byte on
+  pub begun : HasSpelled v (bytes_of a) p.begin (passed_of a') p.at p.code_at p.text.now p.item
   pub further : passed_of a < passed_of a'
   pub within : passed_of a' ≤ length (bytes_of a')
   pub same : (bytes_of a' ≡ bytes_of a) × (longest_of a' ≡ longest_of a)

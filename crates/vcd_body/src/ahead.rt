@@ -25,6 +25,9 @@ pub struct Plain<'a> {
     /// The size in bits of a change's code, which `size` returns. It is 0 for an event, for a size
     /// that 32 bits do not hold, and for a timestamp.
     pub most: usize,
+    /// Where the item begins in the bytes that are looked over: at its digit, or at the byte before
+    /// its text or before the digits of a timestamp.
+    pub begin: usize,
     /// Where the text of a change begins in the bytes that are looked over; where the digits of a
     /// timestamp begin.
     pub at: usize,
@@ -57,6 +60,7 @@ fn change_of(
     form: Form,
     text: &[u8],
     bits: Option<Bits>,
+    begin: usize,
     at: usize,
     code_at: usize,
 ) -> Plain<'_>
@@ -64,6 +68,7 @@ fn change_of(
       item = item.Change found.place form;
       text = text.entry;
       most = found.most;
+      begin = begin;
       at = at;
       code_at = code_at;
       bits = bits;
@@ -76,27 +81,30 @@ fn change_of(
         },
         text,
         most: found.most,
+        begin,
         at,
         code_at,
         bits,
     }
 }
 
-/// Returns a timestamp, whose digits begin at this offset. The fields of a change are empty.
+/// Returns a timestamp, which begins at this offset. The fields of a change are empty.
 #[inline(always)]
-fn mark_of<'a>(time: u64, at: usize) -> Plain<'a>
+fn mark_of<'a>(time: u64, begin: usize) -> Plain<'a>
+    requires { begin + 1 < 2 ^ 64 }
     ensures item { result.item ≡ item.Time time }
     ensures text { result.text.now ≡ [] }
     ensures most { result.most ≡ 0 }
-    ensures places { (result.at ≡ at) × (result.code_at ≡ at) }
+    ensures places { (result.begin ≡ begin) × (result.at ≡ begin + 1) }
     ensures bits { result.bits ≡ None }
 {
     Plain {
         item: Item::Time(time),
         text: &[],
         most: 0,
-        at,
-        code_at: at,
+        begin,
+        at: begin + 1,
+        code_at: begin + 1,
         bits: None,
     }
 }
@@ -221,7 +229,7 @@ pub(crate) fn scalar_ahead<'a>(
     let found = scalar_code(token, view).ok()?;
     let text = first_byte_of(token);
     let at = begin_of(token, ahead);
-    Some(change_of(found, Form::Scalar, text, None, at, at + 1))
+    Some(change_of(found, Form::Scalar, text, None, at, at, at + 1))
 }
 
 /// Returns the code after a digit, where a look at one entry finds it.
@@ -259,7 +267,7 @@ pub(crate) fn short_ahead<'a>(ahead: &mut Ahead<'a>, view: HeadView<'_>) -> Opti
     let text = first_byte_of(token);
     let at = begin_of(token, next);
     *ahead = next;
-    Some(change_of(found, Form::Scalar, text, None, at, at + 1))
+    Some(change_of(found, Form::Scalar, text, None, at, at, at + 1))
 }
 
 /// Returns whether two lines of two bytes come right here: the begin of a run for `short_ahead`.
@@ -408,6 +416,7 @@ pub(crate) fn vector_ahead<'a>(
         Form::Vector,
         digits,
         bits,
+        tokens.at,
         tokens.at + 1,
         tokens.code_at,
     ))
@@ -431,7 +440,8 @@ pub(crate) fn real_ahead<'a>(
     let code = ahead.next()?;
     let found = real_code(token, code, view)?;
     let code_at = begin_of(code, *ahead);
-    Some(change_of(found, Form::RealText, rest_of(token), None, at + 1, code_at))
+    let text = rest_of(token);
+    Some(change_of(found, Form::RealText, text, None, at, at + 1, code_at))
 }
 
 /// Returns the time of the timestamp that a token is; none where it spells none. The look-ahead is
@@ -470,8 +480,8 @@ pub(crate) fn mark_ahead<'a>(
 {
     match regs.accept_mark_by(time, !opening.inlined) {
         Ok(()) => {
-            let at = begin_of(opening.token, ahead);
-            Some(mark_of(time, at + 1))
+            let begin = begin_of(opening.token, ahead);
+            Some(mark_of(time, begin))
         }
         Err(_) => None,
     }

@@ -9,7 +9,8 @@
 //! for a caller that reads on: before a read may wait, a sink passes on what it keeps back. Where
 //! the bytes of such a change are the line that `put_change` would write, but for digits that it
 //! does not need (`left_out` counts them), the line may be copied from the chunk, and many such
-//! lines in a row together. A `Table` keeps of each code its current value, three counters, and
+//! lines in a row together. Where they do not end with a line feed (`left_out_before_last`), one
+//! comes after them. A `Table` keeps of each code its current value, three counters, and
 //! whether it is chosen. What is done with all items ends with a `Done` or a `Stop`; `put_time`
 //! writes the line of a time. None of them takes memory.
 //!
@@ -32,7 +33,8 @@
 //! ended. Who calls it folds the trail into a relation of its own.
 //!
 //! `HasSpelled view bytes from to text item` says by which bytes a change that was taken ahead is
-//! spelled; `left_out` asks for it, and `put_renamed_ahead` for what it says of a change.
+//! spelled: those that were passed with it, or those from its first byte on (`Plain.begin`).
+//! `left_out` asks for it, and `put_renamed_ahead` for what it says of a change.
 //!
 //! `kept_at t code` is what is kept of the code at an index. A call of a table changes what is kept
 //! of the code at the index that it names, and nothing else (`ChangesCode`).
@@ -50,7 +52,7 @@
 //!   on
 //! - `id`: `put_change`, under an `Id`; `put_line`: the one writer of a change's line; `change`:
 //!   its digits, and a code's own bytes at its end; `renamed`: a new code at its end
-//! - `lines`: `left_out`; `time_line`: `put_time`
+//! - `lines`: `left_out`, `left_out_before_last`; `time_line`: `put_time`
 //! - `value`: `Value`, what a change gives
 //! - `table`, `slot`: `Table`, `Shown`; `Slot`, `Share`; `table_text`: `put_short`, `put_full`;
 //!   `step`: `Step`, what became of a value that was set
@@ -111,7 +113,7 @@ pub use bits::Bits;
 pub use fault::BodyFault;
 pub use id::{Id, put_change};
 pub use item::{Form, Item, Regs, Section};
-pub use lines::{is_mark_line, left_out};
+pub use lines::{is_mark_line, left_out, left_out_before_last};
 pub use read::{change_text, next_item};
 pub use renamed::{put_renamed, put_renamed_ahead};
 pub use slot::{Share, Shown, Slot};

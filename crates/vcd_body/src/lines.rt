@@ -1,6 +1,6 @@
 // Changes whose bytes in the chunk are the line that would be written.
 ghost use Rattle.std.specs.Prelude.{◌≡◌, ◌≢◌, ℕ, ◌+◌, ◌-◌, ◌^◌, ◌<◌, ◌≤◌, List, [], true, false, drop, length, slice_index, slice_range, Some, IfSome};
-ghost use Rattle.vcd_body.specs.Names.{BodyItem, HasBits, HasChange, HasMark, HasPlaces, HeadView, Header, IsBinaryAt, IsDigitLine, IsItem, IsLowerAt, IsNeedless, IsSizedItem, IsTextLine, IsViewOf, LeavesFront, LeavesLine, LeavesShortest, LeavesText, MayBe, SpellsPlain, StandsAt, binary_digits, bit_at, byte, bytes_without, extend, extended, is_white_space, item_line, short, str_to_ascii_lowercase, time_line, to_ascii_lowercase as lower};
+ghost use Rattle.vcd_body.specs.Names.{BodyItem, HasBits, HasChange, HasMark, HasPlaces, HeadView, Header, IsBinaryAt, IsDigitLine, IsItem, IsLowerAt, IsNeedless, IsSizedItem, IsTextLine, IsViewOf, LeavesFront, LeavesLine, LeavesShortest, LeavesText, MayBe, SpellsPlain, StandsAt, binary_digits, bit_at, byte, bytes_without, extend, extended, is_white_space, item_line, line_without, short, str_to_ascii_lowercase, time_line, to_ascii_lowercase as lower};
 
 use crate::ahead::Plain;
 use crate::bits::Bits;
@@ -279,12 +279,31 @@ pub fn left_out(plain: Plain<'_>, bytes: &[u8], from: usize, to: usize) -> Optio
         → IsItem h.codes plain.entry.text.now plain.entry.item x
         → bytes_without bytes.now from to k ≡ item_line x)) }
 {
-    let Item::Change { form, .. } = plain.item else {
-        return None;
-    };
+    let left_out = left_out_before_last(plain, bytes, from, to)?;
     if bytes[to - 1] != b'\n' {
         return None;
     }
+    Some(left_out)
+}
+
+/// Returns how many bytes after the first one to leave out of the bytes of a change that was taken
+/// ahead, so that the others before the last one, and a line feed, are the line that would be
+/// written. It has the bytes from `from` up to `to`. Where the result is none, they may be it all
+/// the same.
+#[inline(always)]
+pub fn left_out_before_last(plain: Plain<'_>, bytes: &[u8], from: usize, to: usize) -> Option<usize>
+    requires { (v : HeadView) × SpellsPlain v bytes.now from to plain }
+    ensures within { IfSome result (λ k. (from + 2 + k ≤ to) × (to ≤ length bytes.now)) }
+    ensures line { IfSome result (λ k. (v : HeadView) (h : Header) (x : BodyItem)
+        → SpellsPlain v bytes.now from to plain.entry
+        → HasBits plain.entry.item plain.entry.text.now plain.entry.bits
+        → IsSizedItem v.codes.now plain.entry.item plain.entry.most → IsViewOf v h
+        → IsItem h.codes plain.entry.text.now plain.entry.item x
+        → line_without bytes.now from to k ≡ item_line x) }
+{
+    let Item::Change { form, .. } = plain.item else {
+        return None;
+    };
     let size = plain.size()?;
     match form {
         Form::Scalar if size == 1 && is_bit_line(bytes, from, to, plain.code_at) => Some(0),
@@ -309,9 +328,6 @@ pub(crate) fn left_out_of_front(
     ensures { IfSome result (LeavesFront bytes.now from plain.entry.most form
         plain.entry.text.now plain.entry.code_at) }
 {
-    if bytes[to - 1] != b'\n' {
-        return None;
-    }
     left_out_of_text(plain, form, plain.most, bytes, from, to)
 }
 

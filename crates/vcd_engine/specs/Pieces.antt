@@ -21,11 +21,11 @@ pub record IsSpanned (v : HeadView) (l : SpannedItem) : Type 0 where
   pub bits : HasBits l.plain.item l.plain.text.now l.plain.bits
   pub spelled : l.plain.most ≢ 0 → HasSpelled v l.bytes.now l.from l.to l.plain.at l.plain.code_at l.plain.text.now l.plain.item
 
--- a change lies from one offset ahead up to another
-pub record LiesBetween (a a' : Ahead) (l : SpannedItem) : Type 0 where
-  pub bytes : l.bytes.now ≡ bytes_of a'
-  pub from : l.from ≡ passed_of a
-  pub to : l.to ≡ passed_of a'
+-- a change lies from its first byte up to this offset ahead
+pub record LiesUpTo (a : Ahead) (l : SpannedItem) : Type 0 where
+  pub bytes : l.bytes.now ≡ bytes_of a
+  pub from : l.from ≡ l.plain.begin
+  pub to : l.to ≡ passed_of a
 
 -- from one offset of these bytes up to another is the line of this time, or nothing is said
 abbrev pub IsLine : List ℕ → ℕ × ℕ → ℕ → Type 0

@@ -121,7 +121,7 @@ impl ItemText {
             return self.put(view, time, item.plain.item, item.plain.text, out);
         };
         self.add_time(time, item.bytes, line, pieces, out)?;
-        pieces.append_parts(item.bytes, item.from, item.to, n, out)
+        pieces.append_line(item.bytes, item.from, item.to, n, out)
     }
 
     /// Adds the line of `time`, unless it was the last such line, after the pending text. Fails

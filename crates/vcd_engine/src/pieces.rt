@@ -1,12 +1,12 @@
 //! Pending text: due, not written yet, and in the chunk already. Adjoining pieces are one write.
-ghost use Rattle.std.specs.Prelude.{◌≡◌, ℕ, ◌+◌, ◌-◌, ◌^◌, ◌<◌, ◌≤◌, List, [], length, slice_range, IfErr, IfOk, IfSome};
-ghost use Rattle.vcd_engine.specs.Names.{BodyItem, bytes_without, HasGoodText, Header, HeadView, pending_in, IsSpanned, IsItem, IsLine, IsNoMark, IsPart, IsViewOf, item_line, LiesBetween, Puts, PutsBehind, time_line};
+ghost use Rattle.std.specs.Prelude.{◌≡◌, ℕ, ◌+◌, ◌-◌, ◌^◌, ◌<◌, ◌≤◌, ◌++◌, ◌∷◌, List, [], length, slice_range, IfErr, IfOk, IfSome};
+ghost use Rattle.vcd_engine.specs.Names.{BodyItem, bytes_without, HasGoodText, Header, HeadView, pending_in, IsSpanned, IsItem, IsLine, IsNoMark, IsPart, IsViewOf, item_line, LiesUpTo, line_without, Puts, PutsBehind, time_line};
 
-use vcd_body::{Extent, Item, Plain, left_out, put_time};
-use vcd_text::{Sink, WriteFailed, put_front};
+use vcd_body::{Extent, Item, Plain, left_out_before_last, put_time};
+use vcd_text::{Sink, WriteFailed, put_front, put_parts};
 
-/// An item that is no timestamp, with its span: a change in the chunk has the bytes from `from` up
-/// to `to`. An item that the feed gave has an empty span, and no size (`most` is 0).
+/// An item that is no timestamp, with its span: a change in the chunk begins at `from`, and was
+/// passed up to `to`. An item that the feed gave has an empty span, and no size (`most` is 0).
 #[derive(Clone, Copy)]
 pub(crate) struct SpannedItem<'a> {
     pub(crate) plain: Plain<'a>,
@@ -16,16 +16,16 @@ pub(crate) struct SpannedItem<'a> {
 }
 
 impl<'a> SpannedItem<'a> {
-    /// Returns the change that has the bytes of this extent.
+    /// Returns the change that lies at this extent.
     #[inline(always)]
     pub(crate) fn of(plain: Plain<'a>, extent: Extent<'a>) -> SpannedItem<'a>
         ensures plain { result.plain ≡ plain.entry }
-        ensures span { LiesBetween extent.entry.from extent.entry.to result }
+        ensures span { LiesUpTo extent.entry.to result }
     {
         SpannedItem {
             plain,
             bytes: extent.to.bytes(),
-            from: extent.from.passed(),
+            from: plain.begin,
             to: extent.to.passed(),
         }
     }
@@ -43,6 +43,7 @@ impl<'a> SpannedItem<'a> {
             item,
             text,
             most: 0,
+            begin: 0,
             at: 0,
             code_at: 0,
             bits: None,
@@ -55,20 +56,22 @@ impl<'a> SpannedItem<'a> {
         }
     }
 
-    /// Returns how many bytes after the first one to drop, so that the rest of the span is the
-    /// item's line. `None` where that is not known, or the feed gave the item.
+    /// Returns how many bytes after the first one to drop, so that the rest of the span before its
+    /// last byte, and a line feed, are the item's line. `None` where that is not known, or the feed
+    /// gave the item.
     #[inline(always)]
     pub(crate) fn left_out(self) -> Option<usize>
         requires { (view : HeadView) × IsSpanned view self }
-        ensures { IfSome result (λ k. (self.entry.from + 1 + k ≤ self.entry.to)
-            × ((view : HeadView) (h : Header) (x : BodyItem) → IsSpanned view self.entry
-            → IsViewOf view h → IsItem h.codes self.entry.plain.text.now self.entry.plain.item x
-            → bytes_without self.entry.bytes.now self.entry.from self.entry.to k ≡ item_line x)) }
+        ensures within { IfSome result (λ k. self.entry.from + 2 + k ≤ self.entry.to) }
+        ensures line { IfSome result (λ k. (view : HeadView) (h : Header) (x : BodyItem)
+            → IsSpanned view self.entry → IsViewOf view h
+            → IsItem h.codes self.entry.plain.text.now self.entry.plain.item x
+            → line_without self.entry.bytes.now self.entry.from self.entry.to k ≡ item_line x) }
     {
         if self.plain.most == 0 {
             return None;
         }
-        left_out(self.plain, self.bytes, self.from, self.to)
+        left_out_before_last(self.plain, self.bytes, self.from, self.to)
     }
 }
 
@@ -81,6 +84,28 @@ fn put_part<W: Sink>(bytes: &[u8], from: usize, to: usize, out: &mut W) -> Resul
     ensures { Puts (W.device out.old) (W.device out.new) (slice_range bytes.now from to) result }
 {
     put_front(out, &bytes[from..], to - from)
+}
+
+/// Writes the bytes from `from` up to `to` without the `n` after the first, and a line feed. Fails
+/// where a write does.
+// It is for lines that end with CR LF. Made anew from digits and codes, these cost `pick` of all
+// scalars 30 % more.
+#[inline(never)]
+fn put_line<W: Sink>(
+    bytes: &[u8],
+    from: usize,
+    to: usize,
+    n: usize,
+    out: &mut W,
+) -> Result<(), WriteFailed>
+    requires failures { (W.device out.old).failures < 2 ^ 64 - 1 }
+    requires within { (from + 1 + n ≤ to) × (to ≤ length bytes.now) }
+    ensures { Puts (W.device out.old) (W.device out.new)
+        (bytes_without bytes.now from to n ++ 10 ∷ []) result }
+{
+    let rest = from + 1 + n;
+    let end = [b'\n', 0, 0, 0, 0, 0, 0, 0];
+    put_parts(out, bytes[from], &bytes[rest..], to - rest, end, 1)
 }
 
 /// The pending text: the bytes of the chunk from `from` up to `to`.
@@ -166,6 +191,32 @@ impl Pieces {
         }
         self.append(bytes, from, from + 1, out)?;
         self.append(bytes, from + 1 + n, to, out)
+    }
+
+    /// Adds the bytes from `from` up to the last one before `to`, without the `n` after the first,
+    /// and a line feed. Where the last byte is one, they become pending; else they are written by
+    /// one write. Fails where a write does.
+    #[inline(always)]
+    pub(crate) fn append_line<W: Sink>(
+        &mut self,
+        bytes: &[u8],
+        from: usize,
+        to: usize,
+        n: usize,
+        out: &mut W,
+    ) -> Result<(), WriteFailed>
+        requires failures { (W.device out.old).failures < 2 ^ 64 - 1 }
+        requires part { IsPart bytes.now self.old }
+        requires within { (from + 2 + n ≤ to) × (to ≤ length bytes.now) }
+        ensures { PutsBehind bytes.now self.old self.new
+            (W.device out.old) (W.device out.new) (line_without bytes.now from to n) result }
+    {
+        let last = to - 1;
+        if bytes[last] == b'\n' {
+            return self.append_parts(bytes, from, to, n, out);
+        }
+        self.flush(bytes, out)?;
+        put_line(bytes, from, last, n, out)
     }
 
     /// Adds the line of a time, which is due next. The bytes from `from` up to `to` are that line,

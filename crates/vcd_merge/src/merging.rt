@@ -167,9 +167,16 @@ impl Visit<()> for Merging {
         }
         put_due_time(self.time, &mut self.written, out)?;
         let number = self.first.saturating_add(code as u64);
-        let from = extent.from.passed();
         let to = extent.to.passed();
-        put_renamed_ahead(change, form, extent.to.bytes(), from, to, number, out)
+        put_renamed_ahead(
+            change,
+            form,
+            extent.to.bytes(),
+            change.begin,
+            to,
+            number,
+            out,
+        )
     }
 }
 

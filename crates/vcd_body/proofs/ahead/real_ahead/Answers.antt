@@ -5,7 +5,7 @@ use Rattle.vcd_text.specs.Passed.{Passed, line_ahead}
 use Rattle.vcd_body.specs.Words.{Begins}
 use Rattle.vcd_body.specs.declared.item.Form.TheVariants as form
 use Rattle.vcd_body.proofs.AheadLemmas.{passes_same, both_taken}
-use Rattle.vcd_body.proofs.LineLemmas.{token_there, both_there, both_places}
+use Rattle.vcd_body.proofs.LineLemmas.{token_begun, token_there, both_there, both_places}
 use Rattle.vcd_body.proofs.ahead.real_ahead.Goals as goal
 
 pub returns-clause-takes : goal.returns-clause-takes
@@ -22,8 +22,9 @@ returns-clause-takes c = λ a r o.
     let less : passed_of a < passed_of new = omega (arith, further, further') in
     let begins = subst (Begins token) c.requires.kind o.begins in
     let first = token_there bytes (passed_of a) (passed_of mid) token t.further t.within t.before t.place in
+    let begun = token_begun bytes (passed_of a) (passed_of mid) token first in
     let second = token_there (bytes_of mid) (passed_of mid) (passed_of new) code m.further m.within m.before m.place in
-    let text = c.rest_of.ensures in
+    let text = c.rest_of-text.ensures in
     rw (c.change_of.ensures, c.begin_of-at.ensures, c.begin_of-code_at.ensures) (record {
       gives = λ h limit lines bytes before items v over k g.
           let line = line_ahead lines bytes (start_of mid token) in
@@ -42,6 +43,7 @@ returns-clause-takes c = λ a r o.
       sized = c.in_ok-found.ensures.sized;
       bits = tt;
       spelled = (code, both_there bytes (bytes_of mid) _ _ _ token _ _ begins.0 begins.1 begins.3 text t.same.0 first second, c.in_ok-found.ensures.names, both_places bytes (bytes_of mid) _ _ _ token _ _ begins.0 begins.1 begins.3 text t.same.0 first second);
+      begun = (code, both_there bytes (bytes_of mid) _ _ _ token _ _ begins.0 begins.1 begins.3 text t.same.0 begun second, c.in_ok-found.ensures.names, both_places bytes (bytes_of mid) _ _ _ token _ _ begins.0 begins.1 begins.3 text t.same.0 begun second);
       further = less;
       within = subst (λ (bs : _). passed_of new ≤ length bs) (sym m.same.0) m.within;
       same = (m.same.0 ∙ t.same.0, m.same.1 ∙ t.same.1);

@@ -4,7 +4,7 @@ use Rattle.vcd_text.specs.Ahead.{bytes_of, longest_of, passed_of, start_of}
 use Rattle.vcd_text.specs.Passed.{Passed, line_ahead}
 use Rattle.vcd_body.specs.declared.item.Form.TheVariants as form
 use Rattle.vcd_body.proofs.AheadLemmas.{passes_same, both_taken, has_bits}
-use Rattle.vcd_body.proofs.LineLemmas.{token_there, both_there, both_places}
+use Rattle.vcd_body.proofs.LineLemmas.{token_begun, token_there, both_there, both_places}
 use Rattle.vcd_body.proofs.WordLemmas.{some_of}
 use Rattle.vcd_body.proofs.ahead.vector_ahead.Goals as goal
 
@@ -31,6 +31,7 @@ returns-clause-takes c = λ a r v.
     let less : passed_of a < passed_of new = omega (arith, further, further') in
     let begins = v.begins in
     let first = token_there bytes (passed_of a) (passed_of mid) token o.further o.within o.before o.place in
+    let begun = token_begun bytes (passed_of a) (passed_of mid) token first in
     let second = token_there (bytes_of mid) (passed_of mid) (passed_of new) code m.further m.within m.before m.place in
     let text = c.after_first-digits.ensures in
     rw (c.change_of.ensures, v.at, v.code_at) (record {
@@ -51,6 +52,7 @@ returns-clause-takes c = λ a r v.
       sized = c.in_ok-found.ensures.sized;
       bits = rw text (has_bits c.in_ok-found.found.place (drop 1 token) c.args.bits c.requires.bits);
       spelled = (code, both_there bytes (bytes_of mid) _ _ _ token _ _ begins.0 begins.1 begins.3 text o.same.0 first second, c.in_ok-found.ensures.names, both_places bytes (bytes_of mid) _ _ _ token _ _ begins.0 begins.1 begins.3 text o.same.0 first second);
+      begun = (code, both_there bytes (bytes_of mid) _ _ _ token _ _ begins.0 begins.1 begins.3 text o.same.0 begun second, c.in_ok-found.ensures.names, both_places bytes (bytes_of mid) _ _ _ token _ _ begins.0 begins.1 begins.3 text o.same.0 begun second);
       further = less;
       within = subst (λ (bs : _). passed_of new ≤ length bs) (sym m.same.0) m.within;
       same = (m.same.0 ∙ o.same.0, m.same.1 ∙ o.same.1);

@@ -1,4 +1,4 @@
-use Rattle.std.proofs.Common.{◌<◌, false, ◌∷◌, sym, subst, refl, ◌∙◌, arith}
+use Rattle.std.proofs.Common.{◌<◌, false, ◌∷◌, ◌-◌, sym, subst, refl, ◌∙◌, arith}
 use Rattle.std.specs.Prelude.{IfSome}
 use Rattle.std.specs.Str.{str_to_ascii_lowercase}
 use Rattle.vcd_model.specs.Values.{extend, short}
@@ -20,7 +20,7 @@ returns-in-Vector c =
       98 ∷ short (extend (str_to_ascii_lowercase text) c.args.size),
       omega arith,
       λ code. vector_item (record { text = code; size = c.args.size; event = false }) text refl (λ one. absurd (omega (arith, size, one))),
-      λ code t last long known. p.1 code t last long known c.args.size,
+      λ code t long known. p.1 code t long known c.args.size,
     )) c.left_out_of_vector.ensures)
 
 pub returns-in-RealText : goal.returns-in-RealText
@@ -34,5 +34,5 @@ returns-in-RealText c =
       114 ∷ text,
       omega arith,
       λ code. real_item (record { text = code; size = c.args.size; event = false }) text refl,
-      λ code t last long known. without_none bytes c.args.from c.args.to (omega arith) ∙ c.has_one_blank.ensures.line c.if-has_one_blank.true code t last long,
+      λ code t long known. without_none bytes c.args.from (c.args.to - 1) (omega arith) ∙ c.has_one_blank.ensures.line c.if-has_one_blank.true code t long,
     )

@@ -1,4 +1,4 @@
-use Rattle.std.proofs.Common.{[], ◌∷◌, ◌++◌}
+use Rattle.std.proofs.Common.{◌∷◌, ◌-◌, arith}
 use Rattle.std.specs.Str.{str_to_ascii_lowercase}
 use Rattle.vcd_model.specs.Values.{extend, short}
 use Rattle.vcd_body.proofs.LeftOut.{if_some_more, shortest_line, text_within}
@@ -10,7 +10,8 @@ returns c =
     let text = c.args.digits.now in
     if_some_more c.left_out_of.result (λ k p. (
       p.0,
-      λ code t last long known size.
-          shortest_line bytes c.args.from c.args.to k 98 text (32 ∷ code ++ 10 ∷ []) (short (extend (str_to_ascii_lowercase text) size)) (text_within bytes c.args.from c.args.to text code t) p.0 (p.1 known size) (c.has_one_blank.ensures.line c.if-not-has_one_blank.false code t last long),
+      λ code t long known size.
+          let within = text_within bytes c.args.from c.args.to text code t in
+          shortest_line bytes c.args.from (c.args.to - 1) k 98 text (32 ∷ code) (short (extend (str_to_ascii_lowercase text) size)) (omega arith) p.0 (p.1 known size) (c.has_one_blank.ensures.line c.if-not-has_one_blank.false code t long),
     ))
     c.left_out_of.ensures

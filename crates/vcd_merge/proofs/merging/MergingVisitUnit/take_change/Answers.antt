@@ -25,7 +25,7 @@ pub put_renamed_ahead-requires-clause-spelled : goal.put_renamed_ahead-requires-
 put_renamed_ahead-requires-clause-spelled g c =
     let p = c.args.change in
     let bytes = sym (c.bytes.ensures ∙ c.requires.item.same.0) in
-    let s = subst (λ (i : Item). HasSpelled c.args.view c.bytes.result.now c.passed-from.result c.passed-to.result p.at p.code_at p.text.now i) c.in-Change.is (rw (c.passed-from.ensures.passed, c.passed-to.ensures.passed, sym bytes) c.requires.item.spelled) in
+    let s = subst (λ (i : Item). HasSpelled c.args.view c.bytes.result.now p.begin c.passed-to.result p.at p.code_at p.text.now i) c.in-Change.is (rw (c.passed-to.ensures.passed, sym bytes) c.requires.item.begun) in
     (s.0, s.1, s.3)
 
 pub put_renamed_ahead-requires-clause-digits : goal.put_renamed_ahead-requires-clause-digits

@@ -1,0 +1,25 @@
+use Rattle.std.proofs.Common.{◌≡◌, Err, rules, subst}
+use Rattle.vcd_text.proofs.Writes.{counts-on, some-first}
+use Rattle.vcd_body.proofs.LeftOut.{line_there}
+use Rattle.vcd_body.proofs.Results.{if_ok}
+use Rattle.vcd_engine.specs.Pieces.{PutsBehind}
+use Rattle.vcd_engine.proofs.PieceLemmas.{put_on}
+use Rattle.vcd_engine.proofs.pieces.Pieces.append_line.Goals as goal
+
+pub returns-then-bytes-last-eq10 : goal.returns-then-bytes-last-eq10
+returns-then-bytes-last-eq10 g c =
+    let bytes = c.args.bytes.now in
+    let line = line_there bytes c.args.from c.args.to c.args.n c.requires.within.0 c.requires.within.1 c.if-bytes-last-eq10.true in
+    subst (λ l. PutsBehind bytes c.args.self.now c.append_parts.new.self (g.W.Sink.device c.args.out.now) (g.W.Sink.device c.append_parts.new.out) l c.append_parts.result) line c.append_parts.ensures
+
+pub returns-in_err-flush : goal.returns-in_err-flush
+returns-in_err-flush g c =
+    let e : c.from_residual.result ≡ Err c.in_err-flush.field-0.0 = search rules in
+    rw e (record { puts = some-first (g.W.Sink.device _) (g.W.Sink.device _) _ _ c.in_err-flush.ensures.puts; counts = c.in_err-flush.ensures.puts.1; part = tt })
+
+pub returns : goal.returns
+returns g c = record {
+  puts = put_on _ _ _ (g.W.Sink.device _) (g.W.Sink.device _) (g.W.Sink.device _) c.put_line.result c.in_ok-flush.ensures.puts c.in_ok-flush.ensures.pending.0 c.put_line.ensures;
+  counts = counts-on (g.W.Sink.device c.args.out.now) (g.W.Sink.device c.flush.new.out) (g.W.Sink.device c.put_line.new.out) c.put_line.result c.in_ok-flush.ensures.puts.1 c.put_line.ensures.1;
+  part = if_ok c.put_line.result _ c.in_ok-flush.ensures.pending.1;
+}
