@@ -6,8 +6,9 @@
 #     `pick` of one name, given once and 30000 times; the same with another name among each 64
 #     `pick` of 3000 and 30000 names with a dot inside the last component
 #     `check` of 4000000 lines `$dumpon` and `$end` in turn, beside as many timestamps
+#     `check` of 4000000 tokens of one byte in a comment, and in a date, beside as many timestamps
 #
-# TMPDIR needs 80 MB.
+# TMPDIR needs 100 MB.
 set -eu -o pipefail
 here=$(cd "$(dirname "$0")" && pwd)
 size=${1:-200000}
@@ -45,6 +46,13 @@ write_body() {
     cat
 }
 
+# This keyword, tokens of one byte, and `$end`.
+write_words() {
+    echo "$1"
+    yes 'a b c d' | head -n 1000000
+    echo '$end'
+}
+
 # A header of this many variables in one scope, whose names have a dot.
 write_dots() {
     awk -v size="$1" 'BEGIN {
@@ -77,3 +85,9 @@ awk 'BEGIN { for (n = 0; n < 2000000; n++) print "$dumpon\n$end" }' | write_body
 seq -f '#%.0f' 1000000 4999999 | write_body > "$work/marks"
 print_times 'check of 4,000,000 section keywords, and marks' \
     "$(best_of check "$work/sections")" "$(best_of check "$work/marks")"
+write_words '$comment' | write_body > "$work/comment"
+{ write_words '$date'; write_body < /dev/null; } > "$work/date"
+for text in comment date; do
+    print_times "check of a $text of 4,000,000 tokens, and marks" \
+        "$(best_of check "$work/$text")" "$(best_of check "$work/marks")"
+done

@@ -1,5 +1,5 @@
 -- Variables and scopes whose phrases lie ahead.
-use Rattle.std.specs.Prelude.{◌≡◌, ℕ, ◌<◌, ◌≤◌, Bool, true, false, MatchBool, List, [], ◌∷◌, ◌++◌, length, map, Option, Some, IfSome, Result, IfOk}
+use Rattle.std.specs.Prelude.{◌≡◌, ℕ, ◌<◌, ◌≤◌, Bool, true, false, MatchBool, List, [], ◌∷◌, ◌++◌, length, Option, Some, IfSome, Result, IfOk}
 use Rattle.std.specs.List.{join_with_byte, list_all}
 use Rattle.vcd_model.specs.Bytes.{is_code_byte}
 use Rattle.vcd_model.specs.Keywords.{Keyword, keyword_text, is_end}
@@ -15,6 +15,7 @@ use Rattle.vcd_head.specs.declared.fault.HeadFault.{HeadFault}
 use Rattle.vcd_head.specs.Declares.{whole}
 use Rattle.vcd_head.specs.Draft.{DraftsOn}
 use Rattle.vcd_view.specs.Keywords.{NoEnds}
+pub use Rattle.vcd_view.specs.Keywords.{texts_of}
 use Rattle.vcd_head.specs.Words.{size_in}
 
 -- it looks over these bytes, for tokens of at most this many
@@ -34,9 +35,6 @@ abbrev pub Gives : {A : Type 0} → (List Token → A → Type 0) → Ahead → 
 Gives Is old new o = IfSome o (λ x. (limit lines : ℕ) (bytes : List ℕ) (ts : List Token) → LooksOver limit bytes old → Passed limit lines bytes (passed_of old) ts
     → (more : List Token) × Is more x × Passed limit lines bytes (passed_of new) (ts ++ more))
 
--- the bytes of these tokens
-abbrev pub texts_of : List Token → List (List ℕ)
-texts_of ts = map (λ (t : Token). t.bytes) ts
 
 -- the tokens are this reference, and then the first `$end`
 pub record IsReference (ts : List Token) (r : Reference) : Type 0 where

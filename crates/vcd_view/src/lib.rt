@@ -22,7 +22,7 @@
 //! - `entries`, `key`: where a code's entry is, and what it holds; codes as numbers
 //! - `code_hash`: codes hashed by numbers that nobody knows
 //! - `room`: `need`, the room that an engine over a header needs
-//! - `keyword`: the keywords of a dump
+//! - `keyword`: the keywords of a dump, and the words up to an `$end`
 //! - `new_code`: the codes that a merge gives
 //!
 //! In `specs/` callers read `Views` and `Shown`, `Over`, `Finds`, `Needs`, `Keywords` and
@@ -48,7 +48,7 @@ pub use entries::{
     place_told,
 };
 pub use key::key_of;
-pub use keyword::{Keyword, is, keyword_of};
+pub use keyword::{Keyword, is, keyword_of, pass_words};
 pub use look_up::{Found, find, find_at_once, find_counted, find_sized};
 pub use new_code::{NewCode, put_code};
 pub use probes::Probes;
