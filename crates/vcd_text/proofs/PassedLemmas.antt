@@ -1,7 +1,7 @@
 -- Tokens that were passed ahead, and what a feed has given after them.
 use Rattle.std.proofs.Common.{◌≡◌, ◌≢◌, ℕ, suc, ◌+◌, ◌-◌, ◌^◌, ◌≤◌, ◌<◌, true, false, List, [], ◌∷◌, ◌++◌, length, take, drop, refl, ap, sym, ◌∙◌, subst, arith, inl, inr, add-zero, append-nil, append_assoc, length-append}
 use Rattle.std.specs.Prelude.{slice_index, slice_range, ◌==◌, Option}
-use Rattle.std.proofs.lemmas.List.{get_or-take, get_or-drop, drop-take, drop-drop, take-take}
+use Rattle.std.proofs.lemmas.List.{take-take}
 use Rattle.std.proofs.lemmas.List.Sums.{count_by-le-length}
 use Rattle.std.proofs.lemmas.Bool.{cases_lt, cases_order}
 use Rattle.vcd_model.specs.Bytes.{is_white_space}
@@ -22,7 +22,7 @@ use Rattle.vcd_text.specs.declared.registers.Phase.TheVariants.{Going, Ended, Ha
 use Rattle.vcd_text.proofs.Places.{length-slice_range}
 use Rattle.vcd_text.proofs.Steps.{live-others, live-whites, live-end, token_to, true-false}
 use Rattle.vcd_text.proofs.Streams.{end-of-token}
-use Rattle.vcd_text.proofs.AheadLemmas.{ahead-length, ahead-drop, ahead-slice, line_feeds_in-more}
+use Rattle.vcd_text.proofs.AheadLemmas.{ahead-length, ahead-drop, ahead-slice, line_feeds_in-more, slice-index, slice-slice}
 use Rattle.vcd_text.proofs.WindowLemmas.{cleared}
 
 -- ---- one token more
@@ -79,15 +79,7 @@ passed_none limit lines n (t ∷ ts) p = absurd (omega (arith, p.2.run.within))
 
 module _ (limit : ℕ) (text : List ℕ) (p q lines : ℕ) (order : p ≤ q) (fits : q ≤ length text) (small : q < 2 ^ 63) (feeds : lines ≡ line_feeds_in (take p text)) where
   byte : (k : ℕ) → k < q - p → slice_index text (p + k) ≡ slice_index (slice_range text p q) k
-  byte k lt = sym (get_or-take (q - p) (drop p text) k 0 lt ∙ get_or-drop p text k 0)
-
-  slice-of : (m d : ℕ) → m + d ≤ q - p → slice_range (slice_range text p q) m (m + d) ≡ slice_range text (p + m) (p + m + d)
-  slice-of m d le =
-      let a : m + d - m ≡ d = omega arith in
-      let b : p + m + d - (p + m) ≡ d = omega arith in
-      let r : ℕ = q - p - m in
-      let e : q - p ≡ m + r = omega arith in
-      rw (a, b) (ap (λ k. take d (drop m (take k (drop p text)))) e ∙ (ap (take d) (drop-take m r (drop p text)) ∙ (take-take d r (drop m (drop p text)) (omega arith) ∙ ap (take d) (drop-drop m p text))))
+  byte k lt = sym (slice-index text p q k lt)
 
   line-of : (m : ℕ) → m ≤ q - p → line_ahead lines (slice_range text p q) m ≡ line_at text (p + m)
   line-of m le =
@@ -109,7 +101,7 @@ module _ (limit : ℕ) (text : List ℕ) (p q lines : ℕ) (order : p ≤ q) (fi
     white = let e : p + m + length t.bytes ≡ p + (m + length t.bytes) = omega arith in rw e (ap is_white_space (byte (m + length t.bytes) inside) ∙ s.run.white)
 
     token-is : token_to text (p + m) (p + m + length t.bytes) ≡ t
-    token-is = ap (λ bs. record { bytes = bs; line = line_at text (p + m) }) (sym (slice-of m (length t.bytes) (omega (arith, inside))) ∙ sym s.bytes_are)
+    token-is = ap (λ bs. record { bytes = bs; line = line_at text (p + m) }) (sym (slice-slice text p q m (length t.bytes) (omega (arith, inside))) ∙ sym s.bytes_are)
         ∙ ap (λ k. record { bytes = t.bytes; line = k }) (sym (line-of m (omega (arith, inside))) ∙ sym s.line_is)
 
     next-live : HasLookedAt limit text (p + (m + length t.bytes + 1)) (p + (m + length t.bytes + 1)) (given ++ t ∷ [])

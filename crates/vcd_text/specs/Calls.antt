@@ -1,11 +1,11 @@
 -- What the calls of a feed ask and leave, and under the same path the other names of which the
 -- clauses of a feed speak.
-use Rattle.std.specs.Prelude.{◌≡◌, ◌≢◌, ℕ, ◌<◌, List, [], ◌++◌, length, IfSome, None, Some, Result, Ok, Err}
+use Rattle.std.specs.Prelude.{◌≡◌, ◌≢◌, ℕ, ◌<◌, List, [], ◌∷◌, ◌++◌, length, IfSome, None, Some, Result, Ok, Err}
 pub use Rattle.vcd_model.specs.Input.{Input}
 use Rattle.vcd_model.specs.Tokens.{Token}
 pub use Rattle.vcd_text.specs.Advances.{Advances, CallEnd, GoesOn, Ends, Fails}
 pub use Rattle.vcd_text.specs.Ahead.{ahead_of, bytes_of, lines_of, longest_of, passed_of}
-use Rattle.vcd_text.specs.Passed.{Passed}
+use Rattle.vcd_text.specs.Passed.{AreFirst, Passed}
 use Rattle.vcd_text.specs.Answer.{NextGives, whole}
 pub use Rattle.vcd_text.specs.Feed.{Borrows, GaveOnlySeen, HasGiven, HasGivenTo, HasReadTo, SameLoans, Shows, answer_of, chunk_len_of, limit_of, parked_answer, parked_of, parked_seen, seen, source_of, token_of, value_of}
 pub use Rattle.vcd_text.specs.Registers.{Fits, IsOffset}
@@ -39,6 +39,7 @@ pub record StandsStill {X : Type 0} {g : Ghosts X} (old new : Feed X g) : Type 0
   pub same_seen : seen new ≡ seen old
   pub same_answer : answer_of new ≡ answer_of old
   pub same_source : source_of new ≡ source_of old
+  pub same_ahead : ahead_of new ≡ ahead_of old
   pub limit : limit_of new ≡ limit_of old
   pub chunk_len : chunk_len_of new ≡ chunk_len_of old
   pub loans : SameLoans old new
@@ -46,6 +47,10 @@ pub record StandsStill {X : Type 0} {g : Ghosts X} (old new : Feed X g) : Type 0
 -- the first n bytes ahead are just these whole tokens
 abbrev pub PassesTo : {X : Type 0} {g : Ghosts X} → Feed X g → ℕ → List Token → Type 0
 PassesTo f n tokens = Passed (limit_of f) (lines_of f) (ahead_of f) n tokens
+
+-- the bytes ahead begin with these whole tokens
+abbrev pub LieAhead : {X : Type 0} {g : Ghosts X} → Feed X g → List Token → Type 0
+LieAhead f tokens = AreFirst (limit_of f) (ahead_of f) tokens
 
 -- where tokens have been given, these have been too
 abbrev pub GivesAllTo : {X : Type 0} {g : Ghosts X} → ℕ → (old new : Feed X g) → Type 0
@@ -69,6 +74,16 @@ GivesNext old new result = (i : Input) (given : List Token) → HasGiven i given
 -- what a failed read leaves is what the source gave: it still has all that was not looked at
 abbrev pub LeavesUnseen : {X : Type 0} {g : Ghosts X} → (old new : Feed X g) → Result Next Halt → Type 0
 LeavesUnseen old new result = result ≡ Err ReadFailed → (i : Input) (given : List Token) → HasGiven i given old → GaveOnlySeen i new
+
+-- of whole tokens ahead this one was given, nothing was read, and the others lie ahead
+pub record TakesFirst {X : Type 0} {g : Ghosts X} (old new : Feed X g) (t : Token) (ts : List Token) : Type 0 where
+  pub given : (token_of new).bytes ≡ t.bytes
+  pub source : source_of new ≡ source_of old
+  pub rest : LieAhead new ts
+
+-- where whole tokens lie ahead, the next one is given, and nothing is read for it
+abbrev pub TakesAhead : {X : Type 0} {g : Ghosts X} → (old new : Feed X g) → Result Next Halt → Type 0
+TakesAhead old new result = (t : Token) (ts : List Token) → LieAhead old (t ∷ ts) → (result ≡ Ok token) × TakesFirst old new t ts
 
 -- what is shown after an answer, and which answer comes again
 pub record Answers {X : Type 0} {g : Ghosts X} (old new : Feed X g) (result : Result Next Halt) : Type 0 where

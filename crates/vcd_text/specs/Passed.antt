@@ -39,3 +39,7 @@ PassedFrom limit lines bytes at (t ∷ ts) n = (start : ℕ) × AreWhite bytes a
 -- feeds.
 abbrev pub Passed : ℕ → ℕ → List ℕ → ℕ → List Token → Type 0
 Passed limit lines bytes n ts = PassedFrom limit lines bytes 0 ts n
+
+-- the bytes begin with these tokens, whole and of at most `limit` bytes each, on whatever lines
+abbrev pub AreFirst : ℕ → List ℕ → List Token → Type 0
+AreFirst limit bytes ts = (lines n : ℕ) × Passed limit lines bytes n ts

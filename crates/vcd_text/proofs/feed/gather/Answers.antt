@@ -12,6 +12,7 @@ use Rattle.vcd_text.specs.declared.answer.Halt.{Halt}
 use Rattle.vcd_text.specs.declared.answer.Halt.TheVariants.{InputTooLong, ReadFailed, TokenTooLong}
 use Rattle.vcd_text.specs.declared.registers.Phase.TheVariants.{Ended, Going, Halted}
 use Rattle.vcd_text.proofs.WindowLemmas.{after-skip, whole-stands, part-within, more-within, again-gives, long-gives, input-gives, fail-gives, finish-stands, whole-near, finish-near, fail-rest, failed-marked}
+use Rattle.vcd_text.proofs.FirstLemmas.{stays_long, stays_part, stays_whole}
 use Rattle.vcd_text.proofs.feed.gather.Goals as goal
 
 err-is : (h : Halt) → ◌≡◌ {A = Result Next Halt} (Err h) (Err ReadFailed) → h ≡ ReadFailed
@@ -233,6 +234,7 @@ loop-parked-preserved g c =
       },
       c.in-More.ensures.kept ∙ (c.in-Part.ensures.on.kept ∙ (c.skip.ensures.on.kept ∙ c.loop-parked.invariant.2)),
       omega (arith, c.in-More.ensures.looked.0, c.in-More.ensures.looked.1, c.in-Part.ensures.on.looked, c.skip.ensures.on.looked, c.loop-parked.invariant.3),
+      λ u us w. absurd (stays_part _ _ _ _ _ _ _ _ _ _ u us t.fits fits c.skip.ensures.skips (c.loop-parked.invariant.4 u us w) c.in-Part.ensures.collects),
     )
 
 pub returns-in-End-clause-says : goal.returns-in-End-clause-says
@@ -327,3 +329,28 @@ returns-in-End-clause-turns g c =
     let far = far-enough c.args.parked.now c.loop-parked.parked c.skip.new.parked c.collect.new.parked c.loop-parked.invariant.3 c.skip.ensures.on.looked on.looked in
     ends-turns g.S.Source.failures g.S.Source.last_failed _ _ _ _ _ _ (c.finish.ensures.fits _ _ (rw fits at (filled.fits _ (rw full at range)))) (c.finish.ensures.kept ∙ (filled.kept ∙ (on.kept ∙ (c.skip.ensures.on.kept ∙ c.loop-parked.invariant.2)))) c.in-Going.is
     c.fill.new.parked c.finish.result (rw (filled.looked.0, filled.looked.1) far) c.finish.ensures.finishes (filled.failures (λ e. cc) ∙ c.loop-parked.invariant.0)
+
+-- ---- where whole tokens lie ahead
+
+pub returns-in-Whole-clause-ahead : goal.returns-in-Whole-clause-ahead
+returns-in-Whole-clause-ahead g c = λ t ts w.
+    let phase = c.in-Whole.ensures.on.phase ∙ (c.skip.ensures.on.phase ∙ c.loop-parked.invariant.1.going) in
+    let full : length c.collect.new.token ≡ length c.args.token.now = omega (arith, c.loop-parked.auto.token) in
+    let s = stays_whole _ _ _ _ _ _ _ _ _ _ t ts c.loop-parked.invariant.1.fits c.loop-parked.auto.chunk c.skip.ensures.skips (c.loop-parked.invariant.4 t ts w) phase c.in-Whole.ensures.collects in
+    (refl, s.0, s.1, rw full s.2)
+
+pub returns-in-TooLong-clause-ahead : goal.returns-in-TooLong-clause-ahead
+returns-in-TooLong-clause-ahead g c = λ t ts w.
+    absurd (stays_long _ _ _ _ _ c.collect.new.token _ _ _ _ t ts c.loop-parked.invariant.1.fits c.loop-parked.auto.chunk c.skip.ensures.skips (c.loop-parked.invariant.4 t ts w) c.loop-parked.auto.token c.in-TooLong.ensures.collects)
+
+pub returns-then-parked-clause-ahead : goal.returns-then-parked-clause-ahead
+returns-then-parked-clause-ahead g c = λ t ts w.
+    absurd (stays_part _ _ _ _ _ _ _ _ _ _ t ts c.loop-parked.invariant.1.fits c.loop-parked.auto.chunk c.skip.ensures.skips (c.loop-parked.invariant.4 t ts w) c.in-Part.ensures.collects)
+
+pub returns-in-End-clause-ahead : goal.returns-in-End-clause-ahead
+returns-in-End-clause-ahead g c = λ t ts w.
+    absurd (stays_part _ _ _ _ _ _ _ _ _ _ t ts c.loop-parked.invariant.1.fits c.loop-parked.auto.chunk c.skip.ensures.skips (c.loop-parked.invariant.4 t ts w) c.in-Part.ensures.collects)
+
+pub returns-in-Failed-clause-ahead : goal.returns-in-Failed-clause-ahead
+returns-in-Failed-clause-ahead g c = λ t ts w.
+    absurd (stays_part _ _ _ _ _ _ _ _ _ _ t ts c.loop-parked.invariant.1.fits c.loop-parked.auto.chunk c.skip.ensures.skips (c.loop-parked.invariant.4 t ts w) c.in-Part.ensures.collects)

@@ -1,13 +1,11 @@
-use Rattle.std.proofs.Common.{◌≡◌, ℕ, ◌+◌, ◌-◌, ◌≤◌, ◌<◌, true, false, List, length, take, drop, get_or, sym, ap, subst, ◌∙◌, arith, length-drop}
+use Rattle.std.proofs.Common.{◌≡◌, ℕ, ◌+◌, ◌-◌, ◌≤◌, ◌<◌, true, false, List, length, take, drop, sym, ap, subst, ◌∙◌, arith, length-drop}
 use Rattle.std.specs.Prelude.{slice_index, slice_range}
-use Rattle.std.proofs.lemmas.List.{take-take, length-take-le, get_or-take, get_or-drop}
+use Rattle.std.proofs.lemmas.List.{take-take, length-take-le}
 use Rattle.vcd_model.specs.Bytes.{is_white_space}
 use Rattle.vcd_text.specs.Window.{Whites, skipped, line_feeds_in}
 use Rattle.vcd_text.specs.declared.registers.Parked.{Parked}
+use Rattle.vcd_text.proofs.AheadLemmas.{slice-index}
 use Rattle.vcd_text.proofs.window.skip.Goals as goal
-
-index : (chunk : List ℕ) (at stop k : ℕ) → k < stop - at → get_or (slice_range chunk at stop) k 0 ≡ get_or chunk (at + k) 0
-index chunk at stop k lt = get_or-take (stop - at) (drop at chunk) k 0 lt ∙ get_or-drop at chunk k 0
 
 skips : (chunk : List ℕ) (p : Parked) (d e f : ℕ) → d ≡ e → p.at ≤ p.stop → p.stop ≤ length chunk → d ≤ length (slice_range chunk p.at p.stop)
     → ((k : ℕ) → k < d → is_white_space (slice_index (slice_range chunk p.at p.stop) k) ≡ true) → (d < length (slice_range chunk p.at p.stop) → is_white_space (slice_index (slice_range chunk p.at p.stop) d) ≡ false)
@@ -20,8 +18,8 @@ skips chunk p d e f is order within fits white stops line_feeds =
     subst (λ n. Whites chunk p n × (record p { at = p.at + d; line_feeds = p.line_feeds + f; line = p.line_feeds + f + 1 } ≡ skipped chunk p n)) is (
       record {
         to = omega arith;
-        white = λ k lt. ap is_white_space (sym (index chunk p.at p.stop k (omega arith))) ∙ white k lt;
-        after = λ lt. ap is_white_space (sym (index chunk p.at p.stop d (omega arith))) ∙ stops (omega arith);
+        white = λ k lt. ap is_white_space (sym (slice-index chunk p.at p.stop k (omega arith))) ∙ white k lt;
+        after = λ lt. ap is_white_space (sym (slice-index chunk p.at p.stop d (omega arith))) ∙ stops (omega arith);
       },
       ap (λ g. record p { at = p.at + d; line_feeds = p.line_feeds + g; line = p.line_feeds + g + 1 }) counted,
     )
