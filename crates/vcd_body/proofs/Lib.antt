@@ -1,5 +1,6 @@
 pub mod WalkLemmas
 pub mod WordLemmas
+pub mod WholeLemmas
 pub mod TokenLemmas
 pub mod PhraseLemmas
 pub mod FindLemmas

@@ -44,7 +44,7 @@ filled_some (d ∷ l) e = omega arith
 -- ---- what begins a phrase
 
 -- 0 and 1 are digits of a value
-bit_digit : (d : ℕ) → IsTrue (is_either (byte "0") (byte "1") d) → IsTrue (is_value_digit d)
+pub bit_digit : (d : ℕ) → IsTrue (is_either (byte "0") (byte "1") d) → IsTrue (is_value_digit d)
 unfolding is_value_digit
 bit_digit d is = by_first (d == 48) (d == 49) is
   where

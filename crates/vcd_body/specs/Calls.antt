@@ -1,5 +1,5 @@
 -- What the calls say that read tokens and phrases of a body, each over any input.
-use Rattle.std.specs.Prelude.{◌≡◌, ℕ, ◌≤◌, List, [], ◌∷◌, drop, slice_get, Some, Option, Bool, Result, IfOk, MatchBool, MatchResult}
+use Rattle.std.specs.Prelude.{◌≡◌, ℕ, ◌≤◌, List, [], ◌∷◌, drop, slice_get, Some, IsSome, Option, Bool, true, Result, Ok, IfOk, MatchBool, MatchResult}
 use Rattle.vcd_model.specs.BodyPhrases.{BodyPhrase, declared_code, items_of}
 use Rattle.vcd_model.specs.Declarations.{IdCode}
 use Rattle.vcd_model.specs.Header.{Header}
@@ -8,7 +8,8 @@ use Rattle.vcd_model.specs.Items.{BodyItem, ChangeForm, time_after}
 use Rattle.vcd_model.specs.Keywords.{Keyword, keyword_text}
 use Rattle.vcd_model.specs.Reading.{Placed, phrases_of}
 use Rattle.vcd_model.specs.Tokens.{Token}
-use Rattle.vcd_text.specs.Feed.{token_of, value_of}
+use Rattle.vcd_text.specs.Calls.{LieAhead, TakesFirst}
+use Rattle.vcd_text.specs.Feed.{source_of, token_of, value_of}
 use Rattle.vcd_text.specs.declared.device.Source.{Ghosts}
 use Rattle.vcd_text.specs.declared.feed.Feed.{Feed}
 use Rattle.vcd_view.specs.Views.{IsViewOf}
@@ -38,6 +39,18 @@ OpensOrRefuses token result = (codes : List IdCode) (earlier : List BodyPhrase) 
 abbrev pub ReadsToken : {X : Type 0} {g : Ghosts X} → (old new : Feed X g) → Result Bool BodyFault → Type 0
 ReadsToken old new result = (codes : List IdCode) (i : Input) (front : List Token) (placed : List (Placed BodyPhrase)) (before : List (List ℕ)) → Reads codes i front placed before old
     → MatchResult result (λ more. MatchBool more (Looks codes i front placed before new) (ReadsAll codes i front placed before new)) (FailsAfter codes i front placed new)
+
+-- where whole tokens lie ahead, the next one is given, and nothing is read for it
+abbrev pub TakesToken : {X : Type 0} {g : Ghosts X} → (old new : Feed X g) → Result Bool BodyFault → Type 0
+TakesToken old new result = (t : Token) (ts : List Token) → LieAhead old (t ∷ ts) → (result ≡ Ok true) × TakesFirst old new t ts
+
+-- where a whole token lies ahead, nothing is read
+abbrev pub NeedsOneToken : {X : Type 0} {g : Ghosts X} → (old new : Feed X g) → Type 0
+NeedsOneToken old new = (t : Token) (ts : List Token) → LieAhead old (t ∷ ts) → source_of new ≡ source_of old
+
+-- no comment was passed over, and nothing was read
+abbrev pub EndsUnread : {X : Type 0} {g : Ghosts X} → (old new : Feed X g) → Result (Option Item) BodyFault → Type 0
+EndsUnread old new result = IfOk result IsSome × (source_of new ≡ source_of old)
 
 -- one token more of a phrase that has begun
 abbrev pub ReadsInner : {A X : Type 0} {g : Ghosts X} → (old new : Feed X g) → Result A BodyFault → Type 0

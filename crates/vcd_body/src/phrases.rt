@@ -1,6 +1,6 @@
 // The phrases of a body, by what they begin with.
 ghost use Rattle.std.specs.Prelude.{◌≡◌, ◌≢◌, true, ◌-◌, ◌^◌, ◌<◌, ◌≤◌, length, take, drop, Some, None, slice_get, OnOk, IfOk, IfErr, ◌||◌, nat_le};
-ghost use Rattle.vcd_body.specs.Names.{Advances, AreRegsWith, Begins, ChangeForm, Code, PhraseKind, Form, GoesFurther, HasGoodValue, IsFoundScalar, IsScalar, IsSized, Item, MayBe, OpensOrRefuses, ReadsCode, ReadsComment, ReadsMark, ReadsRest, RefusesIn, call_end, is_value_digit, list_all, mark_time, seen, source_of, token_of, value_of};
+ghost use Rattle.vcd_body.specs.Names.{Advances, AreRegsWith, Begins, ChangeForm, Code, PhraseKind, Form, GoesFurther, HasGoodValue, IsFoundScalar, IsScalar, IsSized, Item, MayBe, NeedsOneToken, OpensOrRefuses, ReadsCode, ReadsComment, ReadsMark, ReadsRest, RefusesIn, call_end, is_value_digit, list_all, mark_time, seen, source_of, token_of, value_of};
 
 use crate::bits::Bits;
 use crate::fault::BodyFault;
@@ -113,6 +113,7 @@ fn read_code<S: Source>(
 ) -> Result<Found, BodyFault>
     requires failures { S.failures (source_of feed.old) < 2 ^ 64 - 1 }
     ensures reads { ReadsCode view.entry feed.old feed.new result }
+    ensures ahead { NeedsOneToken feed.old feed.new }
     ensures value { value_of feed.new ≡ (token_of feed.old).bytes }
     ensures sized { IfOk result (IsSized view.entry.codes.now) }
     ensures goes { GoesFurther S.failures feed.old feed.new (call_end result) result }
@@ -146,6 +147,7 @@ pub(crate) fn read_vector<S: Source>(
     requires begins { Begins (token_of feed.old).bytes PhraseKind.Vector }
     ensures reads { ReadsRest view.entry ChangeForm.Vector feed.old feed.new result }
     ensures sound { HasGoodValue view.entry Form.Vector feed.new result }
+    ensures ahead { NeedsOneToken feed.old feed.new }
     ensures advances { Advances S.failures feed.old feed.new (call_end result) }
     ensures further { OnOk result (seen feed.old < seen feed.new) }
     ensures bounded { seen feed.old < 2 ^ 63 → seen feed.new < 2 ^ 63 }
@@ -167,6 +169,7 @@ pub(crate) fn read_real<S: Source>(
     requires begins { Begins (token_of feed.old).bytes PhraseKind.Real }
     ensures reads { ReadsRest view.entry ChangeForm.RealText feed.old feed.new result }
     ensures sound { HasGoodValue view.entry Form.RealText feed.new result }
+    ensures ahead { NeedsOneToken feed.old feed.new }
     ensures advances { Advances S.failures feed.old feed.new (call_end result) }
     ensures further { OnOk result (seen feed.old < seen feed.new) }
     ensures bounded { seen feed.old < 2 ^ 63 → seen feed.new < 2 ^ 63 }

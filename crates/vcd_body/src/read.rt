@@ -1,6 +1,6 @@
 // The items of a body, one after the other.
-ghost use Rattle.std.specs.Prelude.{◌≡◌, ◌≢◌, ◌-◌, ◌^◌, ◌<◌, ◌≤◌, List, OnOk, IfOk, Some};
-ghost use Rattle.vcd_body.specs.Names.{Advances, AreRegsPast, AreRegsWith, Begins, Code, IsGoodChange, IsGoodPhrase, ReadsCommand, ReadsItem, ReadsOne, call_end, seen, source_of, text_of, token_of};
+ghost use Rattle.std.specs.Prelude.{◌≡◌, ◌≢◌, ◌-◌, ◌^◌, ◌<◌, ◌≤◌, List, OnOk, IfOk, Some, false};
+ghost use Rattle.vcd_body.specs.Names.{Advances, AreRegsPast, AreRegsWith, Begins, Code, EndsUnread, HoldsItem, IsGoodChange, IsGoodPhrase, ReadsCommand, ReadsItem, ReadsOne, ahead_of, call_end, is_comment, limit_of, seen, source_of, text_of, token_of};
 
 use crate::fault::BodyFault;
 use crate::item::{Form, Item, Regs};
@@ -20,6 +20,8 @@ fn read_command<S: Source>(
     requires begins { Begins (token_of feed.old).bytes PhraseKind.Other }
     ensures reads { ReadsCommand feed.old feed.new regs.old regs.new result }
     ensures sound { (codes : List Code) → IsGoodPhrase codes feed.new result }
+    ensures ahead { is_comment (token_of feed.old).bytes ≡ false
+        → EndsUnread feed.old feed.new result }
     ensures regs { AreRegsPast regs.old regs.new result }
     ensures advances { Advances S.failures feed.old feed.new (call_end result) }
     ensures further { OnOk result (seen feed.old ≤ seen feed.new) }
@@ -59,6 +61,8 @@ fn read_phrase<S: Source>(
     requires failures { S.failures (source_of feed.old) < 2 ^ 64 - 1 }
     ensures reads { ReadsOne view.entry feed.old feed.new regs.old regs.new result }
     ensures sound { IsGoodPhrase view.entry.codes.now feed.new result }
+    ensures ahead { HoldsItem (limit_of feed.old) (ahead_of feed.old)
+        → EndsUnread feed.old feed.new result }
     ensures regs { AreRegsPast regs.old regs.new result }
     ensures advances { Advances S.failures feed.old feed.new (call_end result) }
     ensures progress { IfOk result (λ one. one ≢ Some Item.Finish → seen feed.old < seen feed.new) }
@@ -106,6 +110,10 @@ pub fn next_item<S: Source>(
 
     // A change is of one of the view's codes, and its text is one that this code may have.
     ensures sound { IfOk result (IsGoodChange view.entry.codes.now feed.new) }
+
+    // An item that lies whole ahead is taken without a read.
+    ensures ahead { HoldsItem (limit_of feed.old) (ahead_of feed.old)
+        → source_of feed.new ≡ source_of feed.old }
     ensures regs { AreRegsWith (λ item. item) regs.old regs.new result }
     ensures advances { Advances S.failures feed.old feed.new (call_end result) }
     ensures progress { IfOk result (λ item. item ≢ Item.Finish → seen feed.old < seen feed.new) }

@@ -1,4 +1,4 @@
-use Rattle.std.proofs.Common.{◌≡◌, ◌≢◌, ℕ, List, [], ◌∷◌, ◌⊎◌, inl, inr, refl, sym, ap, subst, ◌∙◌, Bool, not, true, false}
+use Rattle.std.proofs.Common.{◌≡◌, ℕ, List, [], ◌∷◌, ◌⊎◌, inl, inr, refl, sym, subst, ◌∙◌, Bool, not, true, false}
 use Rattle.std.specs.Prelude.{Option, None, Some, is_some, IfSome}
 use Rattle.std.specs.Borrow.{Bor}
 use Rattle.vcd_model.specs.Tokens.{Token}

@@ -8,6 +8,7 @@ use Rattle.vcd_body.specs.Items.{regs_after, model_section}
 use Rattle.vcd_body.specs.declared.item.Item.TheVariants as item
 use Rattle.vcd_body.proofs.PhraseLemmas.{begin_passes, begin_inside, end_passes, end_outside, of_header, no_phrase}
 use Rattle.vcd_body.proofs.ReadLemmas.{own_given, none_given, fault_given, known_so_far, comment_begun, refused_first, known_begin, known_end}
+use Rattle.vcd_body.proofs.WholeLemmas.{not_comment}
 use Rattle.vcd_body.proofs.read.read_command.Goals as goal
 
 pub returns-in_err-skip_comment-in-Some-Comment-clause-reads : goal.returns-in_err-skip_comment-in-Some-Comment-clause-reads
@@ -61,3 +62,13 @@ returns-in-Some-OfHeader-clause-reads g c = λ codes i front items b.
 pub returns-in-None-clause-reads : goal.returns-in-None-clause-reads
 returns-in-None-clause-reads g c = λ codes i front items b.
     refused_first codes i front items c.args.feed.now c.args.regs.now 3 b (no_phrase codes (phrases_of b.placed) (token_of c.args.feed.now).bytes c.requires.begins (ap keyword_of (sym c.token.ensures) ∙ c.in-None.ensures))
+
+pub returns-in_err-skip_comment-in-Some-Comment-clause-ahead : goal.returns-in_err-skip_comment-in-Some-Comment-clause-ahead
+returns-in_err-skip_comment-in-Some-Comment-clause-ahead g c = λ no.
+    let word = rw c.in-Some-Comment.field-0-is at c.in-Some-Comment.ensures in
+    absurd (not_comment _ (sym c.token.ensures ∙ word) no)
+
+pub returns-in_ok-skip_comment-in-Some-Comment-clause-ahead : goal.returns-in_ok-skip_comment-in-Some-Comment-clause-ahead
+returns-in_ok-skip_comment-in-Some-Comment-clause-ahead g c = λ no.
+    let word = rw c.in-Some-Comment.field-0-is at c.in-Some-Comment.ensures in
+    absurd (not_comment _ (sym c.token.ensures ∙ word) no)

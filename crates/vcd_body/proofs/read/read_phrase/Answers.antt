@@ -1,7 +1,8 @@
-use Rattle.std.proofs.Common.{[], sym, ◌∙◌}
+use Rattle.std.proofs.Common.{[], inl, inr, sym, ◌∙◌, rules}
 use Rattle.std.proofs.lemmas.Result.{err_from_is_err_and}
 use Rattle.vcd_model.specs.Reading.{phrases_of}
 use Rattle.vcd_body.proofs.ReadLemmas as given
+use Rattle.vcd_body.proofs.WholeLemmas.{begins_as, first_of_item}
 use Rattle.vcd_body.proofs.WordLemmas.{scalar_begins}
 use Rattle.vcd_body.proofs.read.read_phrase.Goals as goal
 
@@ -73,3 +74,54 @@ returns-in-Other-clause-sound g c = c.read_command.ensures.sound c.args.view.cod
 
 pub returns-in_ok-read_mark-in-Mark-clause-regs : goal.returns-in_ok-read_mark-in-Mark-clause-regs
 returns-in_ok-read_mark-in-Mark-clause-regs g c = c.in_ok-read_mark-in-Mark.ensures.regs
+
+pub returns-in_err-next_token-clause-ahead : goal.returns-in_err-next_token-clause-ahead
+returns-in_err-next_token-clause-ahead g c = λ w. let e = (first_of_item c.args.feed.now c.next_token.new.feed _ c.in_err-next_token.ensures.ahead w).given in absurd (cc)
+
+pub returns-then-is_some-clause-ahead : goal.returns-then-is_some-clause-ahead
+returns-then-is_some-clause-ahead g c = λ w. let e = (first_of_item c.args.feed.now c.next_token.new.feed _ c.in_ok-next_token.ensures.ahead w).given in let f = c.if-not-branch.true in absurd (cc)
+
+pub returns-then-not-branch-clause-ahead : goal.returns-then-not-branch-clause-ahead
+returns-then-not-branch-clause-ahead g c = λ w. let e = (first_of_item c.args.feed.now c.next_token.new.feed _ c.in_ok-next_token.ensures.ahead w).given in let f = c.if-not-branch.true in absurd (cc)
+
+pub returns-in_err-scalar_code-in-Bit-clause-ahead : goal.returns-in_err-scalar_code-in-Bit-clause-ahead
+returns-in_err-scalar_code-in-Bit-clause-ahead g c = λ w. (search rules, (first_of_item c.args.feed.now c.next_token.new.feed _ c.in_ok-next_token.ensures.ahead w).source_is)
+
+pub returns-in_err-read_mark-in-Mark-clause-ahead : goal.returns-in_err-read_mark-in-Mark-clause-ahead
+returns-in_err-read_mark-in-Mark-clause-ahead g c = λ w. (search rules, (first_of_item c.args.feed.now c.next_token.new.feed _ c.in_ok-next_token.ensures.ahead w).source_is)
+
+pub returns-in_ok-scalar_code-in-Bit-clause-ahead : goal.returns-in_ok-scalar_code-in-Bit-clause-ahead
+returns-in_ok-scalar_code-in-Bit-clause-ahead g c = λ w. (search rules, (first_of_item c.args.feed.now c.next_token.new.feed _ c.in_ok-next_token.ensures.ahead w).source_is)
+
+pub returns-in_ok-read_mark-in-Mark-clause-ahead : goal.returns-in_ok-read_mark-in-Mark-clause-ahead
+returns-in_ok-read_mark-in-Mark-clause-ahead g c = λ w. (search rules, (first_of_item c.args.feed.now c.next_token.new.feed _ c.in_ok-next_token.ensures.ahead w).source_is)
+
+pub returns-in_err-read_vector-in-Vector-clause-ahead : goal.returns-in_err-read_vector-in-Vector-clause-ahead
+returns-in_err-read_vector-in-Vector-clause-ahead g c = λ w.
+    let f = first_of_item c.args.feed.now c.next_token.new.feed _ c.in_ok-next_token.ensures.ahead w in
+    let m = f.letter_more (inl (begins_as _ _ _ _ c.kind_of.ensures c.in-Vector.is c.token-token.ensures)) in
+    (search rules, c.in_err-read_vector-in-Vector.ensures.ahead m.0 m.1 m.2 ∙ f.source_is)
+
+pub returns-in_ok-read_vector-in-Vector-clause-ahead : goal.returns-in_ok-read_vector-in-Vector-clause-ahead
+returns-in_ok-read_vector-in-Vector-clause-ahead g c = λ w.
+    let f = first_of_item c.args.feed.now c.next_token.new.feed _ c.in_ok-next_token.ensures.ahead w in
+    let m = f.letter_more (inl (begins_as _ _ _ _ c.kind_of.ensures c.in-Vector.is c.token-token.ensures)) in
+    (search rules, c.in_ok-read_vector-in-Vector.ensures.ahead m.0 m.1 m.2 ∙ f.source_is)
+
+pub returns-in_err-read_real-in-Real-clause-ahead : goal.returns-in_err-read_real-in-Real-clause-ahead
+returns-in_err-read_real-in-Real-clause-ahead g c = λ w.
+    let f = first_of_item c.args.feed.now c.next_token.new.feed _ c.in_ok-next_token.ensures.ahead w in
+    let m = f.letter_more (inr (begins_as _ _ _ _ c.kind_of.ensures c.in-Real.is c.token-token.ensures)) in
+    (search rules, c.in_err-read_real-in-Real.ensures.ahead m.0 m.1 m.2 ∙ f.source_is)
+
+pub returns-in_ok-read_real-in-Real-clause-ahead : goal.returns-in_ok-read_real-in-Real-clause-ahead
+returns-in_ok-read_real-in-Real-clause-ahead g c = λ w.
+    let f = first_of_item c.args.feed.now c.next_token.new.feed _ c.in_ok-next_token.ensures.ahead w in
+    let m = f.letter_more (inr (begins_as _ _ _ _ c.kind_of.ensures c.in-Real.is c.token-token.ensures)) in
+    (search rules, c.in_ok-read_real-in-Real.ensures.ahead m.0 m.1 m.2 ∙ f.source_is)
+
+pub returns-in-Other-clause-ahead : goal.returns-in-Other-clause-ahead
+returns-in-Other-clause-ahead g c = λ w.
+    let f = first_of_item c.args.feed.now c.next_token.new.feed _ c.in_ok-next_token.ensures.ahead w in
+    let a = c.read_command.ensures.ahead (f.no_comment (begins_as _ _ _ _ c.kind_of.ensures c.in-Other.is c.token-token.ensures)) in
+    (a.0, a.1 ∙ f.source_is)

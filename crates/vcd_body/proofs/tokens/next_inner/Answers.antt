@@ -16,3 +16,12 @@ returns-clause-reads g c = λ codes i front placed first before r.
       cut_short codes i front placed (limit_of feed) a.given first before (token_of feed).line a.so_far a.all,
       stopped_at_end codes i front placed (first ∷ before) feed (limit_of feed) a.given None (token_of feed).line refl a.stands a.so_far a.all,
     )
+
+pub returns-in_err-next_token-clause-ahead : goal.returns-in_err-next_token-clause-ahead
+returns-in_err-next_token-clause-ahead g c = λ t ts w. (c.in_err-next_token.ensures.ahead t ts w).1.source
+
+pub returns-then-branch-clause-ahead : goal.returns-then-branch-clause-ahead
+returns-then-branch-clause-ahead g c = λ t ts w. (c.in_ok-next_token.ensures.ahead t ts w).1.source
+
+pub returns-clause-ahead : goal.returns-clause-ahead
+returns-clause-ahead g c = λ t ts w. (c.in_ok-next_token.ensures.ahead t ts w).1.source
