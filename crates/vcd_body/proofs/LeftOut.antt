@@ -10,11 +10,7 @@ use Rattle.vcd_model.proofs.ShortLemmas.{short_is_shortest}
 use Rattle.vcd_text.proofs.AheadLemmas.{slice_range-append}
 use Rattle.vcd_text.proofs.Places.{length-slice_range}
 use Rattle.vcd_body.specs.declared.item.Form.TheVariants as form
-use Rattle.vcd_body.specs.Ahead.{HasBits}
-use Rattle.vcd_body.specs.Binary.{binary_digits}
 use Rattle.vcd_body.specs.Spelled.{HasChange, bytes_without, line_without}
-use Rattle.vcd_body.specs.declared.bits.Bits.{Bits}
-use Rattle.vcd_body.specs.declared.item.Item.{Item}
 use Rattle.vcd_body.proofs.LineLemmas.{one_byte}
 use Rattle.vcd_body.proofs.Shortest.{extend_wide}
 
@@ -123,10 +119,6 @@ shortest_line bytes from to k first text rest digits within few is e = without_s
 pub if_some_more : {A : Type 0} {P Q : A → Type 0} (o : Option A) → ((x : A) → P x → Q x) → IfSome o P → IfSome o Q
 if_some_more (Some x) f p = f x p
 if_some_more None f p = tt
-
--- what the bits of an item say of its text alone
-pub text_known : (it : Item) (text : List ℕ) (bits : Option Bits) → HasBits it text bits → IfSome bits (λ b. text ≡ binary_digits b.len b.number)
-text_known it text bits known = if_some_more bits (λ b (code, is, digits). digits) known
 
 -- a number of digits that is subtracted from all
 pub some_left : (n m : ℕ) (Q : ℕ → Type 0) (o : Option ℕ) → SomeIff o (m ≤ n) (n - m) → Q (n - m) → IfSome o (λ k. (k ≤ n) × Q k)

@@ -1,6 +1,7 @@
 -- A change by a digit with its code right after it, of which the code was found.
-use Rattle.std.proofs.Common.{◌≡◌, ◌⊎◌, ℕ, ◌+◌, ◌-◌, ◌<◌, ◌≤◌, List, [], ◌∷◌, None, length, take, drop, sym, subst, arith}
+use Rattle.std.proofs.Common.{◌≡◌, ◌⊎◌, ℕ, ◌+◌, ◌-◌, ◌<◌, ◌≤◌, false, List, [], ◌∷◌, None, length, take, drop, sym, subst, arith}
 use Rattle.std.specs.Borrow.{Bor}
+use Rattle.std.proofs.lemmas.Bool.{false≢true}
 use Rattle.vcd_model.specs.Tokens.{Token}
 use Rattle.vcd_text.specs.Ahead.{bytes_of, longest_of, passed_of, start_of}
 use Rattle.vcd_text.specs.Passed.{line_ahead}
@@ -20,7 +21,7 @@ use Rattle.vcd_body.proofs.WordLemmas.{scalar_begins}
 -- where its token was taken, it was
 pub scalar_takes : (v : HeadView) (a a' : Ahead) (r : Regs) (o : Opening) (f : Found) (text : Bor (List ℕ)) → Opens a a' o → (o.kind ≡ kind.Bit) ⊎ (o.kind ≡ kind.Scalar)
     → IsFoundScalar v o.token.now f → text.now ≡ take 1 o.token.now
-    → TakesItem v a a' r (record { item = item.Change f.place form.Scalar; text = text; most = f.most; begin = passed_of a' - 1 - length o.token.now; at = passed_of a' - 1 - length o.token.now; code_at = passed_of a' - 1 - length o.token.now + 1; bits = None })
+    → TakesItem v a a' r (record { item = item.Change f.place form.Scalar; text = text; most = f.most; begin = passed_of a' - 1 - length o.token.now; at = passed_of a' - 1 - length o.token.now; code_at = passed_of a' - 1 - length o.token.now + 1; bits = None; binary = false })
 scalar_takes v a a' r o f text opens is found text_is =
     let token = o.token.now in
     let bytes = bytes_of a in
@@ -43,6 +44,7 @@ scalar_takes v a a' r o f text opens is found text_is =
       plain = tt;
       sized = found.sized;
       bits = tt;
+      binary = λ e. absurd (false≢true e);
       spelled = (drop 1 token, scalar_there bytes _ _ token _ begins.0 begins.1 begins.3 text_is there, found.names, scalar_places bytes _ _ token _ begins.0 begins.1 begins.3 text_is there);
       begun = (drop 1 token, scalar_there bytes _ _ token _ begins.0 begins.1 begins.3 text_is begun, found.names, scalar_places bytes _ _ token _ begins.0 begins.1 begins.3 text_is begun);
       further = less;

@@ -6,6 +6,7 @@ use Rattle.std.proofs.lemmas.Bool.{cases_lt, eqb-true}
 use Rattle.std.proofs.lemmas.List.{length-append, length-map, length-replicate}
 use Rattle.vcd_model.specs.Values.{extend, extension, short}
 use Rattle.vcd_body.specs.Binary.{binary_digits, bit_of}
+use Rattle.vcd_body.specs.Changes.{AreBinary}
 use Rattle.vcd_model.proofs.ShortLemmas.{short_is_shortest}
 
 -- one digit, or more of which the first is not what the others are extended by
@@ -127,10 +128,7 @@ one_out l rest digits e more same (some, few, value) =
 
 -- ---- digits that are 0 and 1 alone
 
-abbrev pub AreTwo : List ℕ → Type 0
-AreTwo l = (k : ℕ) → k < length l → get_or l k 0 ≡ 48 + bit_of (get_or l k 0)
-
-one_of_two : (d : ℕ) → d ≡ 48 + bit_of d → (d ≡ 48) ⊎ (d ≡ 49)
+pub one_of_two : (d : ℕ) → d ≡ 48 + bit_of d → (d ≡ 48) ⊎ (d ≡ 49)
 one_of_two d e = by_one (d == 49) refl
   where
     by_one : (b : Bool) → (d == 49) ≡ b → (d ≡ 48) ⊎ (d ≡ 49)
@@ -151,7 +149,7 @@ two_lower d e = elim (one_of_two d e) [
 ]
 
 -- those of a number are
-pub number_two : (l n : ℕ) → AreTwo (binary_digits l n)
+pub number_two : (l n : ℕ) → AreBinary (binary_digits l n)
 number_two zero n k less = absurd (omega arith)
 number_two (suc l) n zero less = of_bit (n / 2 ^ l % 2) (omega arith)
   where
@@ -161,12 +159,12 @@ number_two (suc l) n zero less = of_bit (n / 2 ^ l % 2) (omega arith)
     of_bit (suc (suc m)) few = absurd (omega arith)
 number_two (suc l) n (suc k) less = number_two l n k (omega arith)
 
-lower_two : (l : List ℕ) → AreTwo l → str_to_ascii_lowercase l ≡ l
+lower_two : (l : List ℕ) → AreBinary l → str_to_ascii_lowercase l ≡ l
 lower_two [] two = refl
 lower_two (d ∷ l) two = rw (two_lower d (two 0 (omega arith)), lower_two l (λ k less. two (suc k) (omega arith))) refl
 
 -- some first zeros are left out
-zeros_lead : (k : ℕ) (l digits : List ℕ) → k < length l → ((j : ℕ) → j < k → get_or l j 0 ≡ 48) → AreTwo l → Suffices l digits → Suffices (drop k l) digits
+zeros_lead : (k : ℕ) (l digits : List ℕ) → k < length l → ((j : ℕ) → j < k → get_or l j 0 ≡ 48) → AreBinary l → Suffices l digits → Suffices (drop k l) digits
 zeros_lead zero l digits less zeros two s = s
 zeros_lead (suc k) [] digits less zeros two s = absurd (omega arith)
 zeros_lead (suc k) (d ∷ l) digits less zeros two s =
@@ -174,7 +172,7 @@ zeros_lead (suc k) (d ∷ l) digits less zeros two s =
     zeros_lead k l digits (omega arith) (λ j few. zeros (suc j) (omega arith)) (λ j few. two (suc j) (omega arith)) (one_out (d ∷ l) l digits refl (omega arith) same s)
 
 -- what a 1 begins, or one digit, is bare
-bare_from : (k : ℕ) (l : List ℕ) → k < length l → (k + 1 < length l → get_or l k 0 ≢ 48) → AreTwo l → IsBare (str_to_ascii_lowercase (drop k l))
+bare_from : (k : ℕ) (l : List ℕ) → k < length l → (k + 1 < length l → get_or l k 0 ≢ 48) → AreBinary l → IsBare (str_to_ascii_lowercase (drop k l))
 bare_from zero l less first two = elim (cases_lt 1 (length l)) [
   | inl more ↦ more_bare l more (λ e. first (omega (arith, more)) (sym (two_lower (get_or l 0 0) (two 0 less)) ∙ e ∙ two_extended (get_or l 1 0) (two 1 more)))
   | inr few ↦ one_bare l less few
@@ -182,13 +180,13 @@ bare_from zero l less first two = elim (cases_lt 1 (length l)) [
 bare_from (suc k) [] less first two = absurd (omega arith)
 bare_from (suc k) (d ∷ l) less first two = bare_from k l (omega arith) (λ more. first (omega arith)) (λ j few. two (suc j) (omega arith))
 
-two_from : (k : ℕ) (l : List ℕ) → AreTwo l → AreTwo (drop k l)
+two_from : (k : ℕ) (l : List ℕ) → AreBinary l → AreBinary (drop k l)
 two_from zero l two = two
 two_from (suc k) [] two = λ j less. absurd (omega arith)
 two_from (suc k) (d ∷ l) two = two_from k l (λ j less. two (suc j) (omega arith))
 
 -- so the digits after the zeros that lead are the shortest
-pub short_behind_zeros : (k : ℕ) (l : List ℕ) → k < length l → ((j : ℕ) → j < k → get_or l j 0 ≡ 48) → (k + 1 < length l → get_or l k 0 ≢ 48) → AreTwo l → (size : ℕ) → drop k l ≡ short (extend (str_to_ascii_lowercase l) size)
+pub short_behind_zeros : (k : ℕ) (l : List ℕ) → k < length l → ((j : ℕ) → j < k → get_or l j 0 ≡ 48) → (k + 1 < length l → get_or l k 0 ≢ 48) → AreBinary l → (size : ℕ) → drop k l ≡ short (extend (str_to_ascii_lowercase l) size)
 short_behind_zeros k l less zeros first two size =
     let s = zeros_lead k l l less zeros two (omega arith, omega arith, λ n fits. refl) in
     sym (lower_two (drop k l) (two_from k l two)) ∙ shortest_of (drop k l) l (bare_from k l less first two) s.1 s.2 size

@@ -1,5 +1,5 @@
 -- What the tests of words say.
-use Rattle.std.proofs.Common.{◌≡◌, Some, None, Option, IfSome, is_some, zero, ◌/◌, ◌⊎◌, take, drop, slice_range, ◌&&◌, inl, inr, ◌+◌, ◌-◌, ◌*◌, ◌<◌, ◌≤◌, ◌∙◌, get_or, ℕ, suc, ◌%◌, ◌^◌, map, Bool, true, false, cond, not, ◌||◌, ◌==◌, List, [], ◌∷◌, length, Fits, w8, refl, sym, ap, ap₂, subst, arith, rules}
+use Rattle.std.proofs.Common.{◌≡◌, Some, None, Option, IfSome, is_some, zero, ◌⊎◌, take, drop, slice_range, inl, inr, ◌+◌, ◌-◌, ◌*◌, ◌<◌, ◌≤◌, ◌∙◌, get_or, ℕ, suc, ◌%◌, ◌^◌, map, Bool, true, false, cond, not, ◌||◌, ◌==◌, List, [], ◌∷◌, length, Fits, w8, refl, sym, ap, ap₂, subst, arith, rules}
 use Rattle.std.specs.Prelude.{IsTrue, slice_index, min, bit_and}
 use Rattle.std.specs.Char.{to_ascii_lowercase}
 use Rattle.std.specs.Int.{bit_at}
@@ -8,7 +8,6 @@ use Rattle.std.specs.Str.{byte}
 use Rattle.std.proofs.lemmas.Bool.{eqb-true, cases_lt, agree_below, agree_below_at}
 use Rattle.std.proofs.lemmas.List.{length-map, get_or-map, get_or-take, get_or-drop}
 use Rattle.std.proofs.lemmas.Nat.{pow_below}
-use Rattle.std.proofs.lemmas.List.Folds.{list_all_more}
 use Rattle.std.proofs.lemmas.Nat.Bits.{bit_at-zero, bit_at_and, bit_at_ones}
 use Rattle.std.proofs.lemmas.Simd.{mask_l-mod, bit_mask_l, length-chunk, get_or-chunk, Each1-get_or}
 use lib.Lanes.{chunk, mask_l, top, Each1}
@@ -20,6 +19,8 @@ use Rattle.vcd_view.specs.Keywords.{model_keyword}
 use Rattle.vcd_view.specs.declared.keyword.Keyword.{Keyword as HeadKeyword}
 use Rattle.vcd_view.specs.declared.keyword.Keyword.TheVariants as head
 use Rattle.vcd_body.specs.Binary.{binary_digits, bit_of}
+use Rattle.vcd_body.specs.Changes.{AreBinary}
+use Rattle.vcd_body.proofs.Shortest.{number_two, one_of_two as by_bit}
 use Rattle.vcd_body.specs.declared.bits.Bits.{Bits}
 use Rattle.vcd_body.specs.Words.{Begins, IsScalar, StandsFor, command_is, is_either}
 use Rattle.vcd_body.specs.declared.words.PhraseKind.{PhraseKind}
@@ -101,27 +102,25 @@ one_of_two d l h = by_order (cases_lt 48 d)
     by_order (inl a) = inr (omega arith)
     by_order (inr a) = inl (omega arith)
 
+-- such a digit by its bit
+pub two_of : (d : ℕ) → 48 ≤ d → d ≤ 49 → d ≡ 48 + bit_of d
+two_of d low high = elim (one_of_two d low high) [
+  | inl e ↦ e ∙ ap (λ x. 48 + bit_of x) (sym e)
+  | inr e ↦ e ∙ ap (λ x. 48 + bit_of x) (sym e)
+]
+
 -- those of a number
-binary_are : (l n : ℕ) → list_all is_value_digit (binary_digits l n) ≡ true
-binary_are zero n = refl
-binary_are (suc l) n = let m : n / 2 ^ l % 2 < 2 = omega arith in rw (binary (48 + n / 2 ^ l % 2) (one_of_two (48 + n / 2 ^ l % 2) (omega arith) (omega (arith, m)))) (binary_are l n)
-
-pub known_digits : (digits : List ℕ) (bits : Option Bits) → IfSome bits (λ b. digits ≡ binary_digits b.len b.number) → is_some bits ≡ true → (not (is_empty digits) && list_all is_value_digit digits) ≡ true
-known_digits digits None h e = absurd (search rules)
-known_digits digits (Some b) h e = rw h (by_length b.len b.number b.some)
-  where
-    by_length : (l n : ℕ) → 1 ≤ l → (not (is_empty (binary_digits l n)) && list_all is_value_digit (binary_digits l n)) ≡ true
-    by_length zero n some = absurd (omega arith)
-    by_length (suc l) n some = binary_are (suc l) n
-
--- one digit more that is 0 or 1
-pub binary_more : (digits : List ℕ) (at : ℕ) → at < length digits → list_all is_value_digit (take at digits) ≡ true → 48 ≤ get_or digits at 0 → get_or digits at 0 ≤ 49 → list_all is_value_digit (take (at + 1) digits) ≡ true
-binary_more digits at inside so_far low high = list_all_more is_value_digit digits at 0 inside ∙ rw (so_far, binary (get_or digits at 0) (one_of_two (get_or digits at 0) low high)) refl
+pub known_binary : (digits : List ℕ) (bits : Option Bits) → IfSome bits (λ b. digits ≡ binary_digits b.len b.number) → is_some bits ≡ true → AreBinary digits
+known_binary digits None h e = absurd (search rules)
+known_binary digits (Some b) h e = subst AreBinary (sym h) (number_two b.len b.number)
 
 -- all of them, each by its index
 pub all_by_place : (p : ℕ → Bool) (l : List ℕ) → ((k : ℕ) → k < length l → p (slice_index l k) ≡ true) → list_all p l ≡ true
 all_by_place p [] h = refl
 all_by_place p (d ∷ l) h = rw (h 0 (omega arith)) (all_by_place p l (λ k less. h (suc k) (omega arith)))
+
+pub all_binary : (digits : List ℕ) → AreBinary digits → list_all is_value_digit digits ≡ true
+all_binary digits two = all_by_place is_value_digit digits (λ k less. binary (slice_index digits k) (by_bit (slice_index digits k) (two k less)))
 
 -- ---- a mask of the bytes that are neither 0 nor 1
 
@@ -250,10 +249,10 @@ pub no_bits : (mask k : ℕ) → mask ≡ 0 → bit_at mask k ≡ 0
 no_bits mask k e = ap (λ m. bit_at m k) e ∙ bit_at-zero k
 
 -- places from i on, by how far after it they are
-pub behind : (p : ℕ → Bool) (xs : List ℕ) (i n : ℕ) → ((k : ℕ) → k < n → p (slice_index xs (i + k)) ≡ true) → (k : ℕ) → i ≤ k → k < i + n → p (slice_index xs k) ≡ true
-behind p xs i n h k low high =
+pub behind : (P : ℕ → Type 0) (i n : ℕ) → ((k : ℕ) → k < n → P (i + k)) → (k : ℕ) → i ≤ k → k < i + n → P k
+behind P i n h k low high =
     let back : i + (k - i) ≡ k = omega arith in
-    subst (λ j. p (slice_index xs j) ≡ true) back (h (k - i) (omega arith))
+    subst P back (h (k - i) (omega arith))
 
 -- ---- digits that are in some bytes
 

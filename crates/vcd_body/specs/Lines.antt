@@ -1,12 +1,12 @@
 -- When bytes are the line of the change that they spell, and what is left out of them else.
-use Rattle.std.specs.Prelude.{◌≡◌, ℕ, ◌+◌, ◌-◌, ◌<◌, ◌≤◌, false, List, [], ◌∷◌, ◌++◌, drop, length, slice_range, Option, IfSome}
+use Rattle.std.specs.Prelude.{◌≡◌, ℕ, ◌+◌, ◌-◌, ◌<◌, ◌≤◌, false, List, [], ◌∷◌, ◌++◌, drop, length, slice_range, Bool, Option, IfSome}
 use Rattle.std.specs.Str.{str_to_ascii_lowercase}
 use Rattle.vcd_model.specs.Values.{extend, short}
 use Rattle.vcd_body.specs.Binary.{binary_digits}
 use Rattle.vcd_body.specs.Spelled.{HasChange, HasSpelled, bytes_without}
 use Rattle.vcd_view.specs.declared.view.HeadView.{HeadView}
 use Rattle.vcd_body.specs.declared.ahead.Plain.{Plain}
-use Rattle.vcd_body.specs.Changes.{line_under}
+use Rattle.vcd_body.specs.Changes.{AreBinaryIf, line_under}
 use Rattle.vcd_body.specs.declared.bits.Bits.{Bits}
 use Rattle.vcd_body.specs.declared.item.Form.{Form}
 use Rattle.vcd_body.specs.declared.item.Form.TheVariants as form
@@ -23,13 +23,13 @@ IsTextLine bytes from to first text code_at = (code : List ℕ) → HasChange by
 abbrev pub MayBe : Option Bits → List ℕ → Type 0
 MayBe bits digits = IfSome bits (λ b. digits ≡ binary_digits b.len b.number)
 
--- without this many, the digits are the shortest, where their number is this
-abbrev pub LeavesShortest : List ℕ → Option Bits → ℕ → Type 0
-LeavesShortest digits bits k = (k ≤ length digits) × (MayBe bits digits → (size : ℕ) → drop k digits ≡ short (extend (str_to_ascii_lowercase digits) size))
+-- without this many, the digits are the shortest, where they are binary if that is known
+abbrev pub LeavesShortest : List ℕ → Bool → ℕ → Type 0
+LeavesShortest digits binary k = (k ≤ length digits) × (AreBinaryIf binary digits → (size : ℕ) → drop k digits ≡ short (extend (str_to_ascii_lowercase digits) size))
 
 -- without this many after the `b` the bytes before the last one, and a line feed, are the line
-abbrev pub LeavesLine : List ℕ → ℕ → ℕ → List ℕ → Option Bits → ℕ → ℕ → Type 0
-LeavesLine bytes from to digits bits code_at k = (k ≤ length digits) × ((code : List ℕ) → HasChange bytes from to form.Vector digits code → to ≡ code_at + length code + 1 → MayBe bits digits → (size : ℕ)
+abbrev pub LeavesLine : List ℕ → ℕ → ℕ → List ℕ → Bool → ℕ → ℕ → Type 0
+LeavesLine bytes from to digits binary code_at k = (k ≤ length digits) × ((code : List ℕ) → HasChange bytes from to form.Vector digits code → to ≡ code_at + length code + 1 → AreBinaryIf binary digits → (size : ℕ)
     → bytes_without bytes from (to - 1) k ≡ 98 ∷ short (extend (str_to_ascii_lowercase digits) size) ++ (32 ∷ code))
 
 -- the line of a change of a code of this size is this front, a blank, the code and a line feed,
@@ -38,10 +38,10 @@ abbrev pub IsFront : ℕ → Form → List ℕ → List ℕ → Type 0
 IsFront size form text front = (code : List ℕ) → line_under code size false form text ≡ front ++ (32 ∷ code ++ 10 ∷ [])
 
 -- without this many after the first one the bytes before the last one, and a line feed, are the
--- line, whose number of digits is this
-abbrev pub LeavesText : List ℕ → ℕ → ℕ → ℕ → Form → List ℕ → Option Bits → ℕ → ℕ → Type 0
-LeavesText bytes from to size form text bits code_at k = (from + 2 + k ≤ to) × (front : List ℕ) × (0 < length front) × IsFront size form text front
-    × ((code : List ℕ) → HasChange bytes from to form text code → to ≡ code_at + length code + 1 → MayBe bits text → bytes_without bytes from (to - 1) k ≡ front ++ (32 ∷ code))
+-- line, whose digits are binary if that is known
+abbrev pub LeavesText : List ℕ → ℕ → ℕ → ℕ → Form → List ℕ → Bool → ℕ → ℕ → Type 0
+LeavesText bytes from to size form text binary code_at k = (from + 2 + k ≤ to) × (front : List ℕ) × (0 < length front) × IsFront size form text front
+    × ((code : List ℕ) → HasChange bytes from to form text code → to ≡ code_at + length code + 1 → AreBinaryIf binary text → bytes_without bytes from (to - 1) k ≡ front ++ (32 ∷ code))
 
 -- without this many after the first one the bytes before the blank before the code are the front
 abbrev pub LeavesFront : List ℕ → ℕ → ℕ → Form → List ℕ → ℕ → ℕ → Type 0

@@ -13,6 +13,7 @@ use Rattle.vcd_view.specs.declared.view.HeadView.{HeadView}
 use Rattle.vcd_view.specs.Finds.{IsSized}
 use Rattle.vcd_view.specs.declared.look_up.Found.{Found}
 use Rattle.vcd_body.specs.Ahead.{GaveAhead, GivesBoth, HasBits, IsPlain, IsSizedItem, LooksOver}
+use Rattle.vcd_body.specs.Changes.{AreBinaryIf}
 use Rattle.vcd_body.specs.Given.{HasGoodText, IsGoodText, IsItem}
 use Rattle.vcd_body.specs.Items.{AreRegsAfter, model_form, regs_after}
 use Rattle.vcd_body.specs.Reads.{PassesScalar}
@@ -71,6 +72,7 @@ pub record TakesItem (v : HeadView) (a a' : Ahead) (r : Regs) (p : Plain) : Type
   pub plain : IsPlain p.text.now p.item
   pub sized : IsSizedItem v.codes.now p.item p.most
   pub bits : HasBits p.item p.text.now p.bits
+  pub binary : AreBinaryIf p.binary p.text.now
   -- it is spelled by the bytes that were passed with it
   pub spelled : HasSpelled v (bytes_of a) (passed_of a) (passed_of a') p.at p.code_at p.text.now p.item
   -- and by those from its first byte on

@@ -1,6 +1,6 @@
 // Items whose tokens are whole ahead in the chunk: most cost no change of the feed.
-ghost use Rattle.std.specs.Prelude.{◌≡◌, ◌⊎◌, ℕ, ◌+◌, ◌-◌, ◌^◌, ◌<◌, ◌≤◌, List, [], drop, length, slice_get, slice_range, true, is_some, None, Some, IfOk, IfSome};
-ghost use Rattle.vcd_body.specs.Names.{Advances, AreWhite, Begins, CallEnd, GivesAhead, GivesToLast, HasMark, HasTime, HoldsItem, IsChangeBy, IsFound, IsFoundScalar, IsPrompt, IsRun, IsScalar, LeavesRegs, Opens, OpensVector, Passed, Puts, TakesItem, TakesOpened, TakesOpenedMark, Token, ahead_of, binary_digits, byte, bytes_of, limit_of, lines_of, longest_of, passed_of, seen, source_of};
+ghost use Rattle.std.specs.Prelude.{◌≡◌, ◌⊎◌, ℕ, ◌+◌, ◌-◌, ◌^◌, ◌<◌, ◌≤◌, List, [], drop, length, slice_get, slice_range, false, true, is_some, None, Some, IfOk, IfSome};
+ghost use Rattle.vcd_body.specs.Names.{Advances, AreBinaryIf, AreWhite, Begins, CallEnd, GivesAhead, GivesToLast, HasMark, HasTime, HoldsItem, IsChangeBy, IsFound, IsFoundScalar, IsPrompt, IsRun, IsScalar, LeavesRegs, MayBe, Opens, OpensVector, Passed, Puts, TakesItem, TakesOpened, TakesOpenedMark, Token, ahead_of, binary_digits, byte, bytes_of, limit_of, lines_of, longest_of, passed_of, seen, source_of};
 ghost use Rattle.vcd_body.specs.declared.item.Form.TheVariants as form;
 ghost use Rattle.vcd_body.specs.declared.item.Item.TheVariants as item;
 ghost use Rattle.vcd_body.specs.declared.words.PhraseKind.TheVariants as kind;
@@ -9,7 +9,8 @@ use crate::bits::Bits;
 use crate::item::{Form, Item, Regs};
 use crate::phrases::{real_text, scalar_code, takes, vector_text};
 use crate::words::{
-    PhraseKind, after_first, bits_at, first_byte_of, is_comment, kind_by, kind_of, rest_of,
+    PhraseKind, after_first, are_binary_or_known, bits_at, first_byte_of, is_comment, kind_by,
+    kind_of, rest_of,
 };
 use vcd_text::{Ahead, Feed, Sink, Source, WriteFailed, decimal_at};
 use vcd_view::{Found, HeadView, find_at_once, find_sized};
@@ -33,9 +34,10 @@ pub struct Plain<'a> {
     pub at: usize,
     /// Where a change's code begins; it ends one byte before the last one that is passed.
     pub code_at: usize,
-    /// The digits of a vector as a number, where they are few, and `0` and `1` alone. With none
-    /// nothing is known of them.
+    /// The digits of a vector as a number, where they are few, and `0` and `1` alone.
     pub bits: Option<Bits>,
+    /// Whether the digits of a vector are known to be `0` and `1` alone.
+    pub binary: bool,
 }
 
 impl Plain<'_> {
@@ -60,6 +62,7 @@ fn change_of(
     form: Form,
     text: &[u8],
     bits: Option<Bits>,
+    binary: bool,
     begin: usize,
     at: usize,
     code_at: usize,
@@ -72,6 +75,7 @@ fn change_of(
       at = at;
       code_at = code_at;
       bits = bits;
+      binary = binary;
     } }
 {
     Plain {
@@ -85,6 +89,7 @@ fn change_of(
         at,
         code_at,
         bits,
+        binary,
     }
 }
 
@@ -97,6 +102,7 @@ fn mark_of<'a>(time: u64, begin: usize) -> Plain<'a>
     ensures most { result.most ≡ 0 }
     ensures places { (result.begin ≡ begin) × (result.at ≡ begin + 1) }
     ensures bits { result.bits ≡ None }
+    ensures binary { result.binary ≡ false }
 {
     Plain {
         item: Item::Time(time),
@@ -106,18 +112,19 @@ fn mark_of<'a>(time: u64, begin: usize) -> Plain<'a>
         at: begin + 1,
         code_at: begin + 1,
         bits: None,
+        binary: false,
     }
 }
 
 /// Returns the code after the digits of a vector, if there are digits and the code has room for
 /// them.
 #[inline(always)]
-fn vector_code(token: &[u8], code: &[u8], view: HeadView<'_>, bits: Option<Bits>) -> Option<Found>
+fn vector_code(token: &[u8], code: &[u8], view: HeadView<'_>, binary: bool) -> Option<Found>
     requires begins { Begins token.now kind.Vector }
-    requires bits { IfSome bits (λ b. drop 1 token.now ≡ binary_digits b.len b.number) }
+    requires binary { AreBinaryIf binary (drop 1 token.now) }
     ensures { IfSome result (IsFound view.entry form.Vector token.now code.now) }
 {
-    let Ok(digits) = vector_text(token, bits) else {
+    let Ok(digits) = vector_text(token, binary) else {
         return None;
     };
     let found = find_sized(view, code)?;
@@ -229,7 +236,7 @@ pub(crate) fn scalar_ahead<'a>(
     let found = scalar_code(token, view).ok()?;
     let text = first_byte_of(token);
     let at = begin_of(token, ahead);
-    Some(change_of(found, Form::Scalar, text, None, at, at, at + 1))
+    Some(change_of(found, Form::Scalar, text, None, false, at, at, at + 1))
 }
 
 /// Returns the code after a digit, where a look at one entry finds it.
@@ -267,7 +274,7 @@ pub(crate) fn short_ahead<'a>(ahead: &mut Ahead<'a>, view: HeadView<'_>) -> Opti
     let text = first_byte_of(token);
     let at = begin_of(token, next);
     *ahead = next;
-    Some(change_of(found, Form::Scalar, text, None, at, at, at + 1))
+    Some(change_of(found, Form::Scalar, text, None, false, at, at, at + 1))
 }
 
 /// Returns whether two lines of two bytes come right here: the begin of a run for `short_ahead`.
@@ -404,18 +411,20 @@ pub(crate) fn vector_ahead<'a>(
     view: HeadView<'_>,
 ) -> Option<Plain<'a>>
     requires opens { (a : Ahead) × OpensVector a ahead tokens }
-    requires bits { IfSome bits (λ b. drop 1 tokens.token.now ≡ binary_digits b.len b.number) }
+    requires bits { MayBe bits (drop 1 tokens.token.now) }
     ensures takes { IfSome result (λ plain. (a : Ahead) (r : Regs)
         → OpensVector a ahead.entry tokens.entry → TakesItem view.entry a ahead.entry r plain) }
     ensures form { IfSome result (IsChangeBy form.Vector) }
 {
-    let found = vector_code(tokens.token, tokens.code, view, bits)?;
     let digits = after_first(tokens.token);
+    let binary = are_binary_or_known(digits, bits);
+    let found = vector_code(tokens.token, tokens.code, view, binary)?;
     Some(change_of(
         found,
         Form::Vector,
         digits,
         bits,
+        binary,
         tokens.at,
         tokens.at + 1,
         tokens.code_at,
@@ -441,7 +450,16 @@ pub(crate) fn real_ahead<'a>(
     let found = real_code(token, code, view)?;
     let code_at = begin_of(code, *ahead);
     let text = rest_of(token);
-    Some(change_of(found, Form::RealText, text, None, at, at + 1, code_at))
+    Some(change_of(
+        found,
+        Form::RealText,
+        text,
+        None,
+        false,
+        at,
+        at + 1,
+        code_at,
+    ))
 }
 
 /// Returns the time of the timestamp that a token is; none where it spells none. The look-ahead is

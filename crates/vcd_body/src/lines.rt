@@ -1,9 +1,8 @@
 // Changes whose bytes in the chunk are the line that would be written.
 ghost use Rattle.std.specs.Prelude.{◌≡◌, ◌≢◌, ℕ, ◌+◌, ◌-◌, ◌^◌, ◌<◌, ◌≤◌, List, [], true, false, drop, length, slice_index, slice_range, Some, IfSome};
-ghost use Rattle.vcd_body.specs.Names.{BodyItem, HasBits, HasChange, HasMark, HasPlaces, HeadView, Header, IsBinaryAt, IsDigitLine, IsItem, IsLowerAt, IsNeedless, IsSizedItem, IsTextLine, IsViewOf, LeavesFront, LeavesLine, LeavesShortest, LeavesText, MayBe, SpellsPlain, StandsAt, binary_digits, bit_at, byte, bytes_without, extend, extended, is_white_space, item_line, line_without, short, str_to_ascii_lowercase, time_line, to_ascii_lowercase as lower};
+ghost use Rattle.vcd_body.specs.Names.{AreBinaryIf, BodyItem, HasChange, HasMark, HasPlaces, HeadView, Header, IsDigitLine, IsItem, IsLowerAt, IsNeedless, IsSizedItem, IsTextLine, IsViewOf, LeavesFront, LeavesLine, LeavesShortest, LeavesText, SpellsPlain, StandsAt, bit_at, byte, bytes_without, extend, extended, is_white_space, item_line, line_without, short, str_to_ascii_lowercase, time_line, to_ascii_lowercase as lower};
 
 use crate::ahead::Plain;
-use crate::bits::Bits;
 use crate::change::{extension_of, may_have_capital, shortest};
 use crate::item::{Form, Item};
 use std::simd::prelude::*;
@@ -140,32 +139,6 @@ fn clear_bits(mask: u64, n: usize) -> usize
     (mask.trailing_zeros() as usize).min(n - 1)
 }
 
-/// Returns how many digits on the left the shortest ones leave out, where all of them are known to
-/// be `0` and `1`: the zeros that lead. None where they are many.
-// Zeros that lead are counted in the bytes: by the number `pick` of five of 27,505 codes takes 8 %
-// more, of all 1.6 % less.
-#[inline(always)]
-fn left_out_known(bytes: &[u8], at: usize, digits: &[u8]) -> Option<usize>
-    requires { StandsAt bytes.now at digits.now }
-    ensures { IfSome result (λ k. (b : Bits) → LeavesShortest digits.now (Some b) k) }
-{
-    let n = digits.len();
-    if n == 0 || n > 32 || bytes.len() - at < 32 {
-        return None;
-    }
-    Some(clear_bits(nonzero_32(bytes, at), n))
-}
-
-/// Returns a mask: bit k is set where byte `at + k` is neither `0` nor `1`.
-#[inline(always)]
-fn nonbinary_64(bytes: &[u8], at: usize) -> u64
-    requires { at + 64 ≤ length bytes.now }
-    ensures { (k : ℕ) → k < 64 → bit_at result k ≡ 0 → IsBinaryAt bytes.now (at + k) }
-{
-    let v = u8x64::from_slice(&bytes[at..]) & u8x64::splat(0xfe);
-    v.simd_ne(u8x64::splat(b'0')).to_bitmask()
-}
-
 /// Returns how many digits on the left the shortest ones leave out, or `None` where these are not
 /// in lower case or there is no digit. The digits begin at this offset of the bytes.
 #[inline(never)]
@@ -183,33 +156,43 @@ fn needless(bytes: &[u8], at: usize, digits: &[u8]) -> Option<usize>
     Some(k)
 }
 
-/// Returns how many of 64 digits that are `0` and `1` alone the shortest ones leave out: the zeros
-/// that lead, without a branch on how many these are. None says nothing.
+/// Returns how many digits on the left the shortest ones leave out, where all are known to be `0`
+/// and `1`: the zeros that lead. None says nothing.
+// Zeros that lead are counted in the bytes: by the number `pick` of five of 27,505 codes takes 8 %
+// more, of all 1.6 % less.
 #[inline(always)]
-fn left_out_of_64(bytes: &[u8], at: usize, digits: &[u8]) -> Option<usize>
+fn left_out_of_binary(bytes: &[u8], at: usize, digits: &[u8]) -> Option<usize>
     requires { StandsAt bytes.now at digits.now }
-    ensures { IfSome result (IsNeedless digits.now) }
+    ensures { IfSome result (LeavesShortest digits.now true) }
 {
-    if digits.len() == 64 && nonbinary_64(bytes, at) == 0 {
+    let n = digits.len();
+    if n <= 32 {
+        if n == 0 || bytes.len() - at < 32 {
+            return None;
+        }
+        return Some(clear_bits(nonzero_32(bytes, at), n));
+    }
+    if n == 64 {
         return Some(clear_bits(nonzero_64(bytes, at), 64));
     }
-    None
+    if digits[0] == b'1' {
+        return Some(0);
+    }
+    needless(bytes, at, digits)
 }
 
 /// Returns how many digits on the left the shortest ones leave out, or `None` where these are not
-/// in lower case. That the digits are `0` and `1` may be known, by their number. Most values need
-/// all of their digits.
-// The number itself is not asked for, so that it is not made where the change is not written.
+/// in lower case. That the digits are `0` and `1` alone may be known. Most values need all of their
+/// digits.
+// Digits that are known so are not asked for capital letters: without this `pick` of all of wide
+// vectors takes 15 % more.
 #[inline(always)]
-fn left_out_of(bytes: &[u8], at: usize, digits: &[u8], bits: Option<Bits>) -> Option<usize>
+fn left_out_of(bytes: &[u8], at: usize, digits: &[u8], binary: bool) -> Option<usize>
     requires { StandsAt bytes.now at digits.now }
-    ensures { IfSome result (LeavesShortest digits.now bits) }
+    ensures { IfSome result (LeavesShortest digits.now binary) }
 {
-    if let Some(_bits) = bits {
-        return left_out_known(bytes, at, digits);
-    }
-    if let Some(zeros) = left_out_of_64(bytes, at, digits) {
-        return Some(zeros);
+    if binary {
+        return left_out_of_binary(bytes, at, digits);
     }
     if !are_shortest(digits) {
         return needless(bytes, at, digits);
@@ -228,16 +211,16 @@ fn left_out_of_vector(
     from: usize,
     to: usize,
     digits: &[u8],
-    bits: Option<Bits>,
+    binary: bool,
     code_at: usize,
 ) -> Option<usize>
     requires { (code : List ℕ) × HasChange bytes.now from to Form.Vector digits.now code }
-    ensures { IfSome result (LeavesLine bytes.now from to digits.now bits code_at) }
+    ensures { IfSome result (LeavesLine bytes.now from to digits.now binary code_at) }
 {
     if !has_one_blank(bytes, from, to, b'b', digits, code_at) {
         return None;
     }
-    left_out_of(bytes, from + 1, digits, bits)
+    left_out_of(bytes, from + 1, digits, binary)
 }
 
 /// Returns how many bytes after the first one to leave out of the bytes of a vector or a real
@@ -254,12 +237,19 @@ fn left_out_of_text(
 ) -> Option<usize>
     requires { (code : List ℕ) × HasChange bytes.now from to form plain.text.now code }
     ensures { IfSome result (LeavesText bytes.now from to size form
-        plain.entry.text.now plain.entry.bits plain.entry.code_at) }
+        plain.entry.text.now plain.entry.binary plain.entry.code_at) }
 {
     let text = plain.text;
     let code_at = plain.code_at;
     match form {
-        Form::Vector if size > 1 => left_out_of_vector(bytes, from, to, text, plain.bits, code_at),
+        Form::Vector if size > 1 => left_out_of_vector(
+            bytes,
+            from,
+            to,
+            text,
+            plain.binary,
+            code_at,
+        ),
         Form::RealText if has_one_blank(bytes, from, to, b'r', text, code_at) => Some(0),
         _ => None,
     }
@@ -274,7 +264,7 @@ pub fn left_out(plain: Plain<'_>, bytes: &[u8], from: usize, to: usize) -> Optio
     requires { (v : HeadView) × SpellsPlain v bytes.now from to plain }
     ensures { IfSome result (λ k. (from + 1 + k ≤ to) × ((v : HeadView) (h : Header) (x : BodyItem)
         → SpellsPlain v bytes.now from to plain.entry
-        → HasBits plain.entry.item plain.entry.text.now plain.entry.bits
+        → AreBinaryIf plain.entry.binary plain.entry.text.now
         → IsSizedItem v.codes.now plain.entry.item plain.entry.most → IsViewOf v h
         → IsItem h.codes plain.entry.text.now plain.entry.item x
         → bytes_without bytes.now from to k ≡ item_line x)) }
@@ -296,7 +286,7 @@ pub fn left_out_before_last(plain: Plain<'_>, bytes: &[u8], from: usize, to: usi
     ensures within { IfSome result (λ k. (from + 2 + k ≤ to) × (to ≤ length bytes.now)) }
     ensures line { IfSome result (λ k. (v : HeadView) (h : Header) (x : BodyItem)
         → SpellsPlain v bytes.now from to plain.entry
-        → HasBits plain.entry.item plain.entry.text.now plain.entry.bits
+        → AreBinaryIf plain.entry.binary plain.entry.text.now
         → IsSizedItem v.codes.now plain.entry.item plain.entry.most → IsViewOf v h
         → IsItem h.codes plain.entry.text.now plain.entry.item x
         → line_without bytes.now from to k ≡ item_line x) }
@@ -324,7 +314,7 @@ pub(crate) fn left_out_of_front(
 ) -> Option<usize>
     requires spelled { (code : List ℕ) × HasChange bytes.now from to form plain.text.now code
         × HasPlaces bytes.now from to plain.at plain.code_at plain.text.now code }
-    requires bits { MayBe plain.bits plain.text.now }
+    requires binary { AreBinaryIf plain.binary plain.text.now }
     ensures { IfSome result (LeavesFront bytes.now from plain.entry.most form
         plain.entry.text.now plain.entry.code_at) }
 {

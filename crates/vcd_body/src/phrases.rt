@@ -1,12 +1,11 @@
 // The phrases of a body, by what they begin with.
 ghost use Rattle.std.specs.Prelude.{◌≡◌, ◌≢◌, true, ◌-◌, ◌^◌, ◌<◌, ◌≤◌, length, take, drop, Some, None, slice_get, OnOk, IfOk, IfErr, ◌||◌, nat_le};
-ghost use Rattle.vcd_body.specs.Names.{Advances, AreRegsWith, Begins, ChangeForm, Code, PhraseKind, Form, GoesFurther, HasGoodValue, IsFoundScalar, IsScalar, IsSized, Item, MayBe, NeedsOneToken, OpensOrRefuses, ReadsCode, ReadsComment, ReadsMark, ReadsRest, RefusesIn, call_end, is_value_digit, list_all, mark_time, seen, source_of, token_of, value_of};
+ghost use Rattle.vcd_body.specs.Names.{Advances, AreBinaryIf, AreRegsWith, Begins, ChangeForm, Code, PhraseKind, Form, GoesFurther, HasGoodValue, IsFoundScalar, IsScalar, IsSized, Item, NeedsOneToken, OpensOrRefuses, ReadsCode, ReadsComment, ReadsMark, ReadsRest, RefusesIn, call_end, is_value_digit, list_all, mark_time, seen, source_of, token_of, value_of};
 
-use crate::bits::Bits;
 use crate::fault::BodyFault;
 use crate::item::Regs;
 use crate::tokens::next_inner;
-use crate::words::{after_first, are_digits_or_known, is_end, rest_of};
+use crate::words::{after_first, are_binary, are_digits_or_binary, is_end, rest_of};
 use vcd_text::{Feed, Source, decimal_of};
 use vcd_view::{Code, Found, HeadView, find_sized, pass_words};
 
@@ -51,12 +50,12 @@ pub(crate) fn scalar_code(token: &[u8], view: HeadView<'_>) -> Result<Found, Bod
     }
 }
 
-/// Returns the digits of a vector's change: one or more. Where their number is known, none is
-/// looked at.
+/// Returns the digits of a vector's change: one or more. Where they are known to be `0` and `1`
+/// alone, none is looked at.
 #[inline(always)]
-pub(crate) fn vector_text(token: &[u8], bits: Option<Bits>) -> Result<&[u8], BodyFault>
+pub(crate) fn vector_text(token: &[u8], binary: bool) -> Result<&[u8], BodyFault>
     requires begins { Begins token.now PhraseKind.Vector }
-    requires bits { MayBe bits (drop 1 token.now) }
+    requires binary { AreBinaryIf binary (drop 1 token.now) }
     ensures opens { OpensOrRefuses token.now result }
     ensures text { IfOk result (λ text. text.now ≡ drop 1 token.now) }
     ensures digits { IfOk result (λ text. (0 < length text.now)
@@ -64,7 +63,7 @@ pub(crate) fn vector_text(token: &[u8], bits: Option<Bits>) -> Result<&[u8], Bod
     ensures own { IfErr result (λ fault. fault ≢ BodyFault.ReadFailed) }
 {
     let text = after_first(token);
-    if !are_digits_or_known(text, bits) {
+    if !are_digits_or_binary(text, binary) {
         return Err(BodyFault::BadValue);
     }
     Ok(text)
@@ -152,7 +151,8 @@ pub(crate) fn read_vector<S: Source>(
     ensures further { OnOk result (seen feed.old < seen feed.new) }
     ensures bounded { seen feed.old < 2 ^ 63 → seen feed.new < 2 ^ 63 }
 {
-    vector_text(feed.token(), None)?;
+    let token = feed.token();
+    vector_text(token, are_binary(rest_of(token)))?;
     let found = read_code(feed, view)?;
     if !takes(view.codes, found, rest_of(feed.value()).len()) {
         return Err(BodyFault::TooWide);

@@ -1,6 +1,6 @@
 // Lines that end with the new code of a number.
 ghost use Rattle.std.specs.Prelude.{◌≡◌, ◌≢◌, ℕ, ◌+◌, ◌-◌, ◌%◌, ◌^◌, ◌<◌, ◌≤◌, ◌++◌, ◌∷◌, [], List, take, false, true, length, IfSome};
-ghost use Rattle.vcd_body.specs.Names.{Puts, PutsTo, binary_digits, bytes_without, line_under, new_code, HasChange, HasPlaces};
+ghost use Rattle.vcd_body.specs.Names.{AreBinaryIf, Puts, PutsTo, bytes_without, line_under, new_code, HasChange, HasPlaces};
 
 use crate::ahead::Plain;
 use crate::change::put_end;
@@ -202,7 +202,7 @@ pub fn put_renamed_ahead<W: Sink>(
     requires spelled { (code : List ℕ) × HasChange bytes.now from to form plain.text.now code
         × HasPlaces bytes.now from to plain.at plain.code_at plain.text.now code }
     requires digits { form ≢ Form.RealText → 0 < length plain.text.now }
-    requires bits { IfSome plain.bits (λ b. plain.text.now ≡ binary_digits b.len b.number) }
+    requires binary { AreBinaryIf plain.binary plain.text.now }
     ensures { Puts (W.device w.old) (W.device w.new)
         (line_under (new_code number) plain.entry.most false form plain.entry.text.now) result }
 {

@@ -1,6 +1,6 @@
 // What tokens of a body are.
 ghost use Rattle.std.specs.Prelude.{◌≡◌, ℕ, ◌+◌, ◌<◌, ◌≤◌, length, true, List, drop, take, ◌∷◌, ◌^◌, ◌&&◌, not, Some, None, ◌-◌, ◌/◌, ◌%◌, IfSome};
-ghost use Rattle.vcd_body.specs.Names.{AreBitsAt, Begins, IsBinaryAt, IsDigitAt, MayBe, StandsAt, StandsFor, binary_digits, bit_at, bit_in, byte, command_is, is_comment, is_empty, is_end as ends, is_value_digit as is_digit, list_all};
+ghost use Rattle.vcd_body.specs.Names.{AreBinary, AreBinaryIf, AreBitsAt, Begins, IsBinaryAt, IsDigitAt, MayBe, StandsAt, StandsFor, binary_digits, bit_at, bit_in, byte, command_is, is_comment, is_empty, is_end as ends, is_value_digit as is_digit, list_all};
 
 use crate::bits::Bits;
 use crate::item::Section;
@@ -190,7 +190,7 @@ fn are_binary_at(bytes: &[u8], at: usize, n: usize) -> bool
 
 /// Returns whether the digits are `0` and `1` alone, looked at one by one. No byte is branched on.
 fn are_few_binary(digits: &[u8]) -> bool
-    ensures { result ≡ true → list_all is_digit digits.now ≡ true }
+    ensures { result ≡ true → AreBinary digits.now }
 {
     let mut largest = 0;
     for digit in digits {
@@ -202,8 +202,10 @@ fn are_few_binary(digits: &[u8]) -> bool
 
 /// Returns true only where the digits are `0` and `1` alone. It looks at 32 at a time where there
 /// are at least 32, and at some of the last 32 twice.
-fn are_binary(digits: &[u8]) -> bool
-    ensures { result ≡ true → list_all is_digit digits.now ≡ true }
+// Not inlined, so that the ways of digits that are known stay small.
+#[inline(never)]
+pub(crate) fn are_binary(digits: &[u8]) -> bool
+    ensures { result ≡ true → AreBinary digits.now }
 {
     if digits.len() < 32 {
         return are_few_binary(digits);
@@ -238,8 +240,8 @@ fn are_many_digits(digits: &[u8]) -> bool
     are_digits_32(digits, last)
 }
 
-// Not inlined, so that digits that are `0` and `1` alone pay for no call. Many x and z are looked
-// at 32 at a time: `check` of wide vectors takes 309 an item, one by one 359.
+// Not inlined, as `are_binary`. Many x and z are looked at 32 at a time: `check` of wide vectors
+// takes 309 an item, one by one 359.
 #[inline(never)]
 fn are_any_digits(digits: &[u8]) -> bool
     ensures { result ≡ list_all is_digit digits.now }
@@ -247,25 +249,27 @@ fn are_any_digits(digits: &[u8]) -> bool
     are_many_digits(digits) || digits.iter().all(|digit| is_value_digit(*digit))
 }
 
-// Not inlined, so that the ways of digits that are known stay small.
-#[inline(never)]
-fn all_are_digits(digits: &[u8]) -> bool
-    ensures { result ≡ list_all is_digit digits.now }
-{
-    are_binary(digits) || are_any_digits(digits)
-}
-
-/// Returns whether these are one or more digits of a value. Where their number is known they are,
+/// Returns true only where the digits are `0` and `1` alone. Where their number is known they are,
 /// and none is looked at.
 #[inline(always)]
-pub(crate) fn are_digits_or_known(digits: &[u8], bits: Option<Bits>) -> bool
-    requires bits { MayBe bits digits.now }
+pub(crate) fn are_binary_or_known(digits: &[u8], bits: Option<Bits>) -> bool
+    requires { MayBe bits digits.now }
+    ensures { result ≡ true → AreBinary digits.now }
+{
+    bits.is_some() || are_binary(digits)
+}
+
+/// Returns whether these are one or more digits of a value. Where they are known to be `0` and `1`
+/// alone, none is looked at.
+#[inline(always)]
+pub(crate) fn are_digits_or_binary(digits: &[u8], binary: bool) -> bool
+    requires { AreBinaryIf binary digits.now }
     ensures { result ≡ (not (is_empty digits.now) && list_all is_digit digits.now) }
 {
-    if bits.is_some() {
-        return true;
+    if digits.is_empty() {
+        return false;
     }
-    !digits.is_empty() && all_are_digits(digits)
+    binary || are_any_digits(digits)
 }
 
 /// Returns a mask whose bit 31 - k is set where byte `at + k` is `1`: the last byte gives the

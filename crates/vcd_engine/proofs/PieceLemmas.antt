@@ -157,5 +157,6 @@ module _ (v : HeadView) (a a' : Ahead) (r : Regs) (p : Plain) (bytes : Bor (List
         good = item.sound;
         sized = λ known. item.sized;
         bits = item.bits;
+        binary = item.binary;
         spelled = λ known. spelled_there;
       }

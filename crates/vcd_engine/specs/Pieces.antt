@@ -7,6 +7,7 @@ use Rattle.vcd_text.specs.declared.ahead.Ahead.{Ahead}
 use Rattle.vcd_view.specs.declared.view.HeadView.{HeadView}
 use Rattle.vcd_body.specs.Given.{HasGoodText}
 use Rattle.vcd_body.specs.Ahead.{HasBits, IsSizedItem}
+use Rattle.vcd_body.specs.Changes.{AreBinaryIf}
 use Rattle.vcd_body.specs.Spelled.{HasSpelled}
 use Rattle.vcd_engine.specs.Cut.{IsNoMark}
 use Rattle.vcd_engine.specs.declared.pieces.SpannedItem.{SpannedItem}
@@ -19,6 +20,7 @@ pub record IsSpanned (v : HeadView) (l : SpannedItem) : Type 0 where
   pub good : HasGoodText v.codes.now l.plain.text.now l.plain.item
   pub sized : l.plain.most ≢ 0 → IsSizedItem v.codes.now l.plain.item l.plain.most
   pub bits : HasBits l.plain.item l.plain.text.now l.plain.bits
+  pub binary : AreBinaryIf l.plain.binary l.plain.text.now
   pub spelled : l.plain.most ≢ 0 → HasSpelled v l.bytes.now l.from l.to l.plain.at l.plain.code_at l.plain.text.now l.plain.item
 
 -- a change lies from its first byte up to this offset ahead

@@ -47,6 +47,7 @@ impl<'a> SpannedItem<'a> {
             at: 0,
             code_at: 0,
             bits: None,
+            binary: false,
         };
         SpannedItem {
             plain,

@@ -1,5 +1,5 @@
 -- What a merge writes of one item.
-use Rattle.std.proofs.Common.{◌≡◌, ◌≢◌, ℕ, ◌+◌, ◌^◌, ◌<◌, Bool, true, false, List, length, slice_get, Option, None, Some, IfSome, is_some, refl, sym, ap, ap₂, ◌∙◌, arith}
+use Rattle.std.proofs.Common.{◌≡◌, ◌≢◌, ℕ, ◌+◌, ◌^◌, ◌<◌, Bool, true, false, List, length, slice_get, Some, is_some, refl, sym, ap, ap₂, ◌∙◌, arith}
 use Rattle.std.specs.Prelude.{nat_le}
 use Rattle.std.proofs.lemmas.Option.{slice_get_within}
 use Rattle.vcd_model.specs.Declarations.{IdCode}
@@ -15,14 +15,10 @@ use Rattle.vcd_view.specs.declared.view.Code.{Code}
 use Rattle.vcd_view.proofs.RowLemmas.{code_at}
 use Rattle.vcd_view.proofs.LookUpLemmas.{place_is as place_of}
 use Rattle.vcd_view.specs.Views.{Views}
-use Rattle.vcd_body.specs.Ahead.{HasBits}
-use Rattle.vcd_body.specs.Binary.{binary_digits}
 use Rattle.vcd_body.specs.Given.{IsGoodText}
 use Rattle.vcd_body.specs.Items.{AreRegsAfter}
-use Rattle.vcd_body.specs.declared.bits.Bits.{Bits}
 use Rattle.vcd_body.specs.declared.item.Form.{Form}
 use Rattle.vcd_body.specs.declared.item.Form.TheVariants.{Scalar, Vector, RealText}
-use Rattle.vcd_body.specs.declared.item.Item.{Item}
 use Rattle.vcd_body.specs.declared.item.Regs.{Regs}
 
 -- a section is open
@@ -53,11 +49,6 @@ event_of s h place c d v at shown =
 -- no number of a code is too great
 pub number_fits : (h : Header) (place : ℕ) (c : IdCode) → slice_get h.codes place ≡ Some c → (first : ℕ) → first + length h.codes < 2 ^ 64 → first + place < 2 ^ 64
 number_fits h place c at first few = let w = slice_get_within h.codes place c at in omega arith
-
--- where the digits of a text are known as a number, they are those of the number
-pub known_digits : (i : Item) (text : List ℕ) (bits : Option Bits) → HasBits i text bits → IfSome bits (λ b. text ≡ binary_digits b.len b.number)
-known_digits i text None h = tt
-known_digits i text (Some b) h = h.2
 
 -- a text of digits has some
 pub some_digits : (codes : List Code) (place : ℕ) (f : Form) (text : List ℕ) → IsGoodText codes place f text → f ≢ RealText → 0 < length text

@@ -2,6 +2,8 @@ use Rattle.std.proofs.Common.{[], ◌∷◌, ◌++◌, ◌∙◌, ◌<◌, ◌�
 use Rattle.vcd_model.specs.Tokens.{Token}
 use Rattle.vcd_text.specs.Ahead.{bytes_of, longest_of, passed_of, start_of}
 use Rattle.vcd_text.specs.Passed.{Passed, line_ahead}
+use Rattle.vcd_body.specs.Changes.{AreBinaryIf}
+use Rattle.vcd_body.specs.Lines.{MayBe}
 use Rattle.vcd_body.specs.declared.item.Form.TheVariants as form
 use Rattle.vcd_body.proofs.AheadLemmas.{passes_same, both_taken, has_bits}
 use Rattle.vcd_body.proofs.LineLemmas.{token_begun, token_there, both_there, both_places}
@@ -14,8 +16,11 @@ after_first-digits-requires c = let b = c.requires.opens.1.begins in some_of _ _
 pub vector_code-requires-clause-begins : goal.vector_code-requires-clause-begins
 vector_code-requires-clause-begins c = c.requires.opens.1.begins
 
-pub vector_code-requires-clause-bits : goal.vector_code-requires-clause-bits
-vector_code-requires-clause-bits c = c.requires.bits
+pub are_binary_or_known-binary-requires : goal.are_binary_or_known-binary-requires
+are_binary_or_known-binary-requires c = subst (MayBe c.args.bits) (sym c.after_first-digits.ensures) c.requires.bits
+
+pub vector_code-requires-clause-binary : goal.vector_code-requires-clause-binary
+vector_code-requires-clause-binary c = subst (AreBinaryIf c.are_binary_or_known-binary.result) c.after_first-digits.ensures c.are_binary_or_known-binary.ensures
 
 pub returns-clause-takes : goal.returns-clause-takes
 returns-clause-takes c = λ a r v.
@@ -51,6 +56,7 @@ returns-clause-takes c = λ a r v.
       plain = tt;
       sized = c.in_ok-found.ensures.sized;
       bits = rw text (has_bits c.in_ok-found.found.place (drop 1 token) c.args.bits c.requires.bits);
+      binary = c.are_binary_or_known-binary.ensures;
       spelled = (code, both_there bytes (bytes_of mid) _ _ _ token _ _ begins.0 begins.1 begins.3 text o.same.0 first second, c.in_ok-found.ensures.names, both_places bytes (bytes_of mid) _ _ _ token _ _ begins.0 begins.1 begins.3 text o.same.0 first second);
       begun = (code, both_there bytes (bytes_of mid) _ _ _ token _ _ begins.0 begins.1 begins.3 text o.same.0 begun second, c.in_ok-found.ensures.names, both_places bytes (bytes_of mid) _ _ _ token _ _ begins.0 begins.1 begins.3 text o.same.0 begun second);
       further = less;

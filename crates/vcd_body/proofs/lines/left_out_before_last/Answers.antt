@@ -11,7 +11,7 @@ use Rattle.vcd_body.specs.declared.item.Item.TheVariants.{Change}
 use Rattle.vcd_body.specs.Ahead.{IsSizedItem}
 use Rattle.vcd_body.specs.Given.{IsItem}
 use Rattle.vcd_body.specs.Spelled.{HasSpelled}
-use Rattle.vcd_body.proofs.LeftOut.{bit_within, if_some_more, text_known, without_none}
+use Rattle.vcd_body.proofs.LeftOut.{bit_within, if_some_more, without_none}
 use Rattle.vcd_body.proofs.LineLemmas.{of_sized, bit_item}
 use Rattle.vcd_body.proofs.lines.left_out_before_last.Goals as goal
 
@@ -66,7 +66,7 @@ returns-in_default-form-clause-line c =
     λ v h x spelled known sized views i.
     let s = subst (HasSpelled v c.args.bytes.now c.args.from c.args.to c.args.plain.at c.args.plain.code_at text) same spelled in
     let k = of_sized v h views c.in-Change.code c.args.plain.most (subst (λ it. IsSizedItem v.codes.now it c.args.plain.most) same sized) (λ z. absurd (omega (arith, size, z))) c.in-Change.form text s.0 c.args.bytes.now c.args.from c.args.to c.args.plain.at c.args.plain.code_at s.2 s.3 x (subst (λ it. IsItem h.codes text it x) same i) in
-    ap (λ l. l ++ 10 ∷ []) (p.4 s.0 s.1 s.3.ends (text_known c.args.plain.item text c.args.plain.bits known))
+    ap (λ l. l ++ 10 ∷ []) (p.4 s.0 s.1 s.3.ends known)
     ∙ append_assoc p.1 (32 ∷ s.0) (10 ∷ [])
     ∙ sym (p.3 s.0)
     ∙ line_of k.0 s.0 c.in_ok-size.size c.args.plain.most c.in-Change.form text k.2 is k.4 k.5

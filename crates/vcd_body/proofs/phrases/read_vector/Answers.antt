@@ -1,37 +1,38 @@
-use Rattle.std.proofs.Common.{◌∷◌, [], true, false, ◌||◌, nat_le, length, drop, sym, ap, ◌∙◌, arith}
+use Rattle.std.proofs.Common.{◌∷◌, [], true, false, ◌||◌, nat_le, length, drop, sym, ap, subst, ◌∙◌, arith}
 use Rattle.std.specs.List.{list_all}
 use Rattle.std.proofs.lemmas.Result.{err_from_is_err_and}
 use Rattle.vcd_model.specs.BodyPhrases.{is_value_digit}
 use Rattle.vcd_model.specs.Reading.{phrases_of}
 use Rattle.vcd_text.specs.Feed.{token_of, value_of}
 use Rattle.vcd_view.specs.Shown.{parts}
+use Rattle.vcd_body.specs.Changes.{AreBinary}
 use Rattle.vcd_body.proofs.TokenLemmas.{refused_at, refused_text, opened_text}
 use Rattle.vcd_body.proofs.PhraseLemmas.{digits_ask, too_wide}
 use Rattle.vcd_body.proofs.RegsLemmas.{same_room, vector_read, vector_sound}
 use Rattle.vcd_body.proofs.phrases.read_vector.Goals as goal
 
 pub vector_text-requires : goal.vector_text-requires
-vector_text-requires g c = record { begins = rw c.token.ensures c.requires.begins; bits = tt }
+vector_text-requires g c = record { begins = rw c.token-token.ensures c.requires.begins; binary = λ e. subst AreBinary c.rest_of.ensures (c.are_binary.ensures e) }
 
 pub returns-in_err-vector_text-clause-reads : goal.returns-in_err-vector_text-clause-reads
 returns-in_err-vector_text-clause-reads g c =
     let p = err_from_is_err_and c.from_residual.result c.from_residual.ensures.1 in
-    rw (p.1, p.2) (λ h i front placed v l. refused_text h.codes i front placed c.args.feed.now _ _ c.token.ensures (c.in_err-vector_text.ensures.opens h.codes (phrases_of placed)) l)
+    rw (p.1, p.2) (λ h i front placed v l. refused_text h.codes i front placed c.args.feed.now _ _ c.token-token.ensures (c.in_err-vector_text.ensures.opens h.codes (phrases_of placed)) l)
 
 pub returns-in_err-found-clause-reads : goal.returns-in_err-found-clause-reads
 returns-in_err-found-clause-reads g c =
     let p = err_from_is_err_and c.from_residual-in_err-found.result c.from_residual-in_err-found.ensures.1 in
     rw (p.1, p.2) (λ h i front placed v l.
     let t = (token_of c.args.feed.now).bytes in
-    let opened = opened_text h.codes i front placed c.args.feed.now _ c.token.ensures (c.in_ok-vector_text.ensures.opens h.codes (phrases_of placed)) l in
+    let opened = opened_text h.codes i front placed c.args.feed.now _ c.token-token.ensures (c.in_ok-vector_text.ensures.opens h.codes (phrases_of placed)) l in
     c.in_err-found.ensures.reads h i front placed t v (digits_ask h.codes (phrases_of placed) t c.requires.begins) opened)
 
 pub returns-then-not-takes-clause-reads : goal.returns-then-not-takes-clause-reads
 returns-then-not-takes-clause-reads g c = λ h i front placed v l.
     let t = (token_of c.args.feed.now).bytes in
-    let opened = opened_text h.codes i front placed c.args.feed.now _ c.token.ensures (c.in_ok-vector_text.ensures.opens h.codes (phrases_of placed)) l in
+    let opened = opened_text h.codes i front placed c.args.feed.now _ c.token-token.ensures (c.in_ok-vector_text.ensures.opens h.codes (phrases_of placed)) l in
     let k = c.in_ok-found.ensures.reads h i front placed t v (digits_ask h.codes (phrases_of placed) t c.requires.begins) opened in
-    let n = ap length (sym (c.rest_of.ensures ∙ ap (drop 1) (c.value.ensures ∙ c.in_ok-found.ensures.value))) in
+    let n = ap length (sym (c.rest_of-2.ensures ∙ ap (drop 1) (c.value.ensures ∙ c.in_ok-found.ensures.value))) in
     let x = c.in_ok-found.ensures.sized in
     refused_at h.codes i front placed (t ∷ []) c.read_code.new.feed 17
     (too_wide h.codes (phrases_of placed) t c.requires.begins (token_of c.read_code.new.feed).bytes k.0 k.2
@@ -40,18 +41,18 @@ returns-then-not-takes-clause-reads g c = λ h i front placed v l.
 pub returns-clause-reads : goal.returns-clause-reads
 returns-clause-reads g c = λ h i front placed v l.
     let t = (token_of c.args.feed.now).bytes in
-    let opened = opened_text h.codes i front placed c.args.feed.now _ c.token.ensures (c.in_ok-vector_text.ensures.opens h.codes (phrases_of placed)) l in
+    let opened = opened_text h.codes i front placed c.args.feed.now _ c.token-token.ensures (c.in_ok-vector_text.ensures.opens h.codes (phrases_of placed)) l in
     let k = c.in_ok-found.ensures.reads h i front placed t v (digits_ask h.codes (phrases_of placed) t c.requires.begins) opened in
-    let n = ap length (sym (c.rest_of.ensures ∙ ap (drop 1) (c.value.ensures ∙ c.in_ok-found.ensures.value))) in
+    let n = ap length (sym (c.rest_of-2.ensures ∙ ap (drop 1) (c.value.ensures ∙ c.in_ok-found.ensures.value))) in
     let x = c.in_ok-found.ensures.sized in
     vector_read h.codes i front placed c.read_code.new.feed t c.requires.begins c.in_ok-found.found.place c.in_ok-found.ensures.value k
     (same_room (parts c.args.view) h v c.in_ok-found.found.place k.0 x.0 (length (drop 1 t)) true k.1 x.1 (ap (λ m. x.0.event || nat_le m x.0.size) n ∙ sym (c.takes.ensures x.0 x.1) ∙ c.if-not-takes.false))
 
 pub returns-clause-sound : goal.returns-clause-sound
 returns-clause-sound g c =
-    let same = ap (drop 1) c.in_ok-found.ensures.value ∙ sym (c.in_ok-vector_text.ensures.text ∙ ap (drop 1) c.token.ensures) in
+    let same = ap (drop 1) c.in_ok-found.ensures.value ∙ sym (c.in_ok-vector_text.ensures.text ∙ ap (drop 1) c.token-token.ensures) in
     let d = c.in_ok-vector_text.ensures.digits in
-    let n = ap length (sym (c.rest_of.ensures ∙ ap (drop 1) c.value.ensures)) in
+    let n = ap length (sym (c.rest_of-2.ensures ∙ ap (drop 1) c.value.ensures)) in
     let some = d.0 in
     let long = ap length same in
     let x = c.in_ok-found.ensures.sized in

@@ -1,10 +1,9 @@
-use Rattle.std.proofs.Common.{◌≡◌, ◌-◌, ◌<◌, ℕ, true, length}
-use Rattle.std.specs.Prelude.{slice_index}
-use Rattle.vcd_model.specs.BodyPhrases.{is_value_digit as is_digit}
+use Rattle.std.proofs.Common.{◌-◌, ◌<◌, ℕ, length}
+use Rattle.vcd_body.specs.Changes.{IsBinaryAt}
 use Rattle.vcd_body.proofs.words.are_binary.Given as goal
 
 abbrev pub invariant-loads : goal.invariant-loads
-invariant-loads l = (k : ℕ) → k < l.at → is_digit (slice_index l.digits k) ≡ true
+invariant-loads l = (k : ℕ) → k < l.at → IsBinaryAt l.digits k
 
 abbrev pub decreases-loads : goal.decreases-loads
 decreases-loads l = length l.digits - l.at

@@ -1,10 +1,12 @@
-use Rattle.std.proofs.Common.{◌≤◌, ◌<◌, length, get_or, arith}
-use Rattle.vcd_body.proofs.WordLemmas.{binary_more}
+use Rattle.std.proofs.Common.{◌≡◌, ◌≤◌, ◌<◌, inl, inr, length, get_or, subst, arith}
+use Rattle.std.proofs.lemmas.Bool.{cases_lt}
+use Rattle.vcd_body.specs.Changes.{IsBinaryAt}
+use Rattle.vcd_body.proofs.WordLemmas.{two_of}
 use Rattle.vcd_body.proofs.words.are_few_binary.Goals.{then-largest-above, else-largest-above}
 use Rattle.vcd_body.proofs.words.are_few_binary.Goals as goal
 
 pub loop-digit-preserved : goal.loop-digit-preserved
-loop-digit-preserved c = λ small.
+loop-digit-preserved c = λ small k less.
     let at = c.loop-digit.digit-index in
     let d = get_or c.args.digits.now at 0 in
     let inside : at < length c.args.digits.now = omega arith in
@@ -12,4 +14,7 @@ loop-digit-preserved c = λ small.
     let low : 48 ≤ d = elim c.if-largest-above.branch [ then-largest-above w ↦ omega (arith, w.largest-is, w.if-largest-above, small, fit) | else-largest-above w ↦ omega (arith, w.largest-is, w.if-largest-above, small, fit) ] in
     let high : d ≤ 49 = elim c.if-largest-above.branch [ then-largest-above w ↦ omega (arith, w.largest-is, w.if-largest-above, small, fit) | else-largest-above w ↦ omega (arith, w.largest-is, w.if-largest-above, small, fit) ] in
     let before : c.loop-digit.largest ≤ 1 = elim c.if-largest-above.branch [ then-largest-above w ↦ omega (arith, w.largest-is, w.if-largest-above, small, fit) | else-largest-above w ↦ omega (arith, w.largest-is, w.if-largest-above, small, fit) ] in
-    binary_more c.args.digits.now at inside (c.loop-digit.invariant before) low high
+    elim (cases_lt k at) [
+      | inl earlier ↦ c.loop-digit.invariant before k earlier
+      | inr late ↦ (let same : at ≡ k = omega arith in subst (λ j. IsBinaryAt c.args.digits.now j) same (two_of d low high))
+    ]

@@ -11,7 +11,7 @@ use Rattle.vcd_body.specs.Items.{model_form}
 use Rattle.vcd_body.specs.Spelled.{HasSpelled}
 use Rattle.vcd_body.specs.declared.item.Item.{Item}
 use Rattle.vcd_body.proofs.Results.{if_ok}
-use Rattle.vcd_merge.proofs.MergeItem.{known_digits, no_event, number_fits, sized_line, some_digits}
+use Rattle.vcd_merge.proofs.MergeItem.{no_event, number_fits, sized_line, some_digits}
 use Rattle.vcd_merge.proofs.AheadTrails.{change_taken}
 use Rattle.vcd_merge.proofs.merging.MergingVisitUnit.take_change.Goals as goal
 
@@ -31,8 +31,8 @@ put_renamed_ahead-requires-clause-spelled g c =
 pub put_renamed_ahead-requires-clause-digits : goal.put_renamed_ahead-requires-clause-digits
 put_renamed_ahead-requires-clause-digits g c = λ other. some_digits c.args.view.codes.now c.in-Change.code c.in-Change.form c.args.change.text.now (rw c.in-Change.is at c.requires.item.sound) other
 
-pub put_renamed_ahead-requires-clause-bits : goal.put_renamed_ahead-requires-clause-bits
-put_renamed_ahead-requires-clause-bits g c = known_digits c.args.change.item c.args.change.text.now c.args.change.bits c.requires.item.bits
+pub put_renamed_ahead-requires-clause-binary : goal.put_renamed_ahead-requires-clause-binary
+put_renamed_ahead-requires-clause-binary g c = c.requires.item.binary
 
 pub returns-in_err-put_due_time-clause-takes : goal.returns-in_err-put_due_time-clause-takes
 returns-in_err-put_due_time-clause-takes g c = change_taken _ _ _ c.args.change c.requires.item (record { factor = refl; first = refl; before = refl }) c.in-Change.code c.in-Change.form _ c.in-Change.is refl refl (λ v scale first h items x same views known time number few at.
