@@ -143,19 +143,19 @@ module _ (codes : List IdCode) (limit lines : ℕ) (bytes : List ℕ) (before it
 
   -- the token is a change of the code at this index, or this timestamp
   abbrev IsScalar : List BodyPhrase → List ℕ → ℕ → Type 0
-  IsScalar earlier token place = (c : IdCode) × (slice_get codes place ≡ Some c) × Passes codes earlier token (BodyItem.Changes (record { code = c; form = ChangeForm.Scalar; text = take 1 token }))
+  IsScalar earlier token position = (c : IdCode) × (slice_get codes position ≡ Some c) × Passes codes earlier token (BodyItem.Changes (record { code = c; form = ChangeForm.Scalar; text = take 1 token }))
 
   abbrev IsMark : List BodyPhrase → List ℕ → ℕ → Type 0
   IsMark earlier token time = Passes codes earlier token (BodyItem.Time time) × (time_after (items_of earlier) ≤ time)
 
   module _ (n : ℕ) (r : Regs) (g : GaveAhead codes limit lines bytes n before items) (k : AreRegsAfter (before ++ items) r) where
     -- a digit with its code
-    pub scalar_taken : (n' place line : ℕ) (token text : List ℕ) → n < n' → Passed limit lines bytes n' (g.tokens ++ record { bytes = token; line = line } ∷ []) → text ≡ take 1 token
-        → ((earlier : List BodyPhrase) → IsScalar earlier token place) → TakesOne n' r (item.Change place form.Scalar) text
-    scalar_taken n' place line token text less p is h =
+    pub scalar_taken : (n' position line : ℕ) (token text : List ℕ) → n < n' → Passed limit lines bytes n' (g.tokens ++ record { bytes = token; line = line } ∷ []) → text ≡ take 1 token
+        → ((earlier : List BodyPhrase) → IsScalar earlier token position) → TakesOne n' r (item.Change position form.Scalar) text
+    scalar_taken n' position line token text less p is h =
         let c = (h []).0 in
         let x : Change = record { code = c; form = ChangeForm.Scalar; text = text } in
-        let same : (o : IdCode) → slice_get codes place ≡ Some o → o ≡ c = λ o e. some_is (sym e ∙ (h []).1) in (
+        let same : (o : IdCode) → slice_get codes position ≡ Some o → o ≡ c = λ o e. some_is (sym e ∙ (h []).1) in (
           BodyItem.Changes x,
           (c, (h []).1, refl),
           one_more n n' (record { bytes = token; line = line }) (BodyItem.Changes x) g less p
@@ -166,9 +166,9 @@ module _ (codes : List IdCode) (limit lines : ℕ) (bytes : List ℕ) (before it
         )
 
     -- a value, and the code after it
-    pub both_taken : (f : Form) (n' place line line' : ℕ) (token code text : List ℕ) → n < n' → Passed limit lines bytes n' ((g.tokens ++ record { bytes = token; line = line } ∷ []) ++ record { bytes = code; line = line' } ∷ []) → text ≡ drop 1 token
-        → (c : IdCode) → slice_get codes place ≡ Some c → ((earlier : List BodyPhrase) → PassBoth codes earlier token code (BodyItem.Changes (record { code = c; form = model_form f; text = drop 1 token }))) → TakesOne n' r (item.Change place f) text
-    both_taken f n' place line line' token code text less p is c at h =
+    pub both_taken : (f : Form) (n' position line line' : ℕ) (token code text : List ℕ) → n < n' → Passed limit lines bytes n' ((g.tokens ++ record { bytes = token; line = line } ∷ []) ++ record { bytes = code; line = line' } ∷ []) → text ≡ drop 1 token
+        → (c : IdCode) → slice_get codes position ≡ Some c → ((earlier : List BodyPhrase) → PassBoth codes earlier token code (BodyItem.Changes (record { code = c; form = model_form f; text = drop 1 token }))) → TakesOne n' r (item.Change position f) text
+    both_taken f n' position line line' token code text less p is c at h =
         let x : Change = record { code = c; form = model_form f; text = text } in (
           BodyItem.Changes x,
           (c, at, refl),
@@ -208,6 +208,6 @@ gave_last codes limit lines bytes before items x i front n old new first last h 
 
 -- ---- the digits of a vector as a number
 
-pub has_bits : (place : ℕ) (text : List ℕ) (bits : Option Bits) → IfSome bits (λ b. text ≡ binary_digits b.len b.number) → HasBits (item.Change place form.Vector) text bits
-has_bits place text None h = tt
-has_bits place text (Some b) h = (place, refl, h)
+pub has_bits : (position : ℕ) (text : List ℕ) (bits : Option Bits) → IfSome bits (λ b. text ≡ binary_digits b.len b.number) → HasBits (item.Change position form.Vector) text bits
+has_bits position text None h = tt
+has_bits position text (Some b) h = (position, refl, h)

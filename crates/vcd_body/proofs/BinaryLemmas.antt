@@ -9,15 +9,15 @@ length_binary zero n = refl
 length_binary (suc l) n = ap suc (length_binary l n)
 
 -- the digit at an index
-pub binary_at : (l n place : ℕ) → place < l → slice_get (binary_digits l n) place ≡ Some (48 + n / 2 ^ (l - 1 - place) % 2)
-binary_at zero n place h = absurd (omega arith)
+pub binary_at : (l n position : ℕ) → position < l → slice_get (binary_digits l n) position ≡ Some (48 + n / 2 ^ (l - 1 - position) % 2)
+binary_at zero n position h = absurd (omega arith)
 binary_at (suc l) n zero h = let e : l ≡ suc l - 1 - 0 = omega arith in ap (λ k. Some (48 + n / 2 ^ k % 2)) e
-binary_at (suc l) n (suc place) h = let e : l - 1 - place ≡ suc l - 1 - suc place = omega arith in binary_at l n place (omega arith) ∙ ap (λ k. Some (48 + n / 2 ^ k % 2)) e
+binary_at (suc l) n (suc position) h = let e : l - 1 - position ≡ suc l - 1 - suc position = omega arith in binary_at l n position (omega arith) ∙ ap (λ k. Some (48 + n / 2 ^ k % 2)) e
 
-pub binary_past : (l n place : ℕ) → l ≤ place → slice_get (binary_digits l n) place ≡ None
-binary_past zero n place h = refl
+pub binary_past : (l n position : ℕ) → l ≤ position → slice_get (binary_digits l n) position ≡ None
+binary_past zero n position h = refl
 binary_past (suc l) n zero h = absurd (omega arith)
-binary_past (suc l) n (suc place) h = binary_past l n place (omega arith)
+binary_past (suc l) n (suc position) h = binary_past l n position (omega arith)
 
 -- what a slot holds is proper
 pub proper : (len : ℕ) → 1 ≤ some_by state.Bits len → is_proper len ≡ true

@@ -114,7 +114,7 @@ differ_in_digit x y size r d = differ_at_longest (x ∷ []) (y ∷ []) size 1 (o
 
 -- the digits from an index on are the same
 abbrev pub SameFrom : ℕ → List ℕ → List ℕ → Type 0
-SameFrom place xs ys = (k : ℕ) → place ≤ k → get_or xs k 0 ≡ get_or ys k 0
+SameFrom position xs ys = (k : ℕ) → position ≤ k → get_or xs k 0 ≡ get_or ys k 0
 
 get_past : (xs : List ℕ) (k d : ℕ) → length xs ≤ k → get_or xs k d ≡ d
 get_past [] k d h = refl

@@ -20,8 +20,8 @@ zip_at text (x ∷ xs) (y ∷ ys) zero c a e = let s : y ≡ c = cc in (x, refl,
 zip_at text (x ∷ xs) (y ∷ ys) (suc k) c a e = zip_at text xs ys k c a.1 e
 
 -- the view's code at the index of a header's code
-pub code_at : (s : HeadShown) (h : Header) → Views s h → (place : ℕ) (c : IdCode) → slice_get h.codes place ≡ Some c → (code : Code) × (slice_get s.codes place ≡ Some code) × IsCode s.text code c
-code_at s h v place c e = zip_at s.text s.codes h.codes place c v.codes e
+pub code_at : (s : HeadShown) (h : Header) → Views s h → (position : ℕ) (c : IdCode) → slice_get h.codes position ≡ Some c → (code : Code) × (slice_get s.codes position ≡ Some code) × IsCode s.text code c
+code_at s h v position c e = zip_at s.text s.codes h.codes position c v.codes e
 
 -- a number is what the digits spell, and is below 2^64
 pub time_spelled : (digits : List ℕ) (time : ℕ) → spelled_below digits ≡ Some time → ((is_decimal digits && nat_lt (decimal_value digits) (2 ^ 64)) ≡ true) × (decimal_value digits ≡ time)

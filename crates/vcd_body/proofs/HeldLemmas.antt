@@ -39,10 +39,10 @@ digit_behind (suc m) e zero ds h = absurd (omega arith)
 digit_behind (suc m) e (suc i) ds h = let same : i - m ≡ suc i - suc m = omega arith in digit_behind m e i ds (omega arith) ∙ ap (slice_get ds) same
 
 -- where the first digit is known, the value is digits
-pub digits_of : (h : Held) (size place first : ℕ) → slice_get (digits_held h) 0 ≡ Some first → digit_in (value_at_size size h) place ≡ slice_get (extend (digits_held h) size) place
-digits_of Held.Unset size place first e = cc
-digits_of (Held.Digits ds) size place first e = refl
-digits_of (Held.Text text) size place first e = cc
+pub digits_of : (h : Held) (size position first : ℕ) → slice_get (digits_held h) 0 ≡ Some first → digit_in (value_at_size size h) position ≡ slice_get (extend (digits_held h) size) position
+digits_of Held.Unset size position first e = cc
+digits_of (Held.Digits ds) size position first e = refl
+digits_of (Held.Text text) size position first e = cc
 
 -- of some digits there is a first
 first_there : (ds : List ℕ) → 0 < length ds → slice_get ds 0 ≡ None → ⊥
@@ -50,16 +50,16 @@ first_there [] h e = omega arith
 first_there (d ∷ ds) h e = let f : Some d ≡ None = e in cc
 
 -- where there is none, the value has no digits
-pub no_digits : (st : State) (len size place : ℕ) (bytes : List ℕ) → used_by st len ≤ length bytes → 1 ≤ some_by st len → slice_get (digits_held (held_by st len bytes)) 0 ≡ None → digit_in (value_at_size size (held_by st len bytes)) place ≡ None
-no_digits state.Unset len size place bytes u s e = refl
-no_digits state.Zero len size place bytes u s e = cc
-no_digits state.One len size place bytes u s e = cc
-no_digits state.Unknown len size place bytes u s e = cc
-no_digits state.High len size place bytes u s e = cc
-no_digits state.Unpacked len size place bytes u s e = absurd (first_there (map held_digit bytes) (let l = length-map bytes held_digit in omega arith) e)
-no_digits state.Packed len size place bytes u s e = absurd (first_there (digits_in len bytes) (let l = length_held len bytes u in omega arith) e)
-no_digits state.Bits len size place bytes u s e = absurd (first_there (binary_digits (count_in len) (number_in len)) (some_binary len s) e)
-no_digits state.Real len size place bytes u s e = refl
+pub no_digits : (st : State) (len size position : ℕ) (bytes : List ℕ) → used_by st len ≤ length bytes → 1 ≤ some_by st len → slice_get (digits_held (held_by st len bytes)) 0 ≡ None → digit_in (value_at_size size (held_by st len bytes)) position ≡ None
+no_digits state.Unset len size position bytes u s e = refl
+no_digits state.Zero len size position bytes u s e = cc
+no_digits state.One len size position bytes u s e = cc
+no_digits state.Unknown len size position bytes u s e = cc
+no_digits state.High len size position bytes u s e = cc
+no_digits state.Unpacked len size position bytes u s e = absurd (first_there (map held_digit bytes) (let l = length-map bytes held_digit in omega arith) e)
+no_digits state.Packed len size position bytes u s e = absurd (first_there (digits_in len bytes) (let l = length_held len bytes u in omega arith) e)
+no_digits state.Bits len size position bytes u s e = absurd (first_there (binary_digits (count_in len) (number_in len)) (some_binary len s) e)
+no_digits state.Real len size position bytes u s e = refl
 
 -- the digit that others are extended by is that of the first one
 pub extension_first : (ds : List ℕ) (first : ℕ) → slice_get ds 0 ≡ Some first → extension ds ≡ extension (first ∷ [])
@@ -68,12 +68,12 @@ extension_first (d ∷ ds) first e = let s : d ≡ first = cc in ap (λ x. exten
 
 -- ---- the value, digit by digit
 
-pub shown_before : (h : Held) (size place first : ℕ) → slice_get (digits_held h) 0 ≡ Some first → place < size - length (digits_held h) → digit_in (value_at_size size h) place ≡ Some (extension (first ∷ []))
-shown_before h size place first e before =
+pub shown_before : (h : Held) (size position first : ℕ) → slice_get (digits_held h) 0 ≡ Some first → position < size - length (digits_held h) → digit_in (value_at_size size h) position ≡ Some (extension (first ∷ []))
+shown_before h size position first e before =
     let ds = digits_held h in
-    digits_of h size place first e ∙ digit_before (size - length ds) (extension ds) place ds before ∙ ap (λ x. Some x) (extension_first ds first e)
+    digits_of h size position first e ∙ digit_before (size - length ds) (extension ds) position ds before ∙ ap (λ x. Some x) (extension_first ds first e)
 
-pub shown_behind : (h : Held) (size place first : ℕ) → slice_get (digits_held h) 0 ≡ Some first → size - length (digits_held h) ≤ place → digit_in (value_at_size size h) place ≡ slice_get (digits_held h) (place - (size - length (digits_held h)))
-shown_behind h size place first e behind =
+pub shown_behind : (h : Held) (size position first : ℕ) → slice_get (digits_held h) 0 ≡ Some first → size - length (digits_held h) ≤ position → digit_in (value_at_size size h) position ≡ slice_get (digits_held h) (position - (size - length (digits_held h)))
+shown_behind h size position first e behind =
     let ds = digits_held h in
-    digits_of h size place first e ∙ digit_behind (size - length ds) (extension ds) place ds behind
+    digits_of h size position first e ∙ digit_behind (size - length ds) (extension ds) position ds behind

@@ -58,12 +58,12 @@ end_is l k = ap (λ m. take m (drop k l)) (sym (length-drop k l)) ∙ take-lengt
 
 -- it is there too
 pub end_place : (bytes l : List ℕ) (at k : ℕ) → k ≤ length l → l ≡ slice_range bytes at (at + length l) → take (length l - k) (drop k l) ≡ slice_range bytes (at + k) (at + k + length (take (length l - k) (drop k l)))
-end_place bytes l at k few place =
+end_place bytes l at k few position =
     let rest = length l - k in
     let size : length (take rest (drop k l)) ≡ rest = ap length (end_is l k) ∙ length-drop k l in
     let all : at + length l - at ≡ k + rest = omega arith in
     let some : at + k + length (take rest (drop k l)) - (at + k) ≡ rest = omega arith in
-    end_is l k ∙ ap (drop k) place ∙ ap (λ n. drop k (take n (drop at bytes))) all ∙ drop-take k rest (drop at bytes) ∙ ap (take rest) (drop-drop k at bytes) ∙ ap (λ n. take n (drop (at + k) bytes)) (sym some)
+    end_is l k ∙ ap (drop k) position ∙ ap (λ n. drop k (take n (drop at bytes))) all ∙ drop-take k rest (drop at bytes) ∙ ap (take rest) (drop-drop k at bytes) ∙ ap (λ n. take n (drop (at + k) bytes)) (sym some)
 
 -- ---- bytes
 
@@ -125,7 +125,7 @@ pub some_left : (n m : ℕ) (Q : ℕ → Type 0) (o : Option ℕ) → SomeIff o 
 some_left n m Q (Some k) (le, is) q = (omega (arith, is), subst Q (sym is) q)
 some_left n m Q None none q = tt
 
--- ---- fronts of lines
+-- ---- prefixes of lines
 
 same_front : (xs ys zs ws : List ℕ) → length xs ≡ length ys → xs ++ zs ≡ ys ++ ws → xs ≡ ys
 same_front xs ys zs ws long e = sym (take-append_seam xs zs) ∙ ap (take (length xs)) e ∙ ap (λ n. take n (ys ++ ws)) long ∙ take-append_seam ys ws

@@ -29,7 +29,7 @@ use Rattle.vcd_body.specs.declared.item.Item.TheVariants as item
 use Rattle.vcd_body.specs.Items.{model_form}
 use Rattle.vcd_body.specs.Given.{IsItem}
 use Rattle.vcd_body.proofs.FindLemmas.{code_at}
-use Rattle.vcd_body.specs.Spelled.{HasToken, HasChange, HasMark, HasPlaces, Names}
+use Rattle.vcd_body.specs.Spelled.{HasToken, HasChange, HasTimestamp, HasPlaces, Names}
 use Rattle.vcd_body.proofs.Shortest.{IsBare, bare_is_short, extend_where_fits}
 use Rattle.vcd_body.proofs.WordLemmas.{byte_there, lower_alone}
 
@@ -39,8 +39,8 @@ some_is : {A : Type 0} {x y : A} → Some x ≡ Some y → x ≡ y
 some_is e = cc
 
 -- the code that was found has the bytes that were looked for
-pub found_named : (v : HeadView) (place : ℕ) (text : List ℕ) → ((h : Header) → IsViewOf v h → Finds h.codes text (Some place)) → Names v place text
-found_named v place text f h c view e =
+pub found_named : (v : HeadView) (position : ℕ) (text : List ℕ) → ((h : Header) → IsViewOf v h → Finds h.codes text (Some position)) → Names v position text
+found_named v position text f h c view e =
     let k = f h view in
     let same = some_is (sym k.1 ∙ e) in
     sym ((bytes_eq-Decides text c.text).0 (find_passes (has_text text) h.codes c (k.2 ∙ ap Some same)))
@@ -51,10 +51,10 @@ of_found P (Ok p) f e n = subst P (some_is (sym e)) n
 of_found P (Err p) f e n = cc
 
 -- the header's change that an item with this text and this code is, where the view shows that code
-pub of_shown : (v : HeadView) (h : Header) → IsViewOf v h → (place : ℕ) (y : Code) → slice_get v.codes.now place ≡ Some y → (f : Form) (text code : List ℕ) → Names v place code → (x : BodyItem) → IsItem h.codes text (item.Change place f) x
+pub of_shown : (v : HeadView) (h : Header) → IsViewOf v h → (position : ℕ) (y : Code) → slice_get v.codes.now position ≡ Some y → (f : Form) (text code : List ℕ) → Names v position code → (x : BodyItem) → IsItem h.codes text (item.Change position f) x
     → (k : IdCode) × (x ≡ BodyItem.Changes (record { code = k; form = model_form f; text = text })) × (k.text ≡ code) × (length code ≡ y.len) × (y.size ≡ k.size) × (y.event ≡ k.event)
-of_shown v h view place y there f text code named x (k, at, is) =
-    let z = code_at (parts v) h view place k at in
+of_shown v h view position y there f text code named x (k, at, is) =
+    let z = code_at (parts v) h view position k at in
     let same = some_is (sym there ∙ z.1) in
     let shown = subst (λ o. IsCode v.text.now o k) (sym same) z.2 in
     let name = named h k view at in
@@ -71,19 +71,19 @@ sized_is y most is some = by_parts y.event (nat_le (2 ^ 32) y.size) refl refl
     by_parts false false h g = (h, sym (is ∙ rw (h, g) refl))
 
 -- the change of the code whose size was found, at its offsets
-pub of_sized : (v : HeadView) (h : Header) → IsViewOf v h → (place most : ℕ) → IsSized v.codes.now (record { place = place; most = most }) → most ≢ 0 → (f : Form) (text code bytes : List ℕ) (from to at start : ℕ) → Names v place code → HasPlaces bytes from to at start text code → (x : BodyItem) → IsItem h.codes text (item.Change place f) x
+pub of_sized : (v : HeadView) (h : Header) → IsViewOf v h → (position most : ℕ) → IsSized v.codes.now (record { position = position; most = most }) → most ≢ 0 → (f : Form) (text code bytes : List ℕ) (from to at start : ℕ) → Names v position code → HasPlaces bytes from to at start text code → (x : BodyItem) → IsItem h.codes text (item.Change position f) x
     → (k : IdCode) × (x ≡ BodyItem.Changes (record { code = k; form = model_form f; text = text })) × (k.text ≡ code) × (length code ≡ to - 1 - start) × (k.size ≡ most) × (k.event ≡ false)
-of_sized v h view place most (y, there, is) some f text code bytes from to at start named places x i =
-    let k = of_shown v h view place y there f text code named x i in
+of_sized v h view position most (y, there, is) some f text code bytes from to at start named positions x i =
+    let k = of_shown v h view position y there f text code named x i in
     let z = sized_is y most is some in
-    let ends = places.ends in
+    let ends = positions.ends in
     (k.0, k.1, k.2, omega (arith, ends), sym k.4 ∙ z.1, sym k.5 ∙ z.0)
 
 -- ---- tokens ahead
 
 -- a token that was given ahead
 pub token_there : (bytes : List ℕ) (from to : ℕ) (token : List ℕ) → from + length token + 1 ≤ to → to ≤ length bytes → AreWhite bytes from (to - length token - 1) → token ≡ slice_range bytes (to - length token - 1) (to - 1) → HasToken bytes from to token
-token_there bytes from to token further within before place = record { start = to - length token - 1; before = before; ends = omega arith; within = within; token_is = place }
+token_there bytes from to token further within before position = record { start = to - length token - 1; before = before; ends = omega arith; within = within; token_is = position }
 
 -- so it is from its first byte on
 pub token_begun : (bytes : List ℕ) (from to : ℕ) (token : List ℕ) → HasToken bytes from to token → HasToken bytes (to - 1 - length token) to token
@@ -125,21 +125,21 @@ scalar_places bytes from to token text digit rest e is t =
     let long = ap length is ∙ one.1 in
     let some = one.0 in
     let start : t.start ≡ to - 1 - length token = omega arith in
-    let place : token ≡ slice_range bytes (to - 1 - length token) (to - 1) = t.token_is ∙ ap (λ a. slice_range bytes a (to - 1)) start in
+    let position : token ≡ slice_range bytes (to - 1 - length token) (to - 1) = t.token_is ∙ ap (λ a. slice_range bytes a (to - 1)) start in
     let last : to - 1 ≡ to - 1 - length token + 1 + length (drop 1 token) = omega arith in
     record {
       after = omega arith;
       apart = omega arith;
       ends = omega arith;
       within = t.within;
-      text_is = is ∙ first_there bytes (to - 1 - length token) (to - 1) token text long place (omega arith);
-      code_is = part_there bytes (to - 1 - length token) (to - 1) 1 token place (omega arith) (omega arith) (omega arith) ∙ ap (slice_range bytes (to - 1 - length token + 1)) last;
+      text_is = is ∙ first_there bytes (to - 1 - length token) (to - 1) token text long position (omega arith);
+      code_is = part_there bytes (to - 1 - length token) (to - 1) 1 token position (omega arith) (omega arith) (omega arith) ∙ ap (slice_range bytes (to - 1 - length token + 1)) last;
     }
   where
     first_there : (bytes : List ℕ) (start end : ℕ) (token text : List ℕ) → length text ≡ 1 → token ≡ slice_range bytes start end → start < end → take 1 token ≡ slice_range bytes start (start + length text)
-    first_there bytes start end token text long place less =
+    first_there bytes start end token text long position less =
         let m : start + length text - start ≡ 1 = omega arith in
-        ap (take 1) place ∙ take-take 1 (end - start) (drop start bytes) (omega arith) ∙ ap (λ k. take k (drop start bytes)) (sym m)
+        ap (take 1) position ∙ take-take 1 (end - start) (drop start bytes) (omega arith) ∙ ap (λ k. take k (drop start bytes)) (sym m)
 
 -- those of a text after its letter, and of the code
 pub both_places : (bytes bytes' : List ℕ) (from middle to : ℕ) (token text code : List ℕ) (letter : ℕ) (rest : List ℕ) → token ≡ letter ∷ rest → text ≡ drop 1 token → bytes' ≡ bytes → HasToken bytes from middle token → HasToken bytes' middle to code
@@ -153,7 +153,7 @@ both_places bytes bytes' from middle to token text code letter rest e is same t 
     let some = (length_rest letter rest token e).0 in
     let start : t.start ≡ middle - 1 - length token = omega arith in
     let start' : u.start ≡ to - 1 - length code = omega arith in
-    let place : token ≡ slice_range bytes (middle - 1 - length token) (middle - 1) = t.token_is ∙ ap (λ a. slice_range bytes a (middle - 1)) start in
+    let position : token ≡ slice_range bytes (middle - 1 - length token) (middle - 1) = t.token_is ∙ ap (λ a. slice_range bytes a (middle - 1)) start in
     let last : middle - 1 ≡ middle - 1 - length token + 1 + length text = omega arith in
     let last' : to - 1 ≡ to - 1 - length code + length code = omega arith in
     record {
@@ -161,7 +161,7 @@ both_places bytes bytes' from middle to token text code letter rest e is same t 
       apart = omega arith;
       ends = omega arith;
       within = subst (λ b. to ≤ length b) same u.within;
-      text_is = is ∙ part_there bytes (middle - 1 - length token) (middle - 1) 1 token place (omega arith) (omega arith) (omega arith) ∙ ap (slice_range bytes (middle - 1 - length token + 1)) last;
+      text_is = is ∙ part_there bytes (middle - 1 - length token) (middle - 1) 1 token position (omega arith) (omega arith) (omega arith) ∙ ap (slice_range bytes (middle - 1 - length token + 1)) last;
       code_is = u.token_is ∙ ap₂ (slice_range bytes') start' last' ∙ ap (λ b. slice_range b (to - 1 - length code) (to - 1 - length code + length code)) same;
     }
 
@@ -172,11 +172,11 @@ rest_there bytes from to token some t =
     let order = t.before.order in
     let within = t.within in
     let start : t.start ≡ to - 1 - length token = omega arith in
-    let place : token ≡ slice_range bytes (to - 1 - length token) (to - 1) = t.token_is ∙ ap (λ a. slice_range bytes a (to - 1)) start in
-    part_there bytes (to - 1 - length token) (to - 1) 1 token place (omega arith) (omega arith) (omega arith)
+    let position : token ≡ slice_range bytes (to - 1 - length token) (to - 1) = t.token_is ∙ ap (λ a. slice_range bytes a (to - 1)) start in
+    part_there bytes (to - 1 - length token) (to - 1) 1 token position (omega arith) (omega arith) (omega arith)
 
 -- those of a timestamp's digits
-pub mark_there : (bytes : List ℕ) (from to : ℕ) (token : List ℕ) (time : ℕ) → 0 < length token → (is_decimal (drop 1 token) ≡ true) × (decimal_value (drop 1 token) ≡ time) × (time < 2 ^ 64) → HasToken bytes from to token → HasMark bytes from to (to - 1 - length token + 1) time
+pub mark_there : (bytes : List ℕ) (from to : ℕ) (token : List ℕ) (time : ℕ) → 0 < length token → (is_decimal (drop 1 token) ≡ true) × (decimal_value (drop 1 token) ≡ time) × (time < 2 ^ 64) → HasToken bytes from to token → HasTimestamp bytes from to (to - 1 - length token + 1) time
 mark_there bytes from to token time some told t =
     let ends = t.ends in
     let order = t.before.order in
@@ -211,14 +211,14 @@ one_byte bytes p inside =
 
 -- the digit of a change is at its offset
 pub digit_there : (bytes : List ℕ) (from to at start : ℕ) (text code : List ℕ) → HasChange bytes from to form.Scalar text code → HasPlaces bytes from to at start text code → (at < length bytes) × (text ≡ slice_index bytes at ∷ [])
-digit_there bytes from to at start text code (digit, is, t) places =
+digit_there bytes from to at start text code (digit, is, t) positions =
     let long = ap (λ (l : List ℕ). length l) is in
-    let apart = places.apart in
-    let ends = places.ends in
-    let within = places.within in
+    let apart = positions.apart in
+    let ends = positions.ends in
+    let within = positions.within in
     let inside : at < length bytes = omega arith in
     let one : at + length text ≡ at + 1 = omega arith in
-    (inside, places.text_is ∙ ap (slice_range bytes at) one ∙ one_byte bytes at inside)
+    (inside, positions.text_is ∙ ap (slice_range bytes at) one ∙ one_byte bytes at inside)
 
 -- a token that begins right here, and the byte after it
 pub token_line : (bytes : List ℕ) (from to : ℕ) (token : List ℕ) (x : ℕ) → HasToken bytes from to token → to ≡ from + length token + 1 → slice_index bytes (to - 1) ≡ x → slice_range bytes from to ≡ token ++ x ∷ []

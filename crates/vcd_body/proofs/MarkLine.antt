@@ -10,7 +10,7 @@ use Rattle.vcd_model.specs.Bytes.{decimal_value, is_decimal}
 use Rattle.vcd_model.specs.ItemText.{time_line}
 use Rattle.vcd_text.proofs.AheadLemmas.{slice_range-append}
 use Rattle.vcd_text.proofs.Places.{length-slice_range}
-use Rattle.vcd_body.specs.Spelled.{HasMark}
+use Rattle.vcd_body.specs.Spelled.{HasTimestamp}
 use Rattle.vcd_body.proofs.LineLemmas.{one_byte}
 use Rattle.vcd_body.proofs.WordLemmas.{byte_there}
 
@@ -29,7 +29,7 @@ digits_written ds time all value small lead =
     sym (decimal-digits_value own ds k.0 k.1 lead (subst (λ n. n < 2 ^ 64) (sym value) small)) ∙ ap decimal value
 
 -- a mark without white bytes before it, with no zero that leads, and with a line feed after it
-pub mark_line : (bytes : List ℕ) (from to time : ℕ) → HasMark bytes from to (from + 1) time → slice_index bytes from ≡ 35 → slice_index bytes (to - 1) ≡ 10 → (slice_index bytes (from + 1) ≡ 48 → to ≡ from + 3) → slice_range bytes from to ≡ time_line time
+pub mark_line : (bytes : List ℕ) (from to time : ℕ) → HasTimestamp bytes from to (from + 1) time → slice_index bytes from ≡ 35 → slice_index bytes (to - 1) ≡ 10 → (slice_index bytes (from + 1) ≡ 48 → to ≡ from + 3) → slice_range bytes from to ≡ time_line time
 mark_line bytes from to time m first last lead =
     let within = m.within in
     let before = m.before in
@@ -52,11 +52,11 @@ lead_of : (a b n : ℕ) → (not (a == 48) || (b == n)) ≡ true → a ≡ 48 �
 lead_of a b n e is = eqb-true b n (subst (λ (v : ℕ). (not (v == 48) || (b == n)) ≡ true) is e)
 
 -- the same by what is looked at
-pub mark_line_there : (bytes : List ℕ) (from to at time : ℕ) → ((((at == from + 1) && (slice_index bytes from == 35)) && (slice_index bytes (to - 1) == 10)) && (not (slice_index bytes at == 48) || (to == at + 2))) ≡ true → HasMark bytes from to at time → slice_range bytes from to ≡ time_line time
+pub mark_line_there : (bytes : List ℕ) (from to at time : ℕ) → ((((at == from + 1) && (slice_index bytes from == 35)) && (slice_index bytes (to - 1) == 10)) && (not (slice_index bytes at == 48) || (to == at + 2))) ≡ true → HasTimestamp bytes from to at time → slice_range bytes from to ≡ time_line time
 mark_line_there bytes from to at time e m =
     let p = and_parts (((at == from + 1) && (slice_index bytes from == 35)) && (slice_index bytes (to - 1) == 10)) (not (slice_index bytes at == 48) || (to == at + 2)) e in
     let q = and_parts ((at == from + 1) && (slice_index bytes from == 35)) (slice_index bytes (to - 1) == 10) p.0 in
     let r = and_parts (at == from + 1) (slice_index bytes from == 35) q.0 in
     let next = eqb-true at (from + 1) r.0 in
-    mark_line bytes from to time (subst (λ a. HasMark bytes from to a time) next m) (eqb-true (slice_index bytes from) 35 r.1) (eqb-true (slice_index bytes (to - 1)) 10 q.1)
+    mark_line bytes from to time (subst (λ a. HasTimestamp bytes from to a time) next m) (eqb-true (slice_index bytes from) 35 r.1) (eqb-true (slice_index bytes (to - 1)) 10 q.1)
     (λ z. let two = lead_of (slice_index bytes at) to (at + 2) p.1 (ap (slice_index bytes) next ∙ z) in omega (arith, next))

@@ -168,10 +168,10 @@ number_step s h l m a b size is l1 m1 p q same differ rise fall =
     goes x y = ap (λ (o : Option ℕ). goes_from x y o (Some (48 + b % 2))) (sym (last_bit l a size l1)) ∙ ap (goes_from x y (last_or None (extend (binary_digits l a) size))) (sym (last_bit m b size m1))
 
 -- the digit at an index, where there is one
-pub binary_get : (l n place : ℕ) → place < l → get_or (binary_digits l n) place 0 ≡ 48 + n / 2 ^ (l - 1 - place) % 2
-binary_get zero n place h = absurd (omega arith)
+pub binary_get : (l n position : ℕ) → position < l → get_or (binary_digits l n) position 0 ≡ 48 + n / 2 ^ (l - 1 - position) % 2
+binary_get zero n position h = absurd (omega arith)
 binary_get (suc l) n zero h = let e : l ≡ suc l - 1 - 0 = omega arith in ap (λ k. 48 + n / 2 ^ k % 2) e
-binary_get (suc l) n (suc place) h = let e : l - 1 - place ≡ suc l - 1 - suc place = omega arith in binary_get l n place (omega arith) ∙ ap (λ k. 48 + n / 2 ^ k % 2) e
+binary_get (suc l) n (suc position) h = let e : l - 1 - position ≡ suc l - 1 - suc position = omega arith in binary_get l n position (omega arith) ∙ ap (λ k. 48 + n / 2 ^ k % 2) e
 
 -- ---- binary digits in a slot
 

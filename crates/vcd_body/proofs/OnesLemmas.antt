@@ -60,5 +60,5 @@ pub written : (digits bytes : List ℕ) (at number : ℕ) → digits ≡ slice_r
     → ((k : ℕ) → k < length digits → slice_index bytes (at + k) ≡ 48 + bit_of (slice_index bytes (at + k)))
     → ((k : ℕ) → k < length digits → number / 2 ^ (length digits - 1 - k) % 2 ≡ bit_of (slice_index bytes (at + k)))
     → digits ≡ binary_digits (length digits) number
-written digits bytes at number place binary bits = ext_get_or 0 digits (binary_digits (length digits) number) (sym (length_binary (length digits) number)) (λ k less.
-    byte_there digits bytes at (length digits) k less place ∙ binary k less ∙ ap (λ b. 48 + b) (sym (bits k less)) ∙ sym (binary_get (length digits) number k less))
+written digits bytes at number position binary bits = ext_get_or 0 digits (binary_digits (length digits) number) (sym (length_binary (length digits) number)) (λ k less.
+    byte_there digits bytes at (length digits) k less position ∙ binary k less ∙ ap (λ b. 48 + b) (sym (bits k less)) ∙ sym (binary_get (length digits) number k less))

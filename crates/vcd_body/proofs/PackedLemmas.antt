@@ -79,10 +79,10 @@ code_small d = by_tests (d == byte "0") (d == byte "1") ((d == byte "x") || (d =
     by_tests false false true = omega arith
     by_tests false false false = omega arith
 
-pub or_small : (text : List ℕ) (place : ℕ) → code_or text place < 4
-or_small text place = by_test (nat_lt place (length text)) (code_small (get_or text place 0))
+pub or_small : (text : List ℕ) (position : ℕ) → code_or text position < 4
+or_small text position = by_test (nat_lt position (length text)) (code_small (get_or text position 0))
   where
-    by_test : (b : Bool) → code_of (get_or text place 0) < 4 → cond b (code_of (get_or text place 0)) 0 < 4
+    by_test : (b : Bool) → code_of (get_or text position 0) < 4 → cond b (code_of (get_or text position 0)) 0 < 4
     by_test true h = h
     by_test false h = omega arith
 
@@ -94,8 +94,8 @@ below_test a b x y h = ap (λ t. cond t x y) (lt-ltb a b h)
 pub above_test : (a b x y : ℕ) → b ≤ a → cond (nat_lt a b) x y ≡ y
 above_test a b x y h = ap (λ t. cond t x y) (le-ltb a b h)
 
-pub in_text : (text : List ℕ) (place : ℕ) → place < length text → code_or text place ≡ code_of (get_or text place 0)
-in_text text place h = below_test place (length text) (code_of (get_or text place 0)) 0 h
+pub in_text : (text : List ℕ) (position : ℕ) → position < length text → code_or text position ≡ code_of (get_or text position 0)
+in_text text position h = below_test position (length text) (code_of (get_or text position 0)) 0 h
 
 -- the code at an index, by its quarter
 pub in_first : (n : ℕ) (bytes : List ℕ) (p : ℕ) → p < n - quarter_of n → p < quarter_of n → code_among n bytes p ≡ get_or bytes p 0 % 4
@@ -155,10 +155,10 @@ code_again text bytes p packs less = elim (cases_lt p (n - q)) [
     here k e = ap (code_or text) e ∙ in_text text p less
 
 pub length_digits : (n : ℕ) (bytes : List ℕ) → length (digits_in n bytes) ≡ n
-length_digits n bytes = length-map-range_with_len (λ place. digit_of (code_among n bytes place)) 0 n
+length_digits n bytes = length-map-range_with_len (λ position. digit_of (code_among n bytes position)) 0 n
 
 digit_there : (n : ℕ) (bytes : List ℕ) (p : ℕ) → p < n → get_or (digits_in n bytes) p 0 ≡ digit_of (code_among n bytes p)
-digit_there n bytes p less = get_or-map-range_with_len (λ place. digit_of (code_among n bytes place)) 0 n p p 0 less (omega arith)
+digit_there n bytes p less = get_or-map-range_with_len (λ position. digit_of (code_among n bytes position)) 0 n p p 0 less (omega arith)
 
 packs_again : (text bytes : List ℕ) → Packs text (quarter_of (length text)) bytes → digits_in (length text) bytes ≡ map held_digit text
 packs_again text bytes packs =

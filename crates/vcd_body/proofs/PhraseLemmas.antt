@@ -15,7 +15,7 @@ use Rattle.vcd_view.specs.Keywords.{NoEnds}
 use Rattle.vcd_view.proofs.KeywordLemmas.{until, not_until}
 use Rattle.vcd_body.specs.declared.item.Regs.{Regs}
 use Rattle.vcd_body.specs.declared.words.PhraseKind.TheVariants as kind
-use Rattle.vcd_body.specs.Items.{AreRegsAfter, RefusesMark}
+use Rattle.vcd_body.specs.Items.{AreRegsAfter, RefusesTimestamp}
 use Rattle.vcd_body.specs.declared.fault.BodyFault.{BodyFault}
 use Rattle.vcd_body.specs.Words.{Begins, IsScalar, is_of_header}
 use Rattle.vcd_body.specs.Reads.{Passes, Refuses}
@@ -29,16 +29,16 @@ pub first_byte : (token : List ℕ) (b : ℕ) (rest : List ℕ) → token ≡ b 
 first_byte token b rest e = ap (take 1) e
 
 -- a fault of a mark that may not be where it is
-pub mark_own : (r : Regs) (time : ℕ) (fault : BodyFault) → RefusesMark r time fault → fault ≢ BodyFault.ReadFailed
+pub mark_own : (r : Regs) (time : ℕ) (fault : BodyFault) → RefusesTimestamp r time fault → fault ≢ BodyFault.ReadFailed
 mark_own r time fault (inl e) = rw e.0 (λ x. cc)
 mark_own r time fault (inr e) = rw e.0 (λ x. cc)
 
-pub mark_misplaced : (r : Regs) (time : ℕ) (fault : BodyFault) → RefusesMark r time fault → (is_some r.section ≡ true) ⊎ (time < r.time)
+pub mark_misplaced : (r : Regs) (time : ℕ) (fault : BodyFault) → RefusesTimestamp r time fault → (is_some r.section ≡ true) ⊎ (time < r.time)
 mark_misplaced r time fault (inl e) = inl e.1
 mark_misplaced r time fault (inr e) = inr e.2
 
 module _ (codes : List IdCode) where
-  start_mark : (token : List ℕ) → Begins token kind.Mark → start_of token ≡ Mark (drop 1 token)
+  start_mark : (token : List ℕ) → Begins token kind.Timestamp → start_of token ≡ Mark (drop 1 token)
   start_mark token b = ap start_of (head_and_rest token 35 b.0 b.1) ∙ start_of-mark codes (drop 1 token)
 
   start_digit : (token : List ℕ) (b : IsScalar token) → start_of token ≡ Digit b.0 (drop 1 token)
@@ -78,7 +78,7 @@ module _ (codes : List IdCode) where
 
   -- ---- timestamps
 
-  module _ (earlier : List BodyPhrase) (token : List ℕ) (b : Begins token kind.Mark) where
+  module _ (earlier : List BodyPhrase) (token : List ℕ) (b : Begins token kind.Timestamp) where
     pub bad_time : (is_decimal (drop 1 token) && nat_lt (decimal_value (drop 1 token)) (2 ^ 64)) ≡ false → body_fault codes earlier [] token ≡ Some 13
     bad_time h = start_fault earlier token (Mark (drop 1 token)) (start_mark token b) ∙ rw h refl
 
@@ -95,7 +95,7 @@ module _ (codes : List IdCode) where
           lt-leb-false : (x y : ℕ) → x < y → nat_le y x ≡ false
           lt-leb-false x y l = grind arith
 
-      pub mark_refused : (fault : BodyFault) → RefusesMark r (decimal_value (drop 1 token)) fault → Refuses codes earlier token fault
+      pub mark_refused : (fault : BodyFault) → RefusesTimestamp r (decimal_value (drop 1 token)) fault → Refuses codes earlier token fault
       mark_refused fault (inl e) = rw e.0 (λ x. cc, time_in_section e.1)
       mark_refused fault (inr e) = rw e.0 (λ x. cc, time_back e.1 e.2)
 

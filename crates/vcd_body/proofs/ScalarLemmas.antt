@@ -21,7 +21,7 @@ use Rattle.vcd_body.proofs.WordLemmas.{scalar_begins}
 -- where its token was taken, it was
 pub scalar_takes : (v : HeadView) (a a' : Ahead) (r : Regs) (o : Opening) (f : Found) (text : Bor (List ℕ)) → Opens a a' o → (o.kind ≡ kind.Bit) ⊎ (o.kind ≡ kind.Scalar)
     → IsFoundScalar v o.token.now f → text.now ≡ take 1 o.token.now
-    → TakesItem v a a' r (record { item = item.Change f.place form.Scalar; text = text; most = f.most; begin = passed_of a' - 1 - length o.token.now; at = passed_of a' - 1 - length o.token.now; code_at = passed_of a' - 1 - length o.token.now + 1; bits = None; binary = false })
+    → TakesItem v a a' r (record { item = item.Change f.position form.Scalar; text = text; most = f.most; begin = passed_of a' - 1 - length o.token.now; at = passed_of a' - 1 - length o.token.now; code_at = passed_of a' - 1 - length o.token.now + 1; bits = None; binary = false })
 scalar_takes v a a' r o f text opens is found text_is =
     let token = o.token.now in
     let bytes = bytes_of a in
@@ -36,12 +36,12 @@ scalar_takes v a a' r o f text opens is found text_is =
     record {
       gives = λ h limit lines bytes before items views over k g.
           let one = passes_same limit (longest_of a) lines bytes (bytes_of a) from to (start_of a' token) token over.0 over.1 (taken.gives lines) g.tokens g.passed in
-          scalar_taken h.codes limit lines bytes before items from r g k to f.place (line_ahead lines bytes (start_of a' token)) token text.now less one text_is (λ earlier. found.code h earlier views);
+          scalar_taken h.codes limit lines bytes before items from r g k to f.position (line_ahead lines bytes (start_of a' token)) token text.now less one text_is (λ earlier. found.code h earlier views);
       passes = λ limit lines bytes ts over p.
           let t : Token = record { bytes = token; line = line_ahead lines bytes (start_of a' token) } in
           (t ∷ [], passes_same limit (longest_of a) lines bytes (bytes_of a) from to (start_of a' token) token over.0 over.1 (taken.gives lines) ts p);
       sound = rw text_is found.sound;
-      plain = tt;
+      scanned = tt;
       sized = found.sized;
       bits = tt;
       binary = λ e. absurd (false≢true e);

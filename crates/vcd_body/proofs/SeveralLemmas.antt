@@ -64,8 +64,8 @@ pub last_code : (len d : ℕ) (bytes : List ℕ) → 1 ≤ len → get_or bytes 
     → let c = get_or bytes (quarter_of len - 1) 0 / 64 in ((48 == 48 + c) ≡ (48 == d)) × ((49 == 48 + c) ≡ (49 == d))
 last_code len d bytes some fit at =
     let c = get_or bytes (quarter_of len - 1) 0 / 64 in
-    let place : len - 1 - (len - quarter_of len) ≡ quarter_of len - 1 = omega (arith, some) in
-    let code : code_among len bytes (len - 1) ≡ c = in_last len bytes (len - 1) (omega (arith, some)) ∙ ap (λ (n : ℕ). get_or bytes n 0 / 64) place in
+    let position : len - 1 - (len - quarter_of len) ≡ quarter_of len - 1 = omega (arith, some) in
+    let code : code_among len bytes (len - 1) ≡ c = in_last len bytes (len - 1) (omega (arith, some)) ∙ ap (λ (n : ℕ). get_or bytes n 0 / 64) position in
     let same : Some (digit_of c) ≡ Some d = sym (digit_among len bytes (len - 1) (omega (arith, some)) ∙ ap (λ (n : ℕ). Some (digit_of n)) code) ∙ at in
     let is : digit_of c ≡ d = cc same in
     let s = same_code c (omega (arith, fit)) in

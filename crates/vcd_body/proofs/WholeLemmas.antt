@@ -17,7 +17,7 @@ use Rattle.vcd_body.specs.Whole.{AreWhole, HoldsItem, IsAlone}
 use Rattle.vcd_body.specs.Words.{Begins, BeginsOther, is_comment, is_either}
 use Rattle.vcd_body.specs.declared.fault.BodyFault.{BodyFault}
 use Rattle.vcd_body.specs.declared.words.PhraseKind.{PhraseKind}
-use Rattle.vcd_body.specs.declared.words.PhraseKind.TheVariants.{Mark, Bit, Scalar, Vector, Real, Other}
+use Rattle.vcd_body.specs.declared.words.PhraseKind.TheVariants.{Timestamp, Bit, Scalar, Vector, Real, Other}
 use Rattle.vcd_body.proofs.WordLemmas.{bit_digit}
 
 -- ---- first bytes
@@ -69,7 +69,7 @@ letter_other token b (inr r) = let o = other_begins token r.0 r.1 r.3 b in not_b
 alone_letter : (token : List ℕ) (k : PhraseKind) → Begins token k → IsAlone k token → Begins token Vector ⊎ Begins token Real → ⊥
 alone_letter token Vector b a v = a
 alone_letter token Real b a v = a
-alone_letter token Mark b a v = let l = letter token v in no_mark l.0 l.3 (first_same token l.0 (byte "#") l.1 b.0 l.2 b.1)
+alone_letter token Timestamp b a v = let l = letter token v in no_mark l.0 l.3 (first_same token l.0 (byte "#") l.1 b.0 l.2 b.1)
 alone_letter token Bit b a v = let l = letter token v in not_both (is_value_digit b.0) (bit_digit b.0 b.2) (ap is_value_digit (first_same token b.0 l.0 b.1 l.1 b.3 l.2) ∙ no_digit l.0 l.3)
 alone_letter token Scalar b a v = let l = letter token v in not_both (is_value_digit b.0) b.2 (ap is_value_digit (first_same token b.0 l.0 b.1 l.1 b.4 l.2) ∙ no_digit l.0 l.3)
 alone_letter token Other b a v = letter_other token b v
@@ -77,7 +77,7 @@ alone_letter token Other b a v = letter_other token b v
 alone_other : (token : List ℕ) (k : PhraseKind) → Begins token k → IsAlone k token → Begins token Other → is_comment token ≡ false
 alone_other token Vector b a o = absurd a
 alone_other token Real b a o = absurd a
-alone_other token Mark b a o = let p = other_begins token (byte "#") b.0 b.1 o in not_both true refl p.0
+alone_other token Timestamp b a o = let p = other_begins token (byte "#") b.0 b.1 o in not_both true refl p.0
 alone_other token Bit b a o = let p = other_begins token b.0 b.1 b.3 o in not_both (is_value_digit b.0) (bit_digit b.0 b.2) p.1
 alone_other token Scalar b a o = let p = other_begins token b.0 b.1 b.4 o in not_both (is_value_digit b.0) b.2 p.1
 alone_other token Other b a o = a

@@ -258,6 +258,6 @@ behind P i n h k low high =
 
 -- a byte of them
 pub byte_there : (xs bytes : List ℕ) (at n k : ℕ) → k < n → xs ≡ slice_range bytes at (at + n) → slice_index xs k ≡ slice_index bytes (at + k)
-byte_there xs bytes at n k less place =
+byte_there xs bytes at n k less position =
     let long : at + n - at ≡ n = omega arith in
-    ap (λ (l : List ℕ). get_or l k 0) (place ∙ ap (λ m. take m (drop at bytes)) long) ∙ get_or-take n (drop at bytes) k 0 less ∙ get_or-drop at bytes k 0
+    ap (λ (l : List ℕ). get_or l k 0) (position ∙ ap (λ m. take m (drop at bytes)) long) ∙ get_or-take n (drop at bytes) k 0 less ∙ get_or-drop at bytes k 0

@@ -30,12 +30,12 @@ use Rattle.vcd_body.specs.Reads.{GaveItems}
 -- a timestamp, with no text, or a change
 abbrev pub IsPlain : List ℕ → Item → Type 0
 IsPlain text (Time t) = text ≡ []
-IsPlain text (Change place form) = Unit {0}
+IsPlain text (Change position form) = Unit {0}
 IsPlain text item = ⊥
 
 -- a change's code is one of these and has this size, as a look-up tells it; a timestamp has none
 abbrev pub IsSizedItem : List Code → Item → ℕ → Type 0
-IsSizedItem codes (Change place form) most = IsSized codes (record { place = place; most = most })
+IsSizedItem codes (Change position form) most = IsSized codes (record { position = position; most = most })
 IsSizedItem codes item most = most ≡ 0
 
 -- where there are bits, the item is a change by a vector, and the text is their digits
@@ -55,7 +55,7 @@ pub record PassBoth (codes : List IdCode) (earlier : List BodyPhrase) (first sec
 
 -- a token and that of the code that was found are the phrase of a change
 abbrev pub GivesBoth : List IdCode → ChangeForm → List ℕ → List ℕ → Found → Type 0
-GivesBoth codes form first second found = (c : IdCode) × (slice_get codes found.place ≡ Some c) × ((earlier : List BodyPhrase) → PassBoth codes earlier first second (BodyItem.Changes (record { code = c; form = form; text = drop 1 first })))
+GivesBoth codes form first second found = (c : IdCode) × (slice_get codes found.position ≡ Some c) × ((earlier : List BodyPhrase) → PassBoth codes earlier first second (BodyItem.Changes (record { code = c; form = form; text = drop 1 first })))
 
 -- The first n bytes ahead are whole phrases, each with one of these items, where the items before
 -- them are these. Whatever was given with those, the reading continues with these.

@@ -20,8 +20,8 @@ reads_failed result = 0
 
 -- a failed read is one of the input at this index
 abbrev pub NamesInput : {A : Type 0} → ℕ → Result A Stop → Type 0
-NamesInput place (Err (Read input)) = input ≡ place
-NamesInput place result = Unit {0}
+NamesInput position (Err (Read input)) = input ≡ position
+NamesInput position result = Unit {0}
 
 -- how many writes failed
 abbrev pub writes_failed : {A : Type 0} → Result A Stop → ℕ

@@ -24,8 +24,8 @@ use Rattle.vcd_body.specs.declared.item.Item.{Item}
 use Rattle.vcd_body.specs.declared.item.Regs.{Regs}
 
 -- a timestamp is taken where one may come
-abbrev pub ReadsMark : List ℕ → Regs → Result ℕ BodyFault → Type 0
-ReadsMark token r result = (codes : List IdCode) (earlier : List BodyPhrase) → AreRegsAfter (items_of earlier) r → MatchResult result (λ time. Passes codes earlier token (BodyItem.Time time) × (time_after (items_of earlier) ≤ time)) (Refuses codes earlier token)
+abbrev pub ReadsTimestamp : List ℕ → Regs → Result ℕ BodyFault → Type 0
+ReadsTimestamp token r result = (codes : List IdCode) (earlier : List BodyPhrase) → AreRegsAfter (items_of earlier) r → MatchResult result (λ time. Passes codes earlier token (BodyItem.Time time) × (time_after (items_of earlier) ≤ time)) (Refuses codes earlier token)
 
 -- the token has this fault, in each header that the view shows
 abbrev pub RefusesIn : HeadView → List ℕ → BodyFault → Type 0
@@ -65,7 +65,7 @@ ReadsComment old new result = (codes : List IdCode) (i : Input) (front : List To
 -- the code after a token that asks for one
 abbrev pub ReadsCode : {X : Type 0} {g : Ghosts X} → HeadView → (old new : Feed X g) → Result Found BodyFault → Type 0
 ReadsCode v old new result = (h : Header) (i : Input) (front : List Token) (placed : List (Placed BodyPhrase)) (first : List ℕ) → IsViewOf v h → AsksForCode h.codes (phrases_of placed) first → Reads h.codes i front placed (first ∷ []) old
-    → MatchResult result (λ found. (c : IdCode) × (slice_get h.codes found.place ≡ Some c) × (declared_code h.codes (token_of new).bytes ≡ Some c) × Looks h.codes i front placed (first ∷ []) new) (FailsAfter h.codes i front placed new)
+    → MatchResult result (λ found. (c : IdCode) × (slice_get h.codes found.position ≡ Some c) × (declared_code h.codes (token_of new).bytes ≡ Some c) × Looks h.codes i front placed (first ∷ []) new) (FailsAfter h.codes i front placed new)
 
 -- a change in this form, whose first token is the feed's
 abbrev pub ReadsRest : {X : Type 0} {g : Ghosts X} → HeadView → ChangeForm → (old new : Feed X g) → Result ℕ BodyFault → Type 0
@@ -74,7 +74,7 @@ ReadsRest v form old new result = (h : Header) (i : Input) (front : List Token) 
 
 -- the code of the change may have the text that was kept
 abbrev pub HasGoodValue : {X : Type 0} {g : Ghosts X} → HeadView → Form → Feed X g → Result ℕ BodyFault → Type 0
-HasGoodValue v form new result = IfOk result (λ place. IsGoodText v.codes.now place form (drop 1 (value_of new)))
+HasGoodValue v form new result = IfOk result (λ position. IsGoodText v.codes.now position form (drop 1 (value_of new)))
 
 -- a phrase that begins with a command, whose token is the feed's
 abbrev pub ReadsCommand : {X : Type 0} {g : Ghosts X} → (old new : Feed X g) → (r r' : Regs) → Result (Option Item) BodyFault → Type 0

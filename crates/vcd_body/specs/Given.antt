@@ -51,14 +51,14 @@ IsText RealText code text = (0 < length text) × (length text ≤ 64)
 
 -- the code at this index may have this text
 abbrev pub IsGoodText : List Code → ℕ → Form → List ℕ → Type 0
-IsGoodText codes place form text = (code : Code) × (slice_get codes place ≡ Some code) × IsText form code text
+IsGoodText codes position form text = (code : Code) × (slice_get codes position ≡ Some code) × IsText form code text
 
 -- a change is one of these codes, and this text is one that the code may have
 abbrev pub HasGoodText : List Code → List ℕ → Item → Type 0
 HasGoodText codes text (Time t) = Unit {0}
 HasGoodText codes text (Begin s) = Unit {0}
 HasGoodText codes text End = Unit {0}
-HasGoodText codes text (Change place form) = IsGoodText codes place form text
+HasGoodText codes text (Change position form) = IsGoodText codes position form text
 HasGoodText codes text Finish = Unit {0}
 
 -- the text of the item that was read last; a change alone has one
@@ -66,7 +66,7 @@ abbrev pub item_text : {X : Type 0} {g : Ghosts X} → Feed X g → Item → Lis
 item_text f (Time t) = []
 item_text f (Begin s) = []
 item_text f End = []
-item_text f (Change place form) = text_of form f
+item_text f (Change position form) = text_of form f
 item_text f Finish = []
 
 -- a change is one of these codes, and has a text that the code may have

@@ -34,12 +34,12 @@ pub record AreRegsAfter (items : List BodyItem) (r : Regs) : Type 0 where
   pub ended : count_by is_begin items ≡ count_by is_end_of_section items + cond (is_some r.section) 1 0
 
 -- a timestamp of this time may come after these items; or it has this fault
-pub record MayMark (r : Regs) (time : ℕ) : Type 0 where
+pub record AcceptsTimestamp (r : Regs) (time : ℕ) : Type 0 where
   pub outside : is_some r.section ≡ false
   pub forth : r.time ≤ time
 
-abbrev pub RefusesMark : Regs → ℕ → BodyFault → Type 0
-RefusesMark r time fault = ((fault ≡ TimeInSection) × (is_some r.section ≡ true)) ⊎ ((fault ≡ TimeBack) × (is_some r.section ≡ false) × (time < r.time))
+abbrev pub RefusesTimestamp : Regs → ℕ → BodyFault → Type 0
+RefusesTimestamp r time fault = ((fault ≡ TimeInSection) × (is_some r.section ≡ true)) ⊎ ((fault ≡ TimeBack) × (is_some r.section ≡ false) × (time < r.time))
 
 -- the registers after one item more
 abbrev pub regs_after : Regs → Item → Regs

@@ -68,9 +68,9 @@ value_at_size size (Text text) = Some (Value.Real text)
 
 -- the digit of a value at an index, from the left; none where it has none
 abbrev pub digit_in : Option Value → ℕ → Option ℕ
-digit_in None place = None
-digit_in (Some (Value.Bits ds)) place = slice_get ds place
-digit_in (Some (Value.Real text)) place = None
+digit_in None position = None
+digit_in (Some (Value.Bits ds)) position = slice_get ds position
+digit_in (Some (Value.Real text)) position = None
 
 -- its last digit
 abbrev pub last_digit_in : Option Value → Option ℕ

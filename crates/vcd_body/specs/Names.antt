@@ -32,7 +32,7 @@ pub use Rattle.vcd_view.specs.declared.view.HeadView.{HeadView}
 pub use Rattle.vcd_body.specs.Ahead.{GivesAhead, GivesToLast, HasBits, IsSizedItem}
 pub use Rattle.vcd_body.specs.Answer.{stop_of_body}
 pub use Rattle.vcd_body.specs.Binary.{binary_digits, bit_of, is_proper}
-pub use Rattle.vcd_body.specs.Calls.{EndsUnread, HasGoodValue, NeedsOneToken, OpensOrRefuses, ReadsCode, ReadsCommand, ReadsComment, ReadsInner, ReadsItem, ReadsMark, ReadsOne, ReadsRest, ReadsToken, RefusesIn, TakesToken}
+pub use Rattle.vcd_body.specs.Calls.{EndsUnread, HasGoodValue, NeedsOneToken, OpensOrRefuses, ReadsCode, ReadsCommand, ReadsComment, ReadsInner, ReadsItem, ReadsTimestamp, ReadsOne, ReadsRest, ReadsToken, RefusesIn, TakesToken}
 pub use Rattle.vcd_body.specs.Changes.{AreBinary, AreBinaryIf, AreBitsAt, IsBinaryAt, IsDigitAt, IsLowerAt, IsNeedless, bit_in, extended, id_line, line_under}
 pub use Rattle.vcd_body.specs.Contents.{ChangesCode, GivesShares, GivesText, GivesValue, IsLaidOut, KeepsTable, SetsCode, SetsNumber, bytes_in, codes_in, codes_shown, counts_at, held_at, is_chosen, kept_at, line_of, new_at, shown_as, value_in}
 pub use Rattle.vcd_body.specs.Counters.{count_of, counts_of}
@@ -42,13 +42,13 @@ pub use Rattle.vcd_body.specs.Held.{HasDigits, digits_of, held_in, held_or}
 pub use Rattle.vcd_body.specs.Id.{id_text}
 pub use Rattle.vcd_body.specs.Items.{AreRegsAfter, AreRegsWith, model_form, regs_after}
 pub use Rattle.vcd_body.specs.Kept.{AreTwo, Held, IsStep, Kept, are_two, as_chosen, bytes_for, counts_if, counts_with, differs, digit_in, goes_from, last_bit, last_digit_in, one_more, real_text, unset, value_at_size, with_change, with_held, with_number, with_number_change, with_step, with_text}
-pub use Rattle.vcd_body.specs.Lines.{IsDigitLine, IsFront, IsTextLine, LeavesFront, LeavesLine, LeavesShortest, LeavesText, MayBe, SpellsPlain}
+pub use Rattle.vcd_body.specs.Lines.{IsDigitLine, IsFront, IsTextLine, LeavesFront, LeavesLine, LeavesShortest, LeavesText, MayBe, SpellsScanned}
 pub use Rattle.vcd_body.specs.Packed.{ArePacked, HasFour, MayPack, code_among, code_of, code_or, digit_of, digits_in, four_codes, held_digit, quarter_of}
 pub use Rattle.vcd_body.specs.Reads.{AsksForCode, Begun, Fails, FailsAfter, GaveItems, Looks, OpensPhrase, Passes, PassesScalar, Reads, ReadsAll, ReadsChange, ReadsPhrase, Refuses}
-pub use Rattle.vcd_body.specs.Spelled.{HasChange, HasMark, HasPlaces, HasSpelled, Names, StandsAt, bytes_without, line_without}
+pub use Rattle.vcd_body.specs.Spelled.{HasChange, HasTimestamp, HasPlaces, HasSpelled, Names, StandsAt, bytes_without, line_without}
 pub use Rattle.vcd_body.specs.Steps.{ChangesRoomy, LeavesNumber, LeavesSteps, LeavesFlip, StepsTo, TellsStep, FlipsTo, counts_after, counts_plus, counts_plus_if, with_steps}
 pub use Rattle.vcd_body.specs.Stored.{AreLaidOut, ChangesAt, ChangesSlot, IsHeldAs, IsUnset, SlotsKeepLaid, end_at, held_from, held_line, least_bytes, len_of, one_digit, room_of, set_whole, share_from, share_of, some_by, start_of, state_in, used, whole}
-pub use Rattle.vcd_body.specs.Taken.{HasTime, IsChangeBy, IsFound, IsFoundScalar, LeavesRegs, Opens, OpensVector, TakesItem, TakesOpened, TakesOpenedMark}
+pub use Rattle.vcd_body.specs.Taken.{HasTime, IsChangeBy, IsFound, IsFoundScalar, LeavesRegs, Opens, OpensVector, TakesItem, TakesOpened, TakesOpenedTimestamp}
 pub use Rattle.vcd_body.specs.Values.{by_text, form_in, text_in, with_value, with_value_change}
 pub use Rattle.vcd_body.specs.Whole.{HoldsItem, IsPrompt}
 pub use Rattle.vcd_body.specs.Words.{Begins, IsScalar, StandsFor, command_is, is_comment, mark_time}

@@ -18,7 +18,7 @@ digit_of c = cond (c == 0) (byte "0") (cond (c == 1) (byte "1") (cond (c == 3) (
 
 -- the code of the digit at an index, 0 after the last
 abbrev pub code_or : List ℕ → ℕ → ℕ
-code_or text place = cond (nat_lt place (length text)) (code_of (get_or text place 0)) 0
+code_or text position = cond (nat_lt position (length text)) (code_of (get_or text position 0)) 0
 
 -- how long a quarter of n digits is
 abbrev pub quarter_of : ℕ → ℕ
@@ -26,26 +26,26 @@ quarter_of n = n / 4 + min 1 (n % 4)
 
 -- the byte at an index: the digits at that index of each quarter
 abbrev pub four_codes : List ℕ → ℕ → ℕ → ℕ
-four_codes text quarter place = code_or text place + 4 * code_or text (place + quarter) + 16 * code_or text (place + 2 * quarter) + 64 * code_or text (place + (length text - quarter))
+four_codes text quarter position = code_or text position + 4 * code_or text (position + quarter) + 16 * code_or text (position + 2 * quarter) + 64 * code_or text (position + (length text - quarter))
 
 -- the code at an index before the last quarter, of quarters of this length
 abbrev pub code_before : ℕ → List ℕ → ℕ → ℕ
-code_before quarter bytes place = cond (nat_lt place quarter) (get_or bytes place 0 % 4) (cond (nat_lt place (2 * quarter)) (get_or bytes (place - quarter) 0 / 4 % 4) (get_or bytes (place - 2 * quarter) 0 / 16 % 4))
+code_before quarter bytes position = cond (nat_lt position quarter) (get_or bytes position 0 % 4) (cond (nat_lt position (2 * quarter)) (get_or bytes (position - quarter) 0 / 4 % 4) (get_or bytes (position - 2 * quarter) 0 / 16 % 4))
 
 -- the code at an index of n digits
 abbrev pub code_among : ℕ → List ℕ → ℕ → ℕ
-code_among n bytes place = cond (nat_lt place (n - quarter_of n)) (code_before (quarter_of n) bytes place) (get_or bytes (place - (n - quarter_of n)) 0 / 64)
+code_among n bytes position = cond (nat_lt position (n - quarter_of n)) (code_before (quarter_of n) bytes position) (get_or bytes (position - (n - quarter_of n)) 0 / 64)
 
 -- the n digits that the first bytes hold
 abbrev pub digits_in : ℕ → List ℕ → List ℕ
-digits_in n bytes = map (λ place. digit_of (code_among n bytes place)) (range_with_len 0 n)
+digits_in n bytes = map (λ position. digit_of (code_among n bytes position)) (range_with_len 0 n)
 
 -- a share has those digits at an index, or at each before the end of a quarter
 abbrev pub HasFour : List ℕ → List ℕ → ℕ → ℕ → Type 0
-HasFour share text quarter place = get_or share place 0 ≡ four_codes text quarter place
+HasFour share text quarter position = get_or share position 0 ≡ four_codes text quarter position
 
 abbrev pub ArePacked : List ℕ → List ℕ → ℕ → Type 0
-ArePacked share text quarter = (place : ℕ) → place < quarter → HasFour share text quarter place
+ArePacked share text quarter = (position : ℕ) → position < quarter → HasFour share text quarter position
 
 -- a share has room for a byte of each quarter of a text, of 16 digits or more
 pub record MayPack (share text : List ℕ) (n : ℕ) : Type 0 where

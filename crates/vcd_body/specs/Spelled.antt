@@ -28,7 +28,7 @@ HasChange bytes from to RealText text code = (letter : ℕ) × (middle : ℕ) ×
 
 -- the code at this index has these bytes, in each header that the view shows
 abbrev pub Names : HeadView → ℕ → List ℕ → Type 0
-Names v place text = (h : Header) (c : IdCode) → IsViewOf v h → slice_get h.codes place ≡ Some c → c.text ≡ text
+Names v position text = (h : Header) (c : IdCode) → IsViewOf v h → slice_get h.codes position ≡ Some c → c.text ≡ text
 
 -- the text of the change is at one offset, and its code after it at another, up to the last byte
 pub record HasPlaces (bytes : List ℕ) (from to at code_at : ℕ) (text code : List ℕ) : Type 0 where
@@ -40,7 +40,7 @@ pub record HasPlaces (bytes : List ℕ) (from to at code_at : ℕ) (text code : 
   pub code_is : code ≡ slice_range bytes code_at (code_at + length code)
 
 -- the decimal digits of a timestamp are at this offset, up to the last byte
-pub record HasMark (bytes : List ℕ) (from to at time : ℕ) : Type 0 where
+pub record HasTimestamp (bytes : List ℕ) (from to at time : ℕ) : Type 0 where
   pub after : from < at
   pub before : at < to
   pub within : to ≤ length bytes
@@ -51,8 +51,8 @@ pub record HasMark (bytes : List ℕ) (from to at time : ℕ) : Type 0 where
 -- a change is there, with this text and with its code, at these offsets; or the digits of a
 -- timestamp
 abbrev pub HasSpelled : HeadView → List ℕ → ℕ → ℕ → ℕ → ℕ → List ℕ → Item → Type 0
-HasSpelled v bytes from to at code_at text (Time time) = HasMark bytes from to at time
-HasSpelled v bytes from to at code_at text (Change place form) = (code : List ℕ) × HasChange bytes from to form text code × Names v place code × HasPlaces bytes from to at code_at text code
+HasSpelled v bytes from to at code_at text (Time time) = HasTimestamp bytes from to at time
+HasSpelled v bytes from to at code_at text (Change position form) = (code : List ℕ) × HasChange bytes from to form text code × Names v position code × HasPlaces bytes from to at code_at text code
 HasSpelled v bytes from to at code_at text item = Unit {0}
 
 -- the bytes from one offset up to another, without this many after the first one
@@ -67,4 +67,4 @@ line_without bytes from to n = bytes_without bytes from (to - 1) n ++ 10 ∷ []
 -- a text is at an offset of these bytes
 pub record StandsAt (bytes : List ℕ) (at : ℕ) (text : List ℕ) : Type 0 where
   pub within : at ≤ length bytes
-  pub place : text ≡ slice_range bytes at (at + length text)
+  pub position : text ≡ slice_range bytes at (at + length text)

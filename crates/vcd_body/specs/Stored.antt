@@ -163,7 +163,7 @@ kept_in values slots shares code = option_map (kept_with values (end_at shares (
 
 -- of the code at an index is kept what f makes of it, and of the others what was kept
 abbrev pub ChangesAt : ℕ → (Kept → Kept) → List ℕ → List Slot → List Share → List ℕ → List Slot → List Share → Type 0
-ChangesAt code f values slots shares values' slots' shares' = (place : ℕ) → kept_in values' slots' shares' place ≡ cond (place == code) (option_map f (kept_in values slots shares place)) (kept_in values slots shares place)
+ChangesAt code f values slots shares values' slots' shares' = (position : ℕ) → kept_in values' slots' shares' position ≡ cond (position == code) (option_map f (kept_in values slots shares position)) (kept_in values slots shares position)
 
 -- a slot is changed so, and no share is: whatever the shares and the values are
 abbrev pub ChangesSlot : ℕ → (Kept → Kept) → List Slot → List Slot → Type 0

@@ -20,7 +20,7 @@ use Rattle.vcd_body.specs.Reads.{PassesScalar}
 use Rattle.vcd_body.specs.Spelled.{HasSpelled, Names}
 use Rattle.vcd_body.specs.Words.{Begins}
 use Rattle.vcd_body.specs.declared.ahead.Opening.{Opening}
-use Rattle.vcd_body.specs.declared.ahead.Plain.{Plain}
+use Rattle.vcd_body.specs.declared.ahead.ScannedItem.{ScannedItem}
 use Rattle.vcd_body.specs.declared.ahead.VectorTokens.{VectorTokens}
 use Rattle.vcd_body.specs.declared.item.Form.{Form}
 use Rattle.vcd_body.specs.declared.item.Form.TheVariants as form
@@ -48,28 +48,28 @@ pub record OpensVector (a a' : Ahead) (t : VectorTokens) : Type 0 where
 
 -- the code after a digit was found: the token is the change of this code, which may have the digit
 pub record IsFoundScalar (v : HeadView) (token : List ℕ) (found : Found) : Type 0 where
-  pub code : (h : Header) (earlier : List BodyPhrase) → IsViewOf v h → PassesScalar h.codes earlier token found.place
-  pub sound : IsGoodText v.codes.now found.place form.Scalar (take 1 token)
-  pub names : Names v found.place (drop 1 token)
+  pub code : (h : Header) (earlier : List BodyPhrase) → IsViewOf v h → PassesScalar h.codes earlier token found.position
+  pub sound : IsGoodText v.codes.now found.position form.Scalar (take 1 token)
+  pub names : Names v found.position (drop 1 token)
   pub sized : IsSized v.codes.now found
 
 -- the code that a token names was found, after that of a change's text in this form: the two are a
 -- phrase, and the code may have the text
 pub record IsFound (v : HeadView) (form : Form) (first second : List ℕ) (found : Found) : Type 0 where
   pub code : (h : Header) → IsViewOf v h → GivesBoth h.codes (model_form form) first second found
-  pub sound : IsGoodText v.codes.now found.place form (drop 1 first)
-  pub names : Names v found.place second
+  pub sound : IsGoodText v.codes.now found.position form (drop 1 first)
+  pub names : Names v found.position second
   pub sized : IsSized v.codes.now found
 
 -- an item was taken, from one position ahead to another, where the registers before it are these
-pub record TakesItem (v : HeadView) (a a' : Ahead) (r : Regs) (p : Plain) : Type 0 where
+pub record TakesItem (v : HeadView) (a a' : Ahead) (r : Regs) (p : ScannedItem) : Type 0 where
   -- it comes after the items given before and those taken ahead so far
   pub gives : (h : Header) (limit lines : ℕ) (bytes : List ℕ) (before items : List BodyItem) → IsViewOf v h → LooksOver limit bytes a → AreRegsAfter (before ++ items) r → GaveAhead h.codes limit lines bytes (passed_of a) before items
       → (x : BodyItem) × IsItem h.codes p.text.now p.item x × GaveAhead h.codes limit lines bytes (passed_of a') before (items ++ x ∷ []) × AreRegsAfter (before ++ (items ++ x ∷ [])) (regs_after r p.item)
   -- whatever the view is of, whole tokens were passed
   pub passes : (limit lines : ℕ) (bytes : List ℕ) (ts : List Token) → LooksOver limit bytes a → Passed limit lines bytes (passed_of a) ts → (more : List Token) × Passed limit lines bytes (passed_of a') (ts ++ more)
   pub sound : HasGoodText v.codes.now p.text.now p.item
-  pub plain : IsPlain p.text.now p.item
+  pub scanned : IsPlain p.text.now p.item
   pub sized : IsSizedItem v.codes.now p.item p.most
   pub bits : HasBits p.item p.text.now p.bits
   pub binary : AreBinaryIf p.binary p.text.now
@@ -82,18 +82,18 @@ pub record TakesItem (v : HeadView) (a a' : Ahead) (r : Regs) (p : Plain) : Type
   pub same : (bytes_of a' ≡ bytes_of a) × (longest_of a' ≡ longest_of a)
 
 -- an item is a change by this form
-abbrev pub IsChangeBy : Form → Plain → Type 0
-IsChangeBy form p = (place : ℕ) × (p.item ≡ Change place form)
+abbrev pub IsChangeBy : Form → ScannedItem → Type 0
+IsChangeBy form p = (position : ℕ) × (p.item ≡ Change position form)
 
 -- wherever its first token was taken from, up to the first of these positions, the item was taken
 -- from there up to the second, whatever the registers before it are
-abbrev pub TakesOpened : HeadView → (middle to : Ahead) → Opening → Plain → Type 0
+abbrev pub TakesOpened : HeadView → (middle to : Ahead) → Opening → ScannedItem → Type 0
 TakesOpened v middle to o p = (a : Ahead) (r : Regs) → Opens a middle o → TakesItem v a to r p
 
 -- a timestamp was taken, wherever its token was taken from, whatever the view is of
-abbrev pub TakesOpenedMark : Ahead → Regs → Opening → Plain → Type 0
-TakesOpenedMark to r o p = (a : Ahead) (v : HeadView) → Opens a to o → TakesItem v a to r p
+abbrev pub TakesOpenedTimestamp : Ahead → Regs → Opening → ScannedItem → Type 0
+TakesOpenedTimestamp to r o p = (a : Ahead) (v : HeadView) → Opens a to o → TakesItem v a to r p
 
 -- the registers are those after the item that was taken; with none they stay
-abbrev pub LeavesRegs : Regs → Regs → Option Plain → Type 0
+abbrev pub LeavesRegs : Regs → Regs → Option ScannedItem → Type 0
 LeavesRegs old new o = MatchOption o (new ≡ old) (λ p. new ≡ regs_after old p.item)

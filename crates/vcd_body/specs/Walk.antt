@@ -6,7 +6,7 @@ use Rattle.vcd_text.specs.declared.ahead.Ahead.{Ahead}
 use Rattle.vcd_text.specs.declared.device.WriteFailed.{WriteFailed}
 use Rattle.vcd_view.specs.declared.view.HeadView.{HeadView}
 use Rattle.vcd_body.specs.Taken.{TakesItem}
-use Rattle.vcd_body.specs.declared.ahead.Plain.{Plain}
+use Rattle.vcd_body.specs.declared.ahead.ScannedItem.{ScannedItem}
 use Rattle.vcd_body.specs.declared.item.Regs.{Regs}
 
 -- where a walk is: its position, the registers after the items so far, the visit and what it works
@@ -37,8 +37,8 @@ module _ {V C : Type 0} (takes : HeadView → Stage V C → Stage V C → Result
 
   -- one item more was taken ahead, and the visit has done with it what it does
   pub record TakesOne (v : HeadView) (s s' : Stage V C) (result : Result (Unit {0}) WriteFailed) : Type 0 where
-    pub plain : Plain
-    pub item : TakesItem v s.ahead s'.ahead s.regs plain
+    pub scanned : ScannedItem
+    pub item : TakesItem v s.ahead s'.ahead s.regs scanned
     pub did : takes v s s' result
     pub counts : Counts s.out s'.out result
     pub on : IfOk result (λ _. CanGoOn s')
@@ -53,8 +53,8 @@ module _ {V C : Type 0} (takes : HeadView → Stage V C → Stage V C → Result
 
   -- a timestamp was taken, with which nothing is written, where there is a result; else nothing has
   -- changed
-  abbrev pub MayTakeMark : HeadView → (Device → Stage V C) → (Device → Stage V C) → Option (Unit {0}) → Type 0
-  MayTakeMark v s s' result = MatchOption result ((out : Device) → s' out ≡ s out) (λ _. (out : Device) → TakesOne v (s out) (s' out) (Ok tt))
+  abbrev pub MayTakeTimestamp : HeadView → (Device → Stage V C) → (Device → Stage V C) → Option (Unit {0}) → Type 0
+  MayTakeTimestamp v s s' result = MatchOption result ((out : Device) → s' out ≡ s out) (λ _. (out : Device) → TakesOne v (s out) (s' out) (Ok tt))
 
   -- one item more was taken, by a view of the header
   abbrev pub TakesShown : (HeadView → Type 0) → Stage V C → Stage V C → Result (Unit {0}) WriteFailed → Type 0

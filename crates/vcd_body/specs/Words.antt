@@ -13,7 +13,7 @@ use Rattle.vcd_body.specs.Items.{model_section}
 use Rattle.vcd_body.specs.declared.words.KeywordUse.{KeywordUse}
 use Rattle.vcd_body.specs.declared.words.KeywordUse.TheVariants.{Comment, Begin, End, OfHeader}
 use Rattle.vcd_body.specs.declared.words.PhraseKind.{PhraseKind}
-use Rattle.vcd_body.specs.declared.words.PhraseKind.TheVariants.{Mark, Bit, Scalar, Vector, Real, Other}
+use Rattle.vcd_body.specs.declared.words.PhraseKind.TheVariants.{Timestamp, Bit, Scalar, Vector, Real, Other}
 
 -- the whole token is `$comment`
 abbrev pub is_comment : List ℕ → Bool
@@ -72,7 +72,7 @@ mark_time token = cond (is_decimal (drop 1 token) && nat_lt (decimal_value (drop
 
 -- the token begins so
 abbrev pub Begins : List ℕ → PhraseKind → Type 0
-Begins token Mark = (digits : List ℕ) × (token ≡ byte "#" ∷ digits)
+Begins token Timestamp = (digits : List ℕ) × (token ≡ byte "#" ∷ digits)
 Begins token Bit = (d : ℕ) × (code : List ℕ) × IsTrue (is_either (byte "0") (byte "1") d) × (token ≡ d ∷ code)
 Begins token Scalar = (d : ℕ) × (code : List ℕ) × IsTrue (is_value_digit d) × (is_either (byte "0") (byte "1") d ≡ false) × (token ≡ d ∷ code)
 Begins token Vector = (b : ℕ) × (digits : List ℕ) × IsTrue (is_either (byte "b") (byte "B") b) × (token ≡ b ∷ digits)

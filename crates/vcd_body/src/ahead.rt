@@ -1,6 +1,6 @@
 // Items whose tokens are whole ahead in the chunk: most cost no change of the feed.
 ghost use Rattle.std.specs.Prelude.{◌≡◌, ◌⊎◌, ℕ, ◌+◌, ◌-◌, ◌^◌, ◌<◌, ◌≤◌, List, [], drop, length, slice_get, slice_range, false, true, is_some, None, Some, IfOk, IfSome};
-ghost use Rattle.vcd_body.specs.Names.{Advances, AreBinaryIf, AreWhite, Begins, CallEnd, GivesAhead, GivesToLast, HasMark, HasTime, HoldsItem, IsChangeBy, IsFound, IsFoundScalar, IsPrompt, IsRun, IsScalar, LeavesRegs, MayBe, Opens, OpensVector, Passed, Puts, TakesItem, TakesOpened, TakesOpenedMark, Token, ahead_of, binary_digits, byte, bytes_of, limit_of, lines_of, longest_of, passed_of, seen, source_of};
+ghost use Rattle.vcd_body.specs.Names.{Advances, AreBinaryIf, AreWhite, Begins, CallEnd, GivesAhead, GivesToLast, HasTimestamp, HasTime, HoldsItem, IsChangeBy, IsFound, IsFoundScalar, IsPrompt, IsRun, IsScalar, LeavesRegs, MayBe, Opens, OpensVector, Passed, Puts, TakesItem, TakesOpened, TakesOpenedTimestamp, Token, ahead_of, binary_digits, byte, bytes_of, limit_of, lines_of, longest_of, passed_of, seen, source_of};
 ghost use Rattle.vcd_body.specs.declared.item.Form.TheVariants as form;
 ghost use Rattle.vcd_body.specs.declared.item.Item.TheVariants as item;
 ghost use Rattle.vcd_body.specs.declared.words.PhraseKind.TheVariants as kind;
@@ -13,12 +13,12 @@ use crate::words::{
     kind_of, rest_of,
 };
 use vcd_text::{Ahead, Feed, Sink, Source, WriteFailed, decimal_at};
-use vcd_view::{Found, HeadView, find_at_once, find_sized};
+use vcd_view::{Found, HeadView, find_in_own_entry, find_sized};
 
-/// An item that was taken ahead. The fields other than `item` and `at` are those of a change; for a
-/// timestamp they are empty.
+/// An item that was taken ahead. A timestamp has no text, no size and no `bits`, and its `code_at`
+/// is its `at`.
 #[derive(Clone, Copy)]
-pub struct Plain<'a> {
+pub struct ScannedItem<'a> {
     /// A timestamp or a change.
     pub item: Item,
     /// The text of a change; none for a timestamp.
@@ -40,9 +40,9 @@ pub struct Plain<'a> {
     pub binary: bool,
 }
 
-impl Plain<'_> {
-    /// Returns the size in bits of a change's code; none of an event, where the look-up did not
-    /// give it, and of a timestamp.
+impl ScannedItem<'_> {
+    /// Returns the size in bits of a change's code. `None` where `most` is 0: for an event, for a
+    /// timestamp, for a size that 32 bits do not hold, and where the size is not known.
     #[inline(always)]
     pub fn size(self) -> Option<usize>
         ensures told { IfSome result (λ size. (size ≡ self.entry.most) × (0 < size)) }
@@ -66,9 +66,9 @@ fn change_of(
     begin: usize,
     at: usize,
     code_at: usize,
-) -> Plain<'_>
+) -> ScannedItem<'_>
     ensures { result ≡ record {
-      item = item.Change found.place form;
+      item = item.Change found.position form;
       text = text.entry;
       most = found.most;
       begin = begin;
@@ -78,9 +78,9 @@ fn change_of(
       binary = binary;
     } }
 {
-    Plain {
+    ScannedItem {
         item: Item::Change {
-            code: found.place,
+            code: found.position,
             form,
         },
         text,
@@ -93,18 +93,18 @@ fn change_of(
     }
 }
 
-/// Returns a timestamp, which begins at this offset. The fields of a change are empty.
+/// Returns a timestamp, which begins at this offset. It has no text, no size and no `bits`.
 #[inline(always)]
-fn mark_of<'a>(time: u64, begin: usize) -> Plain<'a>
+fn timestamp_of<'a>(time: u64, begin: usize) -> ScannedItem<'a>
     requires { begin + 1 < 2 ^ 64 }
     ensures item { result.item ≡ item.Time time }
     ensures text { result.text.now ≡ [] }
     ensures most { result.most ≡ 0 }
-    ensures places { (result.begin ≡ begin) × (result.at ≡ begin + 1) }
+    ensures positions { (result.begin ≡ begin) × (result.at ≡ begin + 1) }
     ensures bits { result.bits ≡ None }
     ensures binary { result.binary ≡ false }
 {
-    Plain {
+    ScannedItem {
         item: Item::Time(time),
         text: &[],
         most: 0,
@@ -153,8 +153,8 @@ pub(crate) struct Opening<'a> {
     /// What the token begins.
     pub(crate) kind: PhraseKind,
     pub(crate) token: &'a [u8],
-    // Whether `line_mark` gave it, in a loop that makes no call for a mark.
-    pub(crate) inlined: bool,
+    // Whether `line_timestamp` gave it: in its loop a timestamp is accepted without a call.
+    pub(crate) from_lines: bool,
 }
 
 /// Returns the next token ahead, with what it begins; none where the look-ahead gives none.
@@ -169,7 +169,7 @@ pub(crate) fn opening_ahead<'a>(ahead: &mut Ahead<'a>) -> Option<Opening<'a>>
     Some(Opening {
         kind: kind_by(token[0]),
         token,
-        inlined: false,
+        from_lines: false,
     })
 }
 
@@ -184,29 +184,29 @@ fn short_opening<'a>(ahead: &mut Ahead<'a>) -> Option<Opening<'a>>
     Some(Opening {
         kind: kind_by(token[0]),
         token,
-        inlined: false,
+        from_lines: false,
     })
 }
 
 /// Returns the next token ahead where it begins a timestamp, if it begins right here, has at most
 /// 15 bytes and a line feed after them. Else `opening_ahead` may give one, and nothing has changed.
 #[inline(always)]
-pub(crate) fn line_mark<'a>(ahead: &mut Ahead<'a>) -> Option<Opening<'a>>
+pub(crate) fn line_timestamp<'a>(ahead: &mut Ahead<'a>) -> Option<Opening<'a>>
     ensures opens { IfSome result (λ o. Opens ahead.old ahead.new o) }
-    ensures kind { IfSome result (λ o. o.kind ≡ kind.Mark) }
+    ensures kind { IfSome result (λ o. o.kind ≡ kind.Timestamp) }
     ensures stays { result ≡ None → ahead.new ≡ ahead.old }
 {
     let mut next = *ahead;
-    let token = next.next_near()?;
+    let token = next.next_in_16()?;
     let kind = kind_by(token[0]);
-    let PhraseKind::Mark = kind else {
+    let PhraseKind::Timestamp = kind else {
         return None;
     };
     *ahead = next;
     Some(Opening {
         kind,
         token,
-        inlined: true,
+        from_lines: true,
     })
 }
 
@@ -219,14 +219,14 @@ fn begin_of(token: &[u8], ahead: Ahead<'_>) -> usize
     ahead.passed() - 1 - token.len()
 }
 
-/// Returns the change that a digit with its code right after it is. The look-ahead is after their
-/// token. None where it is no such change.
+/// Returns the change whose token the look-ahead is right after: a digit and its code. None where
+/// no code comes after the digit, and where the header has no such code.
 #[inline(always)]
 pub(crate) fn scalar_ahead<'a>(
     opening: Opening<'a>,
     ahead: Ahead<'a>,
     view: HeadView<'_>,
-) -> Option<Plain<'a>>
+) -> Option<ScannedItem<'a>>
     requires opens { (a : Ahead) × Opens a ahead opening }
     requires kind { (opening.kind ≡ kind.Bit) ⊎ (opening.kind ≡ kind.Scalar) }
     ensures takes { IfSome result (TakesOpened view.entry ahead.entry ahead.entry opening.entry) }
@@ -249,7 +249,7 @@ fn short_code(token: &[u8], view: HeadView<'_>) -> Option<Found>
     if code.is_empty() {
         return None;
     }
-    let found = find_at_once(view, code)?;
+    let found = find_in_own_entry(view, code)?;
     Some(found)
 }
 
@@ -258,9 +258,9 @@ fn short_code(token: &[u8], view: HeadView<'_>) -> Option<Found>
 /// then nothing has changed.
 // No call is made, so that a loop over such changes keeps all that it needs in registers.
 #[inline(always)]
-pub(crate) fn short_ahead<'a>(ahead: &mut Ahead<'a>, view: HeadView<'_>) -> Option<Plain<'a>>
+pub(crate) fn short_ahead<'a>(ahead: &mut Ahead<'a>, view: HeadView<'_>) -> Option<ScannedItem<'a>>
     ensures takes { IfSome result
-        (λ plain. (r : Regs) → TakesItem view.entry ahead.old ahead.new r plain) }
+        (λ scanned. (r : Regs) → TakesItem view.entry ahead.old ahead.new r scanned) }
     ensures form { IfSome result (IsChangeBy form.Scalar) }
     ensures stays { result ≡ None → ahead.new ≡ ahead.old }
 {
@@ -283,12 +283,12 @@ pub(crate) fn two_short_lines_come(ahead: Ahead<'_>) -> bool
     ensures { result ≡ true
         → IsRun (longest_of ahead.entry) (bytes_of ahead.entry) (passed_of ahead.entry) 2 }
 {
-    if !ahead.has_short() {
+    if !ahead.two_byte_line_comes() {
         return false;
     }
     let mut next = ahead;
     let _ = next.next_short();
-    next.has_short()
+    next.two_byte_line_comes()
 }
 
 /// Returns whether a short line comes, and then another one or a timestamp.
@@ -299,11 +299,12 @@ pub(crate) fn short_lines_come(ahead: Ahead<'_>) -> bool
         → IsRun (longest_of ahead.entry) (bytes_of ahead.entry) (passed_of ahead.entry) 2 }
 {
     let rest = &ahead.bytes()[ahead.passed()..];
-    two_short_lines_come(ahead) || (ahead.has_short() && matches!(rest.get(3), Some(b'#')))
+    two_short_lines_come(ahead)
+        || (ahead.two_byte_line_comes() && matches!(rest.get(3), Some(b'#')))
 }
 
-/// Returns whether the next token ahead begins with `$`, as a keyword does. Then no item lies ahead
-/// of it.
+/// Returns whether the next token ahead begins with `$`, as a keyword does. Then only white bytes
+/// come before it, and no item.
 // Asked before a loop over items ahead, since no such loop takes a keyword: without this, and with
 // `token_len` of the feed and `command_of` not inlined, `check` of `$dumpon` and `$end` in turn
 // takes 2.5 times as many instructions.
@@ -329,7 +330,7 @@ pub fn item_comes(ahead: Ahead<'_>) -> bool
         return false;
     };
     match kind_of(token) {
-        PhraseKind::Bit | PhraseKind::Scalar | PhraseKind::Mark => true,
+        PhraseKind::Bit | PhraseKind::Scalar | PhraseKind::Timestamp => true,
         PhraseKind::Vector | PhraseKind::Real => next.next_slowly().is_some(),
         PhraseKind::Other => !is_comment(token),
     }
@@ -352,13 +353,13 @@ pub fn pass_on<S: Source, W: Sink>(
     out.pass_on()
 }
 
-/// The tokens of a vector's change, which were taken ahead: one that a `b` and digits begin, and
-/// the code.
+/// The two tokens of a vector's change, which were taken ahead: one that begins with `b` or `B`,
+/// and the next one. Whether they are digits and a code of the header is still to be asked.
 #[derive(Clone, Copy)]
 pub(crate) struct VectorTokens<'a> {
     pub(crate) token: &'a [u8],
     pub(crate) code: &'a [u8],
-    // Where the digits begin.
+    // Where the first token begins, with its `b`: the digits begin one byte later.
     pub(crate) at: usize,
     pub(crate) code_at: usize,
 }
@@ -389,11 +390,12 @@ pub(crate) fn vector_tokens_ahead<'a>(
 }
 
 /// Returns a vector's digits as a number, if they are 1 to 32, each `0` or `1`, and `bytes` has 32
-/// bytes from the first digit on.
+/// bytes from the first digit on. `bytes` are those ahead. `None` says nothing of the digits: then
+/// `vector_ahead` looks at them.
 #[inline(always)]
 pub(crate) fn vector_bits(tokens: VectorTokens<'_>, bytes: &[u8]) -> Option<Bits>
     requires within { tokens.at + length tokens.token.now ≤ length bytes.now }
-    requires place { tokens.token.now
+    requires position { tokens.token.now
         ≡ slice_range bytes.now tokens.at (tokens.at + length tokens.token.now) }
     requires begins { Begins tokens.token.now kind.Vector }
     ensures { IfSome result (λ b. drop 1 tokens.entry.token.now ≡ binary_digits b.len b.number) }
@@ -409,11 +411,11 @@ pub(crate) fn vector_ahead<'a>(
     bits: Option<Bits>,
     ahead: Ahead<'a>,
     view: HeadView<'_>,
-) -> Option<Plain<'a>>
+) -> Option<ScannedItem<'a>>
     requires opens { (a : Ahead) × OpensVector a ahead tokens }
     requires bits { MayBe bits (drop 1 tokens.token.now) }
-    ensures takes { IfSome result (λ plain. (a : Ahead) (r : Regs)
-        → OpensVector a ahead.entry tokens.entry → TakesItem view.entry a ahead.entry r plain) }
+    ensures takes { IfSome result (λ scanned. (a : Ahead) (r : Regs)
+        → OpensVector a ahead.entry tokens.entry → TakesItem view.entry a ahead.entry r scanned) }
     ensures form { IfSome result (IsChangeBy form.Vector) }
 {
     let digits = after_first(tokens.token);
@@ -438,7 +440,7 @@ pub(crate) fn real_ahead<'a>(
     opening: Opening<'a>,
     ahead: &mut Ahead<'a>,
     view: HeadView<'_>,
-) -> Option<Plain<'a>>
+) -> Option<ScannedItem<'a>>
     requires opens { (a : Ahead) × Opens a ahead.old opening }
     requires kind { opening.kind ≡ kind.Real }
     ensures takes { IfSome result (TakesOpened view.entry ahead.old ahead.new opening.entry) }
@@ -477,29 +479,29 @@ pub(crate) fn time_ahead<'a>(opening: Opening<'a>, ahead: Ahead<'a>) -> Option<u
 /// Returns the timestamp that a token spells, and sets the registers to those after it. None where
 /// no such timestamp may come here; then nothing has changed.
 #[inline(always)]
-pub(crate) fn mark_ahead<'a>(
+pub(crate) fn timestamp_ahead<'a>(
     opening: Opening<'a>,
     time: u64,
     ahead: Ahead<'a>,
     regs: &mut Regs,
-) -> Option<Plain<'a>>
+) -> Option<ScannedItem<'a>>
     requires opens { (a : Ahead) × Opens a ahead opening }
-    requires kind { opening.kind ≡ kind.Mark }
+    requires kind { opening.kind ≡ kind.Timestamp }
     requires time { HasTime opening time }
-    ensures takes { IfSome result (TakesOpenedMark ahead.entry regs.old opening.entry) }
-    ensures time { IfSome result (λ plain. plain.item ≡ item.Time time) }
+    ensures takes { IfSome result (TakesOpenedTimestamp ahead.entry regs.old opening.entry) }
+    ensures time { IfSome result (λ scanned. scanned.item ≡ item.Time time) }
 
     // Its digits are those of the bytes that were passed with it.
-    ensures spelled { IfSome result (λ plain. (a : Ahead) → Opens a ahead.entry opening.entry
-        → HasMark (bytes_of a) (passed_of a) (passed_of ahead.entry) plain.at time) }
+    ensures spelled { IfSome result (λ scanned. (a : Ahead) → Opens a ahead.entry opening.entry
+        → HasTimestamp (bytes_of a) (passed_of a) (passed_of ahead.entry) scanned.at time) }
     ensures none { result ≡ None
         → (is_some regs.old.section ≡ true) ⊎ (time < regs.old.time) }
     ensures regs { LeavesRegs regs.old regs.new result }
 {
-    match regs.accept_mark_by(time, !opening.inlined) {
+    match regs.accept_timestamp_by(time, !opening.from_lines) {
         Ok(()) => {
             let begin = begin_of(opening.token, ahead);
-            Some(mark_of(time, begin))
+            Some(timestamp_of(time, begin))
         }
         Err(_) => None,
     }

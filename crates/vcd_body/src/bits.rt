@@ -32,8 +32,8 @@ impl Bits {
     }
 }
 
-/// Returns the digits as a slot holds them: their number, and how many they are as the number of a
-/// state.
+/// Returns binary digits as a slot holds them: the number that they write, and the tag of
+/// `State::Bits` with their count.
 #[inline(always)]
 #[tactic(auto, using(crate::proofs::StoreLemmas::many_bits))]
 pub(crate) fn held_bits(bits: Bits) -> (u32, u8)
@@ -44,7 +44,8 @@ pub(crate) fn held_bits(bits: Bits) -> (u32, u8)
     (bits.number as u32, bits.len as u8 + BITS)
 }
 
-/// Returns how many binary digits are held.
+/// Returns how many binary digits a slot in `State::Bits` holds, at most 32. In any other state the
+/// result says nothing.
 #[inline(always)]
 pub(crate) fn count_in(holding: Holding) -> usize
     ensures { result ≡ count_in (len_of holding) }
@@ -52,7 +53,7 @@ pub(crate) fn count_in(holding: Holding) -> usize
     (holding.upper as usize).min(32)
 }
 
-/// Returns their number.
+/// Returns the number that the binary digits of a slot in `State::Bits` write.
 #[inline(always)]
 fn number_in(holding: Holding) -> usize
     ensures { result ≡ number_in (len_of holding) }
@@ -60,7 +61,8 @@ fn number_in(holding: Holding) -> usize
     holding.lower as usize
 }
 
-/// Returns whether they are some, and the number has no others.
+/// Returns whether at least one binary digit is held, and the number has no more digits than are
+/// held: it is below 2 to the power of their count.
 #[inline(always)]
 pub(crate) fn is_proper(holding: Holding) -> bool
     ensures { result ≡ is_proper (len_of holding) }
@@ -113,8 +115,8 @@ pub(crate) fn put_digits(bits: Bits, to: &mut [u8])
     }
 }
 
-/// Returns whether a slot holds binary digits, and neither these nor those are more than the size:
-/// so both make values of as many digits.
+/// Returns whether a slot holds binary digits, and neither they nor those of `bits` are more than
+/// `size`: then both make values of `size` digits.
 #[inline(always)]
 #[tactic(auto, using(crate::proofs::StoreLemmas::many_bits))]
 pub(crate) fn is_number_step(slot: &Slot, size: usize, bits: Bits) -> bool

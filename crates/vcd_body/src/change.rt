@@ -6,14 +6,15 @@ use crate::item::Form;
 use crate::words::rest_of;
 use vcd_text::{Sink, WriteFailed, put};
 
-// Returns what digits that begin with this one, in lower case, are extended by.
+// Returns the digit by which digits that begin with `digit`, in lower case, are extended on the
+// left: `0` for a `1`, else the same digit.
 pub(crate) fn extension_of(digit: u8) -> u8
     ensures { result ≡ extension (digit ∷ []) }
 {
     if digit == b'1' { b'0' } else { digit }
 }
 
-// Returns what a value that begins with this digit is extended by.
+// Returns the digit in lower case by which digits that begin with `digit` are extended on the left.
 pub(crate) fn extended_by(digit: u8) -> u8
     ensures { result ≡ extension (lower digit ∷ []) }
 {
@@ -98,7 +99,7 @@ pub(crate) fn put_end<W: Sink>(w: &mut W, first: u8, id: &[u8]) -> Result<(), Wr
     put(w, b"\n")
 }
 
-// Writes a change of all of these digits, as of a code of one bit.
+// Writes the line of a code of one bit: all of `digits` in lower case, then `id`.
 #[cold]
 #[inline(never)]
 fn put_all<W: Sink>(w: &mut W, digits: &[u8], id: &[u8]) -> Result<(), WriteFailed>
@@ -134,7 +135,8 @@ pub(crate) fn put_shortest<W: Sink>(w: &mut W, digits: &[u8]) -> Result<(), Writ
     put_lower(w, shortest(digits))
 }
 
-// Writes a change of an event, of a real number, or of all of these digits.
+// Writes the line of a change that is rare: of an event, of a real number, or of digits after `b`
+// for a code of one bit. Where a write fails, a prefix was written.
 pub(crate) fn put_rare<W: Sink>(
     event: bool,
     form: Form,

@@ -54,7 +54,7 @@ pub struct Regs {
 
 impl Regs {
     ghost use Rattle.std.specs.Prelude.{◌≡◌, [], false, None, MatchResult};
-    ghost use Rattle.vcd_body.specs.Items.{AreRegsAfter, AreRegsWith, MayMark, RefusesMark};
+    ghost use Rattle.vcd_body.specs.Items.{AreRegsAfter, AreRegsWith, AcceptsTimestamp, RefusesTimestamp};
 
     /// Returns what is known before the first item.
     pub fn new() -> Regs
@@ -74,30 +74,30 @@ impl Regs {
     // so `cut` of scalars before its window takes 6 % less. `take_lines` does not call it: with a
     // call `check` takes 5 % more.
     #[inline(never)]
-    pub(crate) fn accept_mark(&mut self, time: u64) -> Result<(), BodyFault>
-        ensures may { MatchResult result (λ _. MayMark self.old time) (RefusesMark self.old time) }
+    pub(crate) fn accept_timestamp(&mut self, time: u64) -> Result<(), BodyFault>
+        ensures may { MatchResult result (λ _. AcceptsTimestamp self.old time) (RefusesTimestamp self.old time) }
         ensures regs { AreRegsWith (λ _. Item.Time time) self.old self.new result }
     {
-        self.accept_mark_here(time)
+        self.accept_timestamp_here(time)
     }
 
-    /// Takes a timestamp as `accept_mark` does, in a call where `call` says so.
+    /// Takes a timestamp as `accept_timestamp` does, in a call where `call` says so.
     #[inline(always)]
-    pub(crate) fn accept_mark_by(&mut self, time: u64, call: bool) -> Result<(), BodyFault>
-        ensures may { MatchResult result (λ _. MayMark self.old time) (RefusesMark self.old time) }
+    pub(crate) fn accept_timestamp_by(&mut self, time: u64, call: bool) -> Result<(), BodyFault>
+        ensures may { MatchResult result (λ _. AcceptsTimestamp self.old time) (RefusesTimestamp self.old time) }
         ensures regs { AreRegsWith (λ _. Item.Time time) self.old self.new result }
     {
         if call {
-            self.accept_mark(time)
+            self.accept_timestamp(time)
         } else {
-            self.accept_mark_here(time)
+            self.accept_timestamp_here(time)
         }
     }
 
-    /// Takes a timestamp as `accept_mark` does, without a call.
+    /// Takes a timestamp as `accept_timestamp` does, without a call.
     #[inline(always)]
-    fn accept_mark_here(&mut self, time: u64) -> Result<(), BodyFault>
-        ensures may { MatchResult result (λ _. MayMark self.old time) (RefusesMark self.old time) }
+    fn accept_timestamp_here(&mut self, time: u64) -> Result<(), BodyFault>
+        ensures may { MatchResult result (λ _. AcceptsTimestamp self.old time) (RefusesTimestamp self.old time) }
         ensures regs { AreRegsWith (λ _. Item.Time time) self.old self.new result }
     {
         if self.section.is_some() {

@@ -33,7 +33,7 @@
 //! ended. Who calls it folds the trail into a relation of its own.
 //!
 //! `HasSpelled view bytes from to text item` says by which bytes a change that was taken ahead is
-//! spelled: those that were passed with it, or those from its first byte on (`Plain.begin`).
+//! spelled: those that were passed with it, or those from its first byte on (`ScannedItem.begin`).
 //! `left_out` asks for it, and `put_renamed_ahead` for what it says of a change.
 //!
 //! `kept_at t code` is what is kept of the code at an index. A call of a table changes what is kept
@@ -43,7 +43,7 @@
 //!
 //! - `read`: `next_item`, `change_text`
 //! - `walk`: `walk_ahead`, `Visit`, `Viewed`, `Extent`: the loop over the items ahead
-//! - `ahead`: an item ahead, by what it begins with; `Plain`, `item_comes`, `pass_on`,
+//! - `ahead`: an item ahead, by what it begins with; `ScannedItem`, `item_comes`, `pass_on`,
 //!   `pass_items`
 //! - `phrases`, `tokens`, `words`: phrases by what they begin with; the next token; what a token
 //!   is, by its first byte
@@ -107,13 +107,13 @@ mod value;
 mod walk;
 mod words;
 
-pub use ahead::{Plain, item_comes, keyword_comes, pass_items, pass_on};
+pub use ahead::{ScannedItem, item_comes, keyword_comes, pass_items, pass_on};
 pub use answer::{Done, More, Stop};
 pub use bits::Bits;
 pub use fault::BodyFault;
 pub use id::{Id, put_change};
 pub use item::{Form, Item, Regs, Section};
-pub use lines::{is_mark_line, left_out, left_out_before_last};
+pub use lines::{is_timestamp_line, left_out, left_out_before_last};
 pub use read::{change_text, next_item};
 pub use renamed::{put_renamed, put_renamed_ahead};
 pub use slot::{Share, Shown, Slot};

@@ -1,8 +1,8 @@
 // Changes whose bytes in the chunk are the line that would be written.
 ghost use Rattle.std.specs.Prelude.{◌≡◌, ◌≢◌, ℕ, ◌+◌, ◌-◌, ◌^◌, ◌<◌, ◌≤◌, List, [], true, false, drop, length, slice_index, slice_range, Some, IfSome};
-ghost use Rattle.vcd_body.specs.Names.{AreBinaryIf, BodyItem, HasChange, HasMark, HasPlaces, HeadView, Header, IsDigitLine, IsItem, IsLowerAt, IsNeedless, IsSizedItem, IsTextLine, IsViewOf, LeavesFront, LeavesLine, LeavesShortest, LeavesText, SpellsPlain, StandsAt, bit_at, byte, bytes_without, extend, extended, is_white_space, item_line, line_without, short, str_to_ascii_lowercase, time_line, to_ascii_lowercase as lower};
+ghost use Rattle.vcd_body.specs.Names.{AreBinaryIf, BodyItem, HasChange, HasTimestamp, HasPlaces, HeadView, Header, IsDigitLine, IsItem, IsLowerAt, IsNeedless, IsSizedItem, IsTextLine, IsViewOf, LeavesFront, LeavesLine, LeavesShortest, LeavesText, SpellsScanned, StandsAt, bit_at, byte, bytes_without, extend, extended, is_white_space, item_line, line_without, short, str_to_ascii_lowercase, time_line, to_ascii_lowercase as lower};
 
-use crate::ahead::Plain;
+use crate::ahead::ScannedItem;
 use crate::change::{extension_of, may_have_capital, shortest};
 use crate::item::{Form, Item};
 use std::simd::prelude::*;
@@ -28,7 +28,8 @@ fn are_lower_at(bytes: &[u8], at: usize, n: usize) -> bool
     capitals_32(bytes, at) & ((1 << n) - 1) == 0
 }
 
-// Not inlined, so that the short way of `are_lower` stays small.
+// Returns true only where all of these digits are in lower case. Not inlined, so that the short way
+// of `are_lower` stays small.
 #[inline(never)]
 fn are_all_lower(digits: &[u8]) -> bool
     ensures { result ≡ true → str_to_ascii_lowercase digits.now ≡ digits.now }
@@ -93,7 +94,7 @@ fn has_one_blank(
 ) -> bool
     requires spelled { (code : List ℕ) × HasChange bytes.now from to Form.Vector text.now code }
     requires letter { is_white_space first ≡ false }
-    ensures place { result ≡ true
+    ensures position { result ≡ true
         → text.now ≡ slice_range bytes.now (from + 1) (from + 1 + length text.now) }
     ensures line { result ≡ true → IsTextLine bytes.now from to first text.now code_at }
 {
@@ -228,26 +229,26 @@ fn left_out_of_vector(
 /// and a line feed comes after it.
 #[inline(always)]
 fn left_out_of_text(
-    plain: Plain<'_>,
+    scanned: ScannedItem<'_>,
     form: Form,
     size: usize,
     bytes: &[u8],
     from: usize,
     to: usize,
 ) -> Option<usize>
-    requires { (code : List ℕ) × HasChange bytes.now from to form plain.text.now code }
+    requires { (code : List ℕ) × HasChange bytes.now from to form scanned.text.now code }
     ensures { IfSome result (LeavesText bytes.now from to size form
-        plain.entry.text.now plain.entry.binary plain.entry.code_at) }
+        scanned.entry.text.now scanned.entry.binary scanned.entry.code_at) }
 {
-    let text = plain.text;
-    let code_at = plain.code_at;
+    let text = scanned.text;
+    let code_at = scanned.code_at;
     match form {
         Form::Vector if size > 1 => left_out_of_vector(
             bytes,
             from,
             to,
             text,
-            plain.binary,
+            scanned.binary,
             code_at,
         ),
         Form::RealText if has_one_blank(bytes, from, to, b'r', text, code_at) => Some(0),
@@ -260,44 +261,49 @@ fn left_out_of_text(
 /// has more than it needs. The item has the bytes from `from` up to `to`. Where the result is none,
 /// its bytes may be the line all the same.
 #[inline(always)]
-pub fn left_out(plain: Plain<'_>, bytes: &[u8], from: usize, to: usize) -> Option<usize>
-    requires { (v : HeadView) × SpellsPlain v bytes.now from to plain }
+pub fn left_out(scanned: ScannedItem<'_>, bytes: &[u8], from: usize, to: usize) -> Option<usize>
+    requires { (v : HeadView) × SpellsScanned v bytes.now from to scanned }
     ensures { IfSome result (λ k. (from + 1 + k ≤ to) × ((v : HeadView) (h : Header) (x : BodyItem)
-        → SpellsPlain v bytes.now from to plain.entry
-        → AreBinaryIf plain.entry.binary plain.entry.text.now
-        → IsSizedItem v.codes.now plain.entry.item plain.entry.most → IsViewOf v h
-        → IsItem h.codes plain.entry.text.now plain.entry.item x
+        → SpellsScanned v bytes.now from to scanned.entry
+        → AreBinaryIf scanned.entry.binary scanned.entry.text.now
+        → IsSizedItem v.codes.now scanned.entry.item scanned.entry.most → IsViewOf v h
+        → IsItem h.codes scanned.entry.text.now scanned.entry.item x
         → bytes_without bytes.now from to k ≡ item_line x)) }
 {
-    let left_out = left_out_before_last(plain, bytes, from, to)?;
+    let left_out = left_out_before_last(scanned, bytes, from, to)?;
     if bytes[to - 1] != b'\n' {
         return None;
     }
     Some(left_out)
 }
 
-/// Returns how many bytes after the first one to leave out of the bytes of a change that was taken
-/// ahead, so that the others before the last one, and a line feed, are the line that would be
-/// written. It has the bytes from `from` up to `to`. Where the result is none, they may be it all
-/// the same.
+/// Returns how many bytes of a change that was taken ahead to leave out after its first one, so
+/// that the others but the last, and a line feed, are the line that would be written. The change
+/// has the bytes from `from` up to `to`: the last one is that after its code. None for a timestamp,
+/// and where the size is not known. None for a change does not say that its bytes are not the line.
 #[inline(always)]
-pub fn left_out_before_last(plain: Plain<'_>, bytes: &[u8], from: usize, to: usize) -> Option<usize>
-    requires { (v : HeadView) × SpellsPlain v bytes.now from to plain }
+pub fn left_out_before_last(
+    scanned: ScannedItem<'_>,
+    bytes: &[u8],
+    from: usize,
+    to: usize,
+) -> Option<usize>
+    requires { (v : HeadView) × SpellsScanned v bytes.now from to scanned }
     ensures within { IfSome result (λ k. (from + 2 + k ≤ to) × (to ≤ length bytes.now)) }
     ensures line { IfSome result (λ k. (v : HeadView) (h : Header) (x : BodyItem)
-        → SpellsPlain v bytes.now from to plain.entry
-        → AreBinaryIf plain.entry.binary plain.entry.text.now
-        → IsSizedItem v.codes.now plain.entry.item plain.entry.most → IsViewOf v h
-        → IsItem h.codes plain.entry.text.now plain.entry.item x
+        → SpellsScanned v bytes.now from to scanned.entry
+        → AreBinaryIf scanned.entry.binary scanned.entry.text.now
+        → IsSizedItem v.codes.now scanned.entry.item scanned.entry.most → IsViewOf v h
+        → IsItem h.codes scanned.entry.text.now scanned.entry.item x
         → line_without bytes.now from to k ≡ item_line x) }
 {
-    let Item::Change { form, .. } = plain.item else {
+    let Item::Change { form, .. } = scanned.item else {
         return None;
     };
-    let size = plain.size()?;
+    let size = scanned.size()?;
     match form {
-        Form::Scalar if size == 1 && is_bit_line(bytes, from, to, plain.code_at) => Some(0),
-        _ => left_out_of_text(plain, form, size, bytes, from, to),
+        Form::Scalar if size == 1 && is_bit_line(bytes, from, to, scanned.code_at) => Some(0),
+        _ => left_out_of_text(scanned, form, size, bytes, from, to),
     }
 }
 
@@ -306,28 +312,28 @@ pub fn left_out_before_last(plain: Plain<'_>, bytes: &[u8], from: usize, to: usi
 /// line begins with under any code. Where the result is none, they may be it all the same.
 #[inline(always)]
 pub(crate) fn left_out_of_front(
-    plain: Plain<'_>,
+    scanned: ScannedItem<'_>,
     form: Form,
     bytes: &[u8],
     from: usize,
     to: usize,
 ) -> Option<usize>
-    requires spelled { (code : List ℕ) × HasChange bytes.now from to form plain.text.now code
-        × HasPlaces bytes.now from to plain.at plain.code_at plain.text.now code }
-    requires binary { AreBinaryIf plain.binary plain.text.now }
-    ensures { IfSome result (LeavesFront bytes.now from plain.entry.most form
-        plain.entry.text.now plain.entry.code_at) }
+    requires spelled { (code : List ℕ) × HasChange bytes.now from to form scanned.text.now code
+        × HasPlaces bytes.now from to scanned.at scanned.code_at scanned.text.now code }
+    requires binary { AreBinaryIf scanned.binary scanned.text.now }
+    ensures { IfSome result (LeavesFront bytes.now from scanned.entry.most form
+        scanned.entry.text.now scanned.entry.code_at) }
 {
-    left_out_of_text(plain, form, plain.most, bytes, from, to)
+    left_out_of_text(scanned, form, scanned.most, bytes, from, to)
 }
 
 /// Returns whether the bytes of a timestamp that was taken ahead are the line of its time: `#`, the
 /// digits without zeros that lead, and a line feed. The timestamp has the bytes from `from` up to
 /// `to`, and its digits begin at `at`.
 #[inline(always)]
-pub fn is_mark_line(bytes: &[u8], from: usize, to: usize, at: usize) -> bool
-    requires { (time : ℕ) × HasMark bytes.now from to at time }
-    ensures { result ≡ true → (time : ℕ) → HasMark bytes.now from to at time
+pub fn is_timestamp_line(bytes: &[u8], from: usize, to: usize, at: usize) -> bool
+    requires { (time : ℕ) × HasTimestamp bytes.now from to at time }
+    ensures { result ≡ true → (time : ℕ) → HasTimestamp bytes.now from to at time
         → slice_range bytes.now from to ≡ time_line time }
 {
     (at == from + 1)

@@ -32,7 +32,7 @@ fn digit_of(code: u8) -> u8
     }
 }
 
-/// Returns a digit as it is held.
+/// Returns a digit as a share holds it: in lower case `0`, `1` or `x`, and for all others `z`.
 #[inline(always)]
 pub(crate) fn held_digit(digit: u8) -> u8
     ensures { result ≡ held_digit digit }
@@ -70,7 +70,7 @@ fn code_at(text: &[u8], index: usize) -> u8
 fn four_at(text: &[u8], quarter: usize, index: usize) -> u8
     requires few { quarter < 16 }
     requires quarter { quarter ≤ length text.now }
-    requires place { index < quarter }
+    requires position { index < quarter }
     ensures { result ≡ four_codes text.now quarter index }
 {
     code_at(text, index)
@@ -329,8 +329,8 @@ pub(crate) fn last_packed(bytes: &[u8], len: usize) -> u8
     b'0' + bytes[len.div_ceil(4) - 1] / 64
 }
 
-/// Returns the code of one. The last quarter ends where the digits do, and may hold some of the
-/// third one again.
+/// Returns the code of the digit at an index of `len` packed digits. The last quarter ends where
+/// the digits do, and may hold some of the third one again.
 #[inline(always)]
 fn code_among(bytes: &[u8], len: usize, index: usize) -> u8
     requires { index < len }

@@ -1,6 +1,6 @@
 // The phrases of a body, by what they begin with.
 ghost use Rattle.std.specs.Prelude.{◌≡◌, ◌≢◌, true, ◌-◌, ◌^◌, ◌<◌, ◌≤◌, length, take, drop, Some, None, slice_get, OnOk, IfOk, IfErr, ◌||◌, nat_le};
-ghost use Rattle.vcd_body.specs.Names.{Advances, AreBinaryIf, AreRegsWith, Begins, ChangeForm, Code, PhraseKind, Form, GoesFurther, HasGoodValue, IsFoundScalar, IsScalar, IsSized, Item, NeedsOneToken, OpensOrRefuses, ReadsCode, ReadsComment, ReadsMark, ReadsRest, RefusesIn, call_end, is_value_digit, list_all, mark_time, seen, source_of, token_of, value_of};
+ghost use Rattle.vcd_body.specs.Names.{Advances, AreBinaryIf, AreRegsWith, Begins, ChangeForm, Code, PhraseKind, Form, GoesFurther, HasGoodValue, IsFoundScalar, IsScalar, IsSized, Item, NeedsOneToken, OpensOrRefuses, ReadsCode, ReadsComment, ReadsTimestamp, ReadsRest, RefusesIn, call_end, is_value_digit, list_all, mark_time, seen, source_of, token_of, value_of};
 
 use crate::fault::BodyFault;
 use crate::item::Regs;
@@ -19,16 +19,16 @@ pub(crate) fn time_in(token: &[u8]) -> Option<u64>
 
 /// Takes the timestamp that a token is, and returns its time. A fault changes nothing.
 #[inline(always)]
-pub(crate) fn read_mark(token: &[u8], regs: &mut Regs) -> Result<u64, BodyFault>
-    requires { Begins token.now PhraseKind.Mark }
-    ensures time { ReadsMark token.now regs.old result }
+pub(crate) fn read_timestamp(token: &[u8], regs: &mut Regs) -> Result<u64, BodyFault>
+    requires { Begins token.now PhraseKind.Timestamp }
+    ensures time { ReadsTimestamp token.now regs.old result }
     ensures regs { AreRegsWith Item.Time regs.old regs.new result }
     ensures own { IfErr result (λ fault. fault ≢ BodyFault.ReadFailed) }
 {
     let Some(time) = time_in(token) else {
         return Err(BodyFault::BadTime);
     };
-    regs.accept_mark(time)?;
+    regs.accept_timestamp(time)?;
     Ok(time)
 }
 
@@ -88,7 +88,8 @@ pub(crate) fn real_text(token: &[u8]) -> Result<&[u8], BodyFault>
     Ok(text)
 }
 
-/// Passes over a comment, after its keyword.
+/// Passes over a comment, after its keyword, up to its `$end`. Fails where a token cannot be read,
+/// or the input ends before `$end`.
 // Without `pass_words` a comment of tokens of one byte takes 5 times as many instructions.
 pub(crate) fn skip_comment<S: Source>(feed: &mut Feed<'_, '_, '_, '_, S>) -> Result<(), BodyFault>
     requires { S.failures (source_of feed.old) < 2 ^ 64 - 1 }
@@ -104,7 +105,8 @@ pub(crate) fn skip_comment<S: Source>(feed: &mut Feed<'_, '_, '_, '_, S>) -> Res
     }
 }
 
-/// Keeps the value, and reads the code after it.
+/// Keeps the token as the value of the feed, reads the next one, and returns the code that it is.
+/// Fails where it cannot be read, or is no code of the header.
 #[inline(always)]
 fn read_code<S: Source>(
     feed: &mut Feed<'_, '_, '_, '_, S>,
@@ -130,13 +132,16 @@ fn read_code<S: Source>(
 #[inline(always)]
 pub(crate) fn takes(codes: &[Code], found: Found, digits: usize) -> bool
     requires { IsSized codes.now found }
-    ensures { (code : Code) → slice_get codes.now found.place ≡ Some code
+    ensures { (code : Code) → slice_get codes.now found.position ≡ Some code
         → result ≡ (code.event || nat_le digits code.size) }
 {
-    digits <= found.most || codes[found.place].event || digits <= codes[found.place].size
+    digits <= found.most || codes[found.position].event || digits <= codes[found.position].size
 }
 
-/// Reads the rest of a vector's change, after its digits: returns its code's index.
+/// Reads the rest of a vector's change, of which the feed shows the first token, `b` and the
+/// digits: returns its code's index. Fails where there are no digits, where they are more than the
+/// size, and where the code is none of the header. Then the feed's value is that first token, and
+/// its token is the code.
 #[inline(always)]
 pub(crate) fn read_vector<S: Source>(
     feed: &mut Feed<'_, '_, '_, '_, S>,
@@ -157,10 +162,12 @@ pub(crate) fn read_vector<S: Source>(
     if !takes(view.codes, found, rest_of(feed.value()).len()) {
         return Err(BodyFault::TooWide);
     }
-    Ok(found.place)
+    Ok(found.position)
 }
 
-/// Reads the rest of a real number's change, after its text: returns its code's index.
+/// Reads the rest of a real number's change, of which the feed shows the first token, `r` and the
+/// text: returns its code's index. Any text of 1 to 64 bytes will do, and any code of the header,
+/// whatever its size. Then the feed's value is that first token, and its token is the code.
 pub(crate) fn read_real<S: Source>(
     feed: &mut Feed<'_, '_, '_, '_, S>,
     view: HeadView<'_>,
@@ -176,5 +183,5 @@ pub(crate) fn read_real<S: Source>(
 {
     real_text(feed.token())?;
     let found = read_code(feed, view)?;
-    Ok(found.place)
+    Ok(found.position)
 }

@@ -4,7 +4,7 @@ ghost use Rattle.vcd_body.specs.Names.{Advances, AreRegsPast, AreRegsWith, Begin
 
 use crate::fault::BodyFault;
 use crate::item::{Form, Item, Regs};
-use crate::phrases::{read_mark, read_real, read_vector, scalar_code, skip_comment};
+use crate::phrases::{read_real, read_timestamp, read_vector, scalar_code, skip_comment};
 use crate::tokens::next_token;
 use crate::words::{KeywordUse, PhraseKind, command_of, first_byte_of, kind_of, rest_of};
 use vcd_text::{Feed, Source};
@@ -77,14 +77,14 @@ fn read_phrase<S: Source>(
     let token = feed.token();
     let item = match kind_of(token) {
         PhraseKind::Bit | PhraseKind::Scalar => Item::Change {
-            code: scalar_code(token, view)?.place,
+            code: scalar_code(token, view)?.position,
             form: Form::Scalar,
         },
         PhraseKind::Vector => Item::Change {
             code: read_vector(feed, view)?,
             form: Form::Vector,
         },
-        PhraseKind::Mark => Item::Time(read_mark(token, regs)?),
+        PhraseKind::Timestamp => Item::Time(read_timestamp(token, regs)?),
         PhraseKind::Real => Item::Change {
             code: read_real(feed, view)?,
             form: Form::RealText,

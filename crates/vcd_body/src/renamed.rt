@@ -2,7 +2,7 @@
 ghost use Rattle.std.specs.Prelude.{◌≡◌, ◌≢◌, ℕ, ◌+◌, ◌-◌, ◌%◌, ◌^◌, ◌<◌, ◌≤◌, ◌++◌, ◌∷◌, [], List, take, false, true, length, IfSome};
 ghost use Rattle.vcd_body.specs.Names.{AreBinaryIf, Puts, PutsTo, bytes_without, line_under, new_code, HasChange, HasPlaces};
 
-use crate::ahead::Plain;
+use crate::ahead::ScannedItem;
 use crate::change::put_end;
 use crate::id::Id;
 use crate::item::Form;
@@ -190,7 +190,7 @@ fn put_renamed_text<W: Sink>(
 // more.
 #[inline(always)]
 pub fn put_renamed_ahead<W: Sink>(
-    plain: Plain<'_>,
+    scanned: ScannedItem<'_>,
     form: Form,
     bytes: &[u8],
     from: usize,
@@ -199,19 +199,19 @@ pub fn put_renamed_ahead<W: Sink>(
     w: &mut W,
 ) -> Result<(), WriteFailed>
     requires failures { (W.device w.old).failures < 2 ^ 64 - 1 }
-    requires spelled { (code : List ℕ) × HasChange bytes.now from to form plain.text.now code
-        × HasPlaces bytes.now from to plain.at plain.code_at plain.text.now code }
-    requires digits { form ≢ Form.RealText → 0 < length plain.text.now }
-    requires binary { AreBinaryIf plain.binary plain.text.now }
+    requires spelled { (code : List ℕ) × HasChange bytes.now from to form scanned.text.now code
+        × HasPlaces bytes.now from to scanned.at scanned.code_at scanned.text.now code }
+    requires digits { form ≢ Form.RealText → 0 < length scanned.text.now }
+    requires binary { AreBinaryIf scanned.binary scanned.text.now }
     ensures { Puts (W.device w.old) (W.device w.new)
-        (line_under (new_code number) plain.entry.most false form plain.entry.text.now) result }
+        (line_under (new_code number) scanned.entry.most false form scanned.entry.text.now) result }
 {
-    let size = plain.most;
-    if is_bit(size, false, form) && is_lower(bytes[plain.at]) {
-        return put_code_line(bytes[plain.at], number, w);
+    let size = scanned.most;
+    if is_bit(size, false, form) && is_lower(bytes[scanned.at]) {
+        return put_code_line(bytes[scanned.at], number, w);
     }
-    match left_out_of_front(plain, form, bytes, from, to) {
-        Some(k) => put_copied(bytes, from, plain.code_at - 1, k, number, w),
-        None => put_renamed_text(size, form, plain.text, number, w),
+    match left_out_of_front(scanned, form, bytes, from, to) {
+        Some(k) => put_copied(bytes, from, scanned.code_at - 1, k, number, w),
+        None => put_renamed_text(size, form, scanned.text, number, w),
     }
 }

@@ -11,7 +11,7 @@ use crate::table::Table;
 // Returns the step from digits whose last one is 0 or 1 where a byte is, to those of a text that
 // ends with this one, where they differ. It takes no branches.
 #[inline(always)]
-fn step_over(before: u8, after: u8) -> Step
+fn step_between(before: u8, after: u8) -> Step
     ensures differs { result.differs ≡ true }
     ensures rises { result.rises ≡ goes_from 48 49 (Some before) (Some after) }
     ensures falls { result.falls ≡ goes_from 49 48 (Some before) (Some after) }
@@ -34,7 +34,7 @@ fn unpacked_step(bytes: &[u8], text: &[u8]) -> Option<Step>
     if !unpacked_ends_differ(bytes, text) {
         return None;
     }
-    Some(step_over(bytes[bytes.len() - 1], text[text.len() - 1]))
+    Some(step_between(bytes[bytes.len() - 1], text[text.len() - 1]))
 }
 
 // Returns the step from `len` packed digits, in the first bytes of a share, to those of a text,
@@ -49,7 +49,7 @@ fn packed_step(bytes: &[u8], len: usize, text: &[u8]) -> Option<Step>
     if !packed_ends_differ(bytes, len, text) {
         return None;
     }
-    Some(step_over(last_packed(bytes, len), text[text.len() - 1]))
+    Some(step_between(last_packed(bytes, len), text[text.len() - 1]))
 }
 
 // Returns the bytes of a share that begins and ends here.
@@ -64,7 +64,7 @@ impl<'a> Table<'a> {
     /// Returns the step from several digits that are held so, in a share that begins and ends here,
     /// to those of a text, where they differ in the last 16. It asks once how they are held.
     #[inline(always)]
-    fn step_told(&self, held: Holding, start: usize, end: usize, text: &[u8]) -> Option<Step>
+    fn step_from_held(&self, held: Holding, start: usize, end: usize, text: &[u8]) -> Option<Step>
         ensures many { IfSome result (λ _. 16 ≤ length text.now) }
         ensures differs { IfSome result (λ step. step.differs ≡ true) }
         ensures step { TellsStep (held_from self.now.values.now start held) text.now result }
@@ -94,7 +94,7 @@ impl<'a> Table<'a> {
         let start = self.shares[code].start;
         let end = self.end_of(code);
         let held = holding_of(self.slots[code], self.shares[code]);
-        let Some(step) = self.step_told(held, start, end, text) else {
+        let Some(step) = self.step_from_held(held, start, end, text) else {
             return false;
         };
         self.set_text_in(code, end, Form::Vector, text);

@@ -126,7 +126,8 @@ impl Share {
         Share::at(0)
     }
 
-    /// Returns the share of such a code, whose bytes of the values begin here.
+    /// Returns a share that begins at `start` in the lent bytes, with no value, no counts, and not
+    /// chosen.
     pub(crate) fn at(start: usize) -> Share
         ensures { result ≡ share_from start }
     {

@@ -38,7 +38,8 @@ fn last_of(form: Form, text: &[u8]) -> Option<u8>
     }
 }
 
-/// Returns the step to the value of a text, which differs or not, from one with this last digit.
+/// Returns the step to the value of a text from one with the last digit `before`. `differs` says
+/// whether the two values differ.
 #[inline(always)]
 pub(crate) fn step_to_text(differs: bool, before: Option<u8>, form: Form, text: &[u8]) -> Step
     ensures differs { result.differs ≡ differs }

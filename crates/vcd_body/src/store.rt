@@ -14,7 +14,7 @@ use crate::step::{way_between, way_to};
 use crate::table::Table;
 use vcd_view::Code;
 
-/// Returns how many bytes of its share are in use.
+/// Returns how many bytes of its share a value uses: 0 where the slot alone holds it.
 #[inline(always)]
 fn used_by(holding: Holding) -> usize
     ensures { result ≡ used holding }
@@ -117,7 +117,8 @@ fn hold_text(slot: &mut Slot, share: &mut Share, state: State, len: usize)
     share.upper = (len / UPPER) as u32;
 }
 
-/// Returns how many bytes a text takes at least.
+/// Returns how many bytes a text takes at least: one for each byte of a real number, one for four
+/// digits.
 #[inline(always)]
 fn least_bytes(form: Form, len: usize) -> usize
     ensures { result ≡ least_bytes form len }
@@ -164,7 +165,9 @@ impl<'a> Table<'a> {
         hold_text(&mut slots[code], &mut shares[code], state, text.len());
     }
 
-    /// Sets the value of the code at an index to a text, where it fits its share.
+    /// Sets the value of the code at an index to a text. Nothing changes where there is no such
+    /// code, and where the text is empty or does not fit the code's share. A single digit is set by
+    /// `set_tag`, unless it is the text of a real number.
     #[inline(never)]
     pub(crate) fn set_text(&mut self, code: usize, form: Form, text: &[u8])
         requires { form ≢ Form.RealText → length text.now ≢ 1 }

@@ -7,16 +7,16 @@ ghost use Rattle.vcd_text.specs.declared.device.WriteFailed.{WriteFailed};
 ghost use Rattle.vcd_view.specs.declared.view.HeadView.{HeadView};
 ghost use Rattle.vcd_body.specs.Items.{regs_after};
 ghost use Rattle.vcd_body.specs.Taken.{IsChangeBy, Opens, OpensVector, TakesItem};
-ghost use Rattle.vcd_body.specs.Walk.{MayTakeMark, MayTakeNext, MayTakeUpTo, Stage, TakesOne, Walks, as_done, stage_at};
+ghost use Rattle.vcd_body.specs.Walk.{MayTakeTimestamp, MayTakeNext, MayTakeUpTo, Stage, TakesOne, Walks, as_done, stage_at};
 ghost use Rattle.vcd_body.specs.declared.item.Form.{Form};
 ghost use Rattle.vcd_body.specs.declared.item.Item.TheVariants as item;
 ghost use Rattle.vcd_body.specs.declared.item.Regs.{Regs};
 ghost use Rattle.vcd_body.specs.declared.words.PhraseKind.TheVariants as kind;
 
 use crate::ahead::{
-    Opening, Plain, VectorTokens, line_mark, mark_ahead, opening_ahead, real_ahead, scalar_ahead,
-    short_ahead, short_lines_come, time_ahead, two_short_lines_come, vector_ahead, vector_bits,
-    vector_tokens_ahead,
+    Opening, ScannedItem, VectorTokens, line_timestamp, opening_ahead, real_ahead, scalar_ahead,
+    short_ahead, short_lines_come, time_ahead, timestamp_ahead, two_short_lines_come, vector_ahead,
+    vector_bits, vector_tokens_ahead,
 };
 use crate::item::Regs;
 use crate::words::PhraseKind;
@@ -24,8 +24,8 @@ use vcd_text::{Ahead, Sink, WriteFailed};
 use vcd_view::HeadView;
 
 /// The view of a header, or a small value that makes it.
-// A view is made once a walk: with one made for each item `merge` of 27,505 codes takes 40 % more.
-// Handed to `take_lines` as a view, scalars take 4 % more.
+// A loop over items makes its view once: with one made for each item `merge` of 27,505 codes takes
+// 40 % more. Where `take_lines` is handed a view in place of `head`, scalars take 4 % more.
 pub trait Viewed: Copy {
     // Whether this is such a view.
     ghost shows: { Self → HeadView → Type 0 };
@@ -78,34 +78,34 @@ pub trait Visit<C>: Drop {
         ensures { result ≡ over self.now };
 
     /// Takes a timestamp, which lies at `extent`. The registers are those before it.
-    fn take_mark(
+    fn take_timestamp(
         &mut self,
         command: &mut C,
         view: HeadView<'_>,
         regs: Regs,
         time: u64,
-        mark: Plain<'_>,
+        timestamp: ScannedItem<'_>,
         extent: Extent<'_>,
     )
         requires stands { stands self.old command.old (bytes_of extent.from) regs }
         requires left { is_left self.old command.old time ≡ false }
-        requires item { TakesItem view extent.from extent.to regs mark }
-        requires time { mark.item ≡ item.Time time }
+        requires item { TakesItem view extent.from extent.to regs timestamp }
+        requires time { timestamp.item ≡ item.Time time }
         ensures takes { (out : Device) → takes view.entry
             (stage_at extent.entry.from regs self.old command.old out)
-            (stage_at extent.entry.to (regs_after regs mark.entry.item) self.new command.new out)
+            (stage_at extent.entry.to (regs_after regs timestamp.entry.item) self.new command.new out)
             (Ok tt) }
         ensures stands { stands self.new command.new (bytes_of extent.entry.to)
-            (regs_after regs mark.entry.item) };
+            (regs_after regs timestamp.entry.item) };
 
-    /// Takes a change, which lies at `extent`, and puts what is due with it. The registers are those
-    /// after it, as before it.
+    /// Takes a change, which lies at `extent`, and puts what is due with it. The registers are
+    /// those after it, as before it.
     fn take_change<W: Sink>(
         &mut self,
         command: &mut C,
         view: HeadView<'_>,
         regs: Regs,
-        change: Plain<'_>,
+        change: ScannedItem<'_>,
         extent: Extent<'_>,
         out: &mut W,
     ) -> Result<(), WriteFailed>
@@ -137,7 +137,7 @@ pub struct Walked<'a, V> {
 }
 
 impl<'a, V> Walked<'a, V> {
-    /// Returns that a walk has ended here.
+    /// Returns the end of a walk after these items.
     #[inline(always)]
     fn until(
         ahead: Ahead<'a>,
@@ -160,7 +160,7 @@ impl<'a, V> Walked<'a, V> {
         }
     }
 
-    /// Returns whether other items may be taken after these.
+    /// Returns whether the walk may take more items: the visit is not over, and no write failed.
     #[inline(always)]
     fn can_go_on(&self) -> bool
         ensures { result ≡ true → self.now.ended ≡ Ok false }
@@ -176,7 +176,7 @@ fn take_change<C, V: Visit<C>, W: Sink>(
     visit: &mut V,
     view: HeadView<'_>,
     regs: Regs,
-    change: Plain<'_>,
+    change: ScannedItem<'_>,
     extent: Extent<'_>,
     out: &mut W,
 ) -> Result<bool, WriteFailed>
@@ -193,10 +193,11 @@ fn take_change<C, V: Visit<C>, W: Sink>(
     Ok(false)
 }
 
-/// Takes the timestamp that a token is, from one position up to another. None where it takes none,
-/// and then nothing has changed.
+/// Takes the timestamp whose token is that of `opening`, from `ahead` up to `to`. None where the
+/// token spells no time, where the time may not come here, or where the visit leaves it; then
+/// nothing has changed.
 #[inline(always)]
-fn take_mark<'a, C, V: Visit<C>>(
+fn take_timestamp<'a, C, V: Visit<C>>(
     command: &mut C,
     visit: &mut V,
     view: HeadView<'_>,
@@ -207,8 +208,8 @@ fn take_mark<'a, C, V: Visit<C>>(
 ) -> Option<()>
     requires stands { V.stands visit.old command.old (bytes_of ahead.old) regs.old }
     requires opens { Opens ahead.old to opening }
-    requires kind { opening.kind ≡ kind.Mark }
-    ensures { MayTakeMark V.takes V.stands view.entry
+    requires kind { opening.kind ≡ kind.Timestamp }
+    ensures { MayTakeTimestamp V.takes V.stands view.entry
         (stage_at ahead.old regs.old visit.old command.old)
         (stage_at ahead.new regs.new visit.new command.new) result }
 {
@@ -217,15 +218,15 @@ fn take_mark<'a, C, V: Visit<C>>(
         return None;
     }
     let before = *regs;
-    let mark = mark_ahead(opening, time, to, regs)?;
+    let timestamp = timestamp_ahead(opening, time, to, regs)?;
     let from = *ahead;
-    visit.take_mark(command, view, before, time, mark, Extent { from, to });
+    visit.take_timestamp(command, view, before, time, timestamp, Extent { from, to });
     *ahead = to;
     Some(())
 }
 
-/// Takes the change that the tokens of a vector are, which lies at `extent`, and returns that it was
-/// no timestamp. `None` where they are no such change, and then nothing has changed.
+/// Takes the change that the tokens of a vector are, which lies at `extent`, and returns that it
+/// was no timestamp. `None` where they are no such change, and then nothing has changed.
 // Whether the digits have a number is asked once: what is done with it follows in each arm. The arm
 // for digits of a known number takes 5 % off `merge` of 27,505 codes and of Verilator's. To `check`
 // it adds 6 %.
@@ -291,8 +292,8 @@ fn take_next<C, V: Visit<C>, W: Sink>(
             let extent = Extent { from, to };
             take_vector(command, visit, view, *regs, tokens, extent, out)?
         }
-        PhraseKind::Mark => {
-            take_mark(command, visit, view, opening, regs, ahead, to)?;
+        PhraseKind::Timestamp => {
+            take_timestamp(command, visit, view, opening, regs, ahead, to)?;
             return Some(Ok(true));
         }
         PhraseKind::Real => {
@@ -366,10 +367,11 @@ fn take_shorts<'a, C, V: Visit<C>, H: Viewed, W: Sink>(
     }
 }
 
-/// Takes the next item that lies ahead, where it is a timestamp on a line of its own. None where it
-/// takes none, and then nothing has changed.
+/// Takes the next item that lies ahead, where `line_timestamp` gives it: a timestamp right here, of
+/// at most 15 bytes, with a line feed after it. None where that gives none, where no such time may
+/// come here, or where the visit leaves it; then nothing has changed.
 #[inline(always)]
-fn take_line_mark<C, V: Visit<C>>(
+fn take_timestamp_line<C, V: Visit<C>>(
     command: &mut C,
     visit: &mut V,
     view: HeadView<'_>,
@@ -377,13 +379,13 @@ fn take_line_mark<C, V: Visit<C>>(
     ahead: &mut Ahead<'_>,
 ) -> Option<()>
     requires stands { V.stands visit.old command.old (bytes_of ahead.old) regs.old }
-    ensures { MayTakeMark V.takes V.stands view.entry
+    ensures { MayTakeTimestamp V.takes V.stands view.entry
         (stage_at ahead.old regs.old visit.old command.old)
         (stage_at ahead.new regs.new visit.new command.new) result }
 {
     let mut to = *ahead;
-    let opening = line_mark(&mut to)?;
-    take_mark(command, visit, view, opening, regs, ahead, to)
+    let opening = line_timestamp(&mut to)?;
+    take_timestamp(command, visit, view, opening, regs, ahead, to)
 }
 
 /// Takes the items that come next, as long as each is a short change or a timestamp on a line of
@@ -411,7 +413,7 @@ fn take_lines<'a, C, V: Visit<C>, H: Viewed, W: Sink>(
 {
     let view = head.view();
     // What is known from here on is not asked again for each line.
-    if view.entries.is_empty() || !ahead.has_short() {
+    if view.entries.is_empty() || !ahead.two_byte_line_comes() {
         return Walked::until(ahead, regs, visit, Ok(false));
     }
     ahead.forget();
@@ -423,7 +425,7 @@ fn take_lines<'a, C, V: Visit<C>, H: Viewed, W: Sink>(
         ahead = shorts.ahead;
         regs = shorts.regs;
         visit = shorts.visit;
-        let Some(()) = take_line_mark(command, &mut visit, view, &mut regs, &mut ahead) else {
+        let Some(()) = take_timestamp_line(command, &mut visit, view, &mut regs, &mut ahead) else {
             return Walked::until(ahead, regs, visit, Ok(false));
         };
         if visit.is_over() {
@@ -432,10 +434,12 @@ fn take_lines<'a, C, V: Visit<C>, H: Viewed, W: Sink>(
     }
 }
 
-/// Takes the items that come next as `take_lines` does, where short lines come and the visit is not
-/// over. Else it takes none.
+/// Takes the items that come next as `take_lines` does, where a line of two bytes comes with
+/// another one or a timestamp after it, and the visit is not over. Else it takes none. `walk_ahead`
+/// calls it once, before its first item.
+// Without the look at the lines only speed is lost.
 #[inline(always)]
-fn begin_lines<'a, C, V: Visit<C>, H: Viewed, W: Sink>(
+fn take_first_lines<'a, C, V: Visit<C>, H: Viewed, W: Sink>(
     command: &mut C,
     visit: V,
     head: H,
@@ -458,10 +462,10 @@ fn begin_lines<'a, C, V: Visit<C>, H: Viewed, W: Sink>(
 
 /// Takes the items that lie ahead, one after the other, as long as the visit is not over: the first
 /// one in any case. A timestamp that it leaves ends the walk, and so does a failed write.
-// Registers, offset and visit come and go by value, so that the loop keeps them out of memory. The
-// view is made here and in `take_lines`: its words would be copied for each call. In each arm of an
-// item the compiler knows whether it was a timestamp. In a struct that is kept in memory they cost
-// `check` of scalars 11 %.
+// Registers, offset and visit come and go by value, so that the loop keeps them out of memory: in a
+// struct that is kept there they cost `check` of scalars 11 %. The view is made here and in
+// `take_lines`: its words would be copied for each call. In each arm of an item the compiler knows
+// whether it was a timestamp.
 #[inline(always)]
 pub fn walk_ahead<'a, C, V: Visit<C>, H: Viewed, W: Sink>(
     command: &mut C,
@@ -478,7 +482,7 @@ pub fn walk_ahead<'a, C, V: Visit<C>, H: Viewed, W: Sink>(
         (stage_at ahead.entry regs visit command.old (W.device out.old))
         (stage_at result.ahead result.regs result.visit command.new (W.device out.new)) result.ended }
 {
-    let lines = begin_lines(command, visit, head, regs, ahead, out);
+    let lines = take_first_lines(command, visit, head, regs, ahead, out);
     if !lines.can_go_on() {
         return lines;
     }
@@ -490,14 +494,14 @@ pub fn walk_ahead<'a, C, V: Visit<C>, H: Viewed, W: Sink>(
         let Some(taken) = take_next(command, &mut visit, view, &mut regs, &mut ahead, out) else {
             return Walked::until(ahead, regs, visit, Ok(false));
         };
-        let was_mark = match taken {
-            Ok(was_mark) => was_mark,
+        let was_timestamp = match taken {
+            Ok(was_timestamp) => was_timestamp,
             Err(failed) => return Walked::until(ahead, regs, visit, Err(failed)),
         };
         if visit.is_over() {
             return Walked::until(ahead, regs, visit, Ok(true));
         }
-        if was_mark && two_short_lines_come(ahead) {
+        if was_timestamp && two_short_lines_come(ahead) {
             let more = take_lines(command, visit, head, regs, ahead, out);
             if !more.can_go_on() {
                 return more;

@@ -11,7 +11,7 @@ use vcd_view::{Keyword, keyword_of};
 #[derive(Clone, Copy, PartialEq, Eq, Debug)]
 pub enum PhraseKind {
     /// `#`: a timestamp.
-    Mark,
+    Timestamp,
     /// The digit `0` or `1` of a value, with its code right after it.
     Bit,
     /// Another digit of a value, with its code right after it.
@@ -57,7 +57,7 @@ pub(crate) fn kind_by(byte: u8) -> PhraseKind
     } else if byte == b'b' || byte == b'B' {
         PhraseKind::Vector
     } else if byte == b'#' {
-        PhraseKind::Mark
+        PhraseKind::Timestamp
     } else if is_value_digit(byte) {
         PhraseKind::Scalar
     } else if byte == b'r' || byte == b'R' {

@@ -8,8 +8,8 @@ ghost use Rattle.vcd_body.specs.declared.item.Regs.{Regs};
 use std::alloc::{AllocError, Global};
 use std::test::Fail;
 use vcd_body::{
-    Bits, Extent, Form, Id, Item, Plain, Regs, Visit, change_text, left_out, next_item, pass_items,
-    put_change, walk_ahead,
+    Bits, Extent, Form, Id, Item, Regs, ScannedItem, Visit, change_text, left_out, next_item,
+    pass_items, put_change, walk_ahead,
 };
 use vcd_head::{Head, HeadFault, HeadView, read_head};
 use vcd_text::doubles::{Narrow, Pieces};
@@ -235,7 +235,7 @@ impl Noted {
         }
     }
 
-    fn note(&mut self, item: Plain<'_>, needless: Option<usize>) -> Result<(), AllocError> {
+    fn note(&mut self, item: ScannedItem<'_>, needless: Option<usize>) -> Result<(), AllocError> {
         self.items
             .push_str(&shown(self.alloc, item.item, item.text)?)?;
         self.bits = item.bits;
@@ -246,7 +246,7 @@ impl Noted {
         }
     }
 
-    fn take(&mut self, item: Plain<'_>, extent: Extent<'_>)
+    fn take(&mut self, item: ScannedItem<'_>, extent: Extent<'_>)
         requires { (view : HeadView) × (r : Regs) × TakesItem view extent.from extent.to r item }
     {
         let from = extent.from.passed();
@@ -276,13 +276,13 @@ impl Visit<()> for Noted {
         false
     }
 
-    fn take_mark(
+    fn take_timestamp(
         &mut self,
         _command: &mut (),
         _view: HeadView<'_>,
         _regs: Regs,
         _time: u64,
-        mark: Plain<'_>,
+        mark: ScannedItem<'_>,
         extent: Extent<'_>,
     ) {
         self.take(mark, extent);
@@ -293,7 +293,7 @@ impl Visit<()> for Noted {
         _command: &mut (),
         _view: HeadView<'_>,
         _regs: Regs,
-        change: Plain<'_>,
+        change: ScannedItem<'_>,
         extent: Extent<'_>,
         _out: &mut W,
     ) -> Result<(), WriteFailed> {

@@ -81,8 +81,8 @@ fn padded(alloc: Global, digit: u8, count: usize, rest: &[u8]) -> Result<Vec<u8>
 // The digits `z x 0 1`, over and over: no digit of them can be left out.
 fn mixed(alloc: Global, count: usize) -> Result<Vec<u8>, AllocError> {
     let mut text = Vec::new(alloc);
-    for place in 0..count {
-        text.push(match place % 4 {
+    for position in 0..count {
+        text.push(match position % 4 {
             0 => b'z',
             1 => b'x',
             2 => b'0',
@@ -374,8 +374,12 @@ fn digits_by_their_places(rt: HostRuntime) -> Result<(), Fail> {
     for (form, text, kind, digits, real) in PLACES {
         set(&mut table, 0, form, text);
         assert_eq!(rt; table.get(0), kind);
-        for place in 0..7 {
-            assert_eq!(rt; table.digit(view, 0, place), digits[place], "at {place}");
+        for position in 0..7 {
+            assert_eq!(rt;
+                table.digit(view, 0, position),
+                digits[position],
+                "at {position}"
+            );
         }
         assert_eq!(rt; table.real(0), real);
     }

@@ -7,20 +7,20 @@ use Rattle.vcd_model.specs.SoFar.{IsWhole}
 use Rattle.vcd_model.specs.Tokens.{Token}
 use Rattle.vcd_model.proofs.SoFarLemmas.{whole-more}
 
--- of two fronts of a list one is a front of the other
+-- of two prefixes of a list one is a front of the other
 abbrev Longer : {X : Type 0} → List X → List X → Type 0
 Longer {X} xs ys = (more : List X) × (ys ≡ xs ++ more)
 
 longer_on : {X : Type 0} (x : X) (xs ys : List X) → Longer xs ys → Longer (x ∷ xs) (x ∷ ys)
 longer_on x xs ys l = (l.0, ap (λ zs. x ∷ zs) l.1)
 
-fronts : {X : Type 0} (xs ys rest rest' : List X) → xs ++ rest ≡ ys ++ rest' → Longer xs ys ⊎ Longer ys xs
-fronts [] ys rest rest' e = inl (ys, refl)
-fronts (x ∷ xs) [] rest rest' e = inr (x ∷ xs, refl)
-fronts {X} (x ∷ xs) (y ∷ ys) rest rest' e =
+prefixes : {X : Type 0} (xs ys rest rest' : List X) → xs ++ rest ≡ ys ++ rest' → Longer xs ys ⊎ Longer ys xs
+prefixes [] ys rest rest' e = inl (ys, refl)
+prefixes (x ∷ xs) [] rest rest' e = inr (x ∷ xs, refl)
+prefixes {X} (x ∷ xs) (y ∷ ys) rest rest' e =
     let first : x ≡ y = cc in
     let others : xs ++ rest ≡ ys ++ rest' = cc in
-    elim (fronts xs ys rest rest' others) [
+    elim (prefixes xs ys rest rest' others) [
       | inl l ↦ inl (l.0, let s : y ∷ ys ≡ x ∷ xs ++ l.0 = let t = l.1 in cc in s)
       | inr l ↦ inr (l.0, let s : x ∷ xs ≡ y ∷ ys ++ l.0 = let t = l.1 in cc in s)
     ]
@@ -37,7 +37,7 @@ module _ {P : Type 0} (g : Grammar P) where
       (sym (e ∙ ap (λ l. front ++ l) none ∙ append-nil front), ap (λ (r : Reading P). r.placed) reads)
 
   pub one_whole : (front front' rest rest' : List Token) (placed placed' : List (Placed P)) → IsWhole g front placed → IsWhole g front' placed' → front ++ rest ≡ front' ++ rest' → Same front front' placed placed'
-  one_whole front front' rest rest' placed placed' w w' e = elim (fronts front front' rest rest' e) [
+  one_whole front front' rest rest' placed placed' w w' e = elim (prefixes front front' rest rest' e) [
     | inl l ↦ no_more front front' l.0 placed placed' w w' l.1
     | inr l ↦ let s = no_more front' front l.0 placed' placed w' w l.1 in (sym s.0, sym s.1)
   ]

@@ -61,8 +61,8 @@ module _ (v : HeadView) (stands : Collecting → Rows → List ℕ → Regs → 
         let after = subst (AreRegsAfter (items ++ (a.more ++ one.0 ∷ []))) (sym n.regs) one.3 in
         let time = subst (λ (l : List BodyItem). c.regs.time ≡ time_after l) (sym (append_assoc items a.more (one.0 ∷ []))) after.time_is in
         let here = subst (λ (k : ℕ). slice_get h.codes k ≡ Some code) (sym came.same.index) at in
-        let row : List ChangeRow = row_added b.visit.index c.regs.time n.plain.text.now n.plain.item in
-        let more = row_more h.codes _ views.index b.visit.index code here n.plain.text.now c.regs (items ++ a.more) n.plain.item one.0 one.1 time in record {
+        let row : List ChangeRow = row_added b.visit.index c.regs.time n.scanned.text.now n.scanned.item in
+        let more = row_more h.codes _ views.index b.visit.index code here n.scanned.text.now c.regs (items ++ a.more) n.scanned.item one.0 one.1 time in record {
           more = a.more ++ one.0 ∷ [];
           added = a.added ++ row;
           gave = subst (λ (k : ℕ). GaveAhead h.codes (longest_of s.ahead) lines (bytes_of s.ahead) k items (a.more ++ one.0 ∷ [])) (sym (n.end e)) one.2;

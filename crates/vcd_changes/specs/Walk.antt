@@ -14,7 +14,7 @@ use Rattle.vcd_body.specs.Ahead.{GaveAhead, LooksOver}
 use Rattle.vcd_body.specs.Items.{AreRegsAfter, regs_after}
 use Rattle.vcd_body.specs.Taken.{TakesItem}
 use Rattle.vcd_body.specs.Walk.{Stage, stage_at}
-use Rattle.vcd_body.specs.declared.ahead.Plain.{Plain}
+use Rattle.vcd_body.specs.declared.ahead.ScannedItem.{ScannedItem}
 use Rattle.vcd_body.specs.declared.item.Regs.{Regs}
 use Rattle.vcd_changes.specs.Rows.{row_added, rows_of}
 use Rattle.vcd_changes.specs.declared.row.ChangeRow.{ChangeRow}
@@ -49,14 +49,14 @@ pub record SameRows (s t : RowStage) : Type 0 where
 -- One item more was taken ahead. Once the rows are full, it is a change, and nothing is done with
 -- it. Else it adds its row, and no byte after it is passed if the rows are full then.
 pub record TakesRow (v : HeadView) (s t : RowStage) (result : Result (Unit {0}) WriteFailed) : Type 0 where
-  pub plain : Plain
-  pub item : TakesItem v s.ahead t.ahead s.regs plain
+  pub scanned : ScannedItem
+  pub item : TakesItem v s.ahead t.ahead s.regs scanned
   pub done : result ≡ Ok tt
   pub same : SameRows s t
   pub room : HasRoom t.visit t.command
-  pub regs : t.regs ≡ regs_after s.regs plain.item
+  pub regs : t.regs ≡ regs_after s.regs scanned.item
   pub full : is_full s.visit ≡ true → (t.visit ≡ s.visit) × (filled t ≡ filled s) × (t.regs ≡ s.regs)
-  pub added : is_full s.visit ≡ false → filled t ≡ filled s ++ row_added s.visit.index t.regs.time plain.text.now plain.item
+  pub added : is_full s.visit ≡ false → filled t ≡ filled s ++ row_added s.visit.index t.regs.time scanned.text.now scanned.item
   pub end : is_full s.visit ≡ false → passed_with t.ahead t.visit ≡ passed_of t.ahead
 
 -- where it is, whatever the output is, to which nothing is written

@@ -160,7 +160,8 @@ fn read_changes<B: BuildHasher>(
 /// on, and returns the status: `DONE`, `FAULT`, `NO_CODE`, `NO_MEMORY`, `FULL` or `BAD_PLACE`. Each
 /// call reads the header anew, and then continues in the body. Identifier codes are hashed by
 /// numbers that the hasher gives; the rows are the same by each. `reading.count` is at most the
-/// number of rows; 0 with `NO_CODE` and `NO_MEMORY`, and where the header has a fault.
+/// number of rows; 0 with `NO_CODE`, `NO_MEMORY` and `BAD_PLACE`, and where the header has a fault.
+/// `reading.place` moves on with `DONE` and `FULL` alone.
 pub fn changes<B: BuildHasher>(
     alloc: Global,
     dump: &[u8],

@@ -16,7 +16,9 @@ ghost use Rattle.vcd_changes.specs.Walk.{Came, HasRoom, is_full, rows_at};
 
 use crate::row::{ChangeRow, row_of};
 use std::io;
-use vcd_body::{Extent, Item, Plain, Regs, Visit, Walked, keyword_comes, pass_items, walk_ahead};
+use vcd_body::{
+    Extent, Item, Regs, ScannedItem, Visit, Walked, keyword_comes, pass_items, walk_ahead,
+};
 use vcd_head::HeadView;
 use vcd_text::{Ahead, Feed, Sink, Source, Watch, WriteFailed};
 
@@ -72,8 +74,8 @@ impl Collecting {
     }
 }
 
-// A walk is over at a timestamp alone. So once the rows are full, it leaves the next one, and takes
-// the changes before that in vain.
+// This visit can end a walk before a timestamp alone: `take_change` must leave `over` as it was. So
+// once the rows are full, the changes up to the next timestamp are taken in vain.
 impl<'r> Visit<Rows<'r>> for Collecting {
     ghost use Rattle.std.specs.Prelude.{false};
     ghost use Rattle.vcd_changes.specs.Walk.{HasRoom, TakesRow, is_full};
@@ -99,13 +101,13 @@ impl<'r> Visit<Rows<'r>> for Collecting {
     }
 
     #[inline(always)]
-    fn take_mark(
+    fn take_timestamp(
         &mut self,
         _rows: &mut Rows<'r>,
         _view: HeadView<'_>,
         _regs: Regs,
         _time: u64,
-        _mark: Plain<'_>,
+        _timestamp: ScannedItem<'_>,
         _extent: Extent<'_>,
     ) {}
 
@@ -115,7 +117,7 @@ impl<'r> Visit<Rows<'r>> for Collecting {
         rows: &mut Rows<'r>,
         _view: HeadView<'_>,
         regs: Regs,
-        change: Plain<'_>,
+        change: ScannedItem<'_>,
         extent: Extent<'_>,
         _out: &mut W,
     ) -> Result<(), WriteFailed> {

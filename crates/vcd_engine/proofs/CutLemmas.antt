@@ -20,7 +20,7 @@ use Rattle.vcd_model.proofs.KeptLines.{keeps, kept_more, kept_same, last_is_enou
 use Rattle.vcd_text.specs.Device.{Device, Takes}
 use Rattle.vcd_text.proofs.Writes.{AppendsSome, appends-first, appends-none, takes-failed, takes-first, takes-twice}
 use Rattle.std.specs.Io.KnownBytes.{Appends}
-use Rattle.vcd_engine.specs.Cut.{AreCut, HasBegun, HasNone, IsNoMark, kept_from, may_be_kept, values_text}
+use Rattle.vcd_engine.specs.Cut.{AreCut, HasBegun, HasNone, IsNoTimestamp, kept_from, may_be_kept, values_text}
 use Rattle.vcd_body.specs.Device.{DueBy, TakesDue}
 use Rattle.vcd_engine.specs.Engine.{TakesOne, last_of}
 use Rattle.vcd_model.specs.Outcome.{Request}
@@ -151,7 +151,7 @@ module _ (h : Header) (items : List BodyItem) (m : Cut) (is : AreCut m h items) 
 -- ---- other items
 
 -- what is read is no timestamp
-no_mark : (codes : List IdCode) (text : List ℕ) (item : Item) (x : BodyItem) (b : ℕ) → IsItem codes text item x → IsNoMark item → (is_mark_above b x ≡ false) × (marks (x ∷ []) ≡ [])
+no_mark : (codes : List IdCode) (text : List ℕ) (item : Item) (x : BodyItem) (b : ℕ) → IsItem codes text item x → IsNoTimestamp item → (is_mark_above b x ≡ false) × (marks (x ∷ []) ≡ [])
 no_mark codes text (Time t) x b is none = absurd none
 no_mark codes text (Begin s) x b is none = rw is (refl, refl)
 no_mark codes text End x b is none = rw is (refl, refl)
@@ -172,7 +172,7 @@ kept_from_time a items x s = rw (le-leb a (time_after items) (due a items s)) re
 none_from_time : (a : ℕ) (items : List BodyItem) (x : BodyItem) → is_started a items ≡ false → keeps (from_on a) items x ≡ false
 none_from_time a items x s = rw (lt-leb a (time_after items) (not_started a items s)) refl
 
-module _ (v : HeadView) (h : Header) (items : List BodyItem) (before : Regs) (m : Cut) (text : List ℕ) (item : Item) (x : BodyItem) (views : Views (parts v) h) (known : AreRegsAfter items before) (is : AreCut m h items) (read : IsItem h.codes text item x) (none : IsNoMark item) where
+module _ (v : HeadView) (h : Header) (items : List BodyItem) (before : Regs) (m : Cut) (text : List ℕ) (item : Item) (x : BodyItem) (views : Views (parts v) h) (known : AreRegsAfter items before) (is : AreCut m h items) (read : IsItem h.codes text item x) (none : IsNoTimestamp item) where
   low : is_mark_above m.to x ≡ false
   low = (no_mark h.codes text item x m.to read none).0
 
@@ -183,7 +183,7 @@ module _ (v : HeadView) (h : Header) (items : List BodyItem) (before : Regs) (m 
   still_in = still_on h m.from m.to items is.on x low
 
   -- it is kept where the definitions keep it
-  may_is : (i : Item) (y : BodyItem) → IsItem h.codes text i y → IsNoMark i → may_be_kept v (regs_after before i) i ≡ may_keep y (leaves_open items)
+  may_is : (i : Item) (y : BodyItem) → IsItem h.codes text i y → IsNoTimestamp i → may_be_kept v (regs_after before i) i ≡ may_keep y (leaves_open items)
   may_is (Time t) y e n = absurd n
   may_is (Begin s) y e n = rw e refl
   may_is End y e n = rw e refl
@@ -194,7 +194,7 @@ module _ (v : HeadView) (h : Header) (items : List BodyItem) (before : Regs) (m 
   kept_is s = may_is item x read none ∙ sym (kept_from_time m.from items x (sym is.started_is ∙ s))
 
   -- and then the time is that of all items before it
-  time_is : (i : Item) → IsNoMark i → (regs_after before i).time ≡ time_after items
+  time_is : (i : Item) → IsNoTimestamp i → (regs_after before i).time ≡ time_after items
   time_is (Time t) n = absurd n
   time_is (Begin s) n = known.time_is
   time_is End n = known.time_is
@@ -374,7 +374,7 @@ mark_ends h items m m' t out mid out' r r' is high (inr none) closes same =
 
 -- ---- items that are no timestamps
 
-pub no_mark_is : (item : Item) → ((time : ℕ) → item ≢ Time time) → IsNoMark item
+pub no_mark_is : (item : Item) → ((time : ℕ) → item ≢ Time time) → IsNoTimestamp item
 no_mark_is (Time t) none = absurd (none t refl)
 no_mark_is (Begin s) none = tt
 no_mark_is End none = tt

@@ -18,7 +18,7 @@ use Rattle.vcd_body.specs.Items.{AreRegsAfter, regs_after}
 use Rattle.vcd_body.specs.declared.item.Item.{Item}
 use Rattle.vcd_body.specs.declared.item.Regs.{Regs}
 use Rattle.vcd_engine.specs.Ahead.{GaveOneAhead, StandsAhead}
-use Rattle.vcd_engine.specs.Cut.{IsNoMark}
+use Rattle.vcd_engine.specs.Cut.{IsNoTimestamp}
 use Rattle.vcd_engine.specs.Engine.{Keeps, request_in}
 use Rattle.vcd_engine.specs.Next.{TakesMore, TakesNext, Walk}
 use Rattle.vcd_engine.specs.Pieces.{GrowsBut, PutsOn, pending_in}
@@ -46,12 +46,12 @@ other_goes_on (Request.Sample times names) x none = goes_on_other names times x 
 other_goes_on (Request.Edges names) x none = refl
 other_goes_on Request.Merge x none = refl
 
-pub goes_on_item : (t : Request) (codes : List IdCode) (text : List ℕ) (item : Item) (x : BodyItem) → IsNoMark item → IsItem codes text item x → ends_early t x ≡ false
+pub goes_on_item : (t : Request) (codes : List IdCode) (text : List ℕ) (item : Item) (x : BodyItem) → IsNoTimestamp item → IsItem codes text item x → ends_early t x ≡ false
 goes_on_item t codes text item x none is = other_goes_on t x (no_marks codes text item x is none)
 
 module _ {A E : Type 0} (t : Request) (h : Header) (limit lines : ℕ) (bytes : List ℕ) (before : List BodyItem) (v : HeadView) (views : IsViewOf v h) (few : length before + length bytes < 2 ^ 63) (w w' : Walk) (p p' : Pieces) (out out' : Device) (m m' : TaskState) (result : Result A E) (n : TakesNext v w w' p p' out out' m m' result)
     (items : List BodyItem) (over : LooksOver limit bytes w.ahead) (same : request_in m ≡ t) (within : passed_of w.ahead ≤ length bytes) (s : StandsAhead t h limit lines bytes before (passed_of w.ahead) items m w.regs) where
-  pub one : (x : BodyItem) × IsItem h.codes n.plain.text.now n.plain.item x × GaveAhead h.codes limit lines bytes (passed_of w'.ahead) before (items ++ x ∷ []) × AreRegsAfter (before ++ (items ++ x ∷ [])) (regs_after w.regs n.plain.item)
+  pub one : (x : BodyItem) × IsItem h.codes n.scanned.text.now n.scanned.item x × GaveAhead h.codes limit lines bytes (passed_of w'.ahead) before (items ++ x ∷ []) × AreRegsAfter (before ++ (items ++ x ∷ [])) (regs_after w.regs n.scanned.item)
   one = n.item.gives h limit lines bytes before items views over s.known s.gave
 
   abbrev pub next : BodyItem
@@ -68,7 +68,7 @@ module _ {A E : Type 0} (t : Request) (h : Header) (limit lines : ℕ) (bytes : 
   pub next_stands : (a : A) → result ≡ Ok a → StandsAhead t h limit lines bytes before (passed_of w'.ahead) (items ++ next ∷ []) m' w'.regs
   next_stands a e =
       let keeps = subst (λ (q : Result A E). IfOk q (λ _. Keeps m' h ((before ++ items) ++ next ∷ []))) e taken.keeps in
-      stands_on t h limit lines bytes before (passed_of w.ahead) items m w.regs s (passed_of w'.ahead) m' w'.regs n.plain.text.now n.plain.item next one.1 one.2 next_given.known n.regs keeps taken.on
+      stands_on t h limit lines bytes before (passed_of w.ahead) items m w.regs s (passed_of w'.ahead) m' w'.regs n.scanned.text.now n.scanned.item next one.1 one.2 next_given.known n.regs keeps taken.on
 
   -- what is due with it
   due : DueBy (λ due. PutsOn (pending_in bytes p) (pending_in bytes p') out out' due result) (open_text t h (before ++ items)) (open_text t h ((before ++ items) ++ next ∷ []))

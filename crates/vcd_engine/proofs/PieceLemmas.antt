@@ -12,13 +12,13 @@ use Rattle.vcd_text.specs.declared.ahead.Ahead.{Ahead}
 use Rattle.vcd_view.specs.declared.view.HeadView.{HeadView}
 use Rattle.vcd_body.specs.Spelled.{HasSpelled}
 use Rattle.vcd_body.specs.Taken.{TakesItem}
-use Rattle.vcd_body.specs.declared.ahead.Plain.{Plain}
+use Rattle.vcd_body.specs.declared.ahead.ScannedItem.{ScannedItem}
 use Rattle.vcd_body.specs.Items.{regs_after}
 use Rattle.vcd_body.specs.declared.item.Form.{Form}
 use Rattle.vcd_body.specs.declared.item.Item.{Item}
 use Rattle.vcd_body.specs.declared.item.Item.TheVariants.{Change}
 use Rattle.vcd_body.specs.declared.item.Regs.{Regs}
-use Rattle.vcd_engine.specs.Cut.{IsNoMark}
+use Rattle.vcd_engine.specs.Cut.{IsNoTimestamp}
 use Rattle.vcd_engine.specs.Pieces.{GrowsBut, IsLine, IsSpanned, PutsAll, PutsBehind, PutsOn, IsPart, pending_in}
 use Rattle.vcd_engine.specs.declared.pieces.Pieces.{Pieces}
 use Rattle.vcd_body.proofs.Results.{writes-none}
@@ -131,19 +131,19 @@ next_line_is bytes bytes' line line' time time' e f g i = subst (λ bs. IsLine b
 -- ---- an item that was taken ahead
 
 -- a change is no timestamp, and changes no register
-pub no_mark_here : (item : Item) (place : ℕ) (form : Form) → item ≡ Change place form → IsNoMark item
-no_mark_here item place form e = subst IsNoMark (sym e) tt
+pub no_timestamp_here : (item : Item) (place : ℕ) (form : Form) → item ≡ Change place form → IsNoTimestamp item
+no_timestamp_here item place form e = subst IsNoTimestamp (sym e) tt
 
 pub same_regs : (r : Regs) (item : Item) (place : ℕ) (form : Form) → item ≡ Change place form → r ≡ regs_after r item
 same_regs r item place form e = subst (λ (i : Item). r ≡ regs_after r i) (sym e) refl
 
-module _ (v : HeadView) (a a' : Ahead) (r : Regs) (p : Plain) (bytes : Bor (List ℕ)) (from to : ℕ) (item : TakesItem v a a' r p) (e : bytes.now ≡ bytes_of a') (f : from ≡ p.begin) (g : to ≡ passed_of a') where
+module _ (v : HeadView) (a a' : Ahead) (r : Regs) (p : ScannedItem) (bytes : Bor (List ℕ)) (from to : ℕ) (item : TakesItem v a a' r p) (e : bytes.now ≡ bytes_of a') (f : from ≡ p.begin) (g : to ≡ passed_of a') where
   spelled_there : HasSpelled v bytes.now from to p.at p.code_at p.text.now p.item
   spelled_there =
       subst (λ (bs : List ℕ). HasSpelled v bs from to p.at p.code_at p.text.now p.item) (sym (e ∙ item.same.0))
       (subst (λ n. HasSpelled v (bytes_of a) n to p.at p.code_at p.text.now p.item) (sym f) (subst (λ n. HasSpelled v (bytes_of a) p.begin n p.at p.code_at p.text.now p.item) (sym g) item.begun))
 
-  pub placed_there : (place : ℕ) × (form : Form) × (p.item ≡ Change place form) → IsSpanned v (record { plain = p; bytes = bytes; from = from; to = to })
+  pub placed_there : (place : ℕ) × (form : Form) × (p.item ≡ Change place form) → IsSpanned v (record { scanned = p; bytes = bytes; from = from; to = to })
   placed_there change =
       let s = subst (λ (i : Item). HasSpelled v bytes.now from to p.at p.code_at p.text.now i) change.2 spelled_there in
       let after = s.3.after in
@@ -152,7 +152,7 @@ module _ (v : HeadView) (a a' : Ahead) (r : Regs) (p : Plain) (bytes : Bor (List
       let within = item.within in
       let here : to ≤ length bytes.now = subst (λ (bs : List ℕ). to ≤ length bs) (sym e) (omega (arith, g, within)) in
       record {
-        none = no_mark_here p.item change.0 change.1 change.2;
+        none = no_timestamp_here p.item change.0 change.1 change.2;
         within = (omega arith, here);
         good = item.sound;
         sized = λ known. item.sized;

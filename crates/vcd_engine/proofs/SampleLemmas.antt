@@ -19,7 +19,7 @@ use Rattle.vcd_body.specs.declared.item.Item.{Item}
 use Rattle.vcd_body.specs.declared.item.Item.TheVariants.{Time, Begin, End, Change, Finish}
 use Rattle.vcd_body.specs.declared.table.Table.{Table}
 use Rattle.vcd_body.specs.Device.{TakesDue}
-use Rattle.vcd_engine.specs.Cut.{IsNoMark}
+use Rattle.vcd_engine.specs.Cut.{IsNoTimestamp}
 use Rattle.vcd_body.specs.Given.{IsItem}
 use Rattle.vcd_engine.specs.Quiet.{TakesQuietly}
 use Rattle.vcd_engine.specs.Sample.{AreSampled, asked_in, is_due, names_in}
@@ -73,7 +73,7 @@ all_behind P (x ∷ xs) ys all = all_behind P xs ys all.1
 -- ---- an item that is no timestamp
 
 -- it is no timestamp
-pub no_marks : (codes : List IdCode) (text : List ℕ) (item : Item) (x : BodyItem) → IsItem codes text item x → IsNoMark item → marks (x ∷ []) ≡ []
+pub no_marks : (codes : List IdCode) (text : List ℕ) (item : Item) (x : BodyItem) → IsItem codes text item x → IsNoTimestamp item → marks (x ∷ []) ≡ []
 no_marks codes text (Time t) x is none = absurd none
 no_marks codes text (Begin s) x is none = rw is refl
 no_marks codes text End x is none = rw is refl
@@ -218,7 +218,7 @@ module _ (s : Sample) (h : Header) (items : List BodyItem) (is : AreSampled s h 
         };
       }
 
-  pub quiet_item : (text : List ℕ) (item : Item) (x : BodyItem) → IsNoMark item → IsItem h.codes text item x → (t : Table) → AreHeld t h (items ++ x ∷ []) → TakesQuietly (AreSampled (record s { table = t }) h (items ++ x ∷ [])) (asked_in s) h items x
+  pub quiet_item : (text : List ℕ) (item : Item) (x : BodyItem) → IsNoTimestamp item → IsItem h.codes text item x → (t : Table) → AreHeld t h (items ++ x ∷ []) → TakesQuietly (AreSampled (record s { table = t }) h (items ++ x ∷ [])) (asked_in s) h items x
   quiet_item text item x none read t held =
       let other = no_marks h.codes text item x read none in
       record { due = none_due s h items x is other; on = goes_on_other (names_in s) s.times.now x other; keeps = samples_on s h items x is other t held }

@@ -56,7 +56,7 @@ one_place (x ∷ xs) (suc i) (suc j) t h a b = ap suc (one_place xs i j t h.1 a 
 indexed : (ks : List IdCode) (index : List ℕ) (p : ℕ) (k : IdCode) → IsIndex ks index → slice_get ks p ≡ Some k → (i : ℕ) × (slice_get index i ≡ Some p) × (slice_get (map (code_text ks) index) i ≡ Some k.text)
 indexed ks index p k h at =
     let l = slice_get_within ks p k at in
-    let has = Contains-permutation (range_with_len 0 (length ks)) index p h.places (p, rw length-range_with_len l, get_or-range_with_len 0 (length ks) p p l ∙ zero-add p) in
+    let has = Contains-permutation (range_with_len 0 (length ks)) index p h.positions (p, rw length-range_with_len l, get_or-range_with_len 0 (length ks) p p l ∙ zero-add p) in
     let there : slice_get index has.0 ≡ Some p = slice_get-get_or index has.0 p has.1 ∙ ap Some has.2 in
     (has.0, there, slice_get-map (code_text ks) index has.0 ∙ ap (option_map (code_text ks)) there ∙ ap (λ (o : Option IdCode). Some (unwrap_or (option_map (λ c. c.text) o) [])) at)
 

@@ -40,9 +40,9 @@ may_be_kept v r (Change index form) = not (is_some r.section && is_event_at v in
 may_be_kept v r Finish = false
 
 -- the item is no timestamp
-abbrev pub IsNoMark : Item → Type 0
-IsNoMark (Time t) = ⊥
-IsNoMark item = Unit {0}
+abbrev pub IsNoTimestamp : Item → Type 0
+IsNoTimestamp (Time t) = ⊥
+IsNoTimestamp item = Unit {0}
 
 -- what is asked for
 abbrev pub span_in : Cut → Request

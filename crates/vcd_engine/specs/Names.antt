@@ -36,7 +36,7 @@ pub use Rattle.vcd_body.specs.Ahead.{HasBits}
 pub use Rattle.vcd_body.specs.Contents.{KeepsTable}
 pub use Rattle.vcd_body.specs.Given.{HasGoodText, IsGoodText, IsItem, IsText, item_text}
 pub use Rattle.vcd_body.specs.Items.{AreRegsAfter, model_section}
-pub use Rattle.vcd_body.specs.Spelled.{bytes_without, line_without, HasMark}
+pub use Rattle.vcd_body.specs.Spelled.{bytes_without, line_without, HasTimestamp}
 pub use Rattle.vcd_body.specs.declared.answer.Done.TheVariants.{Early, Whole}
 pub use Rattle.vcd_body.specs.declared.answer.More.TheVariants.{Again}
 pub use Rattle.vcd_body.specs.declared.answer.Stop.TheVariants.{Write}
@@ -44,7 +44,7 @@ pub use Rattle.vcd_body.specs.declared.item.Item.TheVariants.{Finish}
 pub use Rattle.vcd_engine.specs.Ahead.{RunsOver}
 pub use Rattle.vcd_engine.specs.Check.{AreCounted}
 pub use Rattle.vcd_engine.specs.Choice.{is_chosen}
-pub use Rattle.vcd_engine.specs.Cut.{AreCut, BeginsBy, IsNoMark, lent_to, may_be_kept, PutsStart, SameSpan, span_in}
+pub use Rattle.vcd_engine.specs.Cut.{AreCut, BeginsBy, IsNoTimestamp, lent_to, may_be_kept, PutsStart, SameSpan, span_in}
 pub use Rattle.vcd_engine.specs.Edges.{AreEdges, AreTallied, change_to, names_counted, room_in_edges, SameEdges}
 pub use Rattle.vcd_engine.specs.Engine.{AtClose, AtItem, CanRun, ClosesOver, CountsStop, HasBegun, Holds, is_going, Keeps, last_of, may_end_early, request_in, request_of, request_of_begun, request_of_engine, Starts, StartsOver, StopsUnread, TakesEach, TakesTime}
 pub use Rattle.vcd_engine.specs.ItemText.{HasWritten, LastTells, PutsEntry, times_with}

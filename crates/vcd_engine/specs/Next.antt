@@ -12,7 +12,7 @@ use Rattle.vcd_body.specs.Device.{DueBy}
 use Rattle.vcd_body.specs.Given.{IsItem}
 use Rattle.vcd_body.specs.Items.{AreRegsAfter, regs_after}
 use Rattle.vcd_body.specs.Taken.{TakesItem}
-use Rattle.vcd_body.specs.declared.ahead.Plain.{Plain}
+use Rattle.vcd_body.specs.declared.ahead.ScannedItem.{ScannedItem}
 use Rattle.vcd_body.specs.declared.item.Regs.{Regs}
 use Rattle.vcd_engine.specs.Engine.{AtItem, Keeps, request_in}
 use Rattle.vcd_engine.specs.Pieces.{IsLine, IsPart, PutsOn, pending_in}
@@ -37,12 +37,12 @@ abbrev pub HasLine : Walk → Type 0
 HasLine w = IsLine (bytes_of w.ahead) w.line w.regs.time
 
 -- a timestamp with which nothing is due was taken
-abbrev pub TakesMark : ℕ → TaskState → TaskState → Type 0
-TakesMark time m m' = (h : Header) (items : List BodyItem) → length items < 2 ^ 63 → Keeps m h items → TakesQuietly (Keeps m' h (items ++ BodyItem.Time time ∷ [])) (request_in m) h items (BodyItem.Time time)
+abbrev pub TakesTimestamp : ℕ → TaskState → TaskState → Type 0
+TakesTimestamp time m m' = (h : Header) (items : List BodyItem) → length items < 2 ^ 63 → Keeps m h items → TakesQuietly (Keeps m' h (items ++ BodyItem.Time time ∷ [])) (request_in m) h items (BodyItem.Time time)
 
 -- an item was taken, and what is due with it put after the text that is pending
 abbrev pub PutsItem : {A E : Type 0} → HeadView → Regs → SpannedItem → Pieces → Pieces → Device → Device → TaskState → TaskState → Result A E → Type 0
-PutsItem v r c p p' out out' m m' result = AtItem v r c.plain.item c.plain.text.now (λ h items x. Keeps m h items
+PutsItem v r c p p' out out' m m' result = AtItem v r c.scanned.item c.scanned.text.now (λ h items x. Keeps m h items
     → DueBy (λ due. PutsOn (pending_in c.bytes.now p) (pending_in c.bytes.now p') out out' due result) (open_text (request_in m) h items) (open_text (request_in m) h (items ++ x ∷ [])) × IfOk result (λ _. Keeps m' h (items ++ x ∷ [])))
 
 -- what is due with one item more was taken so; the item does not end the run, and then this holds
@@ -53,11 +53,11 @@ pub record TakesMore {A E : Type 0} (takes : List ℕ → Type 0) (holds : Type 
 
 -- one item more was taken ahead, and what is due with it was put after the text that is pending
 pub record TakesNext {A E : Type 0} (v : HeadView) (w w' : Walk) (p p' : Pieces) (out out' : Device) (m m' : TaskState) (result : Result A E) : Type 0 where
-  pub plain : Plain
-  pub item : TakesItem v w.ahead w'.ahead w.regs plain
-  pub regs : w'.regs ≡ regs_after w.regs plain.item
+  pub scanned : ScannedItem
+  pub item : TakesItem v w.ahead w'.ahead w.regs scanned
+  pub regs : w'.regs ≡ regs_after w.regs scanned.item
   pub line : HasLine w'
-  pub one : (h : Header) (items : List BodyItem) (x : BodyItem) → IsViewOf v h → AreRegsAfter items w.regs → IsItem h.codes plain.text.now plain.item x → length items < 2 ^ 63 → Keeps m h items
+  pub one : (h : Header) (items : List BodyItem) (x : BodyItem) → IsViewOf v h → AreRegsAfter items w.regs → IsItem h.codes scanned.text.now scanned.item x → length items < 2 ^ 63 → Keeps m h items
       → TakesMore (λ due. PutsOn (pending_in (bytes_of w.ahead) p) (pending_in (bytes_of w.ahead) p') out out' due result) (Keeps m' h (items ++ x ∷ [])) (request_in m) h items x result
   pub counts : Counts out out' result
   pub part : IfOk result (λ _. IsPart (bytes_of w.ahead) p')

@@ -9,24 +9,24 @@ use Rattle.vcd_body.specs.Given.{HasGoodText}
 use Rattle.vcd_body.specs.Ahead.{HasBits, IsSizedItem}
 use Rattle.vcd_body.specs.Changes.{AreBinaryIf}
 use Rattle.vcd_body.specs.Spelled.{HasSpelled}
-use Rattle.vcd_engine.specs.Cut.{IsNoMark}
+use Rattle.vcd_engine.specs.Cut.{IsNoTimestamp}
 use Rattle.vcd_engine.specs.declared.pieces.SpannedItem.{SpannedItem}
 use Rattle.vcd_engine.specs.declared.pieces.Pieces.{Pieces}
 
 -- an item that is no timestamp; where its size is known, it lies at an offset of these bytes
 pub record IsSpanned (v : HeadView) (l : SpannedItem) : Type 0 where
-  pub none : IsNoMark l.plain.item
+  pub none : IsNoTimestamp l.scanned.item
   pub within : (l.from ≤ l.to) × (l.to ≤ length l.bytes.now)
-  pub good : HasGoodText v.codes.now l.plain.text.now l.plain.item
-  pub sized : l.plain.most ≢ 0 → IsSizedItem v.codes.now l.plain.item l.plain.most
-  pub bits : HasBits l.plain.item l.plain.text.now l.plain.bits
-  pub binary : AreBinaryIf l.plain.binary l.plain.text.now
-  pub spelled : l.plain.most ≢ 0 → HasSpelled v l.bytes.now l.from l.to l.plain.at l.plain.code_at l.plain.text.now l.plain.item
+  pub good : HasGoodText v.codes.now l.scanned.text.now l.scanned.item
+  pub sized : l.scanned.most ≢ 0 → IsSizedItem v.codes.now l.scanned.item l.scanned.most
+  pub bits : HasBits l.scanned.item l.scanned.text.now l.scanned.bits
+  pub binary : AreBinaryIf l.scanned.binary l.scanned.text.now
+  pub spelled : l.scanned.most ≢ 0 → HasSpelled v l.bytes.now l.from l.to l.scanned.at l.scanned.code_at l.scanned.text.now l.scanned.item
 
 -- a change lies from its first byte up to this offset ahead
 pub record LiesUpTo (a : Ahead) (l : SpannedItem) : Type 0 where
   pub bytes : l.bytes.now ≡ bytes_of a
-  pub from : l.from ≡ l.plain.begin
+  pub from : l.from ≡ l.scanned.begin
   pub to : l.to ≡ passed_of a
 
 -- from one offset of these bytes up to another is the line of this time, or nothing is said

@@ -109,7 +109,7 @@ impl<'v, 'n, 'r> Engine<'v, 'n, 'r> {
     /// `view` is the engine's, from the caller, so that a loop over steps does not load it again.
     /// Fails as `step` does.
     #[inline(always)]
-    fn step_over<S: Source, W: Sink>(
+    fn step_with_view<S: Source, W: Sink>(
         &mut self,
         view: HeadView<'_>,
         feed: &mut Feed<'_, '_, '_, '_, S>,
@@ -185,8 +185,8 @@ impl<'v, 'n, 'r> Engine<'v, 'n, 'r> {
         }
     }
 
-    /// Takes the items that are whole in the chunk, as `walk_ahead` does, unless a keyword is next:
-    /// then there is none. Fails where a write does.
+    /// Takes the items that are whole in the chunk, as `walk_ahead` does. Where a keyword is next,
+    /// it takes none, as `walk_ahead` would: the test spares that call. Fails where a write does.
     #[inline(always)]
     fn take_ahead<S: Source, W: Sink>(
         &mut self,
@@ -215,8 +215,8 @@ impl<'v, 'n, 'r> Engine<'v, 'n, 'r> {
         self.walk_ahead(view, feed, out)
     }
 
-    /// Takes the next item, as `step_over` does. It may wait for a read, so by then `out` keeps
-    /// nothing back.
+    /// Takes the next item, as `step_with_view` does. It may wait for a read, so by then `out`
+    /// keeps nothing back.
     #[inline(always)]
     fn read_on<S: Source, W: Sink>(
         &mut self,
@@ -231,7 +231,7 @@ impl<'v, 'n, 'r> Engine<'v, 'n, 'r> {
         ensures over { StepsOver S.failures self.old self.new feed.old feed.new
             (W.device out.old) (W.device out.new) result }
     {
-        self.step_over(view, feed, out)
+        self.step_with_view(view, feed, out)
     }
 
     /// Takes the items that are whole in the chunk, and then the next one, which may need a read:
@@ -276,7 +276,7 @@ impl<'v, 'n, 'r> Engine<'v, 'n, 'r> {
 
     /// Runs the items that are left, writes what is due with each and at the end, and returns what
     /// ended the run: the end of the body, or an item. Fails where a step does.
-    fn finish<S: Source, W: Sink>(
+    fn run_to_end<S: Source, W: Sink>(
         &mut self,
         feed: &mut Feed<'_, '_, '_, '_, S>,
         out: &mut W,
@@ -318,7 +318,7 @@ pub fn step<S: Source, W: Sink>(
     ensures over { StepsOver S.failures engine.old engine.new feed.old feed.new
         (W.device out.old) (W.device out.new) result }
 {
-    engine.step_over(engine.view, feed, out)
+    engine.step_with_view(engine.view, feed, out)
 }
 
 /// Runs a task over the body after the header that is shown, to its end. The task's times are in
@@ -350,5 +350,5 @@ pub fn run_task<S: Source, W: Sink>(
     };
     let begun = Begun::start(task, view, room, out)?;
     let mut engine = Engine::new(begun, view);
-    engine.finish(feed, out)
+    engine.run_to_end(feed, out)
 }

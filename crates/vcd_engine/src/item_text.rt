@@ -3,7 +3,7 @@ ghost use Rattle.std.specs.Prelude.{◌≡◌, ℕ, ◌-◌, ◌^◌, ◌<◌, �
 ghost use Rattle.vcd_engine.specs.Names.{as_line, BodyItem, closing, Counts, Entry, HasGoodText, HasWritten, Header, IsSpanned, IsItem, IsLine, IsPart, IsViewOf, item_line, keyword_text, LastTells, model_section, PutsBehind, PutsEntry, PutsPieces, PutsWhere, section_keyword, TakenBy, Takes, time_due, times_with};
 
 use crate::pieces::{Pieces, SpannedItem};
-use crate::task_state::walk::Copying;
+use crate::task_state::walk::KnownLine;
 use vcd_body::{Id, Item, Section, put_change, put_time_unless};
 use vcd_text::{Sink, WriteFailed, put};
 use vcd_view::HeadView;
@@ -102,7 +102,7 @@ impl ItemText {
         view: HeadView<'_>,
         time: u64,
         item: SpannedItem<'_>,
-        line: &Copying,
+        line: &KnownLine,
         pieces: &mut Pieces,
         out: &mut W,
     ) -> Result<(), WriteFailed>
@@ -112,13 +112,13 @@ impl ItemText {
         requires part { IsPart item.bytes.now pieces.old }
         ensures text { PutsEntry (λ due. PutsPieces item.entry.bytes.now pieces.old pieces.new
             (W.device out.old) (W.device out.new) due result) view.entry time
-            item.entry.plain.item item.entry.plain.text.now self.old self.new result }
+            item.entry.scanned.item item.entry.scanned.text.now self.old self.new result }
         ensures counts { Counts (W.device out.old) (W.device out.new) result }
         ensures part { IfOk result (λ _. IsPart item.entry.bytes.now pieces.new) }
     {
         let Some(n) = item.left_out() else {
             pieces.flush(item.bytes, out)?;
-            return self.put(view, time, item.plain.item, item.plain.text, out);
+            return self.put(view, time, item.scanned.item, item.scanned.text, out);
         };
         self.add_time(time, item.bytes, line, pieces, out)?;
         pieces.append_line(item.bytes, item.from, item.to, n, out)
@@ -131,7 +131,7 @@ impl ItemText {
         &mut self,
         time: u64,
         bytes: &[u8],
-        line: &Copying,
+        line: &KnownLine,
         pieces: &mut Pieces,
         out: &mut W,
     ) -> Result<(), WriteFailed>

@@ -5,24 +5,24 @@ ghost use Rattle.vcd_engine.specs.Names.{HaveNoLine, Header, IsSelectedAt, IsVie
 
 use vcd_view::{HeadView, Kind};
 
-/// Returns whether a row has a line in a sample: its flag `mark` is 1, and it is a variable that is
+/// Returns whether a row has a line in a sample: its flag `flag` is 1, and it is a variable that is
 /// no event.
-fn has_line(view: HeadView<'_>, row: usize, mark: u8) -> bool
+fn has_line(view: HeadView<'_>, row: usize, flag: u8) -> bool
     requires { row < length view.rows.now }
     ensures { (h : Header) (names : List (List ℕ)) → IsViewOf view.entry h
-        → get_or (marks_of names h.declarations) row 0 ≡ mark → MatchBool result
+        → get_or (marks_of names h.declarations) row 0 ≡ flag → MatchBool result
         (IsSelectedAt names h.declarations row) (HaveNoLine names h.declarations row 1) }
 {
     let declared = &view.rows[row];
     match declared.kind {
-        Kind::Var => mark == 1 && !view.is_event(declared.code as usize),
+        Kind::Var => flag == 1 && !view.is_event(declared.code as usize),
         Kind::Scope | Kind::Up => false,
     }
 }
 
 /// Returns the flag of the first of `count` rows without a line: 2 + log2(`count`), rounded down.
 /// It skips more than half of them. `count` is 1 or more.
-fn mark_over(count: usize) -> u8
+fn flag_over(count: usize) -> u8
     requires { 0 < count }
     ensures other { result ≢ 1 }
     ensures within { rows_on result ≤ count }
@@ -31,11 +31,11 @@ fn mark_over(count: usize) -> u8
 }
 
 /// Returns how many rows a flag skips, a power of two: 1 for the flags 0 to 2.
-pub(crate) fn rows_on(mark: u8) -> usize
-    ensures passes { result ≡ rows_on mark }
+pub(crate) fn rows_on(flag: u8) -> usize
+    ensures passes { result ≡ rows_on flag }
     ensures some { 0 < result }
 {
-    1 << mark.saturating_sub(2).min(63)
+    1 << flag.saturating_sub(2).min(63)
 }
 
 /// Turns the flags of selected rows into flags that lead on: 1 where a row has a line in a sample,
@@ -56,7 +56,7 @@ pub(crate) fn lead_on(view: HeadView<'_>, marks: &mut [u8])
             without = 0;
         } else {
             without += 1;
-            marks[row] = mark_over(without);
+            marks[row] = flag_over(without);
         }
     }
 }

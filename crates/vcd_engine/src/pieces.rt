@@ -1,15 +1,15 @@
 //! Pending text: due, not written yet, and in the chunk already. Adjoining pieces are one write.
 ghost use Rattle.std.specs.Prelude.{◌≡◌, ℕ, ◌+◌, ◌-◌, ◌^◌, ◌<◌, ◌≤◌, ◌++◌, ◌∷◌, List, [], length, slice_range, IfErr, IfOk, IfSome};
-ghost use Rattle.vcd_engine.specs.Names.{BodyItem, bytes_without, HasGoodText, Header, HeadView, pending_in, IsSpanned, IsItem, IsLine, IsNoMark, IsPart, IsViewOf, item_line, LiesUpTo, line_without, Puts, PutsBehind, time_line};
+ghost use Rattle.vcd_engine.specs.Names.{BodyItem, bytes_without, HasGoodText, Header, HeadView, pending_in, IsSpanned, IsItem, IsLine, IsNoTimestamp, IsPart, IsViewOf, item_line, LiesUpTo, line_without, Puts, PutsBehind, time_line};
 
-use vcd_body::{Extent, Item, Plain, left_out_before_last, put_time};
+use vcd_body::{Extent, Item, ScannedItem, left_out_before_last, put_time};
 use vcd_text::{Sink, WriteFailed, put_front, put_parts};
 
 /// An item that is no timestamp, with its span: a change in the chunk begins at `from`, and was
 /// passed up to `to`. An item that the feed gave has an empty span, and no size (`most` is 0).
 #[derive(Clone, Copy)]
 pub(crate) struct SpannedItem<'a> {
-    pub(crate) plain: Plain<'a>,
+    pub(crate) scanned: ScannedItem<'a>,
     pub(crate) bytes: &'a [u8],
     pub(crate) from: usize,
     pub(crate) to: usize,
@@ -18,14 +18,14 @@ pub(crate) struct SpannedItem<'a> {
 impl<'a> SpannedItem<'a> {
     /// Returns the change that lies at this extent.
     #[inline(always)]
-    pub(crate) fn of(plain: Plain<'a>, extent: Extent<'a>) -> SpannedItem<'a>
-        ensures plain { result.plain ≡ plain.entry }
+    pub(crate) fn of(scanned: ScannedItem<'a>, extent: Extent<'a>) -> SpannedItem<'a>
+        ensures scanned { result.scanned ≡ scanned.entry }
         ensures span { LiesUpTo extent.entry.to result }
     {
         SpannedItem {
-            plain,
+            scanned,
             bytes: extent.to.bytes(),
-            from: plain.begin,
+            from: scanned.begin,
             to: extent.to.passed(),
         }
     }
@@ -33,13 +33,13 @@ impl<'a> SpannedItem<'a> {
     /// Returns an item that the feed gave, with its text.
     #[inline(always)]
     pub(crate) fn given(item: Item, text: &'a [u8]) -> SpannedItem<'a>
-        ensures item { result.plain.item ≡ item }
-        ensures text { result.plain.text ≡ text.entry }
+        ensures item { result.scanned.item ≡ item }
+        ensures text { result.scanned.text ≡ text.entry }
         ensures bytes { result.bytes.now ≡ [] }
         ensures span { (view : HeadView) → HasGoodText view.codes.now text.now item
-            → IsNoMark item → IsSpanned view result }
+            → IsNoTimestamp item → IsSpanned view result }
     {
-        let plain = Plain {
+        let scanned = ScannedItem {
             item,
             text,
             most: 0,
@@ -50,7 +50,7 @@ impl<'a> SpannedItem<'a> {
             binary: false,
         };
         SpannedItem {
-            plain,
+            scanned,
             bytes: &[],
             from: 0,
             to: 0,
@@ -66,13 +66,13 @@ impl<'a> SpannedItem<'a> {
         ensures within { IfSome result (λ k. self.entry.from + 2 + k ≤ self.entry.to) }
         ensures line { IfSome result (λ k. (view : HeadView) (h : Header) (x : BodyItem)
             → IsSpanned view self.entry → IsViewOf view h
-            → IsItem h.codes self.entry.plain.text.now self.entry.plain.item x
+            → IsItem h.codes self.entry.scanned.text.now self.entry.scanned.item x
             → line_without self.entry.bytes.now self.entry.from self.entry.to k ≡ item_line x) }
     {
-        if self.plain.most == 0 {
+        if self.scanned.most == 0 {
             return None;
         }
-        left_out_before_last(self.plain, self.bytes, self.from, self.to)
+        left_out_before_last(self.scanned, self.bytes, self.from, self.to)
     }
 }
 

@@ -10,7 +10,7 @@ pub(crate) mod sample;
 pub(crate) mod walk;
 
 use crate::task::{Room, Task};
-use crate::task_state::walk::{Copying, Keeping, WalkEnd, take_each, take_given};
+use crate::task_state::walk::{KnownLine, NoLine, WalkEnd, take_each, take_given};
 use vcd_body::{Item, Regs, Stop};
 use vcd_text::{Ahead, Sink, WriteFailed};
 use vcd_view::HeadView;
@@ -92,13 +92,15 @@ impl<'n, 'r> TaskState<'n, 'r> {
     {
         match self {
             TaskState::Check(check) => {
-                take_given::<Keeping, _, _>(check, view, regs, item, text, out)
+                take_given::<NoLine, _, _>(check, view, regs, item, text, out)
             }
-            TaskState::Pick(pick) => take_given::<Copying, _, _>(pick, view, regs, item, text, out),
+            TaskState::Pick(pick) => take_given::<KnownLine, _, _>(
+                pick, view, regs, item, text, out,
+            ),
             TaskState::Cut(cut) => cut.take(view, regs, item, text, out),
             TaskState::Sample(sample) => sample.take(view, regs, item, text, out),
             TaskState::Edges(edges) => {
-                take_given::<Keeping, _, _>(edges, view, regs, item, text, out)
+                take_given::<NoLine, _, _>(edges, view, regs, item, text, out)
             }
         }
     }
@@ -118,19 +120,19 @@ impl<'n, 'r> TaskState<'n, 'r> {
             (W.device out.old) (W.device out.new) result }
     {
         match self {
-            TaskState::Check(check) => { take_each::<Keeping, _, _>(check, view, regs, ahead, out) }
-            TaskState::Pick(pick) => { take_each::<Copying, _, _>(pick, view, regs, ahead, out) }
+            TaskState::Check(check) => { take_each::<NoLine, _, _>(check, view, regs, ahead, out) }
+            TaskState::Pick(pick) => { take_each::<KnownLine, _, _>(pick, view, regs, ahead, out) }
             TaskState::Cut(cut) => {
                 if cut.has_begun() {
-                    take_each::<Copying, _, _>(cut, view, regs, ahead, out)
+                    take_each::<KnownLine, _, _>(cut, view, regs, ahead, out)
                 } else {
-                    take_each::<Keeping, _, _>(cut, view, regs, ahead, out)
+                    take_each::<NoLine, _, _>(cut, view, regs, ahead, out)
                 }
             }
             TaskState::Sample(sample) => {
-                take_each::<Keeping, _, _>(sample, view, regs, ahead, out)
+                take_each::<NoLine, _, _>(sample, view, regs, ahead, out)
             }
-            TaskState::Edges(edges) => { take_each::<Keeping, _, _>(edges, view, regs, ahead, out) }
+            TaskState::Edges(edges) => { take_each::<NoLine, _, _>(edges, view, regs, ahead, out) }
         }
     }
 

@@ -112,8 +112,8 @@ module _ (t : List ℕ) (a : AreBytes t) where
   len_of keys cs e = sym (length-map keys shape_of) ∙ ap length e ∙ length-map cs (λ (c : IdCode). shape_in c.text)
 
   -- one that is there is at the index of the code with these bytes
-  pub finds_entered : (keys : List CodeKey) (cs : List IdCode) (place : ℕ) → AllByRecursion (λ (c : IdCode). AreBytes c.text) cs → AreKeysOf keys cs → place ≡ position_or_len (is_key t) keys → place < length keys → Finds cs t (Some place)
-  finds_entered keys cs place h e is l =
+  pub finds_entered : (keys : List CodeKey) (cs : List IdCode) (position : ℕ) → AllByRecursion (λ (c : IdCode). AreBytes c.text) cs → AreKeysOf keys cs → position ≡ position_or_len (is_key t) keys → position < length keys → Finds cs t (Some position)
+  finds_entered keys cs position h e is l =
       let n = position_or_len (is_key t) keys in
       let below : nat_lt n (length keys) ≡ true = lt-ltb n (length keys) (omega (arith, is, l)) in
       subst (Finds cs t) (ap (λ b. cond b (Some n) None) below ∙ ap Some (sym is)) (finds_key keys cs h e)

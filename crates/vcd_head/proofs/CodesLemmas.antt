@@ -16,12 +16,12 @@ pub find_more : (cs : List IdCode) (t : List ℕ) (c : IdCode) → find (has_tex
 find_more cs t c = find-append (has_text t) cs (c ∷ [])
 
 -- what is found is in the list
-pub listed : (text : List ℕ) (list : List Code) (cs : List IdCode) (place : ℕ) (k : IdCode) → AllZip (IsCode text) list cs → slice_get cs place ≡ Some k → slice_get list place ≡ None → ⊥
-listed text [] [] place k h e n = none-some k e
-listed text [] (x ∷ cs) place k h e n = absurd h
-listed text (c ∷ list) [] place k h e n = absurd h
+pub listed : (text : List ℕ) (list : List Code) (cs : List IdCode) (position : ℕ) (k : IdCode) → AllZip (IsCode text) list cs → slice_get cs position ≡ Some k → slice_get list position ≡ None → ⊥
+listed text [] [] position k h e n = none-some k e
+listed text [] (x ∷ cs) position k h e n = absurd h
+listed text (c ∷ list) [] position k h e n = absurd h
 listed text (c ∷ list) (x ∷ cs) zero k h e n = none-some c (sym n)
-listed text (c ∷ list) (x ∷ cs) (suc place) k h e n = listed text list cs place k h.1 e n
+listed text (c ∷ list) (x ∷ cs) (suc position) k h e n = listed text list cs position k h.1 e n
 
 -- ---- codes that are held
 

@@ -148,10 +148,10 @@ flags_same true false e = cc
 flags_same false true e = cc
 flags_same false false e = refl
 
-module _ (text : List ℕ) (es : Codes) (ds : List Declaration) (v : Variable) (bytes : List ℕ) (size : ℕ) (event : Bool) (place : ℕ) (c : Code) (h : HasCodes text es ds) (is : code_of v ≡ record { text = bytes; size = size; event = event }) (f : Finds (codes_of ds) v.code (Some place))
-    (at : slice_get es.list.items place ≡ Some c) where
+module _ (text : List ℕ) (es : Codes) (ds : List Declaration) (v : Variable) (bytes : List ℕ) (size : ℕ) (event : Bool) (position : ℕ) (c : Code) (h : HasCodes text es ds) (is : code_of v ≡ record { text = bytes; size = size; event = event }) (f : Finds (codes_of ds) v.code (Some position))
+    (at : slice_get es.list.items position ≡ Some c) where
   listed_code : IsCode text c f.0
-  listed_code = let k = code_found text es.list.items (codes_of ds) place c h.held.stand at in subst (IsCode text c) (same_Some k.0 f.0 (sym k.1 ∙ f.1)) k.2
+  listed_code = let k = code_found text es.list.items (codes_of ds) position c h.held.stand at in subst (IsCode text c) (same_Some k.0 f.0 (sym k.1 ∙ f.1)) k.2
 
   -- so it does where the code that is listed has this size and is of this kind
   pub agrees_at : agrees ds v ≡ is_of c size event
@@ -170,18 +170,18 @@ module _ (text : List ℕ) (es : Codes) (ds : List Declaration) (v : Variable) (
 
 -- ---- a draft with one code more
 
-pub held_alias : (text : List ℕ) (es : Codes) (ds : List Declaration) (v : Variable) (place : ℕ) → HasCodes text es ds → slice_get (codes_of ds) place ≡ Some (code_of v) → find (has_text v.code) (codes_of ds) ≡ Some (code_of v) → CodeHeld text text es ds v place
-held_alias text es ds v place h at f = record {
+pub held_alias : (text : List ℕ) (es : Codes) (ds : List Declaration) (v : Variable) (position : ℕ) → HasCodes text es ds → slice_get (codes_of ds) position ≡ Some (code_of v) → find (has_text v.code) (codes_of ds) ≡ Some (code_of v) → CodeHeld text text es ds v position
+held_alias text es ds v position h at f = record {
   held_codes = codes_alias text es ds v h f;
-  held_at = ap (λ ks. slice_get ks place) (codes-alias ds v (h.seen v.code ∙ ap is_some f)) ∙ at;
+  held_at = ap (λ ks. slice_get ks position) (codes-alias ds v (h.seen v.code ∙ ap is_some f)) ∙ at;
   more = [];
   grown = sym (append-nil text);
   short = omega arith;
 }
 
-pub held_new : (old new : List ℕ) (before after : Codes) (ds : List Declaration) (v : Variable) (k : List ℕ) (key : CodeKey) (code : Code) (place : ℕ) → HasCodes old before ds → shape_of key ≡ shape_in k → AreBytes k → find (has_text v.code) (codes_of ds) ≡ None → k ≡ v.code → IsSize (code_of v).size
-    → code ≡ record { start = length old; len = length k; size = (code_of v).size; event = (code_of v).event } → new ≡ old ++ k → place ≡ length (codes_of ds) → after.list.items ≡ before.list.items ++ code ∷ [] → keys_of after ≡ keys_of before ++ key ∷ [] → Rises after.rising.items → CodeHeld old new after ds v place
-held_new old new before after ds v k key code place h own bytes f b size is_code text at listed behind rises =
+pub held_new : (old new : List ℕ) (before after : Codes) (ds : List Declaration) (v : Variable) (k : List ℕ) (key : CodeKey) (code : Code) (position : ℕ) → HasCodes old before ds → shape_of key ≡ shape_in k → AreBytes k → find (has_text v.code) (codes_of ds) ≡ None → k ≡ v.code → IsSize (code_of v).size
+    → code ≡ record { start = length old; len = length k; size = (code_of v).size; event = (code_of v).event } → new ≡ old ++ k → position ≡ length (codes_of ds) → after.list.items ≡ before.list.items ++ code ∷ [] → keys_of after ≡ keys_of before ++ key ∷ [] → Rises after.rising.items → CodeHeld old new after ds v position
+held_new old new before after ds v k key code position h own bytes f b size is_code text at listed behind rises =
     let from = ap (λ (c : Code). c.start) is_code in
     let size_of = ap (λ (c : Code). c.len) is_code in
     let is : IsCode (old ++ k) code (code_of v) = record {
@@ -192,7 +192,7 @@ held_new old new before after ds v k key code place h own bytes f b size is_code
     } in
     record {
       held_codes = rw text (codes_new old k before after ds v k key code h own bytes f b listed behind rises is size);
-      held_at = ap (λ ks. slice_get ks place) (codes-new ds v (h.seen v.code ∙ ap is_some f)) ∙ ap (slice_get (codes_of ds ++ code_of v ∷ [])) at ∙ slice_get-seam (codes_of ds) (code_of v) [];
+      held_at = ap (λ ks. slice_get ks position) (codes-new ds v (h.seen v.code ∙ ap is_some f)) ∙ ap (slice_get (codes_of ds ++ code_of v ∷ [])) at ∙ slice_get-seam (codes_of ds) (code_of v) [];
       more = k;
       grown = text;
       short = omega (arith, ap length b);

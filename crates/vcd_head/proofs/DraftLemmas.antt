@@ -129,9 +129,9 @@ closed_narrow most d ds others closed h e =
     subst (λ n. n < 2 ^ 32) is (scope_narrow most d ds h)
 
 -- and the index of a code
-pub code_narrow : (most : ℕ) (d : Draft) (ds : List Declaration) (v : Variable) (place : ℕ) → Declares most d ds → length ds < most → slice_get (codes_of (ds ++ Declaration.Var v ∷ [])) place ≡ Some (code_of v) → place < 2 ^ 32
-code_narrow most d ds v place h few at =
-    let within = slice_get_within (codes_of (ds ++ Declaration.Var v ∷ [])) place (code_of v) at in
+pub code_narrow : (most : ℕ) (d : Draft) (ds : List Declaration) (v : Variable) (position : ℕ) → Declares most d ds → length ds < most → slice_get (codes_of (ds ++ Declaration.Var v ∷ [])) position ≡ Some (code_of v) → position < 2 ^ 32
+code_narrow most d ds v position h few at =
+    let within = slice_get_within (codes_of (ds ++ Declaration.Var v ∷ [])) position (code_of v) at in
     omega (arith, within, codes_few (ds ++ Declaration.Var v ∷ []), length_push ds (Declaration.Var v), h.allowed)
 
 -- the facts of a declaration that is no variable, where only texts, rows and scopes change

@@ -44,17 +44,17 @@ held_none : (rows : List ℕ) (held : ℕ) → length rows ≡ 128 → IsHeld []
 held_none rows held l = record { room = l; at = λ k b. absurd (omega arith) }
 
 -- one more index
-held_more : (places rows : List ℕ) (n q : ℕ) → n ≡ length places → IsHeld places rows 128 → IsHeld (places ++ q ∷ []) (set rows (n % 128) q) 128
-held_more places rows n q e h = record {
+held_more : (positions rows : List ℕ) (n q : ℕ) → n ≡ length positions → IsHeld positions rows 128 → IsHeld (positions ++ q ∷ []) (set rows (n % 128) q) 128
+held_more positions rows n q e h = record {
   room = length-set rows (n % 128) q ∙ h.room;
   at = λ k b m.
-      let len = length-append places (q ∷ []) in
+      let len = length-append positions (q ∷ []) in
       elim (cases_eq k n) [
         | inl same ↦
-            rw (same ∙ e) (slice_get-seam places q [] ∙ ap Some (sym (ap (λ j. get_or (set rows (n % 128) q) (j % 128) 0) (sym e) ∙ get_or-set_same rows (n % 128) q 0 (let r = h.room in omega arith))))
+            rw (same ∙ e) (slice_get-seam positions q [] ∙ ap Some (sym (ap (λ j. get_or (set rows (n % 128) q) (j % 128) 0) (sym e) ∙ get_or-set_same rows (n % 128) q 0 (let r = h.room in omega arith))))
         | inr other ↦
-            let below : k < length places = omega arith in
-            slice_get-front places (q ∷ []) k (get_or rows (k % 128) 0) (h.at k below (omega arith)) ∙ ap Some (sym (get_or-set_other rows (n % 128) (k % 128) q 0 (other_place k n (omega arith) (omega arith))))
+            let below : k < length positions = omega arith in
+            slice_get-front positions (q ∷ []) k (get_or rows (k % 128) 0) (h.at k below (omega arith)) ∙ ap Some (sym (get_or-set_other rows (n % 128) (k % 128) q 0 (other_place k n (omega arith) (omega arith))))
       ];
 }
 

@@ -20,17 +20,17 @@ use Rattle.std.proofs.lemmas.Map.Text.{is_eq-slice_cmp}
 use Rattle.std.proofs.lemmas.Option.{slice_get-get_or}
 use Rattle.vcd_model.specs.Declarations.{IdCode}
 use Rattle.vcd_view.specs.declared.view.Code.{Code}
-use Rattle.vcd_head.specs.declared.index.Front.{Front}
+use Rattle.vcd_head.specs.declared.index.Prefix.{Prefix}
 use Rattle.vcd_view.specs.Views.{AreHeld, IsIndex, code_text}
 use Rattle.vcd_view.specs.Entries.{text_in}
-use Rattle.vcd_head.specs.Fronts.{AreFronts, bytes_at, front_in, order_of}
+use Rattle.vcd_head.specs.Fronts.{ArePrefixes, bytes_at, prefix_in, order_of}
 use Rattle.vcd_view.specs.Keys.{AreBytes}
 use Rattle.vcd_view.proofs.ListLemmas.{bytes_flip, to_all}
 use Rattle.vcd_view.proofs.EntryLemmas.{code_found}
 use Rattle.vcd_view.proofs.LookUpLemmas.{codes_len, text_at, texts_range}
 use Rattle.vcd_view.proofs.RowLemmas.{text_within}
 
--- ---- fronts
+-- ---- prefixes
 
 -- a byte more
 pub front_grown : (f n b : ℕ) → f < 256 ^ n → b < 256 → f * 256 + b < 256 ^ (n + 1)
@@ -48,13 +48,13 @@ byte_small (b ∷ bs) zero h = h.0
 byte_small (b ∷ bs) (suc i) h = byte_small bs i h.1
 
 -- two texts with the same front have the same first bytes
-pub same_front : (n : ℕ) (x y : List ℕ) → AreBytes x → AreBytes y → front_in n x ≡ front_in n y → (i : ℕ) → i < n → get_or x i 0 ≡ get_or y i 0
+pub same_front : (n : ℕ) (x y : List ℕ) → AreBytes x → AreBytes y → prefix_in n x ≡ prefix_in n y → (i : ℕ) → i < n → get_or x i 0 ≡ get_or y i 0
 same_front zero x y f g e i l = absurd (omega arith)
 same_front (suc n) x y f g e i l =
     let a = byte_small x n f in
     let b = byte_small y n g in
     let last : get_or x n 0 ≡ get_or y n 0 = omega (arith, e) in
-    let rest : front_in n x ≡ front_in n y = omega (arith, e) in
+    let rest : prefix_in n x ≡ prefix_in n y = omega (arith, e) in
     by_place (cases_lt i n) last (same_front n x y f g rest i)
   where
     by_place : (i < n) ⊎ (n ≤ i) → get_or x n 0 ≡ get_or y n 0 → (i < n → get_or x i 0 ≡ get_or y i 0) → get_or x i 0 ≡ get_or y i 0
@@ -70,20 +70,20 @@ less_at zero (a ∷ xs) (b ∷ bs) h l = rw (sym (nat_cmp_is a b Less l)) refl
 less_at (suc i) (a ∷ xs) (b ∷ bs) h l = rw (sym (nat_cmp_is a b Equal (h 0 (omega arith)))) (less_at i xs bs (λ j k. h (suc j) (omega arith)) l)
 
 -- a text with the lower front comes first
-pub front_less : (n : ℕ) (x y : List ℕ) → AreBytes x → AreBytes y → front_in n x < front_in n y → slice_cmp nat_cmp x y ≡ Less
+pub front_less : (n : ℕ) (x y : List ℕ) → AreBytes x → AreBytes y → prefix_in n x < prefix_in n y → slice_cmp nat_cmp x y ≡ Less
 front_less zero x y f g l = absurd (omega arith)
 front_less (suc n) x y f g l =
     let a = byte_small x n f in
     let b = byte_small y n g in
-    by_rest (cases_lt (front_in n x) (front_in n y)) a b (front_less n x y f g)
+    by_rest (cases_lt (prefix_in n x) (prefix_in n y)) a b (front_less n x y f g)
   where
-    by_rest : (front_in n x < front_in n y) ⊎ (front_in n y ≤ front_in n x) → get_or x n 0 < 256 → get_or y n 0 < 256 → (front_in n x < front_in n y → slice_cmp nat_cmp x y ≡ Less) → slice_cmp nat_cmp x y ≡ Less
+    by_rest : (prefix_in n x < prefix_in n y) ⊎ (prefix_in n y ≤ prefix_in n x) → get_or x n 0 < 256 → get_or y n 0 < 256 → (prefix_in n x < prefix_in n y → slice_cmp nat_cmp x y ≡ Less) → slice_cmp nat_cmp x y ≡ Less
     by_rest (inl a) b c rest = rest a
     by_rest (inr a) b c _ =
-        let same : front_in n x ≡ front_in n y = omega (arith, l) in
+        let same : prefix_in n x ≡ prefix_in n y = omega (arith, l) in
         less_at n x y (same_front n x y f g same) (omega (arith, l))
 
--- ---- the fronts of codes
+-- ---- the prefixes of codes
 
 pub range_push : (a n : ℕ) → range_with_len a (suc n) ≡ range_with_len a n ++ (a + n) ∷ []
 range_push a zero = ap (λ k. k ∷ []) (none_more a)
@@ -96,37 +96,37 @@ range_push a (suc n) = ap (λ l. a ∷ l) (range_push (a + 1) n ∙ ap (λ k. ra
     one_more a n = omega arith
 
 -- the indexes of one front more
-pub places_more : (fs : List Front) (f : Front) (n : ℕ) → map (λ (x : Front). x.place) fs ≡ range_with_len 0 n → f.place ≡ n → map (λ (x : Front). x.place) (fs ++ f ∷ []) ≡ range_with_len 0 (n + 1)
-places_more fs f n h e = map-append (λ (x : Front). x.place) fs (f ∷ []) ∙ ap (λ l. l ++ f.place ∷ []) h ∙ ap (λ k. range_with_len 0 n ++ k ∷ []) (e ∙ sym (zero-add n)) ∙ sym (range_push 0 n) ∙ ap (range_with_len 0) (sym (add-one n))
+pub places_more : (fs : List Prefix) (f : Prefix) (n : ℕ) → map (λ (x : Prefix). x.position) fs ≡ range_with_len 0 n → f.position ≡ n → map (λ (x : Prefix). x.position) (fs ++ f ∷ []) ≡ range_with_len 0 (n + 1)
+places_more fs f n h e = map-append (λ (x : Prefix). x.position) fs (f ∷ []) ∙ ap (λ l. l ++ f.position ∷ []) h ∙ ap (λ k. range_with_len 0 n ++ k ∷ []) (e ∙ sym (zero-add n)) ∙ sym (range_push 0 n) ∙ ap (range_with_len 0) (sym (add-one n))
 
 -- ---- the order
 
 order_total : (text : List ℕ) (codes : List Code) → IsTotalOrder (order_of text codes)
 order_total text codes = then_total
-    {R = λ (a b : Front). nat_cmp a.number b.number} {S = λ (a b : Front). slice_cmp nat_cmp (bytes_at text codes a.place) (bytes_at text codes b.place)}
+    {R = λ (a b : Prefix). nat_cmp a.number b.number} {S = λ (a b : Prefix). slice_cmp nat_cmp (bytes_at text codes a.position) (bytes_at text codes b.position)}
     (record { antisymm = λ a b. nat_cmp_total.antisymm a.number b.number; trans = λ a b c. nat_cmp_total.trans a.number b.number c.number; congr = λ a b c. nat_cmp_total.congr a.number b.number c.number })
     (record {
-      antisymm = λ a b. nat_list_cmp_total.antisymm (bytes_at text codes a.place) (bytes_at text codes b.place);
-      trans = λ a b c. nat_list_cmp_total.trans (bytes_at text codes a.place) (bytes_at text codes b.place) (bytes_at text codes c.place);
-      congr = λ a b c. nat_list_cmp_total.congr (bytes_at text codes a.place) (bytes_at text codes b.place) (bytes_at text codes c.place);
+      antisymm = λ a b. nat_list_cmp_total.antisymm (bytes_at text codes a.position) (bytes_at text codes b.position);
+      trans = λ a b c. nat_list_cmp_total.trans (bytes_at text codes a.position) (bytes_at text codes b.position) (bytes_at text codes c.position);
+      congr = λ a b c. nat_list_cmp_total.congr (bytes_at text codes a.position) (bytes_at text codes b.position) (bytes_at text codes c.position);
     })
 
-abbrev pub before : List ℕ → List Code → Front → Front → Bool
+abbrev pub before : List ℕ → List Code → Prefix → Prefix → Bool
 before text codes a b = is_lt (order_of text codes a b)
 
 pub before_weak : (text : List ℕ) (codes : List Code) → IsStrictWeakOrder (before text codes)
-before_weak text codes = ranks_by (order_total text codes) (λ (f : Front). f)
+before_weak text codes = ranks_by (order_total text codes) (λ (f : Prefix). f)
 
 -- where a front is not after another, and their texts differ, its text comes first
-rises : (text : List ℕ) (codes : List Code) (a b : Front) → a.number ≡ front_in 8 (bytes_at text codes a.place) → b.number ≡ front_in 8 (bytes_at text codes b.place) → AreBytes (bytes_at text codes a.place) → AreBytes (bytes_at text codes b.place)
-    → before text codes b a ≡ false → bytes_eq (bytes_at text codes a.place) (bytes_at text codes b.place) ≡ false → slice_cmp nat_cmp (bytes_at text codes a.place) (bytes_at text codes b.place) ≡ Less
+rises : (text : List ℕ) (codes : List Code) (a b : Prefix) → a.number ≡ prefix_in 8 (bytes_at text codes a.position) → b.number ≡ prefix_in 8 (bytes_at text codes b.position) → AreBytes (bytes_at text codes a.position) → AreBytes (bytes_at text codes b.position)
+    → before text codes b a ≡ false → bytes_eq (bytes_at text codes a.position) (bytes_at text codes b.position) ≡ false → slice_cmp nat_cmp (bytes_at text codes a.position) (bytes_at text codes b.position) ≡ Less
 rises text codes a b f g x y not_after apart = by_front (cases_lt a.number b.number)
   where
     ta : List ℕ
-    ta = bytes_at text codes a.place
+    ta = bytes_at text codes a.position
 
     tb : List ℕ
-    tb = bytes_at text codes b.place
+    tb = bytes_at text codes b.position
 
     by_text : (o : Ordering) → slice_cmp nat_cmp ta tb ≡ o → is_lt (slice_cmp nat_cmp tb ta) ≡ false → slice_cmp nat_cmp ta tb ≡ Less
     by_text Less q k = q
@@ -173,36 +173,36 @@ pub map_map : {X Y Z : Type 0} (f : X → Y) (g : Y → Z) (xs : List X) → map
 map_map f g [] = refl
 map_map f g (x ∷ xs) = ap (λ l. g (f x) ∷ l) (map_map f g xs)
 
-pub index_made : (text : List ℕ) (list : List Code) (cs : List IdCode) (old new : List Front) → AreHeld text list cs → AreFronts text list old → IsPermutation old new → IsSortedBy (before text list) new → IsIndex cs (map (λ (f : Front). f.place) new)
-index_made text list cs old new h fronts moved sorted =
+pub index_made : (text : List ℕ) (list : List Code) (cs : List IdCode) (old new : List Prefix) → AreHeld text list cs → ArePrefixes text list old → IsPermutation old new → IsSortedBy (before text list) new → IsIndex cs (map (λ (f : Prefix). f.position) new)
+index_made text list cs old new h prefixes moved sorted =
     let n = codes_len text list cs h.stand in
-    let places : IsPermutation (range_with_len 0 (length cs)) (map (λ (f : Front). f.place) new) = subst (λ l. IsPermutation l (map (λ (f : Front). f.place) new)) (fronts.places ∙ ap (range_with_len 0) n) (IsPermutation-map (λ (f : Front). f.place) old new moved) in
+    let positions : IsPermutation (range_with_len 0 (length cs)) (map (λ (f : Prefix). f.position) new) = subst (λ l. IsPermutation l (map (λ (f : Prefix). f.position) new)) (prefixes.positions ∙ ap (range_with_len 0) n) (IsPermutation-map (λ (f : Prefix). f.position) old new moved) in
     let texts = map (λ (k : IdCode). k.text) cs in
-    let ordered = map (code_text cs) (map (λ (f : Front). f.place) new) in
-    let same : IsPermutation texts ordered = subst (λ l. IsPermutation l ordered) (texts_range [] cs) (IsPermutation-map (code_text cs) (range_with_len 0 (length cs)) (map (λ (f : Front). f.place) new) places) in
+    let ordered = map (code_text cs) (map (λ (f : Prefix). f.position) new) in
+    let same : IsPermutation texts ordered = subst (λ l. IsPermutation l ordered) (texts_range [] cs) (IsPermutation-map (code_text cs) (range_with_len 0 (length cs)) (map (λ (f : Prefix). f.position) new) positions) in
     let apart : IsDistinct bytes_eq ordered = IsDistinct-IsPermutation bytes_eq bytes_flip texts ordered same h.distinct in
-    let within : All (λ (f : Front). f.place < length cs) new = All-permutation (λ (f : Front). f.place < length cs) old new moved (places_within old (fronts.places ∙ ap (range_with_len 0) n)) in
-    let numbers : All (λ (f : Front). f.number ≡ front_in 8 (bytes_at text list f.place)) new = All-permutation (λ (f : Front). f.number ≡ front_in 8 (bytes_at text list f.place)) old new moved (to_all (λ (f : Front). f.number ≡ front_in 8 (bytes_at text list f.place)) old fronts.numbers) in
+    let within : All (λ (f : Prefix). f.position < length cs) new = All-permutation (λ (f : Prefix). f.position < length cs) old new moved (places_within old (prefixes.positions ∙ ap (range_with_len 0) n)) in
+    let numbers : All (λ (f : Prefix). f.number ≡ prefix_in 8 (bytes_at text list f.position)) new = All-permutation (λ (f : Prefix). f.number ≡ prefix_in 8 (bytes_at text list f.position)) old new moved (to_all (λ (f : Prefix). f.number ≡ prefix_in 8 (bytes_at text list f.position)) old prefixes.numbers) in
     record {
-      places = places;
-      rising = subst (IsStrictlySortedBy (slice_cmp nat_cmp)) (sym (map_map (λ (f : Front). f.place) (code_text cs) new)) (sorted_from (λ (f : Front). code_text cs f.place) new (λ i j d a b.
+      positions = positions;
+      rising = subst (IsStrictlySortedBy (slice_cmp nat_cmp)) (sym (map_map (λ (f : Prefix). f.position) (code_text cs) new)) (sorted_from (λ (f : Prefix). code_text cs f.position) new (λ i j d a b.
           let x = get_or new i d in
           let y = get_or new j d in
           let il : i < length new = omega arith in
-          let bx = bytes_are text list cs x.place h (within i d il) in
-          let by = bytes_are text list cs y.place h (within j d b) in
-          let len = length-map new (λ (f : Front). code_text cs f.place) in
-          let differ0 = apart_from_distinct bytes_eq (map (λ (f : Front). code_text cs f.place) new) i j [] (subst (IsDistinct bytes_eq) (map_map (λ (f : Front). f.place) (code_text cs) new) apart) a (omega arith) in
-          let differ : bytes_eq (code_text cs x.place) (code_text cs y.place) ≡ false = rw (sym (get_or-map (λ (f : Front). code_text cs f.place) new i d [] il), sym (get_or-map (λ (f : Front). code_text cs f.place) new j d [] b)) differ0 in
-          rw (sym bx, sym by) (rises text list x y (numbers i d il) (numbers j d b) (subst AreBytes (sym bx) (texts_are cs x.place h.texts)) (subst AreBytes (sym by) (texts_are cs y.place h.texts))
+          let bx = bytes_are text list cs x.position h (within i d il) in
+          let by = bytes_are text list cs y.position h (within j d b) in
+          let len = length-map new (λ (f : Prefix). code_text cs f.position) in
+          let differ0 = apart_from_distinct bytes_eq (map (λ (f : Prefix). code_text cs f.position) new) i j [] (subst (IsDistinct bytes_eq) (map_map (λ (f : Prefix). f.position) (code_text cs) new) apart) a (omega arith) in
+          let differ : bytes_eq (code_text cs x.position) (code_text cs y.position) ≡ false = rw (sym (get_or-map (λ (f : Prefix). code_text cs f.position) new i d [] il), sym (get_or-map (λ (f : Prefix). code_text cs f.position) new j d [] b)) differ0 in
+          rw (sym bx, sym by) (rises text list x y (numbers i d il) (numbers j d b) (subst AreBytes (sym bx) (texts_are cs x.position h.texts)) (subst AreBytes (sym by) (texts_are cs y.position h.texts))
           (sorted_far (before text list) (before_weak text list) new sorted i j d (omega arith) b) (rw (bx, by) differ))));
     }
   where
-    places_within : (fs : List Front) → map (λ (f : Front). f.place) fs ≡ range_with_len 0 (length cs) → All (λ (f : Front). f.place < length cs) fs
+    places_within : (fs : List Prefix) → map (λ (f : Prefix). f.position) fs ≡ range_with_len 0 (length cs) → All (λ (f : Prefix). f.position < length cs) fs
     places_within fs e k d l =
-        let n = length-map fs (λ (f : Front). f.place) in
+        let n = length-map fs (λ (f : Prefix). f.position) in
         let m = length-range_with_len 0 (length cs) in
         let s = ap length e in
         let r = get_or-range_with_len 0 (length cs) k 0 (omega arith) in
-        let g = get_or-map (λ (f : Front). f.place) fs k d 0 l in
+        let g = get_or-map (λ (f : Prefix). f.position) fs k d 0 l in
         omega (arith, ap (λ xs. get_or xs k 0) e)

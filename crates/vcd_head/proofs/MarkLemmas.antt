@@ -50,9 +50,9 @@ marked_one marks p l = record {
 }
 
 -- marks that were 0
-pub marked_all : (places zeros marks : List ℕ) (n : ℕ) → length zeros ≡ n → ((i : ℕ) → i < n → get_or zeros i 0 ≡ 0) → Marked places zeros marks → marks ≡ map (λ i. cond (is_among places i) 1 0) (range_with_len 0 n)
-marked_all places zeros marks n e z m =
-    fill_by_all (λ i. cond (is_among places i) 1 0) marks n 0 (m.kept ∙ e) (λ i l. m.marks i (omega arith) ∙ ap (cond (is_among places i) 1) (z i l))
+pub marked_all : (positions zeros marks : List ℕ) (n : ℕ) → length zeros ≡ n → ((i : ℕ) → i < n → get_or zeros i 0 ≡ 0) → Marked positions zeros marks → marks ≡ map (λ i. cond (is_among positions i) 1 0) (range_with_len 0 n)
+marked_all positions zeros marks n e z m =
+    fill_by_all (λ i. cond (is_among positions i) 1 0) marks n 0 (m.kept ∙ e) (λ i l. m.marks i (omega arith) ∙ ap (cond (is_among positions i) 1) (z i l))
 
 -- ---- the scopes around
 
@@ -81,8 +81,8 @@ around_is ds i = scopes_around ds i ∙ by_parent (parent (take i ds))
     by_parent (Some p) = refl
 
 -- to mark them again changes nothing
-marked_again : (places marks : List ℕ) → AllMarked places marks → Marked places marks marks
-marked_again places marks h = record { kept = refl; marks = λ i l. by_test (get_or marks i 0) (is_among places i) (h i l) }
+marked_again : (positions marks : List ℕ) → AllMarked positions marks → Marked positions marks marks
+marked_again positions marks h = record { kept = refl; marks = λ i l. by_test (get_or marks i 0) (is_among positions i) (h i l) }
   where
     by_test : (x : ℕ) (b : Bool) → (b ≡ true → x ≡ 1) → x ≡ cond b 1 x
     by_test x true f = f refl

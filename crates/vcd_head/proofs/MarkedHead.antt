@@ -56,19 +56,19 @@ mark_at : (names : List (List ℕ)) (ds : List Declaration) (i : ℕ) → is_mar
 unfolding marks_of
 mark_at names ds i = by_place (by_order i (length ds))
   where
-    places : List ℕ
-    places = marked_places names ds
+    positions : List ℕ
+    positions = marked_places names ds
 
     mark : ℕ → ℕ
-    mark j = cond (is_among places j) 1 0
+    mark j = cond (is_among positions j) 1 0
 
     marks : List ℕ
     marks = map mark (range_with_len 0 (length ds))
 
-    by_place : (i < length ds) ⊎ (length ds ≤ i) → is_marked marks i ≡ is_among places i
-    by_place (inl l) = ap (λ n. n == 1) (unwrap_or-slice_get marks i 0 ∙ get_or-map-range_with_len mark 0 (length ds) i i 0 l (omega arith)) ∙ mark_is (is_among places i)
+    by_place : (i < length ds) ⊎ (length ds ≤ i) → is_marked marks i ≡ is_among positions i
+    by_place (inl l) = ap (λ n. n == 1) (unwrap_or-slice_get marks i 0 ∙ get_or-map-range_with_len mark 0 (length ds) i i 0 l (omega arith)) ∙ mark_is (is_among positions i)
     by_place (inr l) =
-        ap (λ o. unwrap_or o 0 == 1) (slice_get_past marks i (omega (arith, length-map-range_with_len mark 0 (length ds)))) ∙ sym (among_none (length ds) i places l (places_below names ds))
+        ap (λ o. unwrap_or o 0 == 1) (slice_get_past marks i (omega (arith, length-map-range_with_len mark 0 (length ds)))) ∙ sym (among_none (length ds) i positions l (places_below names ds))
 
 -- the marks of names are those indexes
 pub marks_are : (names : List (List ℕ)) (ds : List Declaration) → is_marked (marks_of names ds) ≡ is_among (marked_places names ds)

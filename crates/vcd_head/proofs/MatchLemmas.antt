@@ -26,10 +26,10 @@ or_false false x e = e
 -- ---- the names, one after the other
 
 -- the first names were asked
-pub record Matching (test : List ℕ → Bool) (names : List (List ℕ)) (place : ℕ) (old new : List Bool) (some : Bool) : Type 0 where
-  pub flags : (i : ℕ) (name : List ℕ) → i < place → slice_get names i ≡ Some name → get_or new i false ≡ (get_or old i false || test name)
-  pub ahead : (i : ℕ) → place ≤ i → get_or new i false ≡ get_or old i false
-  pub any : some ≡ list_any test (take place names)
+pub record Matching (test : List ℕ → Bool) (names : List (List ℕ)) (position : ℕ) (old new : List Bool) (some : Bool) : Type 0 where
+  pub flags : (i : ℕ) (name : List ℕ) → i < position → slice_get names i ≡ Some name → get_or new i false ≡ (get_or old i false || test name)
+  pub ahead : (i : ℕ) → position ≤ i → get_or new i false ≡ get_or old i false
+  pub any : some ≡ list_any test (take position names)
 
 pub match_first : (test : List ℕ → Bool) (names : List (List ℕ)) (flags : List Bool) → Matching test names 0 flags flags false
 match_first test names flags = record { flags = λ i name l. absurd (omega arith); ahead = λ i l. refl; any = refl }
@@ -37,39 +37,39 @@ match_first test names flags = record { flags = λ i name l. absurd (omega arith
 pub before : (i n : ℕ) → i < n + 1 → i ≢ n → i < n
 before i n l d = elim (cases_eq i n) [ inl e ↦ absurd (d e) | inr x ↦ omega (arith, x) ]
 
-any_next : (test : List ℕ → Bool) (names : List (List ℕ)) (place : ℕ) (name : List ℕ) → slice_get names place ≡ Some name → list_any test (take (place + 1) names) ≡ (list_any test (take place names) || test name)
-any_next test names place name at =
-    list_any_more test names place [] (slice_get_within names place name at) ∙ ap (λ n. list_any test (take place names) || test n) (get_or_from_slice_get names place name [] at)
+any_next : (test : List ℕ → Bool) (names : List (List ℕ)) (position : ℕ) (name : List ℕ) → slice_get names position ≡ Some name → list_any test (take (position + 1) names) ≡ (list_any test (take position names) || test name)
+any_next test names position name at =
+    list_any_more test names position [] (slice_get_within names position name at) ∙ ap (λ n. list_any test (take position names) || test n) (get_or_from_slice_get names position name [] at)
 
-pub match_next : (test : List ℕ → Bool) (names : List (List ℕ)) (place : ℕ) (old new : List Bool) (some : Bool) (name : List ℕ) → slice_get names place ≡ Some name → place < length new → test name ≡ true → Matching test names place old new some
-    → Matching test names (place + 1) old (set new place true) true
-match_next test names place old new some name at l passes m = record {
-  flags = λ i n w is. elim (cases_eq i place) [
+pub match_next : (test : List ℕ → Bool) (names : List (List ℕ)) (position : ℕ) (old new : List Bool) (some : Bool) (name : List ℕ) → slice_get names position ≡ Some name → position < length new → test name ≡ true → Matching test names position old new some
+    → Matching test names (position + 1) old (set new position true) true
+match_next test names position old new some name at l passes m = record {
+  flags = λ i n w is. elim (cases_eq i position) [
     | inl e ↦
         let same : n ≡ name = same_Some n name (sym is ∙ ap (slice_get names) e ∙ at) in
-        ap (λ k. get_or (set new place true) k false) e ∙ get_or-set_same new place true false l ∙ sym (or_true (get_or old i false) (test n) (ap test same ∙ passes))
-    | inr d ↦ get_or-set_other new place i true false d ∙ m.flags i n (before i place w d) is
+        ap (λ k. get_or (set new position true) k false) e ∙ get_or-set_same new position true false l ∙ sym (or_true (get_or old i false) (test n) (ap test same ∙ passes))
+    | inr d ↦ get_or-set_other new position i true false d ∙ m.flags i n (before i position w d) is
   ];
-  ahead = λ i w. get_or-set_other new place i true false (λ e. omega (arith, e, w)) ∙ m.ahead i (omega (arith, w));
-  any = sym (any_next test names place name at ∙ or_true (list_any test (take place names)) (test name) passes);
+  ahead = λ i w. get_or-set_other new position i true false (λ e. omega (arith, e, w)) ∙ m.ahead i (omega (arith, w));
+  any = sym (any_next test names position name at ∙ or_true (list_any test (take position names)) (test name) passes);
 }
 
-pub match_same : (test : List ℕ → Bool) (names : List (List ℕ)) (place : ℕ) (old new : List Bool) (some : Bool) (name : List ℕ) → slice_get names place ≡ Some name → test name ≡ false → Matching test names place old new some → Matching test names (place + 1) old new some
-match_same test names place old new some name at no_match m = record {
-  flags = λ i n w is. elim (cases_eq i place) [
+pub match_same : (test : List ℕ → Bool) (names : List (List ℕ)) (position : ℕ) (old new : List Bool) (some : Bool) (name : List ℕ) → slice_get names position ≡ Some name → test name ≡ false → Matching test names position old new some → Matching test names (position + 1) old new some
+match_same test names position old new some name at no_match m = record {
+  flags = λ i n w is. elim (cases_eq i position) [
     | inl e ↦
         let same : n ≡ name = same_Some n name (sym is ∙ ap (slice_get names) e ∙ at) in
         m.ahead i (omega (arith, e)) ∙ sym (or_false (get_or old i false) (test n) (ap test same ∙ no_match))
-    | inr d ↦ m.flags i n (before i place w d) is
+    | inr d ↦ m.flags i n (before i position w d) is
   ];
   ahead = λ i w. m.ahead i (omega (arith, w));
-  any = m.any ∙ sym (any_next test names place name at ∙ or_false (list_any test (take place names)) (test name) no_match);
+  any = m.any ∙ sym (any_next test names position name at ∙ or_false (list_any test (take position names)) (test name) no_match);
 }
 
-pub match_all : (test : List ℕ → Bool) (names : List (List ℕ)) (place : ℕ) (old new : List Bool) (some : Bool) → length names ≤ place → Matching test names place old new some → Matches test names old new some
-match_all test names place old new some l m = record {
+pub match_all : (test : List ℕ → Bool) (names : List (List ℕ)) (position : ℕ) (old new : List Bool) (some : Bool) → length names ≤ position → Matching test names position old new some → Matches test names old new some
+match_all test names position old new some l m = record {
   flags = λ i n is. m.flags i n (omega (arith, slice_get_within names i n is)) is;
-  any = m.any ∙ ap (list_any test) (take_all place names l);
+  any = m.any ∙ ap (list_any test) (take_all position names l);
 }
 
 -- no name passes

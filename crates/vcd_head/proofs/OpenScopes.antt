@@ -37,52 +37,52 @@ take-whole (y ∷ z ∷ xs) zero x at e = absurd (omega arith)
 take-whole (y ∷ xs) (suc i) x at e = ap (λ l. y ∷ l) (take-whole xs i x at (omega arith))
 
 -- the last row, and what it declares
-pub record IsLast (s : HeadShown) (h : Header) (place : ℕ) (r : Row) : Type 0 where
+pub record IsLast (s : HeadShown) (h : Header) (position : ℕ) (r : Row) : Type 0 where
   pub last : Declaration
-  pub split : h.declarations ≡ take place h.declarations ++ last ∷ []
-  pub is_row : IsRow s.text h.codes (take place h.declarations) r last
-  pub front : length (take place h.declarations) ≡ place
-  pub within : place < length h.declarations
+  pub split : h.declarations ≡ take position h.declarations ++ last ∷ []
+  pub is_row : IsRow s.text h.codes (take position h.declarations) r last
+  pub front : length (take position h.declarations) ≡ position
+  pub within : position < length h.declarations
 
-pub last_row : (s : HeadShown) (h : Header) (place : ℕ) (r : Row) → Views s h → length s.rows ≡ suc place → slice_get s.rows place ≡ Some r → IsLast s h place r
-last_row s h place r v l at =
-    let m = row_at s h place r v at in
+pub last_row : (s : HeadShown) (h : Header) (position : ℕ) (r : Row) → Views s h → length s.rows ≡ suc position → slice_get s.rows position ≡ Some r → IsLast s h position r
+last_row s h position r v l at =
+    let m = row_at s h position r v at in
     let count = rows_len s.text h.codes [] s.rows h.declarations v.rows in
-    record { last = m.0; split = take-whole h.declarations place m.0 m.1 (omega (arith, count)); is_row = m.2; front = length-take-le place h.declarations (omega (arith, count)); within = omega (arith, count) }
+    record { last = m.0; split = take-whole h.declarations position m.0 m.1 (omega (arith, count)); is_row = m.2; front = length-take-le position h.declarations (omega (arith, count)); within = omega (arith, count) }
 
-pub open_after_scope : (s : HeadShown) (h : Header) (place : ℕ) (r : Row) → IsLast s h place r → r.kind ≡ kind.Scope → Some place ≡ parent h.declarations
+pub open_after_scope : (s : HeadShown) (h : Header) (position : ℕ) (r : Row) → IsLast s h position r → r.kind ≡ kind.Scope → Some position ≡ parent h.declarations
 unfolding first
-open_after_scope s h place r l k = by_kind l.last l.split l.is_row
+open_after_scope s h position r l k = by_kind l.last l.split l.is_row
   where
-    by_kind : (d : Declaration) → h.declarations ≡ take place h.declarations ++ d ∷ [] → IsRow s.text h.codes (take place h.declarations) r d → Some place ≡ parent h.declarations
+    by_kind : (d : Declaration) → h.declarations ≡ take position h.declarations ++ d ∷ [] → IsRow s.text h.codes (take position h.declarations) r d → Some position ≡ parent h.declarations
     by_kind (Declaration.Scope type name) e row =
-        sym (same_parent h.declarations (length (take place h.declarations) ∷ enclosing (take place h.declarations)) (ap enclosing e ∙ enclosing-scope (take place h.declarations) type name) ∙ ap Some l.front)
+        sym (same_parent h.declarations (length (take position h.declarations) ∷ enclosing (take position h.declarations)) (ap enclosing e ∙ enclosing-scope (take position h.declarations) type name) ∙ ap Some l.front)
     by_kind Declaration.Up e row = let other = row.own.0 in cc
     by_kind (Declaration.Var v) e row = let other = row.own.0 in cc
 
-pub open_after_var : (s : HeadShown) (h : Header) (place : ℕ) (r : Row) → IsLast s h place r → r.kind ≡ kind.Var → parent (take place h.declarations) ≡ parent h.declarations
-open_after_var s h place r l k = by_kind l.last l.split l.is_row
+pub open_after_var : (s : HeadShown) (h : Header) (position : ℕ) (r : Row) → IsLast s h position r → r.kind ≡ kind.Var → parent (take position h.declarations) ≡ parent h.declarations
+open_after_var s h position r l k = by_kind l.last l.split l.is_row
   where
-    by_kind : (d : Declaration) → h.declarations ≡ take place h.declarations ++ d ∷ [] → IsRow s.text h.codes (take place h.declarations) r d → parent (take place h.declarations) ≡ parent h.declarations
+    by_kind : (d : Declaration) → h.declarations ≡ take position h.declarations ++ d ∷ [] → IsRow s.text h.codes (take position h.declarations) r d → parent (take position h.declarations) ≡ parent h.declarations
     by_kind (Declaration.Scope type name) e row = let other = row.own.0 in cc
     by_kind Declaration.Up e row = let other = row.own.0 in cc
-    by_kind (Declaration.Var v) e row = sym (parent_as h.declarations (take place h.declarations) (ap enclosing e ∙ enclosing-var (take place h.declarations) v))
+    by_kind (Declaration.Var v) e row = sym (parent_as h.declarations (take position h.declarations) (ap enclosing e ∙ enclosing-var (take position h.declarations) v))
 
 -- an `$upscope` closes the scope that encloses it
-closed : (s : HeadShown) (h : Header) (place : ℕ) (r : Row) → IsLast s h place r → r.kind ≡ kind.Up → enclosing h.declarations ≡ drop 1 (enclosing (take place h.declarations))
-closed s h place r l k = by_kind l.last l.split l.is_row
+closed : (s : HeadShown) (h : Header) (position : ℕ) (r : Row) → IsLast s h position r → r.kind ≡ kind.Up → enclosing h.declarations ≡ drop 1 (enclosing (take position h.declarations))
+closed s h position r l k = by_kind l.last l.split l.is_row
   where
-    by_kind : (d : Declaration) → h.declarations ≡ take place h.declarations ++ d ∷ [] → IsRow s.text h.codes (take place h.declarations) r d → enclosing h.declarations ≡ drop 1 (enclosing (take place h.declarations))
+    by_kind : (d : Declaration) → h.declarations ≡ take position h.declarations ++ d ∷ [] → IsRow s.text h.codes (take position h.declarations) r d → enclosing h.declarations ≡ drop 1 (enclosing (take position h.declarations))
     by_kind (Declaration.Scope type name) e row = let other = row.own.0 in cc
-    by_kind Declaration.Up e row = ap enclosing e ∙ enclosing-up (take place h.declarations)
+    by_kind Declaration.Up e row = ap enclosing e ∙ enclosing-up (take position h.declarations)
     by_kind (Declaration.Var v) e row = let other = row.own.0 in cc
 
-pub open_after_up : (s : HeadShown) (h : Header) (place p : ℕ) (r : Row) → IsLast s h place r → r.kind ≡ kind.Up → parent (take place h.declarations) ≡ Some p → parent (take p h.declarations) ≡ parent h.declarations
-open_after_up s h place p r l k e = sym (parent_as h.declarations (take p h.declarations) (closed s h place r l k ∙ ap (drop 1) (around_some h.declarations place p e)))
+pub open_after_up : (s : HeadShown) (h : Header) (position p : ℕ) (r : Row) → IsLast s h position r → r.kind ≡ kind.Up → parent (take position h.declarations) ≡ Some p → parent (take p h.declarations) ≡ parent h.declarations
+open_after_up s h position p r l k e = sym (parent_as h.declarations (take p h.declarations) (closed s h position r l k ∙ ap (drop 1) (around_some h.declarations position p e)))
 
-pub open_after_last_up : (s : HeadShown) (h : Header) (place : ℕ) (r : Row) → IsLast s h place r → r.kind ≡ kind.Up → parent (take place h.declarations) ≡ None → None ≡ parent h.declarations
+pub open_after_last_up : (s : HeadShown) (h : Header) (position : ℕ) (r : Row) → IsLast s h position r → r.kind ≡ kind.Up → parent (take position h.declarations) ≡ None → None ≡ parent h.declarations
 unfolding first
-open_after_last_up s h place r l k e = sym (same_parent h.declarations [] (closed s h place r l k ∙ ap (drop 1) (around_none h.declarations place e)))
+open_after_last_up s h position r l k e = sym (same_parent h.declarations [] (closed s h position r l k ∙ ap (drop 1) (around_none h.declarations position e)))
 
 pub none_open : (s : HeadShown) (h : Header) → Views s h → length s.rows ≡ 0 → None ≡ parent h.declarations
 unfolding enclosing

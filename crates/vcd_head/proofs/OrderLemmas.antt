@@ -14,11 +14,11 @@ pub before_weak : (names : List (List ℕ)) → IsStrictWeakOrder (comes_before 
 before_weak names = ranks_by nat_list_cmp_total (λ p. get_or names p [])
 
 -- indexes that are numbered from 0 on
-pub numbered_has : (places : List ℕ) (n : ℕ) → length places ≡ n → ((i : ℕ) → i < n → get_or places i 0 ≡ i) → (p : ℕ) → p < n → Contains places p
-numbered_has places n len each p l = (p, omega (arith, len, l), get_or_default places p p 0 (omega (arith, len, l)) ∙ each p l)
+pub numbered_has : (positions : List ℕ) (n : ℕ) → length positions ≡ n → ((i : ℕ) → i < n → get_or positions i 0 ≡ i) → (p : ℕ) → p < n → Contains positions p
+numbered_has positions n len each p l = (p, omega (arith, len, l), get_or_default positions p p 0 (omega (arith, len, l)) ∙ each p l)
 
-pub numbered_within : (places : List ℕ) (n : ℕ) → length places ≡ n → ((i : ℕ) → i < n → get_or places i 0 ≡ i) → All (λ p. p < n) places
-numbered_within places n len each k d l = omega (arith, len, l, get_or_default places k d 0 l, each k (omega (arith, len, l)))
+pub numbered_within : (positions : List ℕ) (n : ℕ) → length positions ≡ n → ((i : ℕ) → i < n → get_or positions i 0 ≡ i) → All (λ p. p < n) positions
+numbered_within positions n len each k d l = omega (arith, len, l, get_or_default positions k d 0 l, each k (omega (arith, len, l)))
 
 -- one number everywhere, and where nothing is
 pub read_same : {X : Type 0} (x : X) (n k : ℕ) → get_or (replicate n x) k x ≡ x
@@ -36,7 +36,7 @@ order_made names used rest n count len few each within sorted zeros = record {
   each = λ p l.
       let k = each p (omega (arith, l, count)) in
       (k.0, omega (arith, k.1, len, count), left k.0 k.1 ∙ get_or_default used k.0 0 p k.1 ∙ k.2);
-  places = λ i l. let il : i < length used = omega (arith, l, len, count) in omega (arith, left i il, within i 0 il, count);
+  positions = λ i l. let il : i < length used = omega (arith, l, len, count) in omega (arith, left i il, within i 0 il, count);
   within = λ i. elim (cases_lt i (length used)) [
     | inl l ↦ omega (arith, left i l, within i 0 l, few)
     | inr l ↦ omega (arith, get_or-append_right used rest (length used) i 0 refl l ∙ zeros (i - length used))

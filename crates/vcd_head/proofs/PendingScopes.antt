@@ -100,8 +100,8 @@ up_marks ds i at = ap (places_after [] []) (one_on ds i Declaration.Up at) ∙ p
 not_yet : (ds : List Declaration) (i : ℕ) → is_among (marked_places [] (take i ds)) i ≡ false
 unfolding marked_places
 not_yet ds i =
-    let places = places_after [] [] (take i ds) in
-    none_any (λ j. i == j) places (below_other i places (places_below [] i [] (take i ds) (omega (arith, length-take i ds))))
+    let positions = places_after [] [] (take i ds) in
+    none_any (λ j. i == j) positions (below_other i positions (places_below [] i [] (take i ds) (omega (arith, length-take i ds))))
 
 -- a scope without a variable that is closed is not marked at all
 never : (ds : List Declaration) (i p : ℕ) (around : List ℕ) → slice_get ds i ≡ Some Declaration.Up → enclosing (take i ds) ≡ p ∷ around → is_among (marked_places [] (take i ds)) p ≡ false → is_among (marked_places [] ds) p ≡ false

@@ -18,7 +18,7 @@ use Rattle.std.proofs.lemmas.Slice.Eq.{bytes_eq-Decides}
 use Rattle.vcd_model.specs.Declarations.{IdCode}
 use Rattle.vcd_view.specs.declared.view.Code.{Code}
 use Rattle.vcd_view.specs.Views.{AreHeld, IsIndex, code_text}
-use Rattle.vcd_head.specs.Fronts.{AreShort, bytes_at, front_in, place_in_rank, rank_in, rank_of}
+use Rattle.vcd_head.specs.Fronts.{AreShort, bytes_at, prefix_in, place_in_rank, rank_in, rank_of}
 use Rattle.vcd_view.specs.Keys.{AreBytes}
 use Rattle.vcd_view.proofs.ListLemmas.{bytes_flip, to_all}
 use Rattle.vcd_head.proofs.IndexLemmas.{bytes_are, front_less, map_map, range_push, same_front, sorted_from, texts_are}
@@ -42,22 +42,22 @@ same_text (a ∷ as') (b ∷ bs) e h = ap (λ z. z ∷ as') (h 0 (omega arith)) 
 
 -- where a rank is not above another, and their texts differ, its text comes first
 rank_rises : (x y : List ℕ) (p q : ℕ) → AreBytes x → AreBytes y → length x ≤ 4 → length y ≤ 4 → p < 16777216 → q < 16777216 → rank_of x p ≤ rank_of y q → bytes_eq x y ≡ false → slice_cmp nat_cmp x y ≡ Less
-rank_rises x y p q f g m n a b l apart = by_front (cases_lt (front_in 4 x) (front_in 4 y))
+rank_rises x y p q f g m n a b l apart = by_front (cases_lt (prefix_in 4 x) (prefix_in 4 y))
   where
-    by_len : front_in 4 x ≡ front_in 4 y → (length x < length y) ⊎ (length y ≤ length x) → slice_cmp nat_cmp x y ≡ Less
+    by_len : prefix_in 4 x ≡ prefix_in 4 y → (length x < length y) ⊎ (length y ≤ length x) → slice_cmp nat_cmp x y ≡ Less
     by_len s (inl k) = goes_on x y k (λ i j. same_front 4 x y f g s i (omega (arith, j, m)))
     by_len s (inr k) =
         let len : length x ≡ length y = omega (arith, k, l, s, a, b) in
         let equal : bytes_eq x y ≡ true = (bytes_eq-Decides x y).1 (same_text x y len (λ i j. same_front 4 x y f g s i (omega (arith, j, m)))) in
         cc
 
-    by_front : (front_in 4 x < front_in 4 y) ⊎ (front_in 4 y ≤ front_in 4 x) → slice_cmp nat_cmp x y ≡ Less
+    by_front : (prefix_in 4 x < prefix_in 4 y) ⊎ (prefix_in 4 y ≤ prefix_in 4 x) → slice_cmp nat_cmp x y ≡ Less
     by_front (inl k) = front_less 4 x y f g k
     by_front (inr k) = by_len (omega (arith, k, l, m, n, a, b)) (cases_lt (length x) (length y))
 
 -- a rank ends with its index
 rank_place : (bs : List ℕ) (p : ℕ) → p < 16777216 → place_in_rank (rank_of bs p) ≡ p
-rank_place bs p l = mod-mul-add (front_in 4 bs * 8 + length bs) 16777216 p l
+rank_place bs p l = mod-mul-add (prefix_in 4 bs * 8 + length bs) 16777216 p l
 
 -- the indexes of all
 places_back : (text : List ℕ) (list : List Code) (a n : ℕ) → a + n ≤ 16777216 → map (λ p. place_in_rank (rank_in text list p)) (range_with_len a n) ≡ range_with_len a n
@@ -75,11 +75,11 @@ ranks_tell : (text : List ℕ) (list : List Code) (a n : ℕ) → a + n ≤ leng
 ranks_tell text list a zero l few = tt
 ranks_tell text list a (suc n) l few = (told, ranks_tell text list (a + 1) n (omega (arith, l)) few)
   where
-    place : place_in_rank (rank_in text list a) ≡ a
-    place = rank_place (bytes_at text list a) a (omega (arith, l, few))
+    position : place_in_rank (rank_in text list a) ≡ a
+    position = rank_place (bytes_at text list a) a (omega (arith, l, few))
 
     told : IsRank text list (rank_in text list a)
-    told = record { within = omega (arith, l, place); own = ap (rank_in text list) place }
+    told = record { within = omega (arith, l, position); own = ap (rank_in text list) position }
 
 -- a rank more
 pub ranks_more : (f : ℕ → ℕ) (n r : ℕ) → r ≡ f n → map f (range_with_len 0 n) ++ r ∷ [] ≡ map f (range_with_len 0 (n + 1))
@@ -110,14 +110,14 @@ pub ranks_made : (text : List ℕ) (list : List Code) (cs : List IdCode) (old ne
 ranks_made text list cs old new h few short are moved sorted =
     let n = codes_len text list cs h.stand in
     let back : map place_in_rank old ≡ range_with_len 0 (length cs) = ap (map place_in_rank) are ∙ map_map (rank_in text list) place_in_rank (range_with_len 0 (length list)) ∙ places_back text list 0 (length list) (omega (arith, few)) ∙ ap (range_with_len 0) n in
-    let places : IsPermutation (range_with_len 0 (length cs)) (map place_in_rank new) = subst (λ l. IsPermutation l (map place_in_rank new)) back (IsPermutation-map place_in_rank old new moved) in
+    let positions : IsPermutation (range_with_len 0 (length cs)) (map place_in_rank new) = subst (λ l. IsPermutation l (map place_in_rank new)) back (IsPermutation-map place_in_rank old new moved) in
     let texts = map (λ (k : IdCode). k.text) cs in
     let ordered = map (code_text cs) (map place_in_rank new) in
-    let same : IsPermutation texts ordered = subst (λ l. IsPermutation l ordered) (texts_range [] cs) (IsPermutation-map (code_text cs) (range_with_len 0 (length cs)) (map place_in_rank new) places) in
+    let same : IsPermutation texts ordered = subst (λ l. IsPermutation l ordered) (texts_range [] cs) (IsPermutation-map (code_text cs) (range_with_len 0 (length cs)) (map place_in_rank new) positions) in
     let apart : IsDistinct bytes_eq ordered = IsDistinct-IsPermutation bytes_eq bytes_flip texts ordered same h.distinct in
     let told : All (IsRank text list) new = All-permutation (IsRank text list) old new moved (to_all (IsRank text list) old (subst (AllByRecursion (IsRank text list)) (sym are) (ranks_tell text list 0 (length list) (omega arith) few))) in
     record {
-      places = places;
+      positions = positions;
       rising = subst (IsStrictlySortedBy (slice_cmp nat_cmp)) (sym (map_map place_in_rank (code_text cs) new)) (sorted_from (λ r. code_text cs (place_in_rank r)) new (λ i j d a b.
           let x = get_or new i d in
           let y = get_or new j d in

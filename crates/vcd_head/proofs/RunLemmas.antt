@@ -30,14 +30,14 @@ not_shorter p c rest = ap (λ q. selects_path q (p ++ c ∷ rest)) (sym (append-
 pub other_byte : (p t rest : List ℕ) (b c : ℕ) → b ≢ c → selects_path (p ++ b ∷ t) (p ++ c ∷ rest) ≡ false
 other_byte p t rest b c n = selects-front p (b ∷ t) (c ∷ rest) ∙ selects-byte b c t rest ∙ ap (λ x. x && selects_path t rest) (ne_eqb b c n)
 
-behind_name : (p : List ℕ) (b : ℕ) (t : List ℕ) → selects_path (p ++ b ∷ t) p ≡ selects_path (b ∷ t) []
-behind_name p b t = ap (selects_path (p ++ b ∷ t)) (sym (append-nil p)) ∙ selects-front p (b ∷ t) []
+after_name : (p : List ℕ) (b : ℕ) (t : List ℕ) → selects_path (p ++ b ∷ t) p ≡ selects_path (b ∷ t) []
+after_name p b t = ap (selects_path (p ++ b ∷ t)) (sym (append-nil p)) ∙ selects-front p (b ∷ t) []
 
 pub ends_at_point : (p t : List ℕ) → selects_path (p ++ 46 ∷ t) p ≡ true
-ends_at_point p t = behind_name p 46 t
+ends_at_point p t = after_name p 46 t
 
 pub ends_elsewhere : (p : List ℕ) (b : ℕ) (t : List ℕ) → b ≢ 46 → selects_path (p ++ b ∷ t) p ≡ false
-ends_elsewhere p b t n = behind_name p b t ∙ rw (ne_eqb 46 b (λ e. n (sym e))) refl
+ends_elsewhere p b t n = after_name p b t ∙ rw (ne_eqb 46 b (λ e. n (sym e))) refl
 
 -- a name does not select all that continues after itself
 pub not_every : (p : List ℕ) → SelectsAll p p → ⊥
@@ -98,7 +98,7 @@ between (c ∷ q) x (d ∷ y) z a b =
 
 -- the name at an index of the order
 pub text_is : (names : List (List ℕ)) (order : List ℕ) → IsOrder names order → (i : ℕ) → i < length names → slice_get names (get_or order i 0) ≡ Some (text_at names order i)
-text_is names order o i l = slice_get-get_or names (get_or order i 0) [] (o.places i l)
+text_is names order o i l = slice_get-get_or names (get_or order i 0) [] (o.positions i l)
 
 -- the index of a name in the order
 pub found_at : (names : List (List ℕ)) (order : List ℕ) → IsOrder names order → (p : ℕ) (name : List ℕ) → slice_get names p ≡ Some name → (i : ℕ) × (i < length names) × (get_or order i 0 ≡ p) × (text_at names order i ≡ name)

@@ -35,7 +35,6 @@ abbrev pub Gives : {A : Type 0} → (List Token → A → Type 0) → Ahead → 
 Gives Is old new o = IfSome o (λ x. (limit lines : ℕ) (bytes : List ℕ) (ts : List Token) → LooksOver limit bytes old → Passed limit lines bytes (passed_of old) ts
     → (more : List Token) × Is more x × Passed limit lines bytes (passed_of new) (ts ++ more))
 
-
 -- the tokens are this reference, and then the first `$end`
 pub record IsReference (ts : List Token) (r : Reference) : Type 0 where
   pub name : Token

@@ -53,9 +53,9 @@ pub record IsDraftOf (most : ℕ) (d : Draft) (ps : List HeaderPhrase) : Type 0 
   pub scaled : IfSome d.scale (λ (x : Scale). IsExponent x.exponent)
 
 -- the code of the variable is held, at this index, in a text that has grown by its bytes or not
-pub record CodeHeld (old new : List ℕ) (codes : Codes) (ds : List Declaration) (v : Variable) (place : ℕ) : Type 0 where
+pub record CodeHeld (old new : List ℕ) (codes : Codes) (ds : List Declaration) (v : Variable) (position : ℕ) : Type 0 where
   pub held_codes : HasCodes new codes (ds ++ Declaration.Var v ∷ [])
-  pub held_at : slice_get (codes_of (ds ++ Declaration.Var v ∷ [])) place ≡ Some (code_of v)
+  pub held_at : slice_get (codes_of (ds ++ Declaration.Var v ∷ [])) position ≡ Some (code_of v)
   pub more : List ℕ
   pub grown : new ≡ old ++ more
   pub short : length more ≤ length v.code
@@ -63,7 +63,7 @@ pub record CodeHeld (old new : List ℕ) (codes : Codes) (ds : List Declaration)
 -- the code of a variable is held at the index given; none is given where it does not agree with
 -- those of other variables, and the text is then the same
 abbrev pub IsEntered : (old new : List ℕ) → Codes → List Declaration → Variable → Option ℕ → Type 0
-IsEntered old new codes ds v (Some place) = (agrees ds v ≡ true) × CodeHeld old new codes ds v place
+IsEntered old new codes ds v (Some position) = (agrees ds v ≡ true) × CodeHeld old new codes ds v position
 IsEntered old new codes ds v None = (agrees ds v ≡ false) × (new ≡ old) × HasCodes new codes ds
 
 -- nothing was read yet

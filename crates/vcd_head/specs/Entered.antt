@@ -33,21 +33,21 @@ abbrev pub code_with : ℕ → List ℕ → ℕ → Bool → Code
 code_with start bytes size event = record { start = start; len = length bytes; size = size; event = event }
 
 -- the key of the code with these bytes was not there, and is now after the others
-pub record AddsKey (t : List ℕ) (old new : List CodeKey) (place : ℕ) : Type 0 where
+pub record AddsKey (t : List ℕ) (old new : List CodeKey) (position : ℕ) : Type 0 where
   pub absent : list_any (is_key t) old ≡ false
   pub key : CodeKey
   pub own : shape_of key ≡ shape_in t
   pub behind : new ≡ old ++ key ∷ []
-  pub last : place ≡ length old
+  pub last : position ≡ length old
 
 -- it is at this index
-pub record HasKey (t : List ℕ) (old new : List CodeKey) (place : ℕ) : Type 0 where
-  pub at : place ≡ position_or_len (is_key t) old
-  pub within : place < length old
+pub record HasKey (t : List ℕ) (old new : List CodeKey) (position : ℕ) : Type 0 where
+  pub at : position ≡ position_or_len (is_key t) old
+  pub within : position < length old
   pub same : new ≡ old
 
 -- the key of the code with these bytes is at this index, and is new or not
-pub record EntersKey (t : List ℕ) (before after : Codes) (place : ℕ) (is_new : Bool) : Type 0 where
+pub record EntersKey (t : List ℕ) (before after : Codes) (position : ℕ) (is_new : Bool) : Type 0 where
   pub rises : Rises after.rising.items
   pub list : after.list.items ≡ before.list.items
-  pub entered : MatchBool is_new (AddsKey t (keys_of before) (keys_of after) place) (HasKey t (keys_of before) (keys_of after) place)
+  pub entered : MatchBool is_new (AddsKey t (keys_of before) (keys_of after) position) (HasKey t (keys_of before) (keys_of after) position)

@@ -5,7 +5,7 @@ use Rattle.std.specs.Ordering.{nat_cmp, then_cmp}
 use Rattle.std.specs.declared.cmp.Ordering.{Ordering}
 use Rattle.std.specs.Cmp.Lexicographic.{slice_cmp}
 use Rattle.vcd_view.specs.declared.view.Code.{Code}
-use Rattle.vcd_head.specs.declared.index.Front.{Front}
+use Rattle.vcd_head.specs.declared.index.Prefix.{Prefix}
 use Rattle.vcd_view.specs.Entries.{text_in}
 
 -- the bytes of the code at an index
@@ -13,18 +13,18 @@ abbrev pub bytes_at : List ℕ → List Code → ℕ → List ℕ
 bytes_at text codes p = unwrap_or (option_map (λ (c : Code). text_in text c.start c.len) (slice_get codes p)) []
 
 -- this many first bytes as the digits of a number, the first one highest, with zeros after them
-abbrev pub front_in : ℕ → List ℕ → ℕ
-front_in zero bs = 0
-front_in (suc n) bs = front_in n bs * 256 + get_or bs n 0
+abbrev pub prefix_in : ℕ → List ℕ → ℕ
+prefix_in zero bs = 0
+prefix_in (suc n) bs = prefix_in n bs * 256 + get_or bs n 0
 
 -- the order by the first bytes, and then by all
-abbrev pub order_of : List ℕ → List Code → Front → Front → Ordering
-order_of text codes = then_cmp (λ a b. nat_cmp a.number b.number) (λ a b. slice_cmp nat_cmp (bytes_at text codes a.place) (bytes_at text codes b.place))
+abbrev pub order_of : List ℕ → List Code → Prefix → Prefix → Ordering
+order_of text codes = then_cmp (λ a b. nat_cmp a.number b.number) (λ a b. slice_cmp nat_cmp (bytes_at text codes a.position) (bytes_at text codes b.position))
 
 -- a front for each code, in order
-pub record AreFronts (text : List ℕ) (codes : List Code) (fronts : List Front) : Type 0 where
-  pub places : map (λ f. f.place) fronts ≡ range_with_len 0 (length codes)
-  pub numbers : AllByRecursion (λ f. f.number ≡ front_in 8 (bytes_at text codes f.place)) fronts
+pub record ArePrefixes (text : List ℕ) (codes : List Code) (prefixes : List Prefix) : Type 0 where
+  pub positions : map (λ f. f.position) prefixes ≡ range_with_len 0 (length codes)
+  pub numbers : AllByRecursion (λ f. f.number ≡ prefix_in 8 (bytes_at text codes f.position)) prefixes
 
 -- the codes have at most four bytes
 abbrev pub AreShort : List ℕ → List Code → Type 0
@@ -32,7 +32,7 @@ AreShort text codes = (p : ℕ) → p < length codes → length (bytes_at text c
 
 -- at most four bytes, their number and an index as one number
 abbrev pub rank_of : List ℕ → ℕ → ℕ
-rank_of bs p = (front_in 4 bs * 8 + length bs) * 16777216 + p
+rank_of bs p = (prefix_in 4 bs * 8 + length bs) * 16777216 + p
 
 -- that of the code at an index
 abbrev pub rank_in : List ℕ → List Code → ℕ → ℕ

@@ -7,16 +7,16 @@ use Rattle.vcd_model.specs.Selection.{first_unmatched, marked_places, is_among}
 
 -- 1 at each selected variable and at the scopes around these, 0 elsewhere
 unfoldable pub marks_of : List (List ℕ) → List Declaration → List ℕ
-marks_of names ds = let places = marked_places names ds in map (λ i. cond (is_among places i) 1 0) (range_with_len 0 (length ds))
+marks_of names ds = let positions = marked_places names ds in map (λ i. cond (is_among positions i) 1 0) (range_with_len 0 (length ds))
 
 -- the declaration at an index is marked
 abbrev pub is_marked : List ℕ → ℕ → Bool
-is_marked marks place = unwrap_or (slice_get marks place) 0 == 1
+is_marked marks position = unwrap_or (slice_get marks position) 0 == 1
 
 -- 1 at these indexes, the other marks as they were
-pub record Marked (places old new : List ℕ) : Type 0 where
+pub record Marked (positions old new : List ℕ) : Type 0 where
   pub kept : length new ≡ length old
-  pub marks : (i : ℕ) → i < length old → slice_index new i ≡ cond (is_among places i) 1 (slice_index old i)
+  pub marks : (i : ℕ) → i < length old → slice_index new i ≡ cond (is_among positions i) 1 (slice_index old i)
 
 -- a scope, counted from 1, and those around it
 abbrev pub scopes_at : List Declaration → ℕ → List ℕ
@@ -25,7 +25,7 @@ scopes_at ds (suc p) = p ∷ enclosing (take p ds)
 
 -- these are marked
 abbrev pub AllMarked : List ℕ → List ℕ → Type 0
-AllMarked places marks = (i : ℕ) → i < length marks → is_among places i ≡ true → get_or marks i 0 ≡ 1
+AllMarked positions marks = (i : ℕ) → i < length marks → is_among positions i ≡ true → get_or marks i 0 ≡ 1
 
 -- a row and the scopes around it
 abbrev pub row_and_scopes : Header → ℕ → List ℕ

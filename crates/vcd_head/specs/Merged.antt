@@ -32,11 +32,11 @@ opening_of (Some d) = scope_line (type_of d) (reference_of d)
 
 -- the line that opens the scope at an index
 abbrev pub opening : List Declaration → ℕ → List ℕ
-opening ds place = opening_of (slice_get ds place)
+opening ds position = opening_of (slice_get ds position)
 
 -- the lines that open these scopes, of which the innermost is the first
 abbrev pub openings : List Declaration → List ℕ → List ℕ
-openings ds places = flat_map (opening ds) (reverse places)
+openings ds positions = flat_map (opening ds) (reverse positions)
 
 -- the line of an `$upscope` after scopes of which this many, the innermost, are pending, and this
 -- many are written

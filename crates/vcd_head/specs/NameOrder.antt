@@ -23,7 +23,7 @@ text_at names order i = get_or names (get_or order i 0) []
 -- the order has the index of each name, and no name comes after one that it comes before
 pub record IsOrder (names : List (List ℕ)) (order : List ℕ) : Type 0 where
   pub each : (p : ℕ) → p < length names → (i : ℕ) × (i < length names) × (get_or order i 0 ≡ p)
-  pub places : (i : ℕ) → i < length names → get_or order i 0 < length names
+  pub positions : (i : ℕ) → i < length names → get_or order i 0 < length names
   pub within : (i : ℕ) → get_or order i 0 < 16384
   pub rising : (i j : ℕ) → i ≤ j → j < length names → comes_before names (get_or order j 0) (get_or order i 0) ≡ false
 
@@ -49,9 +49,9 @@ abbrev pub Rises : List (List ℕ) → List ℕ → ℕ → (first end : ℕ) �
 Rises names order passed first end = (i j : ℕ) → first ≤ i → i ≤ j → j < end → next_in names order passed i ≤ next_in names order passed j
 
 -- between two indexes of the order, it is less before a third index, and not less from there on
-pub record IsSplit (names : List (List ℕ)) (order : List ℕ) (passed first end least place : ℕ) : Type 0 where
-  pub below : (i : ℕ) → first ≤ i → i < place → next_in names order passed i < least
-  pub above : (i : ℕ) → place ≤ i → i < end → least ≤ next_in names order passed i
+pub record IsSplit (names : List (List ℕ)) (order : List ℕ) (passed first end least position : ℕ) : Type 0 where
+  pub below : (i : ℕ) → first ≤ i → i < position → next_in names order passed i < least
+  pub above : (i : ℕ) → position ≤ i → i < end → least ≤ next_in names order passed i
 
 -- the name selects all that continues after this front of a path
 abbrev pub SelectsAll : List ℕ → List ℕ → Type 0

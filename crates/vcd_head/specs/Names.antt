@@ -34,7 +34,7 @@ pub use Rattle.vcd_head.specs.Declares.{DeclaresVariable, IsBarred, MayStart, Ta
 pub use Rattle.vcd_head.specs.Draft.{IsDraftOf, IsNew, goes_on}
 pub use Rattle.vcd_head.specs.Entered.{Allows, Enters, EntersKey, IsNewCode, code_with}
 pub use Rattle.vcd_head.specs.Fault.{call_end, fault_number}
-pub use Rattle.vcd_head.specs.Fronts.{AreFronts, AreRanks, bytes_at, front_in, order_of, place_in_rank, rank_of}
+pub use Rattle.vcd_head.specs.Fronts.{ArePrefixes, AreRanks, bytes_at, prefix_in, order_of, place_in_rank, rank_of}
 pub use Rattle.vcd_head.specs.Groups.{AreRising, FlagsSome, GoesOnWith, IsRun, IsRunOn, RunsOn, names_of}
 pub use Rattle.vcd_head.specs.Inside.{AnyOpen, ComparesAt, Enters as EntersScope, FlagsSelected, GivesAround, IsOpen, KeepsOpen, SelectsAt, StaysOpen, front, row_path}
 pub use Rattle.vcd_head.specs.Keys.{AreKeysOf, is_key, same_shape, same_writes, shape_in, shape_of, writes_of}

@@ -113,7 +113,8 @@ pub record ReadsHead {X : Type 0} {g : Ghosts X} (failures : X → ℕ) (most : 
   -- line and token, the first token given that has one, or empty where none was left; where
   -- memory is refused, no token given so far has a fault.
   pub reads : (i : Input) → HasGiven i [] old → MatchResult result (λ head. GivesHead most i new (shown head)) (λ fault. Fails most i fault new)
-  -- a failed read is returned only where the source failed now, in its last read, or had failed before
+  -- a failed read is returned only where the source failed now, in its last read, or had failed
+  -- before
   pub failed : HasNotFailed old → result ≡ Err ReadFailed → failures (source_of new) ≡ failures (source_of old) + 1
   pub last : HasNotFailed old → result ≡ Err ReadFailed → g.last_failed (source_of new) ≡ true
   pub same : result ≢ Err ReadFailed → failures (source_of new) ≡ failures (source_of old)

@@ -5,9 +5,9 @@ use Rattle.vcd_model.specs.Header.{Header}
 use Rattle.vcd_head.specs.declared.enclosing.Enclosing.{Enclosing}
 
 -- the last of these indexes, this many, are held, each at its number modulo 128
-pub record IsHeld (places rows : List ℕ) (held : ℕ) : Type 0 where
+pub record IsHeld (positions rows : List ℕ) (held : ℕ) : Type 0 where
   pub room : length rows ≡ 128
-  pub at : (k : ℕ) → k < length places → length places ≤ k + held → slice_get places k ≡ Some (slice_index rows (k % 128))
+  pub at : (k : ℕ) → k < length positions → length positions ≤ k + held → slice_get positions k ≡ Some (slice_index rows (k % 128))
 
 -- this many of the innermost scopes around the declaration of a row, or all of them, were passed,
 -- and the last ones are held

@@ -15,7 +15,7 @@ use Rattle.vcd_head.specs.Draft.{HasCodes}
 use Rattle.vcd_head.specs.Reads.{Reads}
 use Rattle.vcd_head.specs.declared.codes.Codes.{Codes}
 use Rattle.vcd_head.specs.declared.fault.HeadFault.{HeadFault}
-use Rattle.vcd_head.specs.declared.variable.VariableFront.{VariableFront}
+use Rattle.vcd_head.specs.declared.variable.VariableStart.{VariableStart}
 use Rattle.vcd_head.specs.Words.{size_in}
 
 -- type and size are read, and the size is this
@@ -39,12 +39,12 @@ ReadsCode known size event old new r = (most : ℕ) (i : Input) (placed : List (
 
 -- type, size and code are read, the size from these digits, and the code agrees with those of the
 -- variables before
-pub record FrontRead {X : Type 0} {g : Ghosts X} (most : ℕ) (i : Input) (placed : List (Placed HeaderPhrase)) (f : Feed X g) (front : VariableFront) : Type 0 where
+pub record FrontRead {X : Type 0} {g : Ghosts X} (most : ℕ) (i : Input) (placed : List (Placed HeaderPhrase)) (f : Feed X g) (front : VariableStart) : Type 0 where
   pub digits : List ℕ
   pub size_is : size_in digits ≡ Some front.size
   pub reads : Reads most i placed (keyword_text Keyword.Var ∷ front.word.items ∷ digits ∷ front.code.items ∷ []) f
   pub allowed : agrees (declarations_of (phrases_of placed)) (record { type = front.word.items; size = decimal_value digits; code = front.code.items; reference = [] }) ≡ true
 
 -- after the keyword, type, size and code were read, beside these codes
-abbrev pub ReadsFront : {X : Type 0} {g : Ghosts X} → Codes → (old new : Feed X g) → Result VariableFront HeadFault → Type 0
+abbrev pub ReadsFront : {X : Type 0} {g : Ghosts X} → Codes → (old new : Feed X g) → Result VariableStart HeadFault → Type 0
 ReadsFront known old new r = (most : ℕ) (i : Input) (placed : List (Placed HeaderPhrase)) (text : List ℕ) → HasCodes text known (declarations_of (phrases_of placed)) → Reads most i placed (keyword_text Keyword.Var ∷ []) old → OrFails most i new (FrontRead most i placed new) r

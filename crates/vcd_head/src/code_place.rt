@@ -3,9 +3,9 @@ ghost use Rattle.std.specs.Prelude.{◌≡◌, nat_eq, false, [], ◌∷◌, ◌
 ghost use Rattle.vcd_head.specs.Names.{Enters, EntersKey, IsNewCode, Rises, code_with, key_in, list_any};
 
 use crate::code_key::CodeKey;
-use crate::codes::{Codes, is_of_kind, place_among};
+use crate::codes::{Codes, index_among, is_of_kind};
 use crate::fault::HeadFault;
-use crate::rising::{last_of, place_in};
+use crate::rising::{index_in_rising, last_of};
 use crate::rows::token_len;
 use std::alloc::Global;
 use vcd_view::{Code, code_in, key_of};
@@ -27,18 +27,18 @@ pub(crate) fn enter_code(
     ensures refused { Rises known.old.rising.items
         → IfErr result (λ _. IsNewCode known.old bytes.now) }
 {
-    let (place, new) = enter_key(alloc, known, bytes)?;
+    let (position, new) = enter_key(alloc, known, bytes)?;
     if new {
         add(text, &mut known.list, bytes, size, event)?;
-        return Ok(Some(place));
+        return Ok(Some(position));
     }
-    let Some(code) = code_in(&known.list, place) else {
+    let Some(code) = code_in(&known.list, position) else {
         return Ok(None);
     };
     if !is_of_kind(code, size, event) {
         return Ok(None);
     }
-    Ok(Some(place))
+    Ok(Some(position))
 }
 
 /// Enters the key of the code with these bytes, if it is new. Returns the index of the code, and
@@ -53,12 +53,12 @@ fn enter_key(alloc: Global, known: &mut Codes, bytes: &[u8]) -> Result<(usize, b
 {
     let number = key_of(bytes);
     if known.keys.is_empty() && number > last_of(&known.rising) {
-        let place = known.rising.len();
+        let position = known.rising.len();
         known.rising.push(number)?;
-        return Ok((place, true));
+        return Ok((position, true));
     }
-    if let Some(place) = place_in(&known.rising, number) {
-        return Ok((place, false));
+    if let Some(position) = index_in_rising(&known.rising, number) {
+        return Ok((position, false));
     }
     enter_in_set(alloc, known, bytes)
 }
@@ -74,21 +74,21 @@ fn enter_in_set(alloc: Global, known: &mut Codes, bytes: &[u8]) -> Result<(usize
         → IfErr result (λ _. IsNewCode known.old bytes.now) }
 {
     let Ok(key) = CodeKey::of(alloc, bytes) else {
-        let Some(place) = place_among(known.keys.as_slice(), bytes) else {
+        let Some(position) = index_among(known.keys.as_slice(), bytes) else {
             return Err(HeadFault::OutOfMemory);
         };
-        let Some(place) = known.rising.len().checked_add(place) else {
+        let Some(position) = known.rising.len().checked_add(position) else {
             return Err(HeadFault::OutOfMemory);
         };
-        return Ok((place, false));
+        return Ok((position, false));
     };
-    let Ok((place, new)) = known.keys.insert_full(key) else {
+    let Ok((position, new)) = known.keys.insert_full(key) else {
         return Err(HeadFault::OutOfMemory);
     };
-    let Some(place) = known.rising.len().checked_add(place) else {
+    let Some(position) = known.rising.len().checked_add(position) else {
         return Err(HeadFault::OutOfMemory);
     };
-    Ok((place, new))
+    Ok((position, new))
 }
 
 /// Appends the bytes of a code to the text, and the code to the others.

@@ -3,7 +3,7 @@ ghost use Rattle.std.specs.Prelude.{◌≡◌, ℕ, List, position};
 ghost use Rattle.vcd_head.specs.Names.{Allows, AreHeld, AreKeysOf, Finds, HasNone, IdCode, Rises, is_key, is_of, keys_of};
 
 use crate::code_key::CodeKey;
-use crate::rising::place_in;
+use crate::rising::index_in_rising;
 use indexmap::IndexSet;
 use std::alloc::Global;
 use vcd_view::{Code, CodeSeed, code_in, key_of};
@@ -38,10 +38,10 @@ impl Codes {
     pub(crate) fn allow(&self, alloc: Global, bytes: &[u8], size: usize, event: bool) -> bool
         ensures { Allows self.now bytes.now size event result }
     {
-        let Some(place) = self.find(alloc, bytes) else {
+        let Some(position) = self.find(alloc, bytes) else {
             return true;
         };
-        match code_in(&self.list, place) {
+        match code_in(&self.list, position) {
             Some(code) => is_of_kind(code, size, event),
             None => true,
         }
@@ -53,11 +53,11 @@ impl Codes {
             → AreKeysOf (keys_of self.now) cs → Rises self.now.rising.items
             → Finds cs bytes.now result }
     {
-        if let Some(place) = place_in(&self.rising, key_of(bytes)) {
-            return Some(place);
+        if let Some(position) = index_in_rising(&self.rising, key_of(bytes)) {
+            return Some(position);
         }
-        let place = self.find_key(alloc, bytes)?;
-        self.rising.len().checked_add(place)
+        let position = self.find_key(alloc, bytes)?;
+        self.rising.len().checked_add(position)
     }
 
     /// Returns the index in the set of the key of the code with these bytes. It takes memory for
@@ -66,7 +66,7 @@ impl Codes {
         ensures { result ≡ position (is_key bytes.now) self.now.keys.keys }
     {
         let Ok(key) = CodeKey::of(alloc, bytes) else {
-            return place_among(self.keys.as_slice(), bytes);
+            return index_among(self.keys.as_slice(), bytes);
         };
         self.keys.get_index_of(&key)
     }
@@ -81,12 +81,12 @@ pub(crate) fn is_of_kind(code: Code, size: usize, event: bool) -> bool
 }
 
 /// Returns the index of the key of the code with these bytes among keys, by a look at each.
-pub(crate) fn place_among(keys: &[CodeKey], bytes: &[u8]) -> Option<usize>
+pub(crate) fn index_among(keys: &[CodeKey], bytes: &[u8]) -> Option<usize>
     ensures { result ≡ position (is_key bytes.now) keys.now }
 {
-    for (place, key) in keys.iter().enumerate() {
+    for (position, key) in keys.iter().enumerate() {
         if key.is_of(bytes) {
-            return Some(place);
+            return Some(position);
         }
     }
     None

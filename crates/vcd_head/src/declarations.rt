@@ -80,7 +80,7 @@ pub(crate) fn declare(
     ensures memory { IfErr result (λ fault. fault ≡ HeadFault.OutOfMemory) }
 {
     let event = is_event(variable.word);
-    let Some(place) = enter_code(
+    let Some(position) = enter_code(
         alloc,
         &mut draft.text,
         &mut draft.codes,
@@ -103,7 +103,7 @@ pub(crate) fn declare(
         word,
         name: variable.reference.name.len(),
         all,
-        code: place,
+        code: position,
     };
     push(&mut draft.rows, row)?;
     Ok(true)

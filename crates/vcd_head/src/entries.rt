@@ -12,7 +12,7 @@ use vcd_view::{
 // The entry of no code.
 const EMPTY: Entry = Entry {
     key: 0,
-    place: 0,
+    position: 0,
     most: 0,
 };
 
@@ -70,28 +70,28 @@ fn fill(entries: &mut [Entry], text: &[u8], codes: &[Code], seed: CodeSeed)
     ensures right { KeepsRight text.now codes.now entries.old entries.new }
     ensures len { length entries.new ≡ length entries.old }
 {
-    for (place, code) in codes.iter().enumerate() {
+    for (position, code) in codes.iter().enumerate() {
         let bytes = text_in(text, code.start, code.len as usize);
-        enter(entries, place, *code, bytes, seed);
+        enter(entries, position, *code, bytes, seed);
     }
 }
 
-/// Writes the entry of the code at index `place`, which has these bytes: over its own entry or one
-/// beside it, if one of them is free, else where its hash leads. Where all of these are taken, the
-/// code gets no entry, and only a binary search finds it.
+/// Writes the entry of the code at index `position`, which has these bytes: over its own entry or
+/// one beside it, if one of them is free, else where its hash leads. Where all of these are taken,
+/// the code gets no entry, and only a binary search finds it.
 #[inline(always)]
-fn enter(entries: &mut [Entry], place: usize, code: Code, bytes: &[u8], seed: CodeSeed)
-    ensures right { (text : List ℕ) (codes : List Code) → slice_get codes place ≡ Some code
+fn enter(entries: &mut [Entry], position: usize, code: Code, bytes: &[u8], seed: CodeSeed)
+    ensures right { (text : List ℕ) (codes : List Code) → slice_get codes position ≡ Some code
         → bytes.now ≡ text_in text code.start code.len → KeepsRight text codes entries.old entries.new }
     ensures len { length entries.new ≡ length entries.old }
 {
     let key = key_of(bytes);
     if key == 0 {
         let hash = seed.hashed(0, bytes);
-        put_hashed(entries, hash, entry_with(place, code, long_key(hash)));
+        put_hashed(entries, hash, entry_with(position, code, long_key(hash)));
         return;
     }
-    let entry = entry_with(place, code, key);
+    let entry = entry_with(position, code, key);
     match free_near(entries, entry_of(bytes, entries.len())) {
         Some(at) => put(entries, at, entry),
         None => put_hashed(entries, seed.mixed(0, key), entry),
@@ -138,21 +138,21 @@ fn is_free(entries: &[Entry], at: usize) -> bool
     }
 }
 
-/// Returns the entry of the code at index `place`, which has this key; an empty one where 32 bits
-/// do not hold the index.
+/// Returns the entry of the code at index `position`, which has this key; an empty one where 32
+/// bits do not hold the index.
 #[inline(always)]
-fn entry_with(place: usize, code: Code, key: u64) -> Entry
-    ensures short { (text : List ℕ) (codes : List Code) → slice_get codes place ≡ Some code
+fn entry_with(position: usize, code: Code, key: u64) -> Entry
+    ensures short { (text : List ℕ) (codes : List Code) → slice_get codes position ≡ Some code
         → key ≡ key_in (text_in text code.start code.len) → is_right text codes result ≡ true }
     ensures long { (text : List ℕ) (codes : List Code) → 2 ^ 63 ≤ key
         → is_right text codes result ≡ true }
 {
-    let Ok(place) = u32::try_from(place) else {
+    let Ok(position) = u32::try_from(position) else {
         return EMPTY;
     };
     Entry {
         key,
-        place,
+        position,
         most: most_of(code),
     }
 }

@@ -1,13 +1,13 @@
 // The order of codes by their bytes.
 ghost use Rattle.std.specs.Prelude.{◌≡◌, ◌^◌, ◌<◌, ◌≤◌, List, length, map, get_or, IfOk, IfSome};
-ghost use Rattle.vcd_head.specs.Names.{AnyHeld, AreFronts, AreRanks, IsIndex, bytes_at, front_in, order_of, place_in_rank, rank_of};
+ghost use Rattle.vcd_head.specs.Names.{AnyHeld, ArePrefixes, AreRanks, IsIndex, bytes_at, prefix_in, order_of, place_in_rank, rank_of};
 
 use std::alloc::{AllocError, Global};
 use std::cmp::Ordering;
 use vcd_view::{Code, code_in, text_in};
 
-// The bytes of a code that a front has.
-const FRONT_BYTES: usize = 8;
+// The bytes of a code that a prefix has.
+const PREFIX_BYTES: usize = 8;
 
 // The most bytes of a code that a rank has.
 const RANK_BYTES: usize = 4;
@@ -18,9 +18,9 @@ const PLACES: usize = 16_777_216;
 // The first bytes of a code as a number, which is less where they come before others, and its
 // index.
 #[derive(Clone, Copy)]
-pub(crate) struct Front {
+pub(crate) struct Prefix {
     pub(crate) number: u64,
-    pub(crate) place: usize,
+    pub(crate) position: usize,
 }
 
 /// Returns the indexes of the codes in the order of their bytes, which lie in the text.
@@ -29,7 +29,7 @@ pub(crate) fn index_of(alloc: Global, text: &[u8], codes: &[Code]) -> Result<Vec
 {
     match index_by_ranks(alloc, text, codes)? {
         Some(index) => Ok(index),
-        None => index_by_fronts(alloc, text, codes),
+        None => index_by_prefixes(alloc, text, codes),
     }
 }
 
@@ -48,7 +48,7 @@ fn index_by_ranks(
     };
     let mut index = ranks;
     index.sort_unstable();
-    leave_places(&mut index);
+    ranks_to_indexes(&mut index);
     Ok(Some(index))
 }
 
@@ -61,12 +61,12 @@ fn ranks_of(alloc: Global, text: &[u8], codes: &[Code]) -> Result<Option<Vec<usi
         return Ok(None);
     }
     let mut ranks = Vec::with_capacity(alloc, codes.len())?;
-    for place in 0..codes.len() {
-        let bytes = bytes_at(text, codes, place);
+    for position in 0..codes.len() {
+        let bytes = bytes_at(text, codes, position);
         if bytes.len() > RANK_BYTES {
             return Ok(None);
         }
-        ranks.push(rank_of(bytes, place))?;
+        ranks.push(rank_of(bytes, position))?;
     }
     Ok(Some(ranks))
 }
@@ -75,17 +75,17 @@ fn ranks_of(alloc: Global, text: &[u8], codes: &[Code]) -> Result<Option<Vec<usi
 /// bytes come before others.
 // Two ranks are compared as numbers, and the codes themselves are not read.
 #[inline(always)]
-fn rank_of(bytes: &[u8], place: usize) -> usize
+fn rank_of(bytes: &[u8], position: usize) -> usize
     requires short { length bytes.now ≤ 4 }
-    requires place { place < 16777216 }
-    ensures { result ≡ rank_of bytes.now place }
+    requires position { position < 16777216 }
+    ensures { result ≡ rank_of bytes.now position }
 {
-    let front = front_of(bytes, RANK_BYTES);
-    (front as usize * 8 + bytes.len()) * PLACES + place
+    let front = prefix_of(bytes, RANK_BYTES);
+    (front as usize * 8 + bytes.len()) * PLACES + position
 }
 
 /// Reduces each rank to its index.
-fn leave_places(ranks: &mut [usize])
+fn ranks_to_indexes(ranks: &mut [usize])
     ensures { ranks.new ≡ map place_in_rank ranks.old }
 {
     for rank in ranks.iter_mut() {
@@ -94,55 +94,57 @@ fn leave_places(ranks: &mut [usize])
 }
 
 /// Returns the indexes of codes of any length in the order of their bytes.
-fn index_by_fronts(alloc: Global, text: &[u8], codes: &[Code]) -> Result<Vec<usize>, AllocError>
+fn index_by_prefixes(alloc: Global, text: &[u8], codes: &[Code]) -> Result<Vec<usize>, AllocError>
     ensures { AnyHeld text.now codes.now (λ cs. IfOk result (λ index. IsIndex cs index.items)) }
 {
-    let mut fronts = fronts_of(alloc, text, codes)?;
-    fronts.sort_unstable_by(|a, b| order_of(text, codes, *a, *b));
-    places_of(alloc, &fronts)
+    let mut prefixes = prefixes_of(alloc, text, codes)?;
+    prefixes.sort_unstable_by(|a, b| order_of(text, codes, *a, *b));
+    places_of(alloc, &prefixes)
 }
 
-/// Returns the fronts of the codes, in their order of declaration.
-fn fronts_of(alloc: Global, text: &[u8], codes: &[Code]) -> Result<Vec<Front>, AllocError>
-    ensures { IfOk result (λ fronts. AreFronts text.now codes.now fronts.items) }
+/// Returns the prefixes of the codes, in their order of declaration.
+fn prefixes_of(alloc: Global, text: &[u8], codes: &[Code]) -> Result<Vec<Prefix>, AllocError>
+    ensures { IfOk result (λ prefixes. ArePrefixes text.now codes.now prefixes.items) }
 {
-    let mut fronts = Vec::with_capacity(alloc, codes.len())?;
-    for place in 0..codes.len() {
-        let number = front_of(bytes_at(text, codes, place), FRONT_BYTES);
-        fronts.push(Front { number, place })?;
+    let mut prefixes = Vec::with_capacity(alloc, codes.len())?;
+    for position in 0..codes.len() {
+        let number = prefix_of(bytes_at(text, codes, position), PREFIX_BYTES);
+        prefixes.push(Prefix { number, position })?;
     }
-    Ok(fronts)
+    Ok(prefixes)
 }
 
-/// Returns the indexes of the fronts.
-fn places_of(alloc: Global, fronts: &[Front]) -> Result<Vec<usize>, AllocError>
-    ensures { IfOk result (λ places. places.items ≡ map (λ f. f.place) fronts.now) }
+/// Returns the indexes of the prefixes.
+fn places_of(alloc: Global, prefixes: &[Prefix]) -> Result<Vec<usize>, AllocError>
+    ensures { IfOk result (λ positions. positions.items ≡ map (λ f. f.position) prefixes.now) }
 {
-    let mut places = Vec::with_capacity(alloc, fronts.len())?;
-    for front in fronts {
-        places.push(front.place)?;
+    let mut positions = Vec::with_capacity(alloc, prefixes.len())?;
+    for front in prefixes {
+        positions.push(front.position)?;
     }
-    Ok(places)
+    Ok(positions)
 }
 
-/// Returns the order of two codes by their bytes, which are looked at only where their fronts are
+/// Returns the order of two codes by their bytes, which are looked at only where their prefixes are
 /// the same.
 #[inline(always)]
-fn order_of(text: &[u8], codes: &[Code], a: Front, b: Front) -> Ordering
+fn order_of(text: &[u8], codes: &[Code], a: Prefix, b: Prefix) -> Ordering
     ensures { result ≡ order_of text.now codes.now a b }
 {
     match a.number.cmp(&b.number) {
         Ordering::Less => Ordering::Less,
         Ordering::Greater => Ordering::Greater,
-        Ordering::Equal => { bytes_at(text, codes, a.place).cmp(bytes_at(text, codes, b.place)) }
+        Ordering::Equal => {
+            bytes_at(text, codes, a.position).cmp(bytes_at(text, codes, b.position))
+        }
     }
 }
 
 /// Returns the bytes of the code at an index.
-fn bytes_at<'a>(text: &'a [u8], codes: &[Code], place: usize) -> &'a [u8]
-    ensures { result.now ≡ bytes_at text.now codes.now place }
+fn bytes_at<'a>(text: &'a [u8], codes: &[Code], position: usize) -> &'a [u8]
+    ensures { result.now ≡ bytes_at text.now codes.now position }
 {
-    match code_in(codes, place) {
+    match code_in(codes, position) {
         Some(code) => text_in(text, code.start, code.len as usize),
         None => &[],
     }
@@ -150,25 +152,25 @@ fn bytes_at<'a>(text: &'a [u8], codes: &[Code], place: usize) -> &'a [u8]
 
 /// Returns the first `count` bytes as a number, the first one highest, padded with zeros.
 #[inline(always)]
-fn front_of(bytes: &[u8], count: usize) -> u64
+fn prefix_of(bytes: &[u8], count: usize) -> u64
     requires { count ≤ 8 }
-    ensures front { result ≡ front_in count bytes.now }
+    ensures front { result ≡ prefix_in count bytes.now }
     ensures small { result < 256 ^ count }
 {
     let mut number = 0;
-    for place in 0..count {
-        number = number * 256 + byte_at(bytes, place);
+    for position in 0..count {
+        number = number * 256 + byte_at(bytes, position);
     }
     number
 }
 
 /// Returns the byte at an index, zero where there is none.
 #[inline(always)]
-fn byte_at(bytes: &[u8], place: usize) -> u64
-    ensures byte { result ≡ get_or bytes.now place 0 }
+fn byte_at(bytes: &[u8], position: usize) -> u64
+    ensures byte { result ≡ get_or bytes.now position 0 }
     ensures small { result < 256 }
 {
-    match bytes.get(place) {
+    match bytes.get(position) {
         Some(byte) => u64::from(*byte),
         None => 0,
     }

@@ -196,9 +196,9 @@ fn compare_each(
         (map string_bytes names.now) matched.old matched.new result) }
 {
     let mut some = false;
-    for place in 0..names.len() {
-        if selects(view, row, names[place].as_str()) {
-            matched[place] = true;
+    for position in 0..names.len() {
+        if selects(view, row, names[position].as_str()) {
+            matched[position] = true;
             some = true;
         }
     }

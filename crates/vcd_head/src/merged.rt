@@ -168,9 +168,9 @@ fn put_input_heads<W: Sink>(heads: &[Head], w: &mut W) -> Result<(), WriteFailed
         → ShowHeaders heads.now hs → takes (concat (each input_head hs))) }
 {
     let mut first: u64 = 0;
-    for (place, head) in heads.iter().enumerate() {
+    for (position, head) in heads.iter().enumerate() {
         let view = head.view();
-        put_input_head(view, place as u64 + 1, first, w)?;
+        put_input_head(view, position as u64 + 1, first, w)?;
         first = first.saturating_add(view.codes.len() as u64);
     }
     Ok(())

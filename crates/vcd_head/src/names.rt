@@ -61,12 +61,12 @@ impl<'n> Group<'n> {
 
     /// Returns the index of the name that is at this index of the order.
     #[inline(always)]
-    fn place_at(&self, at: usize) -> usize
-        ensures place { result ≡ get_or self.now.order at 0 }
+    fn name_at(&self, at: usize) -> usize
+        ensures position { result ≡ get_or self.now.order at 0 }
         ensures within { result < 16384 }
     {
         match self.order.get(at) {
-            Some(place) => usize::from(*place),
+            Some(position) => usize::from(*position),
             None => 0,
         }
     }
@@ -78,7 +78,7 @@ impl<'n> Group<'n> {
         ensures next { result ≡ next_in (names_of self.now) self.now.order passed at }
         ensures within { 0 < result → passed < 2 ^ 63 }
     {
-        let name = name_at(self.names, self.place_at(at));
+        let name = name_at(self.names, self.name_at(at));
         match name.get(passed) {
             Some(byte) => usize::from(*byte) + 1,
             None => 0,
@@ -106,7 +106,8 @@ impl<'n> Group<'n> {
         low
     }
 
-    /// Flags the names that are the front, and returns whether there are some.
+    /// Flags the names of a run that end with the bytes passed so far, and returns whether there
+    /// are some.
     #[inline(always)]
     fn note(&self, run: NameRun, matched: &mut [bool; GROUP_NAMES]) -> bool
         ensures { FlagsSome self.now matched.old matched.new run
@@ -115,20 +116,20 @@ impl<'n> Group<'n> {
         if run.first >= run.end || self.next_at(run.first, run.passed) != 0 {
             return false;
         }
-        if matched[self.place_at(run.first)] {
+        if matched[self.name_at(run.first)] {
             return true;
         }
         for at in run.first..run.end {
             if self.next_at(at, run.passed) != 0 {
                 return true;
             }
-            matched[self.place_at(at)] = true;
+            matched[self.name_at(at)] = true;
         }
         true
     }
 
-    /// Flags the names that are the front, if the byte after it is a dot, and returns whether there
-    /// are some.
+    /// Flags the names of a run that end with the bytes passed so far, if the next byte is a dot,
+    /// and returns whether there are some.
     #[inline(always)]
     fn note_at(&self, run: NameRun, byte: u8, matched: &mut [bool; GROUP_NAMES]) -> bool
         ensures { FlagsSome self.now matched.old matched.new run
@@ -184,8 +185,8 @@ impl<'n> Group<'n> {
         ensures first { GoesOnWith self.now run.passed run.first bytes.now result }
         ensures last { GoesOnWith self.now run.passed (run.end - 1) bytes.now result }
     {
-        let first = name_at(self.names, self.place_at(run.first));
-        let last = name_at(self.names, self.place_at(run.end.saturating_sub(1)));
+        let first = name_at(self.names, self.name_at(run.first));
+        let last = name_at(self.names, self.name_at(run.end.saturating_sub(1)));
         shared(
             bytes_after(first, run.passed),
             bytes_after(last, run.passed),
@@ -278,36 +279,36 @@ fn order_of(names: &[String]) -> [u16; GROUP_NAMES]
     order
 }
 
-/// Writes the indexes of names, in the order of the names' bytes, to `places`.
-fn put_order(places: &mut [u16], names: &[String])
-    requires count { length places.old ≡ length names.now }
+/// Writes the indexes of names, in the order of the names' bytes, to `positions`.
+fn put_order(positions: &mut [u16], names: &[String])
+    requires count { length positions.old ≡ length names.now }
     requires few { length names.now ≤ 16384 }
-    ensures len { length places.new ≡ length names.now }
-    ensures each { (p : ℕ) → p < length names.now → Contains places.new p }
-    ensures within { All (λ p. p < length names.now) places.new }
-    ensures sorted { IsSortedBy (comes_before (map string_bytes names.now)) places.new }
+    ensures len { length positions.new ≡ length names.now }
+    ensures each { (p : ℕ) → p < length names.now → Contains positions.new p }
+    ensures within { All (λ p. p < length names.now) positions.new }
+    ensures sorted { IsSortedBy (comes_before (map string_bytes names.now)) positions.new }
 {
-    number(places);
-    sort(places, names);
+    number(positions);
+    sort(positions, names);
 }
 
 /// Numbers indexes from 0 on.
-fn number(places: &mut [u16])
-    requires { length places.old ≤ 16384 }
-    ensures len { length places.new ≡ length places.old }
-    ensures each { (i : ℕ) → i < length places.old → get_or places.new i 0 ≡ i }
+fn number(positions: &mut [u16])
+    requires { length positions.old ≤ 16384 }
+    ensures len { length positions.new ≡ length positions.old }
+    ensures each { (i : ℕ) → i < length positions.old → get_or positions.new i 0 ≡ i }
 {
-    for place in 0..places.len() {
-        places[place] = place as u16;
+    for position in 0..positions.len() {
+        positions[position] = position as u16;
     }
 }
 
 /// Sorts indexes of names by their bytes.
-fn sort(places: &mut [u16], names: &[String])
-    ensures permutation { IsPermutation places.old places.new }
-    ensures sorted { IsSortedBy (comes_before (map string_bytes names.now)) places.new }
+fn sort(positions: &mut [u16], names: &[String])
+    ensures permutation { IsPermutation positions.old positions.new }
+    ensures sorted { IsSortedBy (comes_before (map string_bytes names.now)) positions.new }
 {
-    places.sort_unstable_by(|a, b| order_by(names, *a, *b));
+    positions.sort_unstable_by(|a, b| order_by(names, *a, *b));
 }
 
 /// Returns the order of two names by their bytes.
@@ -320,10 +321,10 @@ fn order_by(names: &[String], a: u16, b: u16) -> Ordering
 
 /// Returns the bytes of the name at an index, none where there is no such index.
 #[inline(always)]
-fn name_at(names: &[String], place: usize) -> &[u8]
-    ensures { result.now ≡ get_or (map string_bytes names.now) place [] }
+fn name_at(names: &[String], position: usize) -> &[u8]
+    ensures { result.now ≡ get_or (map string_bytes names.now) position [] }
 {
-    match names.get(place) {
+    match names.get(position) {
         Some(name) => name.as_bytes(),
         None => &[],
     }
@@ -345,9 +346,9 @@ fn shared(first: &[u8], last: &[u8], bytes: &[u8]) -> usize
     ensures last { AreShared last.now bytes.now result }
 {
     let most = bytes.len().min(first.len()).min(last.len());
-    for place in 0..most {
-        if first[place] != bytes[place] || last[place] != bytes[place] {
-            return place;
+    for position in 0..most {
+        if first[position] != bytes[position] || last[position] != bytes[position] {
+            return position;
         }
     }
     most

@@ -47,7 +47,7 @@ fn read_end<S: Source>(
     Err(HeadFault::OutOfPlace)
 }
 
-/// Returns whether others may follow a phrase that begins so.
+/// Returns whether other phrases may follow one with this keyword: all but `$enddefinitions`.
 fn goes_on(keyword: Option<Keyword>) -> bool
     ensures { result ≡ goes_on_after keyword }
 {

@@ -145,7 +145,7 @@ fn mark_selected(view: HeadView<'_>, names: &[String], marks: &mut [u8]) -> Opti
         → Marked (marked_places (map string_bytes names.now) h.declarations) marks.old marks.new }
     ensures names { (h : Header) → IsViewOf view.entry h
         → result ≡ first_unmatched (map string_bytes names.now) h.declarations }
-    ensures within { IfSome result (λ place. place < length names.now) }
+    ensures within { IfSome result (λ position. position < length names.now) }
     ensures len { length marks.new ≡ length marks.old }
 {
     let group = Group::new(names);
@@ -166,9 +166,9 @@ fn first_false(flags: &[bool], count: usize) -> Option<usize>
     requires { count ≤ length flags.now }
     ensures { IsFirstFalse flags.now count result }
 {
-    for place in 0..count {
-        if !flags[place] {
-            return Some(place);
+    for position in 0..count {
+        if !flags[position] {
+            return Some(position);
         }
     }
     None
@@ -190,14 +190,14 @@ pub fn select(view: HeadView<'_>, names: &[String], marks: &mut [u8]) -> Result<
         return Ok(());
     }
     let mut done = names.len().min(GROUP_NAMES);
-    if let Some(place) = mark_selected(view, &names[..done], marks) {
-        return Err(place);
+    if let Some(position) = mark_selected(view, &names[..done], marks) {
+        return Err(position);
     }
     while done < names.len() {
         let from = done;
         done = names.len().min(from.saturating_add(GROUP_NAMES));
-        if let Some(place) = mark_selected(view, &names[from..done], marks) {
-            return Err(from + place);
+        if let Some(position) = mark_selected(view, &names[from..done], marks) {
+            return Err(from + position);
         }
     }
     Ok(())

@@ -51,7 +51,7 @@ fn read_code<S: Source>(
 
 /// The first tokens of a variable.
 #[derive(Drop)]
-struct VariableFront {
+struct VariableStart {
     /// Its type.
     word: Vec<u8>,
     /// Its bits.
@@ -60,11 +60,11 @@ struct VariableFront {
 }
 
 /// Reads the type, the size and the code of a variable, beside these codes.
-fn read_front<S: Source>(
+fn read_variable_start<S: Source>(
     alloc: Global,
     feed: &mut Feed<'_, '_, '_, '_, S>,
     known: &Codes,
-) -> Result<VariableFront, HeadFault>
+) -> Result<VariableStart, HeadFault>
     requires { S.failures (source_of feed.old) < 2 ^ 64 - 1 }
     ensures reads { ReadsFront known.now feed.old feed.new result }
     ensures advances { MovesOn S.failures feed.old feed.new result }
@@ -75,7 +75,7 @@ fn read_front<S: Source>(
     let size = read_size(feed)?;
     let event = is_event(&word);
     let code = read_code(alloc, feed, known, size, event)?;
-    Ok(VariableFront { word, size, code })
+    Ok(VariableStart { word, size, code })
 }
 
 /// Reads a variable: type, size, code, one or more tokens of reference, and `$end`.
@@ -90,7 +90,7 @@ pub(crate) fn read_variable<S: Source>(
     ensures advances { MovesOn S.failures feed.old feed.new result }
 {
     check_start(draft, most, Kind::Var)?;
-    let front = read_front(alloc, feed, &draft.codes)?;
+    let front = read_variable_start(alloc, feed, &draft.codes)?;
     let Some(name) = next_word(alloc, feed)? else {
         return Err(HeadFault::BadVariable);
     };

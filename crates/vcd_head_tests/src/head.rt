@@ -136,11 +136,11 @@ fn has_nested_codes(view: HeadView<'_>) -> bool {
 #[test]
 fn scopes_and_aliases(rt: HostRuntime) -> Result<(), Fail> {
     let head = read_good(rt.alloc(), NESTED)?;
-    for (place, row) in NESTED_ROWS {
+    for (position, row) in NESTED_ROWS {
         assert_eq!(rt;
-            head.view().rows.get(place).copied(),
+            head.view().rows.get(position).copied(),
             Some(row),
-            "at {place}"
+            "at {position}"
         );
     }
     assert!(rt; has_nested_codes(head.view()));
@@ -325,8 +325,8 @@ const FOUND: [(&[u8], Option<usize>); 8] = [
 fn codes_are_found(rt: HostRuntime) -> Result<(), Fail> {
     let head = read_good(rt.alloc(), FOUR)?;
     assert_eq!(rt; head.view().index, [1, 2, 3, 0].as_slice());
-    for (code, place) in FOUND {
-        assert_eq!(rt; found(&head, code), [place; 2], "of {code:?}");
+    for (code, position) in FOUND {
+        assert_eq!(rt; found(&head, code), [position; 2], "of {code:?}");
     }
     Ok(())
 }
@@ -360,8 +360,8 @@ const FOUND_CROWDED: [(&[u8], Option<usize>); 14] = [
 #[test]
 fn crowded_codes_are_found(rt: HostRuntime) -> Result<(), Fail> {
     let head = read_good(rt.alloc(), CROWDED)?;
-    for (code, place) in FOUND_CROWDED {
-        assert_eq!(rt; found(&head, code), [place; 2], "of {code:?}");
+    for (code, position) in FOUND_CROWDED {
+        assert_eq!(rt; found(&head, code), [position; 2], "of {code:?}");
     }
     Ok(())
 }
@@ -477,8 +477,8 @@ const SELECTED: [(&str, [bool; 3]); 8] = [
 #[test]
 fn names_select_whole_components(rt: HostRuntime) -> Result<(), Fail> {
     let head = read_good(rt.alloc(), BESIDE)?;
-    for (name, places) in SELECTED {
-        assert_eq!(rt; selected(&head, name), places, "by {name}");
+    for (name, positions) in SELECTED {
+        assert_eq!(rt; selected(&head, name), positions, "by {name}");
     }
     Ok(())
 }

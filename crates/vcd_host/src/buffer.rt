@@ -64,13 +64,13 @@ pub(crate) fn copy(from: &[u8], to: &mut [u8])
 
 /// Copies the first 64 bytes to an offset.
 #[inline(always)]
-pub(crate) fn copy_short(to: &mut [u8], place: usize, from: &[u8])
-    requires room { place + 64 ≤ length to.old }
+pub(crate) fn copy_short(to: &mut [u8], position: usize, from: &[u8])
+    requires room { position + 64 ≤ length to.old }
     requires there { 64 ≤ length from.now }
     ensures long { length to.new ≡ length to.old }
-    ensures copied { take (place + 64) to.new ≡ take place to.old ++ take 64 from.now }
+    ensures copied { take (position + 64) to.new ≡ take position to.old ++ take 64 from.now }
 {
-    u8x64::from_slice(from).copy_to_slice(&mut to[place..]);
+    u8x64::from_slice(from).copy_to_slice(&mut to[position..]);
 }
 
 /// Returns these bytes, brought together in a number, so that one write copies them.
@@ -83,12 +83,12 @@ fn together(bytes: [u8; 8]) -> [u8; 8]
 
 /// Copies these bytes to an offset.
 #[inline(always)]
-pub(crate) fn copy_few(to: &mut [u8], place: usize, from: [u8; 8])
-    requires room { place + 8 ≤ length to.old }
+pub(crate) fn copy_few(to: &mut [u8], position: usize, from: [u8; 8])
+    requires room { position + 8 ≤ length to.old }
     ensures long { length to.new ≡ length to.old }
-    ensures copied { take (place + 8) to.new ≡ take place to.old ++ from }
+    ensures copied { take (position + 8) to.new ≡ take position to.old ++ from }
 {
-    to[place..place + 8].copy_from_slice(&together(from));
+    to[position..position + 8].copy_from_slice(&together(from));
 }
 
 /// Copies a byte, the first n of `from` and the eight of `end` to an offset.
@@ -97,7 +97,7 @@ pub(crate) fn copy_few(to: &mut [u8], place: usize, from: [u8; 8])
 #[inline(always)]
 pub(crate) fn copy_parts(
     to: &mut [u8],
-    place: usize,
+    position: usize,
     first: u8,
     from: &[u8],
     n: usize,
@@ -105,14 +105,14 @@ pub(crate) fn copy_parts(
 )
     requires few { n ≤ 64 }
     requires there { 64 ≤ length from.now }
-    requires room { place + 73 ≤ length to.old }
+    requires room { position + 73 ≤ length to.old }
     ensures long { length to.new ≡ length to.old }
-    ensures copied { take (place + 1 + n + 8) to.new
-        ≡ take place to.old ++ (first ∷ take n from.now ++ end) }
+    ensures copied { take (position + 1 + n + 8) to.new
+        ≡ take position to.old ++ (first ∷ take n from.now ++ end) }
 {
-    to[place] = first;
-    copy_short(to, place + 1, from);
-    copy_few(to, place + 1 + n, end);
+    to[position] = first;
+    copy_short(to, position + 1, from);
+    copy_few(to, position + 1 + n, end);
 }
 
 impl Buffer {
@@ -196,9 +196,9 @@ impl Buffer {
         ensures bytes { kept self.new ≡ kept self.old ++ (first ∷ take n from.now ++ take m end) }
         ensures goes_on { self.new.failed_at < self.new.len + 1 }
     {
-        let place = self.len;
-        copy_parts(&mut self.bytes, place, first, from, n, end);
-        self.len = place + 1 + n + m;
+        let position = self.len;
+        copy_parts(&mut self.bytes, position, first, from, n, end);
+        self.len = position + 1 + n + m;
     }
 
     /// Notes that a write has failed, and no byte was taken since.

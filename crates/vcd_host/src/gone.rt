@@ -25,7 +25,7 @@ impl Gone {
         }
     }
 
-    /// Lets these bytes go too.
+    /// Lets these bytes go, for which there is no room. They are remembered in the logic alone.
     #[inline(always)]
     pub(crate) fn push(&mut self, _bytes: &[u8])
         ensures { self.new.bytes ≡ self.old.bytes ++ _bytes.now }

@@ -28,7 +28,7 @@ impl<'a> LentOutput<'a> {
     ghost use Rattle.vcd_host.specs.Fills.{Fills};
     ghost use Rattle.vcd_host.specs.LentOutput.{held, written};
 
-    /// Returns these bytes, none of which is filled.
+    /// Returns an output that fills these bytes from the first one on. None is filled yet.
     pub fn new(bytes: &'a mut [u8]) -> LentOutput<'a>
         ensures loan { result.bytes.ghost_name ≡ bytes.entry.ghost_name }
         ensures empty { written result ≡ [] }

@@ -102,26 +102,26 @@ record IsFront (apart : Bool) (line : ℕ) (text : List ℕ) (n : ℕ) : Type 0 
   run : apart ≡ false → before_first is_white_space (as_line front) ≡ before_first is_white_space text
   short : length front ≤ length text
 
-front_of : (text : List ℕ) (apart : Bool) (line n : ℕ) → IsFront apart line text n
-front_of text true line zero = record { front = []; tokens = refl; run = λ e. cc; short = omega arith }
-front_of text false line zero = record {
+prefix_of : (text : List ℕ) (apart : Bool) (line n : ℕ) → IsFront apart line text n
+prefix_of text true line zero = record { front = []; tokens = refl; run = λ e. cc; short = omega arith }
+prefix_of text false line zero = record {
   front = before_first is_white_space text;
   tokens = quiet line (before_first is_white_space text) (plain_front text);
   run = λ e. run_of (before_first is_white_space text) (10 ∷ []) (plain_front text) (at_white refl);
   short = run_length text;
 }
-front_of [] apart line (suc n) = record { front = []; tokens = none apart; run = λ e. refl; short = omega arith }
+prefix_of [] apart line (suc n) = record { front = []; tokens = none apart; run = λ e. refl; short = omega arith }
   where
     none : (b : Bool) → tokens_from b line (10 ∷ []) ≡ take (suc n) (tokens_from b line [])
     none true = refl
     none false = refl
-front_of (b ∷ bs) apart line (suc n) =
-    by_white (is_white_space b) refl apart (λ d m. front_of bs d (line_after line b) m)
+prefix_of (b ∷ bs) apart line (suc n) =
+    by_white (is_white_space b) refl apart (λ d m. prefix_of bs d (line_after line b) m)
   where
     by_white : (w : Bool) → is_white_space b ≡ w → (apart : Bool)
         → ((d : Bool) (m : ℕ) → IsFront d (line_after line b) bs m) → IsFront apart line (b ∷ bs) (suc n)
-    by_white true e apart fronts =
-        let f = fronts true (suc n) in record {
+    by_white true e apart prefixes =
+        let f = prefixes true (suc n) in record {
           front = b ∷ f.front;
           tokens = passed apart (as_line f.front) ∙ f.tokens ∙ ap (take (suc n)) (sym (passed apart bs));
           run = λ x. white_run b (as_line f.front) e ∙ sym (white_run b bs e);
@@ -131,8 +131,8 @@ front_of (b ∷ bs) apart line (suc n) =
         passed : (apart : Bool) (cs : List ℕ) → tokens_from apart line (b ∷ cs) ≡ tokens_from true (line_after line b) cs
         passed true cs = rw e refl
         passed false cs = rw e refl
-    by_white false e true fronts =
-        let f = fronts false n in record {
+    by_white false e true prefixes =
+        let f = prefixes false n in record {
           front = b ∷ f.front;
           tokens = begun (as_line f.front)
               ∙ ap (λ t. record { bytes = b ∷ t; line = line } ∷ tokens_from false (line_after line b) (as_line f.front)) (f.run refl)
@@ -144,8 +144,8 @@ front_of (b ∷ bs) apart line (suc n) =
       where
         begun : (cs : List ℕ) → tokens_from true line (b ∷ cs) ≡ record { bytes = b ∷ before_first is_white_space cs; line = line } ∷ tokens_from false (line_after line b) cs
         begun cs = rw (e, one-add) refl
-    by_white false e false fronts =
-        let f = fronts false (suc n) in record {
+    by_white false e false prefixes =
+        let f = prefixes false (suc n) in record {
           front = b ∷ f.front;
           tokens = inside (as_line f.front) ∙ f.tokens ∙ ap (take (suc n)) (sym (inside bs));
           run = λ x. plain_run b (as_line f.front) e ∙ ap (λ l. b ∷ l) (f.run refl) ∙ sym (plain_run b bs e);
@@ -158,5 +158,5 @@ front_of (b ∷ bs) apart line (suc n) =
 -- the first tokens of a text are those of a line no longer than it
 pub first_tokens : (text : List ℕ) (n : ℕ) → (front : List ℕ) × (tokens_of (as_line front) ≡ take n (tokens_of text)) × (length front ≤ length text)
 first_tokens text n =
-    let f = front_of text true 1 n in
+    let f = prefix_of text true 1 n in
     (f.front, forward (as_line f.front) ∙ f.tokens ∙ ap (take n) (sym (forward text)), f.short)

@@ -22,7 +22,7 @@ use Rattle.vcd_model.specs.Job.{Want, Refusal, request_of, over_opened}
 use Rattle.vcd_model.specs.Settled.{is_faulty, body_settles, is_settled_by, is_settled_at, is_settled}
 use Rattle.vcd_laws.specs.Dumps.{input_of}
 use Rattle.vcd_laws.specs.Checked.{run_of}
-use Rattle.vcd_laws.specs.Final.{Front, first_tokens, IsShort, UnsettledIsOpen}
+use Rattle.vcd_laws.specs.Final.{Prefix, first_tokens, IsShort, UnsettledIsOpen}
 use Rattle.vcd_model.proofs.JobLemmas.{neither}
 use Rattle.vcd_model.proofs.SoFarLemmas.{at_token, token_step}
 use Rattle.vcd_laws.proofs.ShortTokens.{AllShort, no_long, not_halted}
@@ -279,7 +279,7 @@ pub record TwoEnds (limit : ℕ) (ts : List Token) : Type 0 where
   pub ends : stream_of limit clean ≡ record { tokens = ts; halt = None; line = line }
   pub fails : stream_of limit failed ≡ record { tokens = ts; halt = Some 31; line = line }
 
-pub two_ends : (limit : ℕ) (f : Front) → IsShort limit f → TwoEnds limit (first_tokens f)
+pub two_ends : (limit : ℕ) (f : Prefix) → IsShort limit f → TwoEnds limit (first_tokens f)
 two_ends limit f short =
     let ts = first_tokens f in
     let g = shorter f.text f.count in

@@ -80,22 +80,22 @@ SettledAloneSettlesMerge = (seen : List Seen) → AreSettledAlone [] seen
     → IsTrue (is_settled_merge seen)
 
 -- a text, and how many of its first tokens are known
-pub record Front : Type 0 where
+pub record Prefix : Type 0 where
   pub text : List ℕ
   pub count : ℕ
 
-abbrev pub first_tokens : Front → List Token
+abbrev pub first_tokens : Prefix → List Token
 first_tokens f = take f.count (tokens_of f.text)
 
 -- the text has fewer than 2^63 - 1 bytes, and none of the tokens is longer than the limit
-abbrev pub IsShort : ℕ → Front → Type 0
+abbrev pub IsShort : ℕ → Prefix → Type 0
 IsShort limit f = (length f.text + 1 < 2 ^ 63)
     × AllByRecursion (λ t. length t.bytes ≤ limit) (first_tokens f)
 
 -- first tokens that do not settle a run leave it open: two inputs begin with them, one of which
 -- ends otherwise than the other
 abbrev pub UnsettledIsOpen : Type 0
-UnsettledIsOpen = (want : Want) (limit : ℕ) (name : List ℕ) (f : Front) → IsShort limit f
+UnsettledIsOpen = (want : Want) (limit : ℕ) (name : List ℕ) (f : Prefix) → IsShort limit f
     → IsFalse (is_settled want declarations_allowed (first_tokens f))
     → (a : Input) × (b : Input) × BeginsWith limit a (first_tokens f)
     × BeginsWith limit b (first_tokens f)
@@ -104,7 +104,7 @@ UnsettledIsOpen = (want : Want) (limit : ℕ) (name : List ℕ) (f : Front) → 
 -- what is known of an input: first tokens of a text, or all that some source gives that does not
 -- fail
 abbrev pub CanBeSeen : ℕ → Seen → Type 0
-CanBeSeen limit (Seen.First ts) = (f : Front) × IsShort limit f × (ts ≡ first_tokens f)
+CanBeSeen limit (Seen.First ts) = (f : Prefix) × IsShort limit f × (ts ≡ first_tokens f)
 CanBeSeen limit (Seen.All stream) =
     (input : Input) × (stream_of limit input ≡ stream) × (stream.halt ≢ Some 31)
 

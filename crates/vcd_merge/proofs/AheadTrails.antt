@@ -19,7 +19,7 @@ use Rattle.vcd_body.specs.Given.{IsItem}
 use Rattle.vcd_body.specs.Items.{AreRegsAfter, regs_after}
 use Rattle.vcd_body.specs.Taken.{TakesItem}
 use Rattle.vcd_body.specs.Walk.{Again, Begins, Further as Goes_further, Trail, Walks}
-use Rattle.vcd_body.specs.declared.ahead.Plain.{Plain}
+use Rattle.vcd_body.specs.declared.ahead.ScannedItem.{ScannedItem}
 use Rattle.vcd_body.specs.declared.item.Form.{Form}
 use Rattle.vcd_body.specs.declared.item.Item.{Item}
 use Rattle.vcd_body.specs.declared.item.Item.TheVariants.{Change, Time}
@@ -30,11 +30,11 @@ use Rattle.vcd_merge.proofs.SeatLemmas.{not_large}
 
 -- ---- one item
 
-module _ (v : HeadView) (s t : MergeStage) (p : Plain) (item : TakesItem v s.ahead t.ahead s.regs p) (same : SameMerging s.visit t.visit) where
+module _ (v : HeadView) (s t : MergeStage) (p : ScannedItem) (item : TakesItem v s.ahead t.ahead s.regs p) (same : SameMerging s.visit t.visit) where
   pub change_taken : (place : ℕ) (f : Form) (result : Result (Unit {0}) WriteFailed) → p.item ≡ Change place f → t.regs ≡ s.regs → t.visit.time ≡ s.visit.time
       → PutsDue v.codes.now p.text.now p.item s.regs s.visit.time s.visit.first s.visit.written t.visit.written s.out t.out result → TakesNext v s t result
   change_taken place f result e regs time_is puts = record {
-    plain = p;
+    scanned = p;
     item = item;
     regs = subst (λ (i : Item). t.regs ≡ regs_after s.regs i) (sym e) regs;
     same = same;
@@ -45,7 +45,7 @@ module _ (v : HeadView) (s t : MergeStage) (p : Plain) (item : TakesItem v s.ahe
 
   pub mark_taken : (time : ℕ) → p.item ≡ Time time → time * s.visit.factor < 2 ^ 64 → t.regs ≡ regs_after s.regs p.item → t.visit.time ≡ time * s.visit.factor → t.visit.written ≡ s.visit.written → t.out ≡ s.out → TakesNext v s t (Ok tt)
   mark_taken time e fits regs is written out = record {
-    plain = p;
+    scanned = p;
     item = item;
     regs = regs;
     same = same;
@@ -57,7 +57,7 @@ module _ (v : HeadView) (s t : MergeStage) (p : Plain) (item : TakesItem v s.ahe
 -- ---- one item more after others
 
 module _ (scale first : ℕ) (h : Header) (limit lines : ℕ) (bytes : List ℕ) (behind : List BodyItem) (few : first + length h.codes < 2 ^ 64) (v : HeadView) (views : IsViewOf v h) (s t : MergeStage) (result : Result (Unit {0}) WriteFailed) (n : TakesNext v s t result) (over : LooksOver limit bytes s.ahead) (factor : s.visit.factor ≡ scale) (first_is : s.visit.first ≡ first) (items : List BodyItem) (at : IsAhead scale h limit lines bytes behind (passed_of s.ahead) items s.regs s.visit.time) where
-  pub one : (x : BodyItem) × IsItem h.codes n.plain.text.now n.plain.item x × GaveAhead h.codes limit lines bytes (passed_of t.ahead) behind (items ++ x ∷ []) × AreRegsAfter (behind ++ (items ++ x ∷ [])) (regs_after s.regs n.plain.item)
+  pub one : (x : BodyItem) × IsItem h.codes n.scanned.text.now n.scanned.item x × GaveAhead h.codes limit lines bytes (passed_of t.ahead) behind (items ++ x ∷ []) × AreRegsAfter (behind ++ (items ++ x ∷ [])) (regs_after s.regs n.scanned.item)
   one = n.item.gives h limit lines bytes behind items views over at.known at.gave
 
   abbrev pub next_item : BodyItem
@@ -68,7 +68,7 @@ module _ (scale first : ℕ) (h : Header) (limit lines : ℕ) (bytes : List ℕ)
 
   pub ahead_next : IsAhead scale h limit lines bytes behind (passed_of t.ahead) (items ++ next_item ∷ []) t.regs t.visit.time
   ahead_next =
-      let small = subst (λ m. is_too_large m next_item ≡ false) factor (n.small h.codes n.plain.text.now next_item one.1) in record {
+      let small = subst (λ m. is_too_large m next_item ≡ false) factor (n.small h.codes n.scanned.text.now next_item one.1) in record {
         gave = one.2;
         known = subst (AreRegsAfter (behind ++ (items ++ next_item ∷ []))) (sym n.regs) one.3;
         small = all_append (λ y. is_too_large scale y ≡ false) items (next_item ∷ []) at.small (small, tt);

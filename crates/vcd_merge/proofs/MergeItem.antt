@@ -66,7 +66,7 @@ sized_is y most is some = by_parts y.event (nat_le (2 ^ 32) y.size) refl refl
     by_parts false false h g = (h, sym (is ∙ rw (h, g) refl))
 
 -- the line under its new code, and that it is no event, where the look-up gave its size
-module _ (place most : ℕ) (s : HeadShown) (h : Header) (c : IdCode) (v : Views s h) (at : slice_get h.codes place ≡ Some c) (sized : IsSized s.codes (record { place = place; most = most })) (some : most ≢ 0) where
+module _ (place most : ℕ) (s : HeadShown) (h : Header) (c : IdCode) (v : Views s h) (at : slice_get h.codes place ≡ Some c) (sized : IsSized s.codes (record { position = place; most = most })) (some : most ≢ 0) where
   pub sized_line : (first number : ℕ) (form : ChangeForm) (text : List ℕ) → number ≡ first + place
       → change_line (record { code = record { text = new_code number; size = most; event = false }; form = form; text = text }) ≡ change_line (record { code = record { text = new_code (first + code_place h c.text); size = c.size; event = c.event }; form = form; text = text })
   sized_line first number form text n =

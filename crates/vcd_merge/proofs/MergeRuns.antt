@@ -49,15 +49,15 @@ use Rattle.vcd_merge.proofs.Unsettled.{unsettled}
 -- ---- what is counted
 
 -- where no read failed, whichever input's turn it was
-plain : {A : Type 0} (ns : List ℕ) (k : ℕ) (r : Result A Stop) → reads_failed r ≡ 0 → failures_with ns k r ≡ ns
-plain ns k r e = let z : get_or ns k 0 + reads_failed r ≡ get_or ns k 0 = omega (arith, e) in ap (slice_set ns k) z ∙ set-get_or ns k 0
+scanned : {A : Type 0} (ns : List ℕ) (k : ℕ) (r : Result A Stop) → reads_failed r ≡ 0 → failures_with ns k r ≡ ns
+scanned ns k r e = let z : get_or ns k 0 + reads_failed r ≡ get_or ns k 0 = omega (arith, e) in ap (slice_set ns k) z ∙ set-get_or ns k 0
 
 at_any : {A : Type 0} (ns ms : List ℕ) (k j : ℕ) (r : Result A Stop) → reads_failed r ≡ 0 → ms ≡ failures_with ns k r → ms ≡ failures_with ns j r
-at_any ns ms k j r none e = e ∙ plain ns k r none ∙ sym (plain ns j r none)
+at_any ns ms k j r none e = e ∙ scanned ns k r none ∙ sym (scanned ns j r none)
 
 -- a step that continues leaves the failures
 pub same_failures : (ns ms : List ℕ) (k : ℕ) (r : Result More Stop) → r ≡ Ok Again → ms ≡ failures_with ns k r → ms ≡ ns
-same_failures ns ms k r again e = e ∙ plain ns k r (ap (λ (x : Result More Stop). reads_failed x) again)
+same_failures ns ms k r again e = e ∙ scanned ns k r (ap (λ (x : Result More Stop). reads_failed x) again)
 
 -- so that they are as low as they were
 pub still_low : {X : Type 0} (f : X → ℕ) (xs ys : List X) → map f ys ≡ map f xs → All (λ s. f s < 2 ^ 64 - 1) xs → All (λ s. f s < 2 ^ 64 - 1) ys
@@ -299,7 +299,7 @@ module _ {X : Type 0} (rest : X → _) (failures : X → ℕ) (hs : List Header)
           (subst (λ (o : Outcome). WritesSome begin new o.output) (sym outcome) some)
       cut_short k counts (inr (inr t)) =
           let ws = backs rest hs lanes ds s limit is_limit ready holds.given t.input t.next in
-          all_whole (BackFits rest hs lanes ds s limit is_limit ready holds.given t.input t.next) ds s.seats ws (λ j x p. p.later) (Err Write) (new_many {A = More} k (Err Write) counts) (unread (counts ∙ plain {A = More} (map failures s.sources) k (Err Write) refl) t.unread) (λ j x p. p.left)
+          all_whole (BackFits rest hs lanes ds s limit is_limit ready holds.given t.input t.next) ds s.seats ws (λ j x p. p.later) (Err Write) (new_many {A = More} k (Err Write) counts) (unread (counts ∙ scanned {A = More} (map failures s.sources) k (Err Write) refl) t.unread) (λ j x p. p.left)
           (kept_some rest hs lanes ds s limit is_limit ready holds.given t.input t.next names begin out new w t.writes)
 
       -- it has stopped: the fault is the first of the merged inputs, and the output is what comes

@@ -16,7 +16,7 @@ use Rattle.vcd_body.specs.Given.{IsItem}
 use Rattle.vcd_body.specs.Items.{AreRegsAfter, regs_after}
 use Rattle.vcd_body.specs.Taken.{TakesItem}
 use Rattle.vcd_body.specs.Walk.{Stage}
-use Rattle.vcd_body.specs.declared.ahead.Plain.{Plain}
+use Rattle.vcd_body.specs.declared.ahead.ScannedItem.{ScannedItem}
 use Rattle.vcd_body.specs.declared.item.Item.{Item}
 use Rattle.vcd_body.specs.declared.item.Regs.{Regs}
 use Rattle.vcd_merge.specs.declared.merging.Merging.{Merging}
@@ -43,13 +43,13 @@ pub record SameMerging (m m' : Merging) : Type 0 where
 
 -- an item was taken ahead, whose time is not too large, and what is due with it was put
 pub record TakesNext (v : HeadView) (s t : MergeStage) (result : Result (Unit {0}) WriteFailed) : Type 0 where
-  pub plain : Plain
-  pub item : TakesItem v s.ahead t.ahead s.regs plain
-  pub regs : t.regs ≡ regs_after s.regs plain.item
+  pub scanned : ScannedItem
+  pub item : TakesItem v s.ahead t.ahead s.regs scanned
+  pub regs : t.regs ≡ regs_after s.regs scanned.item
   pub same : SameMerging s.visit t.visit
   pub time : (scale : ℕ) → s.visit.factor ≡ scale → s.visit.time ≡ scale * s.regs.time → t.visit.time ≡ scale * t.regs.time
-  pub small : (codes : List IdCode) (text : List ℕ) (x : BodyItem) → IsItem codes text plain.item x → is_too_large s.visit.factor x ≡ false
-  pub puts : PutsDue v.codes.now plain.text.now plain.item s.regs s.visit.time s.visit.first s.visit.written t.visit.written s.out t.out result
+  pub small : (codes : List IdCode) (text : List ℕ) (x : BodyItem) → IsItem codes text scanned.item x → is_too_large s.visit.factor x ≡ false
+  pub puts : PutsDue v.codes.now scanned.text.now scanned.item s.regs s.visit.time s.visit.first s.visit.written t.visit.written s.out t.out result
 
 -- after some of the items ahead: the bytes in which they lie, what is known after them, the time of
 -- the input, and the output

@@ -9,8 +9,8 @@ ghost use Rattle.vcd_body.specs.Whole.{IsPrompt};
 use crate::order::Turn;
 use crate::seat::Seat;
 use vcd_body::{
-    Extent, Form, Item, Plain, Regs, Stop, Viewed, Visit, change_text, keyword_comes, next_item,
-    pass_items, pass_on, put_renamed, put_renamed_ahead, put_time, walk_ahead,
+    Extent, Form, Item, Regs, ScannedItem, Stop, Viewed, Visit, change_text, keyword_comes,
+    next_item, pass_items, pass_on, put_renamed, put_renamed_ahead, put_time, walk_ahead,
 };
 use vcd_head::Head;
 use vcd_text::{Feed, Sink, Source, WriteFailed};
@@ -130,13 +130,13 @@ impl Visit<()> for Merging {
     }
 
     #[inline(always)]
-    fn take_mark(
+    fn take_timestamp(
         &mut self,
         _command: &mut (),
         _view: HeadView<'_>,
         _regs: Regs,
         time: u64,
-        _mark: Plain<'_>,
+        _timestamp: ScannedItem<'_>,
         _extent: Extent<'_>,
     ) {
         self.time = time * self.factor;
@@ -148,7 +148,7 @@ impl Visit<()> for Merging {
         _command: &mut (),
         view: HeadView<'_>,
         regs: Regs,
-        change: Plain<'_>,
+        change: ScannedItem<'_>,
         extent: Extent<'_>,
         out: &mut W,
     ) -> Result<(), WriteFailed> {
@@ -230,9 +230,10 @@ fn take_ahead<S: Source, W: Sink>(
 /// The number of the fault of a time that is 2^64 or more once it is scaled.
 const TIME_TOO_LARGE: u8 = 20;
 
-/// Returns the stop at a timestamp of an input that is 2^64 or more once it is scaled.
+/// Returns the stop at a timestamp whose scaled time is 2^64 or more, on this line of the input at
+/// this index.
 #[inline(always)]
-fn too_large(input: usize, line: u64) -> Stop
+fn time_too_large(input: usize, line: u64) -> Stop
     ensures { result ≡ stop.Dump input line 20 }
 {
     Stop::Dump {
@@ -281,7 +282,7 @@ fn take_item<S: Source, W: Sink>(
         Item::Finish => seat.finished = true,
         Item::Time(time) => match time.checked_mul(seat.factor) {
             Some(time) => seat.time = time,
-            None => return Err(too_large(input, feed.line())),
+            None => return Err(time_too_large(input, feed.line())),
         },
         Item::Change { code, form } => {
             let text = change_text(feed, form);

@@ -11,7 +11,8 @@ use vcd_words::{Job, UseFault, command_of, job_of, parse_status};
 use vcdkit::{open_fault, run_with_hasher, use_fault, write_fault};
 
 /// Opens the inputs that the matches of this job name, runs it over them, and returns the exit
-/// status.
+/// status. `out` is not flushed. Where memory runs out or an input does not open, nothing is
+/// written, and `err` gets the line. The chunk is that of every job of the command line.
 fn run_job<H: Host, W: Sink, E: Sink, B: BuildHasher>(
     alloc: Global,
     job: Job,

@@ -126,7 +126,8 @@ pub fn run_words_on_machine<E: Sink>(rt: &HostRuntime, words: &[String], err: &m
 }
 
 /// Runs the program on the words, the files and the streams of the process, and returns the exit
-/// status.
+/// status: as `run_words_on_machine`, that of `run_program`. Where a word is no text it is 2, and 3
+/// where there is no memory for the words; standard error says so.
 pub fn run_on_machine(rt: &HostRuntime) -> u8
     ensures { result ≤ 3 }
 {

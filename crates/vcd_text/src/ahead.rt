@@ -81,7 +81,7 @@ impl White {
 #[derive(Clone, Copy)]
 pub struct Ahead<'a> {
     bytes: &'a [u8],
-    // The next token begins here.
+    // How many bytes were passed. The next token begins here, or after white bytes from here on.
     at: usize,
     limit: usize,
     white: White,
@@ -107,7 +107,8 @@ impl<'a> Ahead<'a> {
         }
     }
 
-    /// Returns how many bytes were passed, for `Feed::pass`.
+    /// Returns how many bytes were passed, for `Feed::pass`: those up to the last token that was
+    /// given, and the one white byte after it.
     #[inline(always)]
     pub fn passed(&self) -> usize
         ensures passed { result ≡ passed_of self.now }
@@ -156,17 +157,18 @@ impl<'a> Ahead<'a> {
         ensures none { result ≡ None → self.new ≡ self.old }
     {
         let at = self.at;
-        if !has_short(self.bytes, at) {
+        if !is_two_byte_line(self.bytes, at) {
             return None;
         }
         self.take(at, White::before(at + 3))
     }
 
     /// Returns the next token, if it begins right here, has at most 15 bytes and a line feed after
-    /// them. `None` else; then `next` may give one. It looks at 16 bytes in one load, and forgets
-    /// what white space it has seen: it is for a run of lines.
+    /// them. `None` else, and also where fewer than 16 bytes are left, where it has a control byte,
+    /// or where it is longer than the limit; then `next` may give one. It looks at 16 bytes in one
+    /// load, and forgets what white space it has seen: it is for a run of lines.
     #[inline(always)]
-    pub fn next_near(&mut self) -> Option<&'a [u8]>
+    pub fn next_in_16(&mut self) -> Option<&'a [u8]>
         ensures takes { IfSome result (λ token. TakesToken self.old self.new token.now) }
         ensures within { passed_of self.new ≤ length (bytes_of self.old) }
         ensures start { IfSome result (λ token. start_of self.new token.now ≡ passed_of self.old) }
@@ -203,12 +205,14 @@ impl<'a> Ahead<'a> {
     }
 
     /// Returns whether the next token begins right here, has two bytes and a line feed after them.
+    /// It is false also where the limit is one byte, and where one of the two is a control byte:
+    /// then `next` tells. Once it is true, the limit is 2 or more and need not be asked again.
     #[inline(always)]
-    pub fn has_short(&self) -> bool
+    pub fn two_byte_line_comes(&self) -> bool
         ensures { result ≡ true
             → IsRun (longest_of self.now) (bytes_of self.now) (passed_of self.now) 2 }
     {
-        self.limit >= 2 && has_short(self.bytes, self.at)
+        self.limit >= 2 && is_two_byte_line(self.bytes, self.at)
     }
 
     /// Returns the first byte of the next token; `None` where only white bytes are ahead.
@@ -225,7 +229,7 @@ impl<'a> Ahead<'a> {
         self.bytes.get(start).copied()
     }
 
-    /// Forgets what white space it has seen, before a loop over `next_short` and `next_near`: so
+    /// Forgets what white space it has seen, before a loop over `next_short` and `next_in_16`: so
     /// the loop need not keep it.
     #[inline(always)]
     pub fn forget(&mut self)
@@ -276,9 +280,10 @@ impl<'a> Ahead<'a> {
     }
 }
 
-/// Returns whether at this offset come two bytes that are not white, and then a line feed.
+/// Returns whether two bytes above the space, so not white, come at this offset, and then a line
+/// feed. Before a control byte it is false.
 #[inline(always)]
-fn has_short(bytes: &[u8], at: usize) -> bool
+fn is_two_byte_line(bytes: &[u8], at: usize) -> bool
     requires { at ≤ length bytes.now }
     ensures within { result ≡ true → at + 3 ≤ length bytes.now }
     ensures first { result ≡ true → is_white_space (slice_index bytes.now at) ≡ false }
@@ -323,8 +328,8 @@ fn white_end(bytes: &[u8], at: usize) -> usize
     past_white(bytes, at)
 }
 
-/// Returns the white space that is known ahead, or else comes next. `None` where there is none, or
-/// fewer than 64 bytes are left from it on.
+/// Returns the white space that is known ahead, or else comes next. `None` where none is known, and
+/// no whole 64 bytes from `known.next` on have any; the last bytes, fewer than 64, may have some.
 // Most tokens end at a white byte that is known already: then no look is made.
 #[inline(always)]
 fn white_ahead(bytes: &[u8], known: White) -> Option<White>

@@ -16,16 +16,16 @@ const MOST_TOLD: usize = 1024;
 
 // A record of answers, one after the other. What has no room is left out.
 #[derive(Drop)]
-struct Told {
+struct Report {
     bytes: [u8; MOST_TOLD],
     len: usize,
     ghost size: { length bytes ≡ 1024 },
     ghost room: { len ≤ 1024 },
 }
 
-impl Told {
-    fn new() -> Told {
-        Told {
+impl Report {
+    fn new() -> Report {
+        Report {
             bytes: [0; MOST_TOLD],
             len: 0,
         }
@@ -62,20 +62,20 @@ fn failing(bytes: &[u8], most: usize, fails_at: u64) -> Watch<Pieces<'_>>
 }
 
 // Tells an answer that is no token, with its line.
-fn tell_end(answer: Result<Next, Halt>, line: u64, told: &mut Told) {
+fn report_end(answer: Result<Next, Halt>, line: u64, report: &mut Report) {
     match answer {
-        Ok(_) => told.push(b"end"),
+        Ok(_) => report.push(b"end"),
         Err(halt) => {
-            told.push(b"halt ");
-            told.push(Buffer::new().format(halt.number()).as_bytes());
+            report.push(b"halt ");
+            report.push(Buffer::new().format(halt.number()).as_bytes());
         }
     }
-    told.push_line(line);
+    report.push_line(line);
 }
 
 // Tells the next token, or the end or the number of the halt, with its line, and returns whether it
 // was a token.
-fn tell_next(feed: &mut Feed<'_, '_, '_, '_, Watch<Pieces<'_>>>, told: &mut Told) -> bool
+fn report_next(feed: &mut Feed<'_, '_, '_, '_, Watch<Pieces<'_>>>, report: &mut Report) -> bool
     requires { failed_calls (source_of feed.old) < 2 ^ 64 - 1 }
     ensures token { result ≡ true
         → failed_calls (source_of feed.new) ≡ failed_calls (source_of feed.old) }
@@ -86,27 +86,27 @@ fn tell_next(feed: &mut Feed<'_, '_, '_, '_, Watch<Pieces<'_>>>, told: &mut Told
 {
     let answer = feed.next();
     if answer != Ok(Next::Token) {
-        tell_end(answer, feed.line(), told);
+        report_end(answer, feed.line(), report);
         return false;
     }
-    told.push(feed.token());
-    told.push_line(feed.line());
+    report.push(feed.token());
+    report.push_line(feed.line());
     true
 }
 
 // Tells each token that is left, and the end or the halt.
-fn tell_all(feed: &mut Feed<'_, '_, '_, '_, Watch<Pieces<'_>>>, told: &mut Told)
+fn report_rest(feed: &mut Feed<'_, '_, '_, '_, Watch<Pieces<'_>>>, report: &mut Report)
     requires { failed_calls (source_of feed.old) < 2 ^ 64 - 1 }
 {
     'answers: for _ in 0..u64::MAX {
-        if !tell_next(feed, told) {
+        if !report_next(feed, report) {
             return;
         }
     }
 }
 
 // Tells the tokens of a source.
-fn tell(source: &mut Watch<Pieces<'_>>, chunk_len: usize, limit: usize, told: &mut Told)
+fn report_all(source: &mut Watch<Pieces<'_>>, chunk_len: usize, limit: usize, report: &mut Report)
     requires source { failed_calls source.old ≡ 0 }
     requires chunk_len { (0 < chunk_len) × (chunk_len ≤ 1300) }
     requires limit { (0 < limit) × (limit ≤ 300) }
@@ -120,35 +120,35 @@ fn tell(source: &mut Watch<Pieces<'_>>, chunk_len: usize, limit: usize, told: &m
         &mut token[..limit],
         &mut value[..limit],
     );
-    tell_all(&mut feed, told);
+    report_rest(&mut feed, report);
 }
 
 // Whether the tokens of a source give this record.
-fn is_told(mut source: Watch<Pieces<'_>>, chunk_len: usize, limit: usize, want: &[u8]) -> bool
+fn reports(mut source: Watch<Pieces<'_>>, chunk_len: usize, limit: usize, want: &[u8]) -> bool
     requires source { failed_calls source ≡ 0 }
     requires chunk_len { (0 < chunk_len) × (chunk_len ≤ 1300) }
     requires limit { (0 < limit) × (limit ≤ 300) }
 {
-    let mut told = Told::new();
-    tell(&mut source, chunk_len, limit, &mut told);
-    told.text() == want
+    let mut report = Report::new();
+    report_all(&mut source, chunk_len, limit, &mut report);
+    report.text() == want
 }
 
 // Tells the next token ahead and how many bytes were passed with it, and returns whether there was
 // one.
-fn tell_one_ahead(ahead: &mut Ahead<'_>, told: &mut Told) -> bool {
+fn report_one_ahead(ahead: &mut Ahead<'_>, report: &mut Report) -> bool {
     let Some(token) = ahead.next() else {
-        told.push(b"- ");
+        report.push(b"- ");
         return false;
     };
-    told.push(token);
-    told.push(b" ");
-    told.push_number(ahead.passed() as u64);
+    report.push(token);
+    report.push(b" ");
+    report.push_number(ahead.passed() as u64);
     true
 }
 
 // Records the tokens ahead, and continues with the feed after them.
-fn tell_ahead(feed: &mut Feed<'_, '_, '_, '_, Watch<Pieces<'_>>>, told: &mut Told)
+fn report_ahead(feed: &mut Feed<'_, '_, '_, '_, Watch<Pieces<'_>>>, report: &mut Report)
     ensures { source_of feed.new ≡ source_of feed.old }
 {
     let mut ahead = feed.ahead();
@@ -156,15 +156,15 @@ fn tell_ahead(feed: &mut Feed<'_, '_, '_, '_, Watch<Pieces<'_>>>, told: &mut Tol
         let Some(token) = ahead.next() else {
             break;
         };
-        told.push(token);
-        told.push(b" ");
+        report.push(token);
+        report.push(b" ");
     }
     let passed = ahead.passed();
     feed.pass(passed);
 }
 
 // Whether the tokens of a text, most of them taken ahead, give this record.
-fn is_told_ahead(bytes: &[u8], most: usize, chunk_len: usize, want: &[u8]) -> bool
+fn reports_ahead(bytes: &[u8], most: usize, chunk_len: usize, want: &[u8]) -> bool
     requires chunk_len { (0 < chunk_len) × (chunk_len ≤ 1300) }
 {
     let mut source = Watch::new(Pieces::new(bytes, most));
@@ -172,18 +172,18 @@ fn is_told_ahead(bytes: &[u8], most: usize, chunk_len: usize, want: &[u8]) -> bo
     let mut token = [0; 2];
     let mut value = [0; 2];
     let mut feed = Feed::new(&mut source, &mut chunk[..chunk_len], &mut token, &mut value);
-    let mut told = Told::new();
+    let mut report = Report::new();
     'answers: for _ in 0..u64::MAX {
-        tell_ahead(&mut feed, &mut told);
+        report_ahead(&mut feed, &mut report);
         let answer = feed.next();
         if answer != Ok(Next::Token) {
-            tell_end(answer, feed.line(), &mut told);
+            report_end(answer, feed.line(), &mut report);
             break;
         }
-        told.push(feed.token());
-        told.push(b" ");
+        report.push(feed.token());
+        report.push(b" ");
     }
-    told.text() == want
+    report.text() == want
 }
 
 // Reads of any length, and chunks that end at any offset of a token.
@@ -198,7 +198,7 @@ fn tokens_are_whole_over_any_reads(rt: HostRuntime) {
             for most in 1..8 {
                 let source = Watch::new(Pieces::new(bytes, most));
                 assert!(rt;
-                    is_told(source, chunk_len, 4, want),
+                    reports(source, chunk_len, 4, want),
                     "of {chunk_len} by {most}"
                 );
             }
@@ -214,7 +214,7 @@ fn tokens_end_at_any_place_of_a_block(rt: HostRuntime) {
         for white in 1..4 {
             let mut bytes = [b'x'; 300];
             bytes[end..end + white].fill(b'\n');
-            let mut want = Told::new();
+            let mut want = Report::new();
             want.push(&bytes[..end]);
             want.push_line(1);
             want.push(&bytes[end + white..]);
@@ -222,7 +222,7 @@ fn tokens_end_at_any_place_of_a_block(rt: HostRuntime) {
             want.push(b"end");
             want.push_line(white as u64 + 1);
             let source = Watch::new(Pieces::new(&bytes, 300));
-            assert!(rt; is_told(source, 300, 300, want.text()), "at {end}");
+            assert!(rt; reports(source, 300, 300, want.text()), "at {end}");
         }
     }
 }
@@ -231,13 +231,13 @@ fn tokens_end_at_any_place_of_a_block(rt: HostRuntime) {
 fn a_long_token_halts_on_its_line(rt: HostRuntime) {
     for chunk_len in 1..7 {
         let source = Watch::new(Pieces::new(b"ab\nabc\n", 2));
-        assert!(rt; is_told(source, chunk_len, 2, b"ab@1 halt 1@2 "));
+        assert!(rt; reports(source, chunk_len, 2, b"ab@1 halt 1@2 "));
     }
 }
 
 // Whether three answers over a text, where this many bytes count as looked at before it, give this
 // record.
-fn is_told_after(counted: u64, bytes: &[u8], limit: usize, want: &[u8]) -> bool
+fn reports_after(counted: u64, bytes: &[u8], limit: usize, want: &[u8]) -> bool
     requires counted { counted < 2 ^ 63 }
     requires limit { (0 < limit) × (limit ≤ 8) }
 {
@@ -252,11 +252,11 @@ fn is_told_after(counted: u64, bytes: &[u8], limit: usize, want: &[u8]) -> bool
         &mut value[..limit],
         parked_after(counted),
     );
-    let mut told = Told::new();
-    tell_next(&mut feed, &mut told);
-    tell_next(&mut feed, &mut told);
-    tell_next(&mut feed, &mut told);
-    told.text() == want
+    let mut report = Report::new();
+    report_next(&mut feed, &mut report);
+    report_next(&mut feed, &mut report);
+    report_next(&mut feed, &mut report);
+    report.text() == want
 }
 
 // Bytes that count as looked at, a text, the token limit, and the record of the answers. Where byte
@@ -278,7 +278,7 @@ fn no_byte_is_looked_at_past_the_last_one(rt: HostRuntime) {
     for (counted, bytes, limit, want) in &LAST_BYTES {
         assert!(rt; *counted < 1 << 63 && 0 < *limit && *limit <= 8);
         assert!(rt;
-            is_told_after(*counted, bytes, *limit, want),
+            reports_after(*counted, bytes, *limit, want),
             "after {counted}"
         );
     }
@@ -294,7 +294,7 @@ fn a_failed_read_halts_after_what_was_read(rt: HostRuntime) {
         (7, b"ab@1 cd@2 end@2 "),
     ] {
         assert!(rt;
-            is_told(failing(b"ab\ncd", 1, fails_at), 3, 2, want),
+            reports(failing(b"ab\ncd", 1, fails_at), 3, 2, want),
             "at {fails_at}"
         );
     }
@@ -307,13 +307,13 @@ fn a_halt_is_returned_again_without_a_read(rt: HostRuntime) {
     let mut token = [0; 1];
     let mut value = [0; 1];
     let mut feed = Feed::new(&mut source, &mut chunk, &mut token, &mut value);
-    let mut told = Told::new();
-    tell_next(&mut feed, &mut told);
-    tell_next(&mut feed, &mut told);
-    told.push(feed.token());
-    told.push_number(Source::failures(&source));
-    told.push_number(source.device.calls);
-    assert_eq!(rt; told.text(), b"halt 31@1 halt 31@1 1 2 ".as_slice());
+    let mut report = Report::new();
+    report_next(&mut feed, &mut report);
+    report_next(&mut feed, &mut report);
+    report.push(feed.token());
+    report.push_number(Source::failures(&source));
+    report.push_number(source.device.calls);
+    assert_eq!(rt; report.text(), b"halt 31@1 halt 31@1 1 2 ".as_slice());
 }
 
 #[test]
@@ -323,19 +323,19 @@ fn a_feed_begins_with_nothing_and_ends_for_good(rt: HostRuntime) {
     let mut token = [0; 4];
     let mut value = [0; 4];
     let mut feed = Feed::new(&mut source, &mut chunk, &mut token, &mut value);
-    let mut told = Told::new();
-    told.push(feed.token());
-    told.push(feed.value());
-    told.push_line(feed.line());
+    let mut report = Report::new();
+    report.push(feed.token());
+    report.push(feed.value());
+    report.push_line(feed.line());
     let parked = feed.parked();
     let mut feed = Feed::resume(&mut source, &mut chunk, &mut token, &mut value, parked);
-    tell_next(&mut feed, &mut told);
+    report_next(&mut feed, &mut report);
     feed.keep();
-    tell_next(&mut feed, &mut told);
-    told.push(feed.token());
-    tell_next(&mut feed, &mut told);
-    told.push(feed.value());
-    assert_eq!(rt; told.text(), b"@1 last@3 end@4 end@4 last".as_slice());
+    report_next(&mut feed, &mut report);
+    report.push(feed.token());
+    report_next(&mut feed, &mut report);
+    report.push(feed.value());
+    assert_eq!(rt; report.text(), b"@1 last@3 end@4 end@4 last".as_slice());
 }
 
 #[test]
@@ -344,17 +344,17 @@ fn a_feed_goes_on_where_it_was_parked(rt: HostRuntime) {
     let mut chunk = [0; 8];
     let mut token = [0; 4];
     let mut value = [0; 4];
-    let mut told = Told::new();
+    let mut report = Report::new();
     let mut feed = Feed::new(&mut source, &mut chunk, &mut token, &mut value);
-    tell_next(&mut feed, &mut told);
+    report_next(&mut feed, &mut report);
     feed.keep();
-    tell_next(&mut feed, &mut told);
+    report_next(&mut feed, &mut report);
     let parked = feed.parked();
     let mut feed = Feed::resume(&mut source, &mut chunk, &mut token, &mut value, parked);
-    told.push(feed.token());
-    told.push(feed.value());
-    tell_all(&mut feed, &mut told);
-    assert_eq!(rt; told.text(), b"ab@1 cd@2 cdabe@2 end@2 ".as_slice());
+    report.push(feed.token());
+    report.push(feed.value());
+    report_rest(&mut feed, &mut report);
+    assert_eq!(rt; report.text(), b"ab@1 cd@2 cdabe@2 end@2 ".as_slice());
 }
 
 #[test]
@@ -364,13 +364,13 @@ fn tokens_ahead_are_those_of_the_feed(rt: HostRuntime) {
         bytes[3 * at] = b'a';
         bytes[3 * at + 1] = b'b';
     }
-    let mut want = Told::new();
+    let mut want = Report::new();
     want.push(&bytes);
     want.push(b"end@1 ");
     for chunk_len in 60..140 {
         for most in [chunk_len, 97] {
             assert!(rt;
-                is_told_ahead(&bytes, most, chunk_len, want.text()),
+                reports_ahead(&bytes, most, chunk_len, want.text()),
                 "of {chunk_len}"
             );
         }
@@ -385,7 +385,7 @@ fn white_space_ahead_is_passed(rt: HostRuntime) {
         for at in 1..10 {
             bytes[at * (gap + 2) - 2..at * (gap + 2)].copy_from_slice(b"ab");
         }
-        let mut want = Told::new();
+        let mut want = Report::new();
         for _ in 0..9 {
             want.push(b"ab ");
         }
@@ -394,7 +394,7 @@ fn white_space_ahead_is_passed(rt: HostRuntime) {
         for chunk_len in [64, 97, 300, 1300] {
             let bytes = &bytes[..9 * (gap + 2)];
             assert!(rt;
-                is_told_ahead(bytes, chunk_len, chunk_len, want.text()),
+                reports_ahead(bytes, chunk_len, chunk_len, want.text()),
                 "at {gap}"
             );
         }
@@ -415,15 +415,15 @@ fn white_bytes_before_a_token_are_passed_with_it(rt: HostRuntime) {
     let mut token = [0; 4];
     let mut value = [0; 4];
     let mut feed = Feed::new(&mut source, &mut chunk, &mut token, &mut value);
-    let mut told = Told::new();
-    tell_next(&mut feed, &mut told);
+    let mut report = Report::new();
+    report_next(&mut feed, &mut report);
     let mut ahead = feed.ahead();
     for _ in 0..6 {
-        tell_one_ahead(&mut ahead, &mut told);
+        report_one_ahead(&mut ahead, &mut report);
     }
-    told.push_number(ahead.passed() as u64);
+    report.push_number(ahead.passed() as u64);
     assert_eq!(rt;
-        told.text(),
+        report.text(),
         b"q@1 ab 5 cd 9 ef 13 gh 23 ij 127 - 127 ".as_slice()
     );
 }
@@ -439,20 +439,20 @@ fn the_feed_goes_on_after_tokens_ahead(rt: HostRuntime) {
     let mut token = [0; 10];
     let mut value = [0; 10];
     let mut feed = Feed::new(&mut source, &mut chunk, &mut token, &mut value);
-    let mut told = Told::new();
-    tell_ahead(&mut feed, &mut told);
-    tell_next(&mut feed, &mut told);
+    let mut report = Report::new();
+    report_ahead(&mut feed, &mut report);
+    report_next(&mut feed, &mut report);
     feed.keep();
-    tell_ahead(&mut feed, &mut told);
-    told.push(feed.token());
-    told.push(feed.value());
-    told.push(b" ");
-    tell_ahead(&mut feed, &mut told);
-    tell_next(&mut feed, &mut told);
-    tell_ahead(&mut feed, &mut told);
-    tell_next(&mut feed, &mut told);
+    report_ahead(&mut feed, &mut report);
+    report.push(feed.token());
+    report.push(feed.value());
+    report.push(b" ");
+    report_ahead(&mut feed, &mut report);
+    report_next(&mut feed, &mut report);
+    report_ahead(&mut feed, &mut report);
+    report_next(&mut feed, &mut report);
     assert_eq!(rt;
-        told.text(),
+        report.text(),
         b"ab@1 cd ef g xxxxxxxx ab halt 1@54 halt 1@54 ".as_slice()
     );
 }
@@ -465,8 +465,8 @@ fn whole_tokens_are_found_slowly(rt: HostRuntime) {
     let mut token = [0; 4];
     let mut value = [0; 4];
     let mut feed = Feed::new(&mut source, &mut chunk, &mut token, &mut value);
-    let mut told = Told::new();
-    tell_next(&mut feed, &mut told);
+    let mut report = Report::new();
+    report_next(&mut feed, &mut report);
     let mut ahead = feed.ahead();
     assert_eq!(rt; ahead.next_slowly(), Some(b"bc".as_slice()));
     assert_eq!(rt; ahead.next_slowly(), None);
@@ -482,16 +482,16 @@ fn a_look_ahead_goes_back(rt: HostRuntime) {
     let mut token = [0; 4];
     let mut value = [0; 4];
     let mut feed = Feed::new(&mut source, &mut chunk, &mut token, &mut value);
-    let mut told = Told::new();
-    tell_next(&mut feed, &mut told);
+    let mut report = Report::new();
+    report_next(&mut feed, &mut report);
     let mut ahead = feed.ahead();
-    tell_one_ahead(&mut ahead, &mut told);
+    report_one_ahead(&mut ahead, &mut report);
     let mut before = ahead;
-    tell_one_ahead(&mut ahead, &mut told);
-    told.push_number(before.passed() as u64);
-    tell_one_ahead(&mut before, &mut told);
-    tell_one_ahead(&mut before, &mut told);
-    assert_eq!(rt; told.text(), b"a@1 bc 3 def 7 3 def 7 - ".as_slice());
+    report_one_ahead(&mut ahead, &mut report);
+    report.push_number(before.passed() as u64);
+    report_one_ahead(&mut before, &mut report);
+    report_one_ahead(&mut before, &mut report);
+    assert_eq!(rt; report.text(), b"a@1 bc 3 def 7 3 def 7 - ".as_slice());
 }
 
 // A device that works at every other call alone: a signal interrupts its reads, and its writes take
@@ -540,52 +540,55 @@ impl io::Write for Stutter {
 }
 
 // Tells what a read gives, and how many have failed.
-fn tell_read(source: &mut Watch<Stutter>, told: &mut Told)
+fn report_read(source: &mut Watch<Stutter>, report: &mut Report)
     requires { failed_calls source.old < 2 ^ 64 - 1 }
     ensures { failed_calls source.new ≤ failed_calls source.old + 1 }
 {
     let mut into = [b'-'; 3];
     let given = source.read(&mut into).unwrap_or(0);
-    told.push_number(given as u64);
-    told.push(&into);
-    told.push_line(Source::failures(source));
+    report.push_number(given as u64);
+    report.push(&into);
+    report.push_line(Source::failures(source));
 }
 
 #[test]
 fn a_watch_counts_each_failed_read(rt: HostRuntime) {
     let mut source = Watch::new(Stutter::new());
-    let mut told = Told::new();
-    tell_read(&mut source, &mut told);
-    tell_read(&mut source, &mut told);
-    tell_read(&mut source, &mut told);
-    tell_read(&mut source, &mut told);
-    assert_eq!(rt; told.text(), b"3 xxx@0 0 ---@1 3 xxx@1 0 ---@2 ".as_slice());
+    let mut report = Report::new();
+    report_read(&mut source, &mut report);
+    report_read(&mut source, &mut report);
+    report_read(&mut source, &mut report);
+    report_read(&mut source, &mut report);
+    assert_eq!(rt;
+        report.text(),
+        b"3 xxx@0 0 ---@1 3 xxx@1 0 ---@2 ".as_slice()
+    );
 }
 
 // Tells how many of these bytes a write takes, and how many have failed.
-fn tell_write(sink: &mut Watch<Stutter>, bytes: &[u8], told: &mut Told)
+fn report_write(sink: &mut Watch<Stutter>, bytes: &[u8], report: &mut Report)
     requires { failed_calls sink.old < 2 ^ 64 - 1 }
     ensures { failed_calls sink.new ≤ failed_calls sink.old + 1 }
 {
     match sink.write(bytes) {
-        Ok(taken) => told.push_number(taken as u64),
-        Err(WriteFailed) => told.push(b"failed "),
+        Ok(taken) => report.push_number(taken as u64),
+        Err(WriteFailed) => report.push(b"failed "),
     }
-    told.push_line(Sink::failures(sink));
+    report.push_line(Sink::failures(sink));
 }
 
 // Nothing of nothing is no failure.
 #[test]
 fn a_watch_counts_a_write_that_takes_nothing(rt: HostRuntime) {
     let mut sink = Watch::new(Stutter::new());
-    let mut told = Told::new();
-    tell_write(&mut sink, b"abc", &mut told);
-    tell_write(&mut sink, b"d", &mut told);
-    tell_write(&mut sink, b"ef", &mut told);
-    tell_write(&mut sink, b"", &mut told);
-    told.push(&sink.device.bytes);
+    let mut report = Report::new();
+    report_write(&mut sink, b"abc", &mut report);
+    report_write(&mut sink, b"d", &mut report);
+    report_write(&mut sink, b"ef", &mut report);
+    report_write(&mut sink, b"", &mut report);
+    report.push(&sink.device.bytes);
     assert_eq!(rt;
-        told.text(),
+        report.text(),
         b"3 @0 failed @1 2 @1 0 @1 efcxxxxx".as_slice()
     );
 }

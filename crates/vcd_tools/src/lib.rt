@@ -9,10 +9,10 @@
 //! over one dump in `vcd_engine`, the merge in `vcd_merge`, and how a run ends in `vcd_body`. Each
 //! function of `laws`, of `vcd_laws`, has a law over the definitions as its contract.
 //!
-//! In `specs/` callers read `TaskRun` (`Follows`), `Engine`, `Step` and `Room` of the commands over one
-//! dump; `MergeRun`, `MergeStart`, `MergeStep`, `MergeParts`, `MergeRoom`, `MergeOrder` and `Seat`
-//! of a merge; `Answer` of both; the definitions that these cite, as `Model`, and the laws, as
-//! `Laws`.
+//! In `specs/` callers read `TaskRun` (`Follows`), `Engine`, `Step` and `Room` of the commands over
+//! one dump; `MergeRun`, `MergeStart`, `MergeStep`, `MergeParts`, `MergeRoom`, `MergeOrder` and
+//! `Seat` of a merge; `Answer` of both; the definitions that these cite, as `Model`, and the laws,
+//! as `Laws`.
 #![tactic(auto)]
 
 pub use vcd_body::{Done, More, Stop};

@@ -11,7 +11,7 @@ use Rattle.vcd_view.specs.Finds.{Finds}
 use Rattle.vcd_view.specs.Keys.{AreBytes, key_in}
 use Rattle.vcd_model.specs.Declarations.{IdCode}
 use Rattle.vcd_view.specs.Views.{AreHeld, IsCode}
-use Rattle.vcd_view.specs.Entries.{HasEntry, IsAt, are_right, is_right, is_entry_of, most_of, place_told, text_in, told_by}
+use Rattle.vcd_view.specs.Entries.{HasEntry, IsAt, are_right, is_right, is_entry_of, most_of, index_in_entry, text_in, index_in_some}
 use Rattle.vcd_view.proofs.KeyLemmas.{bytes_at_place, key_below, same_key}
 use Rattle.vcd_view.proofs.LookUpLemmas.{first_with}
 use Rattle.vcd_view.proofs.RowLemmas.{text_within}
@@ -52,20 +52,20 @@ says text e o = unwrap_or (option_map (is_entry_of text e) o) false
 
 -- what an entry with the key of a short code says of the code at its index
 pub entry_tells : (text : List ℕ) (codes : List Code) (e : Entry) → is_right text codes e ≡ true → e.key ≢ 0 → e.key < 2 ^ 63
-    → (c : Code) × (slice_get codes e.place ≡ Some c) × (e.key ≡ key_in (text_in text c.start c.len)) × (e.most ≡ most_of c)
-entry_tells text codes e h n l = by_code (slice_get codes e.place) refl
+    → (c : Code) × (slice_get codes e.position ≡ Some c) × (e.key ≡ key_in (text_in text c.start c.len)) × (e.most ≡ most_of c)
+entry_tells text codes e h n l = by_code (slice_get codes e.position) refl
   where
-    right : says text e (slice_get codes e.place) ≡ true
-    right = sym (ap (λ b. b || (nat_le (2 ^ 63) e.key || says text e (slice_get codes e.place))) (ne_eqb e.key 0 n) ∙ ap (λ b. b || says text e (slice_get codes e.place)) (lt-leb (2 ^ 63) e.key l)) ∙ h
+    right : says text e (slice_get codes e.position) ≡ true
+    right = sym (ap (λ b. b || (nat_le (2 ^ 63) e.key || says text e (slice_get codes e.position))) (ne_eqb e.key 0 n) ∙ ap (λ b. b || says text e (slice_get codes e.position)) (lt-leb (2 ^ 63) e.key l)) ∙ h
 
-    by_code : (o : Option Code) → slice_get codes e.place ≡ o → (c : Code) × (slice_get codes e.place ≡ Some c) × (e.key ≡ key_in (text_in text c.start c.len)) × (e.most ≡ most_of c)
+    by_code : (o : Option Code) → slice_get codes e.position ≡ o → (c : Code) × (slice_get codes e.position ≡ Some c) × (e.key ≡ key_in (text_in text c.start c.len)) × (e.most ≡ most_of c)
     by_code None s = absurd (false≢true (sym (ap (says text e) s) ∙ right))
     by_code (Some c) s =
         let b = and_parts (e.key == key_in (text_in text c.start c.len)) (e.most == most_of c) (sym (ap (says text e) s) ∙ right) in
         (c, s, eqb-true _ _ b.0, eqb-true _ _ b.1)
 
 -- an entry with the key and the size of the code at its index
-pub entry_stands : (text : List ℕ) (codes : List Code) (e : Entry) (c : Code) → slice_get codes e.place ≡ Some c → e.key ≡ key_in (text_in text c.start c.len) → e.most ≡ most_of c → is_right text codes e ≡ true
+pub entry_stands : (text : List ℕ) (codes : List Code) (e : Entry) (c : Code) → slice_get codes e.position ≡ Some c → e.key ≡ key_in (text_in text c.start c.len) → e.most ≡ most_of c → is_right text codes e ≡ true
 entry_stands text codes e c s k m =
     ap (λ (o : Option Code). (e.key == 0) || (nat_le (2 ^ 63) e.key || unwrap_or (option_map (is_entry_of text e) o) false)) s
     ∙ ap (λ b. (e.key == 0) || (nat_le (2 ^ 63) e.key || b)) (both (e.key == key_in (text_in text c.start c.len)) (e.most == most_of c) (eq-eqb _ _ k) (eq-eqb _ _ m))
@@ -73,11 +73,11 @@ entry_stands text codes e c s k m =
 
 -- an entry with the key of a long code
 pub entry_of_long : (text : List ℕ) (codes : List Code) (e : Entry) → 2 ^ 63 ≤ e.key → is_right text codes e ≡ true
-entry_of_long text codes e l = ap (λ b. (e.key == 0) || (b || unwrap_or (option_map (is_entry_of text e) (slice_get codes e.place)) false)) (le-leb (2 ^ 63) e.key l) ∙ or_true (e.key == 0)
+entry_of_long text codes e l = ap (λ b. (e.key == 0) || (b || unwrap_or (option_map (is_entry_of text e) (slice_get codes e.position)) false)) (le-leb (2 ^ 63) e.key l) ∙ or_true (e.key == 0)
 
 -- what the entry with a key says, which is among those that are right
 pub entry_found : (text : List ℕ) (codes : List Code) (es : List Entry) (i : ℕ) (e : Entry) (key : ℕ) → are_right text codes es ≡ true → slice_get es i ≡ Some e → (key ≡ 0 → ⊥) → key < 2 ^ 63 → e.key ≡ key
-    → (c : Code) × (slice_get codes e.place ≡ Some c) × (key ≡ key_in (text_in text c.start c.len)) × (e.most ≡ most_of c)
+    → (c : Code) × (slice_get codes e.position ≡ Some c) × (key ≡ key_in (text_in text c.start c.len)) × (e.most ≡ most_of c)
 entry_found text codes es i e key h s n l k =
     let told = entry_tells text codes e (one_of_all (is_right text codes) es i e h s) (λ z. n (sym k ∙ z)) (omega (arith, k, l)) in
     (told.0, told.1, sym k ∙ told.2, told.3)
@@ -103,43 +103,43 @@ told_key t e h =
     never false h e = cc
 
 -- an entry that is right gives the index of its code
-gives : (text : List ℕ) (codes : List Code) (cs : List IdCode) (es : List Entry) (i : ℕ) (e : Entry) (t : List ℕ) → AreHeld text codes cs → are_right text codes es ≡ true → slice_get es i ≡ Some e → AreBytes t → e.key ≡ key_in t → e.key ≢ 0 → Finds cs t (Some e.place)
+gives : (text : List ℕ) (codes : List Code) (cs : List IdCode) (es : List Entry) (i : ℕ) (e : Entry) (t : List ℕ) → AreHeld text codes cs → are_right text codes es ≡ true → slice_get es i ≡ Some e → AreBytes t → e.key ≡ key_in t → e.key ≢ 0 → Finds cs t (Some e.position)
 gives text codes cs es i e t h right there a q n =
     let told = entry_tells text codes e (one_of_all (is_right text codes) es i e right there) n (omega (arith, q, key_below t a)) in
-    let k = code_found text codes cs e.place told.0 h.stand told.1 in
+    let k = code_found text codes cs e.position told.0 h.stand told.1 in
     let read = text_within text told.0.start told.0.len k.2.within ∙ k.2.text_is in
     let equal : key_in t ≡ key_in k.0.text = sym q ∙ told.2 ∙ ap key_in read in
-    let own : AreBytes k.0.text = bytes_at_place cs e.place k.0 h.texts k.1 in
+    let own : AreBytes k.0.text = bytes_at_place cs e.position k.0 h.texts k.1 in
     let some : 0 < key_in t = omega (arith, n, q) in
-    (k.0, k.1, first_with cs t e.place k.0 h.distinct k.1 (same_key t k.0.text a own equal some))
+    (k.0, k.1, first_with cs t e.position k.0 h.distinct k.1 (same_key t k.0.text a own equal some))
 
 -- and so do some of them
-pub told_finds : (text : List ℕ) (codes : List Code) (cs : List IdCode) (es : List Entry) (t : List ℕ) (p : ℕ) → AreHeld text codes cs → are_right text codes es ≡ true → AreBytes t → (is : List ℕ) → told_by es t is ≡ Some p → Finds cs t (Some p)
+pub told_finds : (text : List ℕ) (codes : List Code) (cs : List IdCode) (es : List Entry) (t : List ℕ) (p : ℕ) → AreHeld text codes cs → are_right text codes es ≡ true → AreBytes t → (is : List ℕ) → index_in_some es t is ≡ Some p → Finds cs t (Some p)
 told_finds text codes cs es t p h right a [] z = absurd (none-some p z)
 told_finds text codes cs es t p h right a (i ∷ is) z = by_entry (told_finds text codes cs es t p h right a is) (slice_get es i) refl
   where
-    by_entry : (told_by es t is ≡ Some p → Finds cs t (Some p)) → (o : Option Entry) → slice_get es i ≡ o → Finds cs t (Some p)
-    by_entry rest None s = rest (sym (ap (λ o. option_or (place_told t o) (told_by es t is)) s) ∙ z)
-    by_entry rest (Some e) s = by_test (not (key_in t == 0) && (e.key == key_in t)) refl (sym (ap (λ o. option_or (place_told t o) (told_by es t is)) s) ∙ z)
+    by_entry : (index_in_some es t is ≡ Some p → Finds cs t (Some p)) → (o : Option Entry) → slice_get es i ≡ o → Finds cs t (Some p)
+    by_entry rest None s = rest (sym (ap (λ o. option_or (index_in_entry t o) (index_in_some es t is)) s) ∙ z)
+    by_entry rest (Some e) s = by_test (not (key_in t == 0) && (e.key == key_in t)) refl (sym (ap (λ o. option_or (index_in_entry t o) (index_in_some es t is)) s) ∙ z)
       where
-        by_test : (b : Bool) → (not (key_in t == 0) && (e.key == key_in t)) ≡ b → option_or (cond b (Some e.place) None) (told_by es t is) ≡ Some p → Finds cs t (Some p)
-        by_test true q w = let k = told_key t e q in subst (λ x. Finds cs t (Some x)) (same_Some e.place p w) (gives text codes cs es i e t h right s a k.0 k.1)
+        by_test : (b : Bool) → (not (key_in t == 0) && (e.key == key_in t)) ≡ b → option_or (cond b (Some e.position) None) (index_in_some es t is) ≡ Some p → Finds cs t (Some p)
+        by_test true q w = let k = told_key t e q in subst (λ x. Finds cs t (Some x)) (same_Some e.position p w) (gives text codes cs es i e t h right s a k.0 k.1)
         by_test false q w = rest w
 
 -- what they give is the index of a code
-pub told_within : (text : List ℕ) (codes : List Code) (es : List Entry) (t : List ℕ) (p : ℕ) → are_right text codes es ≡ true → AreBytes t → (is : List ℕ) → told_by es t is ≡ Some p → p < length codes
+pub told_within : (text : List ℕ) (codes : List Code) (es : List Entry) (t : List ℕ) (p : ℕ) → are_right text codes es ≡ true → AreBytes t → (is : List ℕ) → index_in_some es t is ≡ Some p → p < length codes
 told_within text codes es t p right a [] z = absurd (none-some p z)
 told_within text codes es t p right a (i ∷ is) z = by_entry (told_within text codes es t p right a is) (slice_get es i) refl
   where
-    by_entry : (told_by es t is ≡ Some p → p < length codes) → (o : Option Entry) → slice_get es i ≡ o → p < length codes
-    by_entry rest None s = rest (sym (ap (λ o. option_or (place_told t o) (told_by es t is)) s) ∙ z)
-    by_entry rest (Some e) s = by_test (not (key_in t == 0) && (e.key == key_in t)) refl (sym (ap (λ o. option_or (place_told t o) (told_by es t is)) s) ∙ z)
+    by_entry : (index_in_some es t is ≡ Some p → p < length codes) → (o : Option Entry) → slice_get es i ≡ o → p < length codes
+    by_entry rest None s = rest (sym (ap (λ o. option_or (index_in_entry t o) (index_in_some es t is)) s) ∙ z)
+    by_entry rest (Some e) s = by_test (not (key_in t == 0) && (e.key == key_in t)) refl (sym (ap (λ o. option_or (index_in_entry t o) (index_in_some es t is)) s) ∙ z)
       where
-        by_test : (b : Bool) → (not (key_in t == 0) && (e.key == key_in t)) ≡ b → option_or (cond b (Some e.place) None) (told_by es t is) ≡ Some p → p < length codes
+        by_test : (b : Bool) → (not (key_in t == 0) && (e.key == key_in t)) ≡ b → option_or (cond b (Some e.position) None) (index_in_some es t is) ≡ Some p → p < length codes
         by_test true q w =
             let k = told_key t e q in
             let told = entry_tells text codes e (one_of_all (is_right text codes) es i e right s) k.1 (omega (arith, k.0, key_below t a)) in
-            subst (λ x. x < length codes) (same_Some e.place p w) (slice_get_within codes e.place told.0 told.1)
+            subst (λ x. x < length codes) (same_Some e.position p w) (slice_get_within codes e.position told.0 told.1)
         by_test false q w = rest w
 
 -- ---- what the hash of a code leads to
@@ -152,7 +152,7 @@ entry_finds text codes cs es t p h right a n has =
 pub entry_within : (text : List ℕ) (codes : List Code) (es : List Entry) (t : List ℕ) (p : ℕ) → are_right text codes es ≡ true → AreBytes t → key_in t ≢ 0 → HasEntry es (key_in t) p → p < length codes
 entry_within text codes es t p right a n has =
     let told = entry_found text codes es has.0 has.1 (key_in t) right has.2 n (key_below t a) has.3 in
-    subst (λ x. x < length codes) has.4 (slice_get_within codes has.1.place told.0 told.1)
+    subst (λ x. x < length codes) has.4 (slice_get_within codes has.1.position told.0 told.1)
 
 -- the index of a code with these bytes
 pub at_finds : (text : List ℕ) (codes : List Code) (cs : List IdCode) (t : List ℕ) (p : ℕ) → AreHeld text codes cs → IsAt text codes t p → Finds cs t (Some p)

@@ -64,7 +64,7 @@ texts_range front (k ∷ back) =
 pub distinct : (ks : List IdCode) (index : List ℕ) → IsIndex ks index → IsDistinct bytes_eq (map (λ (k : IdCode). k.text) ks)
 distinct ks index h =
     let texts = map (λ (k : IdCode). k.text) ks in
-    let moved : IsPermutation texts (map (code_text ks) index) = subst (λ l. IsPermutation l (map (code_text ks) index)) (texts_range [] ks) (IsPermutation-map (code_text ks) (range_with_len 0 (length ks)) index h.places) in
+    let moved : IsPermutation texts (map (code_text ks) index) = subst (λ l. IsPermutation l (map (code_text ks) index)) (texts_range [] ks) (IsPermutation-map (code_text ks) (range_with_len 0 (length ks)) index h.positions) in
     let apart : IsDistinct bytes_eq (map (code_text ks) index) = subst (λ e. IsDistinct e (map (code_text ks) index)) (λ j x y. is_eq-slice_cmp x y j) (IsDistinct-from_sorted (slice_cmp nat_cmp) (map (code_text ks) index) h.rising) in
     IsDistinct-IsPermutation bytes_eq bytes_flip (map (code_text ks) index) texts (IsPermutation-sym texts (map (code_text ks) index) moved) apart
 
@@ -114,10 +114,10 @@ pub record IsBetween (ks : List IdCode) (index : List ℕ) (t : List ℕ) (low h
   pub above : (i : ℕ) → high ≤ i → i < length index → order_at ks index t i ≡ Greater
 
 pub index_len : (ks : List IdCode) (index : List ℕ) → IsIndex ks index → length index ≡ length ks
-index_len ks index h = length_permutation (range_with_len 0 (length ks)) index h.places ∙ length-range_with_len 0 (length ks)
+index_len ks index h = length_permutation (range_with_len 0 (length ks)) index h.positions ∙ length-range_with_len 0 (length ks)
 
 pub place_below : (ks : List IdCode) (index : List ℕ) (i : ℕ) → IsIndex ks index → i < length index → get_or index i 0 < length ks
-place_below ks index i h l = All-permutation (λ p. p < length ks) (range_with_len 0 (length ks)) index h.places in_range i 0 l
+place_below ks index i h l = All-permutation (λ p. p < length ks) (range_with_len 0 (length ks)) index h.positions in_range i 0 l
   where
     in_range : All (λ p. p < length ks) (range_with_len 0 (length ks))
     in_range k d b = let n = length-range_with_len 0 (length ks) in let l : k < length ks = omega arith in omega (arith, get_or-range_with_len 0 (length ks) k d l)
@@ -160,7 +160,7 @@ apart_from x t o e d = bytes_flip t x ∙ sym (is_eq-slice_cmp x t) ∙ ap is_eq
 -- where nothing is left between, no code has the text
 pub none_between : (ks : List IdCode) (index t : List ℕ) (low : ℕ) → IsIndex ks index → IsBetween ks index t low low → Finds ks t None
 none_between ks index t low h b = none_with ks t (λ p l.
-    let has = Contains-permutation (range_with_len 0 (length ks)) index p h.places (p, rw length-range_with_len l, get_or-range_with_len 0 (length ks) p p l ∙ zero-add p) in
+    let has = Contains-permutation (range_with_len 0 (length ks)) index p h.positions (p, rw length-range_with_len l, get_or-range_with_len 0 (length ks) p p l ∙ zero-add p) in
     subst (λ x. bytes_eq t (code_text ks x) ≡ false) (sym (get_or_default_zero index has.0 p has.1) ∙ has.2) (differs has.0 (cases_lt has.0 low) has.1))
   where
     differs : (i : ℕ) → (i < low) ⊎ (low ≤ i) → i < length index → bytes_eq t (code_text ks (get_or index i 0)) ≡ false

@@ -22,7 +22,7 @@ is_entry_of text e c = (e.key == key_in (text_in text c.start c.len)) && (e.most
 -- the entry is empty, or one that says nothing of the code at its index, as those of long codes do,
 -- or that of the code at its index
 abbrev pub is_right : List ℕ → List Code → Entry → Bool
-is_right text codes e = (e.key == 0) || (nat_le (2 ^ 63) e.key || unwrap_or (option_map (is_entry_of text e) (slice_get codes e.place)) false)
+is_right text codes e = (e.key == 0) || (nat_le (2 ^ 63) e.key || unwrap_or (option_map (is_entry_of text e) (slice_get codes e.position)) false)
 
 -- each entry is
 abbrev pub are_right : List ℕ → List Code → List Entry → Bool
@@ -51,14 +51,14 @@ abbrev pub entry_after : ℕ → ℕ → ℕ → ℕ
 entry_after hash looks entries = bit_and ((hash + looks * bit_or (hash / 2 ^ 32) 1 % 2 ^ 64) % 2 ^ 64) ((entries + (2 ^ 64 - 1)) % 2 ^ 64)
 
 -- the index that an entry gives for these bytes: its own, if its key is theirs
-abbrev pub place_told : List ℕ → Option Entry → Option ℕ
-place_told t None = None
-place_told t (Some e) = cond (not (key_in t == 0) && (e.key == key_in t)) (Some e.place) None
+abbrev pub index_in_entry : List ℕ → Option Entry → Option ℕ
+index_in_entry t None = None
+index_in_entry t (Some e) = cond (not (key_in t == 0) && (e.key == key_in t)) (Some e.position) None
 
 -- the index that the first of these entries gives which is that of these bytes
-abbrev pub told_by : List Entry → List ℕ → List ℕ → Option ℕ
-told_by es t [] = None
-told_by es t (i ∷ is) = option_or (place_told t (slice_get es i)) (told_by es t is)
+abbrev pub index_in_some : List Entry → List ℕ → List ℕ → Option ℕ
+index_in_some es t [] = None
+index_in_some es t (i ∷ is) = option_or (index_in_entry t (slice_get es i)) (index_in_some es t is)
 
 -- the entries beside one
 abbrev pub beside : ℕ → List ℕ
@@ -66,8 +66,8 @@ beside at = bit_xor at 1 ∷ bit_xor at 2 ∷ bit_xor at 3 ∷ []
 
 -- one of the entries has this key and this index
 abbrev pub HasEntry : List Entry → ℕ → ℕ → Type 0
-HasEntry es key place = (i : ℕ) × (e : Entry) × (slice_get es i ≡ Some e) × (e.key ≡ key) × (e.place ≡ place)
+HasEntry es key position = (i : ℕ) × (e : Entry) × (slice_get es i ≡ Some e) × (e.key ≡ key) × (e.position ≡ position)
 
 -- the bytes of the code at an index are these
 abbrev pub IsAt : List ℕ → List Code → List ℕ → ℕ → Type 0
-IsAt text codes bytes place = (c : Code) × (slice_get codes place ≡ Some c) × (text_in text c.start c.len ≡ bytes)
+IsAt text codes bytes position = (c : Code) × (slice_get codes position ≡ Some c) × (text_in text c.start c.len ≡ bytes)

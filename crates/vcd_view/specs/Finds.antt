@@ -8,12 +8,12 @@ use Rattle.vcd_view.specs.Entries.{most_of}
 
 -- the index of the code with this text among these; there is none where none has it
 abbrev pub Finds : List IdCode → List ℕ → Option ℕ → Type 0
-Finds codes text (Some place) = (c : IdCode) × (slice_get codes place ≡ Some c) × (find (has_text text) codes ≡ Some c)
+Finds codes text (Some position) = (c : IdCode) × (slice_get codes position ≡ Some c) × (find (has_text text) codes ≡ Some c)
 Finds codes text None = find (has_text text) codes ≡ None
 
 -- the code that was found is one of these, and its size is given
 abbrev pub IsSized : List Code → Found → Type 0
-IsSized codes f = (c : Code) × (slice_get codes f.place ≡ Some c) × (f.most ≡ most_of c)
+IsSized codes f = (c : Code) × (slice_get codes f.position ≡ Some c) × (f.most ≡ most_of c)
 
 -- the binary digits of a number
 abbrev pub bits_of : ℕ → List ℕ

@@ -70,7 +70,7 @@ code_text codes p = unwrap_or (option_map (λ c. c.text) (slice_get codes p)) []
 -- the index of each code once, in rising order of their bytes: the first bytes that differ decide,
 -- and a code comes before those that it begins
 pub record IsIndex (codes : List IdCode) (index : List ℕ) : Type 0 where
-  pub places : IsPermutation (range_with_len 0 (length codes)) index
+  pub positions : IsPermutation (range_with_len 0 (length codes)) index
   pub rising : IsStrictlySortedBy (slice_cmp nat_cmp) (map (code_text codes) index)
 
 -- the type of a scope or a variable

@@ -2,7 +2,7 @@
 // may have any entry, and two codes may share one: where an entry is decides only how fast a
 // look-up is.
 ghost use Rattle.std.specs.Prelude.{◌≡◌, ◌+◌, ◌-◌, ◌%◌, ◌^◌, ◌<◌, ◌≤◌, ℕ, List, true, bit_and, length, slice_get, Some, IfSome};
-ghost use Rattle.vcd_view.specs.Names.{AnyHeld, Finds, HasEntry, IsAt, above, are_right, beside, entry_after, entry_in, key_in, most_of, number_in, place_told, told_by};
+ghost use Rattle.vcd_view.specs.Names.{AnyHeld, Finds, HasEntry, IsAt, above, are_right, beside, entry_after, entry_in, key_in, most_of, number_in, index_in_entry, index_in_some};
 
 use crate::code_hash::CodeSeed;
 use crate::key::key_of;
@@ -24,8 +24,9 @@ pub fn entry_of(code: &[u8], entries: usize) -> usize
     entry_for(code_number(code), entries)
 }
 
-/// Returns the index of the own entry of a code with this number in a table of `entries`, a power
-/// of two.
+/// Returns the low bits of a number, as an index in a table of `entries`, a power of two: that of
+/// the own entry of a code with this number (`code_number`), or of an entry to which a hash leads.
+/// Where `entries` is 0 it is the number itself.
 #[inline(always)]
 pub fn entry_for(number: usize, entries: usize) -> usize
     ensures { result ≡ bit_and number ((entries + (2 ^ 64 - 1)) % 2 ^ 64) }
@@ -65,10 +66,10 @@ fn number_of(code: &[u8]) -> usize
     ensures { result ≡ number_in code.now }
 {
     let mut number: usize = 0;
-    let mut place = code.len();
-    while place > 0 {
-        place -= 1;
-        number = above(number, code[place]);
+    let mut position = code.len();
+    while position > 0 {
+        position -= 1;
+        number = above(number, code[position]);
     }
     number
 }
@@ -76,12 +77,12 @@ fn number_of(code: &[u8]) -> usize
 /// Returns the index of the code with this key, if the entry at `at` is that of the code; else
 /// `None`.
 #[inline(always)]
-pub fn place_told(entries: &[Entry], at: usize, key: u64) -> Option<usize>
-    ensures { (code : List ℕ) → key ≡ key_in code → result ≡ place_told code (slice_get entries.now at) }
+pub fn index_in_entry(entries: &[Entry], at: usize, key: u64) -> Option<usize>
+    ensures { (code : List ℕ) → key ≡ key_in code → result ≡ index_in_entry code (slice_get entries.now at) }
 {
     let entry = entries.get(at)?;
     if key != 0 && entry.key == key {
-        Some(entry.place as usize)
+        Some(entry.position as usize)
     } else {
         None
     }
@@ -91,16 +92,16 @@ pub fn place_told(entries: &[Entry], at: usize, key: u64) -> Option<usize>
 /// of the code; else `None`. They are in the 64 bytes around that, so a look at them reads at most
 /// one cache line more.
 #[inline(always)]
-pub fn place_beside(entries: &[Entry], own: usize, key: u64) -> Option<usize>
-    ensures { (code : List ℕ) → key ≡ key_in code → result ≡ told_by entries.now code (beside own) }
+pub fn index_beside(entries: &[Entry], own: usize, key: u64) -> Option<usize>
+    ensures { (code : List ℕ) → key ≡ key_in code → result ≡ index_in_some entries.now code (beside own) }
 {
-    if let Some(place) = place_told(entries, own ^ 1, key) {
-        return Some(place);
+    if let Some(position) = index_in_entry(entries, own ^ 1, key) {
+        return Some(position);
     }
-    if let Some(place) = place_told(entries, own ^ 2, key) {
-        return Some(place);
+    if let Some(position) = index_in_entry(entries, own ^ 2, key) {
+        return Some(position);
     }
-    place_told(entries, own ^ 3, key)
+    index_in_entry(entries, own ^ 3, key)
 }
 
 // The least key of the entry of a code of 8 bytes or more.
@@ -139,7 +140,7 @@ pub fn long_key(hash: u64) -> u64
 /// is that of the code; else `None`, and the code may be there all the same.
 // For codes of 8 bytes or more, and codes crafted to share entries: `check` of 100,000 takes 1.5 to
 // 2.6 times as long as of ordinary codes, by the binary search alone 8 to 13 times.
-pub(crate) fn place_hashed(
+pub(crate) fn index_by_hash(
     text: &[u8],
     codes: &[Code],
     entries: &[Entry],
@@ -149,8 +150,8 @@ pub(crate) fn place_hashed(
 ) -> Option<usize>
     requires right { are_right text.now codes.now entries.now ≡ true }
     ensures found { AnyHeld text.now codes.now (λ cs.
-        IfSome result (λ place. Finds cs code.now (Some place))) }
-    ensures within { IfSome result (λ place. place < length codes.now) }
+        IfSome result (λ position. Finds cs code.now (Some position))) }
+    ensures within { IfSome result (λ position. position < length codes.now) }
     ensures never_falls { probes.old.count ≤ probes.new.count }
     ensures once { probes.new.count ≤ probes.old.count + 1 }
     ensures long { key_in code.now ≡ 0 → IfSome result (λ _. probes.old.count < probes.new.count) }
@@ -158,23 +159,23 @@ pub(crate) fn place_hashed(
     let key = key_of(code);
     if key == 0 {
         let hash = seed.hashed(0, code);
-        return place_of_long(text, codes, entries, hash, code, probes);
+        return index_of_long(text, codes, entries, hash, code, probes);
     }
     let own = entry_of(code, entries.len());
-    match place_beside(entries, own, key) {
-        Some(place) => Some(place),
-        None => place_of_key(entries, seed.mixed(0, key), key),
+    match index_beside(entries, own, key) {
+        Some(position) => Some(position),
+        None => index_of_key(entries, seed.mixed(0, key), key),
     }
 }
 
 // Returns the index that an entry with this key gives, if the hash leads to that; else `None`.
-fn place_of_key(entries: &[Entry], hash: u64, key: u64) -> Option<usize>
-    ensures { IfSome result (λ place. HasEntry entries.now key place) }
+fn index_of_key(entries: &[Entry], hash: u64, key: u64) -> Option<usize>
+    ensures { IfSome result (λ position. HasEntry entries.now key position) }
 {
     for looks in 0..MOST_LOOKS {
         let entry = entries.get(entry_after(hash, looks, entries.len()))?;
         if entry.key == key {
-            return Some(entry.place as usize);
+            return Some(entry.position as usize);
         }
         if entry.key == 0 {
             return None;
@@ -185,7 +186,7 @@ fn place_of_key(entries: &[Entry], hash: u64, key: u64) -> Option<usize>
 
 // Returns the index that an entry gives for this code of 8 bytes or more, if its hash leads to
 // that; else `None`. Another code may have the same key, so one comparison is made.
-fn place_of_long(
+fn index_of_long(
     text: &[u8],
     codes: &[Code],
     entries: &[Entry],
@@ -193,15 +194,15 @@ fn place_of_long(
     code: &[u8],
     probes: &mut Probes,
 ) -> Option<usize>
-    ensures found { IfSome result (λ place. IsAt text.now codes.now code.now place) }
+    ensures found { IfSome result (λ position. IsAt text.now codes.now code.now position) }
     ensures never_falls { probes.old.count ≤ probes.new.count }
     ensures once { probes.new.count ≤ probes.old.count + 1 }
     ensures counted { IfSome result (λ _. probes.old.count < probes.new.count) }
 {
-    let place = place_of_key(entries, hash, long_key(hash))?;
-    let other = code_in(codes, place)?;
+    let position = index_of_key(entries, hash, long_key(hash))?;
+    let other = code_in(codes, position)?;
     match probes.probe(text_in(text, other.start, other.len as usize), code) {
-        Ordering::Equal => Some(place),
+        Ordering::Equal => Some(position),
         _ => None,
     }
 }

@@ -44,10 +44,10 @@ fn packed_of(code: &[u8]) -> u64
     ensures { result ≡ packed code.now }
 {
     let mut key = BLANK;
-    let mut place = code.len();
-    while place > 0 {
-        place -= 1;
-        key = key * 256 + u64::from(code[place]);
+    let mut position = code.len();
+    while position > 0 {
+        position -= 1;
+        key = key * 256 + u64::from(code[position]);
     }
     key
 }

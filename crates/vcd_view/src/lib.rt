@@ -11,7 +11,7 @@
 //! takes any view, and its result is that of the definitions where this holds. What the entries of
 //! a view say of its codes is so in any view (`right`).
 //!
-//! `Finds codes text place` says of a look-up that the code with this text is at this index, or
+//! `Finds codes text position` says of a look-up that the code with this text is at this index, or
 //! that there is none; `IsSized codes found` that the size of what was found is given too.
 //!
 //! # The modules
@@ -44,12 +44,12 @@ mod view;
 
 pub use code_hash::{CodeHasher, CodeSeed};
 pub use entries::{
-    MOST_LOOKS, code_number, entry_after, entry_for, entry_of, long_key, most_of, place_beside,
-    place_told,
+    MOST_LOOKS, code_number, entry_after, entry_for, entry_of, index_beside, index_in_entry,
+    long_key, most_of,
 };
 pub use key::key_of;
 pub use keyword::{Keyword, is, keyword_of, pass_words};
-pub use look_up::{Found, find, find_at_once, find_counted, find_sized};
+pub use look_up::{Found, find, find_counted, find_in_own_entry, find_sized};
 pub use new_code::{NewCode, put_code};
 pub use probes::Probes;
 pub use room::need;

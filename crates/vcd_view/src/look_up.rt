@@ -3,7 +3,7 @@ ghost use Rattle.std.specs.Prelude.{List, true, ◌≡◌, ◌+◌, ◌≤◌, �
 ghost use Rattle.vcd_view.specs.Names.{AllByRecursion, AnyCodes, AnyHeader, AreBytes, AreFew, Finds, Header, IdCode, IsIndex, IsSized, IsViewOf, are_right, bits_of, code_text, key_in};
 
 use crate::code_hash::CodeSeed;
-use crate::entries::{entry_of, most_of, place_hashed};
+use crate::entries::{entry_of, index_by_hash, most_of};
 use crate::key::key_of;
 use crate::probes::Probes;
 use crate::view::{Code, Entry, HeadView, code_in, text_in};
@@ -13,7 +13,7 @@ use std::cmp::Ordering;
 #[derive(Clone, Copy, PartialEq, Eq, Debug)]
 pub struct Found {
     /// The index of the code among the distinct codes.
-    pub place: usize,
+    pub position: usize,
     /// The size of the code: the most digits that a change of it may have. It is 0 where its
     /// variables are events, and where 32 bits do not hold the size; then the view's code has it.
     pub most: usize,
@@ -26,7 +26,7 @@ pub struct Found {
 #[inline(always)]
 pub fn find(view: HeadView<'_>, code: &[u8]) -> Option<usize>
     ensures found { (h : Header) → IsViewOf view.entry h → Finds h.codes code.now result }
-    ensures within { IfSome result (λ place. place < length view.entry.codes.now) }
+    ensures within { IfSome result (λ position. position < length view.entry.codes.now) }
 {
     find_counted(view, code, &mut Probes::new())
 }
@@ -36,7 +36,7 @@ pub fn find(view: HeadView<'_>, code: &[u8]) -> Option<usize>
 #[inline(always)]
 pub fn find_sized(view: HeadView<'_>, code: &[u8]) -> Option<Found>
     ensures found { (h : Header) → IsViewOf view.entry h
-        → Finds h.codes code.now (option_map (λ found. found.place) result) }
+        → Finds h.codes code.now (option_map (λ found. found.position) result) }
     ensures sized { IfSome result (λ found. IsSized view.entry.codes.now found) }
 {
     find_sized_counted(view, code, &mut Probes::new())
@@ -51,7 +51,7 @@ pub fn find_sized(view: HeadView<'_>, code: &[u8]) -> Option<Found>
 #[inline(always)]
 pub fn find_counted(view: HeadView<'_>, code: &[u8], probes: &mut Probes) -> Option<usize>
     ensures found { (h : Header) → IsViewOf view.entry h → Finds h.codes code.now result }
-    ensures within { IfSome result (λ place. place < length view.entry.codes.now) }
+    ensures within { IfSome result (λ position. position < length view.entry.codes.now) }
     ensures never_falls { probes.old.count ≤ probes.new.count }
     ensures missed { IfNone result (0 < length view.entry.index.now
         → probes.old.count < probes.new.count) }
@@ -60,7 +60,7 @@ pub fn find_counted(view: HeadView<'_>, code: &[u8], probes: &mut Probes) -> Opt
     ensures few { AnyHeader view.entry (λ h. AreFew (length h.codes) probes.old.count probes.new.count) }
 {
     let found = find_sized_counted(view, code, probes)?;
-    Some(found.place)
+    Some(found.position)
 }
 
 // Returns the index of a code among the distinct codes, with its size, and counts the comparisons
@@ -68,7 +68,7 @@ pub fn find_counted(view: HeadView<'_>, code: &[u8], probes: &mut Probes) -> Opt
 #[inline(always)]
 fn find_sized_counted(view: HeadView<'_>, code: &[u8], probes: &mut Probes) -> Option<Found>
     ensures found { (h : Header) → IsViewOf view.entry h
-        → Finds h.codes code.now (option_map (λ found. found.place) result) }
+        → Finds h.codes code.now (option_map (λ found. found.position) result) }
     ensures sized { IfSome result (λ found. IsSized view.entry.codes.now found) }
     ensures never_falls { probes.old.count ≤ probes.new.count }
     ensures missed { IfNone result (0 < length view.entry.index.now
@@ -77,10 +77,10 @@ fn find_sized_counted(view: HeadView<'_>, code: &[u8], probes: &mut Probes) -> O
         → probes.old.count < probes.new.count }
     ensures few { AnyHeader view.entry (λ h. AreFew (length h.codes) probes.old.count probes.new.count) }
 {
-    match find_at_once(view, code) {
+    match find_in_own_entry(view, code) {
         Some(found) => Some(found),
         None => {
-            let place = find_slowly(
+            let position = find_slowly(
                 view.text,
                 view.codes,
                 view.index,
@@ -89,9 +89,9 @@ fn find_sized_counted(view: HeadView<'_>, code: &[u8], probes: &mut Probes) -> O
                 code,
                 probes,
             )?;
-            let code = code_in(view.codes, place)?;
+            let code = code_in(view.codes, position)?;
             Some(Found {
-                place,
+                position,
                 most: most_of(code) as usize,
             })
         }
@@ -101,9 +101,9 @@ fn find_sized_counted(view: HeadView<'_>, code: &[u8], probes: &mut Probes) -> O
 /// Returns the index and size of a code by a look at one entry. `None` if the entry is of another
 /// code or of none; then `find_sized` may find the code.
 #[inline(always)]
-pub fn find_at_once(view: HeadView<'_>, code: &[u8]) -> Option<Found>
+pub fn find_in_own_entry(view: HeadView<'_>, code: &[u8]) -> Option<Found>
     ensures found { (h : Header) → IsViewOf view.entry h
-        → IfSome result (λ found. Finds h.codes code.now (Some found.place)) }
+        → IfSome result (λ found. Finds h.codes code.now (Some found.position)) }
     ensures sized { IfSome result (λ found. IsSized view.entry.codes.now found) }
     ensures short { IfSome result (λ _. 0 < key_in code.now) }
 {
@@ -114,7 +114,7 @@ pub fn find_at_once(view: HeadView<'_>, code: &[u8]) -> Option<Found>
     let entry = view.entries.get(entry_of(code, view.entries.len()))?;
     if entry.key == key {
         Some(Found {
-            place: entry.place as usize,
+            position: entry.position as usize,
             most: entry.most as usize,
         })
     } else {
@@ -122,9 +122,9 @@ pub fn find_at_once(view: HeadView<'_>, code: &[u8]) -> Option<Found>
     }
 }
 
-// Returns the index of a code of which its own entry is not: by its hash, or else by a binary
-// search. It takes no view, so that a look-up by one entry need not make one ready, and returns a
-// number alone, which needs no memory.
+// Returns the index of a code that its own entry does not hold: by its hash, or else by a binary
+// search; `None` where it is not among the distinct codes. It takes no view, so that a look-up by
+// one entry need not make one ready, and returns a number alone, which needs no memory.
 #[inline(never)]
 fn find_slowly(
     text: &[u8],
@@ -138,21 +138,21 @@ fn find_slowly(
     requires right { are_right text.now codes.now entries.now ≡ true }
     ensures found { AnyCodes text.now codes.now (λ ks. AllByRecursion (λ (k : IdCode). AreBytes k.text) ks
         → IsIndex ks index.now → Finds ks code.now result) }
-    ensures within { IfSome result (λ place. place < length codes.now) }
+    ensures within { IfSome result (λ position. position < length codes.now) }
     ensures never_falls { probes.old.count ≤ probes.new.count }
     ensures missed { IfNone result (0 < length index.now → probes.old.count < probes.new.count) }
     ensures long { key_in code.now ≡ 0 → 0 < length index.now → probes.old.count < probes.new.count }
     ensures few { (ks : List IdCode) → IsIndex ks index.now
         → AreFew (length ks) probes.old.count probes.new.count }
 {
-    match place_hashed(text, codes, entries, seed, code, probes) {
-        Some(place) => Some(place),
+    match index_by_hash(text, codes, entries, seed, code, probes) {
+        Some(position) => Some(position),
         None => search(text, codes, index, code, probes),
     }
 }
 
 // Returns the index of a code by a binary search in the order of the codes; `None` where it is not
-// among them. It takes no view, so that a look-up that was guessed need not make one ready.
+// among them. Like `find_slowly`, which calls it, it takes no view.
 #[inline(never)]
 fn search(
     text: &[u8],
@@ -162,7 +162,7 @@ fn search(
     probes: &mut Probes,
 ) -> Option<usize>
     ensures found { AnyCodes text.now codes.now (λ ks. IsIndex ks index.now → Finds ks code.now result) }
-    ensures within { IfSome result (λ place. place < length codes.now) }
+    ensures within { IfSome result (λ position. position < length codes.now) }
     ensures never_falls { probes.old.count ≤ probes.new.count }
     ensures counted { 0 < length index.now → probes.old.count < probes.new.count }
     ensures few { (ks : List IdCode) → IsIndex ks index.now
@@ -172,21 +172,21 @@ fn search(
     let mut high = index.len();
     while low < high {
         let middle = low + (high - low) / 2;
-        let place = index[middle];
-        match probes.probe(text_of(text, codes, place), code) {
+        let position = index[middle];
+        match probes.probe(text_of(text, codes, position), code) {
             Ordering::Less => low = middle + 1,
             Ordering::Greater => high = middle,
-            Ordering::Equal => return (place < codes.len()).then_some(place),
+            Ordering::Equal => return (position < codes.len()).then_some(position),
         }
     }
     None
 }
 
 // Returns the bytes of the code at an index; empty after the last.
-fn text_of<'a>(text: &'a [u8], codes: &[Code], place: usize) -> &'a [u8]
-    ensures { AnyCodes text.now codes.now (λ ks. place < length ks → result.now ≡ code_text ks place) }
+fn text_of<'a>(text: &'a [u8], codes: &[Code], position: usize) -> &'a [u8]
+    ensures { AnyCodes text.now codes.now (λ ks. position < length ks → result.now ≡ code_text ks position) }
 {
-    match code_in(codes, place) {
+    match code_in(codes, position) {
         Some(code) => text_in(text, code.start, code.len as usize),
         None => &[],
     }

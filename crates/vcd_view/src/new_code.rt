@@ -12,7 +12,8 @@ pub struct NewCode {
 }
 
 impl NewCode {
-    /// Returns the code of this number.
+    /// Returns the identifier code with this number, as a written header numbers its codes: in base
+    /// 94 from `!` on, the lowest digit first.
     pub fn of(number: u64) -> NewCode
         ensures { digits_of result ≡ new_code number }
     {

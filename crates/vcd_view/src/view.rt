@@ -55,7 +55,7 @@ pub struct Entry {
     /// The code as a number; of a code that has none, its hash with the highest bit set.
     pub key: u64,
     /// The index of the code in `codes`.
-    pub place: u32,
+    pub position: u32,
     /// The size of the code; 0 where its variables are events, or where 32 bits do not hold it.
     pub most: u32,
 }
@@ -105,10 +105,10 @@ impl<'a> HeadView<'a> {
 
     /// Returns the code at an index; `None` after the last.
     #[inline(always)]
-    pub fn code_at(self, place: usize) -> Option<Code>
-        ensures { result ≡ slice_get self.entry.codes.now place }
+    pub fn code_at(self, position: usize) -> Option<Code>
+        ensures { result ≡ slice_get self.entry.codes.now position }
     {
-        code_in(self.codes, place)
+        code_in(self.codes, position)
     }
 
     /// Returns `len` bytes of the text from an offset on; empty where it has fewer.
@@ -206,10 +206,10 @@ impl<'a> HeadView<'a> {
 
 /// Returns the code at an index among these; `None` after the last.
 #[inline(always)]
-pub fn code_in(codes: &[Code], place: usize) -> Option<Code>
-    ensures { result ≡ slice_get codes.now place }
+pub fn code_in(codes: &[Code], position: usize) -> Option<Code>
+    ensures { result ≡ slice_get codes.now position }
 {
-    codes.get(place).copied()
+    codes.get(position).copied()
 }
 
 /// Returns `len` bytes of a text from an offset on; empty where it has fewer.

@@ -53,7 +53,7 @@ pub const PICK: Help<'static> = Help {
   vcdkit pick -i sim.vcd top.clk top.cpu > some.vcd
   vcdkit pick -i sim.vcd 'top.mem[0]' | vcdkit check
 
-Names are those of vcdkit list. The file stands after -i: a word without it is a name.
+Names are those of vcdkit list. A file comes after -i: a word without it is a name.
 
 Exit status:
   0  all was written
@@ -89,7 +89,7 @@ pub const SAMPLE: Help<'static> = Help {
   vcdkit sample -i sim.vcd --at 5000
 
 With no name all variables are sampled.
-Names are those of vcdkit list. The file stands after -i: a word without it is a name.
+Names are those of vcdkit list. A file comes after -i: a word without it is a name.
 At a time after the end of the dump the values are the last ones, with status 0.
 
 Exit status:
@@ -108,7 +108,7 @@ pub const EDGES: Help<'static> = Help {
   vcdkit edges -i sim.vcd | sort -k 2,2nr | head
 
 With no name all variables are counted.
-Names are those of vcdkit list. The file stands after -i: a word without it is a name.
+Names are those of vcdkit list. A file comes after -i: a word without it is a name.
 Rises and falls are those of the least significant bit, for a vector too.
 
 Exit status:

@@ -74,8 +74,8 @@ fn name_of(names: &[String], place: usize) -> &str
     }
 }
 
-/// Says why a run stops over the inputs of these names, which was asked for those, and returns the
-/// exit status.
+/// Writes the line that says why a run stopped, and returns the exit status. `names` are those of
+/// the inputs, `asked` those of variables.
 fn report_stop<E: Sink>(stop: Stop, names: &[String], asked: &[String], err: &mut E) -> u8
     requires { (E.device err.old).failures < 2 ^ 64 - 1 }
     ensures { Reports E.device err.old err.new (stop_message (map string_bytes names.now)
@@ -92,8 +92,8 @@ fn report_stop<E: Sink>(stop: Stop, names: &[String], asked: &[String], err: &mu
     }
 }
 
-/// Says why times are refused, once the header of the first input of these names is read, and
-/// returns the exit status.
+/// Writes the line that says why times are refused, once a header is read, and returns the exit
+/// status. `names` are those of the inputs.
 fn report_refusal<E: Sink>(refusal: Refusal, names: &[String], err: &mut E) -> u8
     requires { (E.device err.old).failures < 2 ^ 64 - 1 }
     ensures { Reports E.device err.old err.new
@@ -107,8 +107,8 @@ fn report_refusal<E: Sink>(refusal: Refusal, names: &[String], err: &mut E) -> u
     }
 }
 
-/// Says why a run fails over the inputs of these names, which was asked for those, and returns the
-/// exit status. A fault of the stream is passed over.
+/// Writes the line that says why a run failed, and returns the exit status. `names` are those of
+/// the inputs, `asked` those of variables. A fault of the stream is passed over.
 pub(crate) fn report<E: Sink>(
     failure: Failure,
     names: &[String],
@@ -135,7 +135,8 @@ pub fn write_fault<E: Sink>(err: &mut E) -> u8
     report_stop(Stop::Write, &[], &[], err)
 }
 
-/// Says why there is no job, and returns the exit status. A fault of the stream is passed over.
+/// Writes the line that says why the words ask for no job, and returns the exit status. A fault of
+/// the stream is passed over.
 pub fn use_fault<E: Sink>(fault: UseFault<'_>, err: &mut E) -> u8
     requires { (E.device err.old).failures < 2 ^ 64 - 1 }
     ensures { Reports E.device err.old err.new

@@ -27,7 +27,8 @@ fn cut_of<'w>(from: Moment, to: Moment, view: HeadView<'_>) -> Result<Task<'w>, 
 
 /// Returns the task that is wanted, a cut's times turned into ticks of the header that is shown;
 /// `None` for a list, which reads no body, and for a merge, which reads several. Fails where a
-/// cut's time has no ticks, or they are out of order. `write_ticks` has done a sample's before.
+/// cut's time has no ticks, or they are out of order. The want is one that words may ask for
+/// (`is_asked`), and `write_ticks` has turned a sample's times into ticks before.
 pub(crate) fn task_of<'w>(want: &'w Want, view: HeadView<'_>) -> Result<Option<Task<'w>>, Refusal>
     requires asked { is_asked want.now ≡ true }
     requires ticks { HasTicks want.now }

@@ -1,12 +1,12 @@
 //! Bytes that are copied to bytes that were lent.
 ghost use Rattle.vcdkit_c.specs.Names.{Fills};
 
-/// Copies as many of all these bytes as there is room for to the front, and returns how many bytes
-/// there are in all.
-pub(crate) fn fill(bytes: &mut [u8], all: &[u8]) -> u64
-    ensures { Fills bytes.new result all.now }
+/// Copies `from` to the first bytes of `to`, as much as there is room for, and returns how long
+/// `from` is, which may be more than was copied.
+pub(crate) fn fill(to: &mut [u8], from: &[u8]) -> u64
+    ensures { Fills to.new result from.now }
 {
-    let n = all.len().min(bytes.len());
-    bytes[..n].copy_from_slice(&all[..n]);
-    all.len() as u64
+    let n = from.len().min(to.len());
+    to[..n].copy_from_slice(&from[..n]);
+    from.len() as u64
 }

@@ -1,6 +1,6 @@
 //! `vcdkit`: tools over four-state value change dumps (IEEE Std 1364-2005, clause 18).
 //!
-//! All that it does is that of `vcd_program`, on the machine.
+//! It is the program of `vcd_program`, over the words, the files and the streams of the process.
 #![tactic(auto)]
 
 use std::process::ExitCode;

@@ -5,7 +5,7 @@ ghost use Rattle.vcd_engine.specs.Names.{AreCounted, BodyItem, check_close, Coun
 use crate::pieces::{Pieces, SpannedItem};
 use crate::report::{declared_in, put_report};
 use crate::task_state::last_of;
-use crate::task_state::walk::{AheadTask, Keeping};
+use crate::task_state::walk::{AheadTask, NoLine};
 use vcd_body::{Item, Regs};
 use vcd_text::{Sink, WriteFailed};
 use vcd_view::HeadView;
@@ -57,7 +57,7 @@ impl Check {
 }
 
 // An input is shorter than 2^63 bytes, so no count wraps.
-impl AheadTask<Keeping> for Check {
+impl AheadTask<NoLine> for Check {
     ghost use Rattle.vcd_engine.specs.declared.task_state.TaskState.TheVariants as task_state;
 
     ghost task_state = { λ command. task_state.Check command };
@@ -82,11 +82,11 @@ impl AheadTask<Keeping> for Check {
         _view: HeadView<'_>,
         _regs: Regs,
         item: SpannedItem<'_>,
-        _line: &Keeping,
+        _line: &NoLine,
         _pieces: &mut Pieces,
         _out: &mut W,
     ) -> Result<(), WriteFailed> {
-        match item.plain.item {
+        match item.scanned.item {
             Item::Begin(_) => self.sections = self.sections.wrapping_add(1),
             Item::Change { .. } => self.changes = self.changes.wrapping_add(1),
             Item::Time(_) => {}

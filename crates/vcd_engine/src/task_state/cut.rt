@@ -7,7 +7,7 @@ use crate::item_text::ItemText;
 use crate::pieces::{Pieces, SpannedItem};
 use crate::task::Room;
 use crate::task_state::last_of;
-use crate::task_state::walk::{AheadTask, Copying, Keeping, take_given};
+use crate::task_state::walk::{AheadTask, KnownLine, NoLine, take_given};
 use crate::values::set_item;
 use vcd_body::{Item, Regs, Stop, Table, put_short, put_time};
 use vcd_head::{put_head, select};
@@ -150,9 +150,9 @@ impl<'r> Cut<'r> {
         Ok(true)
     }
 
-    /// Takes an item that the feed gave, and returns whether it ended the run. Before the start
-    /// section it sets the value that the item gives, then it writes the item where it is kept.
-    /// `regs` are the registers after the item.
+    /// Takes an item that the feed gave, and returns whether it ended the run. Until the start
+    /// section is written it sets the value that the item gives; from then on it writes the item
+    /// where it is kept. `regs` are the registers after the item.
     #[inline(never)]
     pub(crate) fn take<W: Sink>(
         &mut self,
@@ -173,9 +173,9 @@ impl<'r> Cut<'r> {
             return self.take_time(view, time, out);
         }
         if self.started {
-            return take_given::<Copying, _, _>(self, view, regs, item, text, out);
+            return take_given::<KnownLine, _, _>(self, view, regs, item, text, out);
         }
-        take_given::<Keeping, _, _>(self, view, regs, item, text, out)
+        take_given::<NoLine, _, _>(self, view, regs, item, text, out)
     }
 
     /// Writes the start section if it is not written yet, else the line of the last timestamp.
@@ -199,7 +199,7 @@ impl<'r> Cut<'r> {
 }
 
 // Before the start section is written.
-impl<'r> AheadTask<Keeping> for Cut<'r> {
+impl<'r> AheadTask<NoLine> for Cut<'r> {
     ghost use Rattle.vcd_engine.specs.declared.task_state.TaskState.TheVariants as task_state;
 
     ghost task_state = { λ command. task_state.Cut command };
@@ -222,18 +222,18 @@ impl<'r> AheadTask<Keeping> for Cut<'r> {
         _view: HeadView<'_>,
         _regs: Regs,
         item: SpannedItem<'_>,
-        _line: &Keeping,
+        _line: &NoLine,
         _pieces: &mut Pieces,
         _out: &mut W,
     ) -> Result<(), WriteFailed> {
-        let plain = item.plain;
-        set_item(&mut self.table, plain.item, plain.text, plain.bits);
+        let scanned = item.scanned;
+        set_item(&mut self.table, scanned.item, scanned.text, scanned.bits);
         Ok(())
     }
 }
 
 // Once the start section is written.
-impl<'r> AheadTask<Copying> for Cut<'r> {
+impl<'r> AheadTask<KnownLine> for Cut<'r> {
     ghost use Rattle.vcd_engine.specs.declared.task_state.TaskState.TheVariants as task_state;
 
     ghost task_state = { λ command. task_state.Cut command };
@@ -256,11 +256,11 @@ impl<'r> AheadTask<Copying> for Cut<'r> {
         view: HeadView<'_>,
         regs: Regs,
         item: SpannedItem<'_>,
-        line: &Copying,
+        line: &KnownLine,
         pieces: &mut Pieces,
         out: &mut W,
     ) -> Result<(), WriteFailed> {
-        if !may_keep(view, regs, item.plain.item) {
+        if !may_keep(view, regs, item.scanned.item) {
             return Ok(());
         }
         self.text

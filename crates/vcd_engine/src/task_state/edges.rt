@@ -6,7 +6,7 @@ ghost use Rattle.vcd_engine.specs.declared.task.Task.TheVariants as task;
 use crate::pieces::{Pieces, SpannedItem};
 use crate::tally::{count_trigger, put_rows, take_value};
 use crate::task::Room;
-use crate::task_state::walk::{AheadTask, Keeping};
+use crate::task_state::walk::{AheadTask, NoLine};
 use vcd_body::{Form, Item, Regs, Stop, Table};
 use vcd_head::select;
 use vcd_text::{Sink, WriteFailed};
@@ -85,7 +85,7 @@ impl<'n, 'r> Edges<'n, 'r> {
     }
 }
 
-impl<'n, 'r> AheadTask<Keeping> for Edges<'n, 'r> {
+impl<'n, 'r> AheadTask<NoLine> for Edges<'n, 'r> {
     ghost use Rattle.vcd_engine.specs.declared.task_state.TaskState.TheVariants as task_state;
 
     ghost task_state = { λ command. task_state.Edges command };
@@ -108,25 +108,25 @@ impl<'n, 'r> AheadTask<Keeping> for Edges<'n, 'r> {
         view: HeadView<'_>,
         regs: Regs,
         item: SpannedItem<'_>,
-        _line: &Keeping,
+        _line: &NoLine,
         _pieces: &mut Pieces,
         _out: &mut W,
     ) -> Result<(), WriteFailed> {
-        let plain = item.plain;
-        let Item::Change { code, form } = plain.item else {
+        let scanned = item.scanned;
+        let Item::Change { code, form } = scanned.item else {
             return Ok(());
         };
-        if plain.most == 0 {
-            self.take_at(view.codes, regs.section.is_some(), code, form, plain.text);
+        if scanned.most == 0 {
+            self.take_at(view.codes, regs.section.is_some(), code, form, scanned.text);
             return Ok(());
         }
         take_value(
             &mut self.table,
             code,
-            plain.most,
+            scanned.most,
             form,
-            plain.text,
-            plain.bits,
+            scanned.text,
+            scanned.bits,
         );
         Ok(())
     }

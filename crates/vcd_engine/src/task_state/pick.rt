@@ -9,7 +9,7 @@ use crate::pieces::{Pieces, SpannedItem};
 use crate::selection::select_codes;
 use crate::task::Room;
 use crate::task_state::last_of;
-use crate::task_state::walk::{AheadTask, Copying};
+use crate::task_state::walk::{AheadTask, KnownLine};
 use vcd_body::{Item, Regs, Stop};
 use vcd_head::put_head;
 use vcd_text::{Sink, WriteFailed};
@@ -84,7 +84,7 @@ impl<'n, 'r> Pick<'n, 'r> {
     }
 }
 
-impl<'n, 'r> AheadTask<Copying> for Pick<'n, 'r> {
+impl<'n, 'r> AheadTask<KnownLine> for Pick<'n, 'r> {
     ghost use Rattle.vcd_engine.specs.declared.task_state.TaskState.TheVariants as task_state;
 
     ghost task_state = { λ command. task_state.Pick command };
@@ -107,11 +107,11 @@ impl<'n, 'r> AheadTask<Copying> for Pick<'n, 'r> {
         view: HeadView<'_>,
         regs: Regs,
         item: SpannedItem<'_>,
-        line: &Copying,
+        line: &KnownLine,
         pieces: &mut Pieces,
         out: &mut W,
     ) -> Result<(), WriteFailed> {
-        if !self.keeps(view, regs, item.plain.item) {
+        if !self.keeps(view, regs, item.scanned.item) {
             return Ok(());
         }
         self.text

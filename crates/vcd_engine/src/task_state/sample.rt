@@ -7,7 +7,7 @@ use crate::leads::lead_on;
 use crate::pieces::{Pieces, SpannedItem};
 use crate::sample_lines::put_samples;
 use crate::task::Room;
-use crate::task_state::walk::{AheadTask, Keeping, take_given};
+use crate::task_state::walk::{AheadTask, NoLine, take_given};
 use crate::values::set_item;
 use vcd_body::{Item, Regs, Stop, Table};
 use vcd_head::select;
@@ -113,7 +113,7 @@ impl<'n, 'r> Sample<'n, 'r> {
         if let Item::Time(time) = item {
             return self.take_time(view, time, out);
         }
-        take_given::<Keeping, _, _>(self, view, regs, item, text, out)
+        take_given::<NoLine, _, _>(self, view, regs, item, text, out)
     }
 
     /// Writes the lines of the times that are not written yet.
@@ -127,7 +127,7 @@ impl<'n, 'r> Sample<'n, 'r> {
     }
 }
 
-impl<'n, 'r> AheadTask<Keeping> for Sample<'n, 'r> {
+impl<'n, 'r> AheadTask<NoLine> for Sample<'n, 'r> {
     ghost use Rattle.vcd_engine.specs.declared.task_state.TaskState.TheVariants as task_state;
 
     ghost task_state = { λ command. task_state.Sample command };
@@ -153,12 +153,12 @@ impl<'n, 'r> AheadTask<Keeping> for Sample<'n, 'r> {
         _view: HeadView<'_>,
         _regs: Regs,
         item: SpannedItem<'_>,
-        _line: &Keeping,
+        _line: &NoLine,
         _pieces: &mut Pieces,
         _out: &mut W,
     ) -> Result<(), WriteFailed> {
-        let plain = item.plain;
-        set_item(&mut self.table, plain.item, plain.text, plain.bits);
+        let scanned = item.scanned;
+        set_item(&mut self.table, scanned.item, scanned.text, scanned.bits);
         Ok(())
     }
 }

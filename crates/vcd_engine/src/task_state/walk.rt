@@ -2,19 +2,19 @@
 ghost use Rattle.std.specs.Prelude.{◌≡◌, ℕ, ◌-◌, ◌^◌, ◌<◌, ◌≤◌, Bool, List, length, false, true, IfOk};
 ghost use Rattle.vcd_text.specs.Ahead.{bytes_of, passed_of};
 ghost use Rattle.vcd_text.specs.Device.{Counts};
-ghost use Rattle.vcd_body.specs.Spelled.{HasMark};
+ghost use Rattle.vcd_body.specs.Spelled.{HasTimestamp};
 ghost use Rattle.vcd_body.specs.Given.{HasGoodText};
 ghost use Rattle.vcd_body.specs.declared.item.Regs.{Regs};
 ghost use Rattle.vcd_engine.specs.Ahead.{RunsOver};
 ghost use Rattle.vcd_engine.specs.Engine.{Keeps, TakesEach, request_in};
-ghost use Rattle.vcd_engine.specs.Next.{PutsItem, TakesMark};
+ghost use Rattle.vcd_engine.specs.Next.{PutsItem, TakesTimestamp};
 ghost use Rattle.vcd_engine.specs.Pieces.{IsSpanned, IsLine, IsPart};
 ghost use Rattle.vcd_engine.specs.Room.{SameTask};
 ghost use Rattle.vcd_engine.specs.declared.task_state.TaskState.{TaskState};
 ghost use Rattle.vcd_engine.specs.declared.pieces.Pieces.{Pieces};
 
 use crate::pieces::{Pieces, SpannedItem};
-use vcd_body::{Extent, Item, Plain, Regs, Visit, is_mark_line, walk_ahead};
+use vcd_body::{Extent, Item, Regs, ScannedItem, Visit, is_timestamp_line, walk_ahead};
 use vcd_text::{Ahead, Sink, WriteFailed};
 use vcd_view::HeadView;
 
@@ -46,7 +46,7 @@ impl WalkEnd {
 }
 
 /// What a loop remembers of the last timestamp's line in the chunk.
-pub(crate) trait LoopKind: Copy {
+pub(crate) trait LineMemory: Copy {
     // The offsets in the chunk where that line begins and ends. An empty part says nothing.
     ghost line: { Self → ℕ × ℕ };
 
@@ -56,60 +56,62 @@ pub(crate) trait LoopKind: Copy {
 
     /// Returns the state after a timestamp that has the bytes from `from` up to `to`, with its
     /// digits from `at` on.
-    fn after_mark(bytes: &[u8], from: usize, to: usize, at: usize) -> Self
-        requires { (time : ℕ) × HasMark bytes.now from to at time }
-        ensures { (time : ℕ) → HasMark bytes.now from to at time
+    fn after_timestamp(bytes: &[u8], from: usize, to: usize, at: usize) -> Self
+        requires { (time : ℕ) × HasTimestamp bytes.now from to at time }
+        ensures { (time : ℕ) → HasTimestamp bytes.now from to at time
             → IsLine bytes.now (line result) time };
 }
 
-/// The loop of a task that counts changes or sets values, and writes nothing: it remembers nothing.
+/// No line is remembered: the loop of a task that counts changes or sets values, and writes
+/// nothing.
 // Against a loop that carries the line, `edges` takes 3.4 instructions an item of scalars less.
 #[derive(Clone, Copy)]
-pub(crate) struct Keeping;
+pub(crate) struct NoLine;
 
-impl LoopKind for Keeping {
+impl LineMemory for NoLine {
     ghost line = { λ _. (0, 0) };
 
     #[inline(always)]
-    fn new() -> Keeping {
-        Keeping
+    fn new() -> NoLine {
+        NoLine
     }
 
     #[inline(always)]
-    fn after_mark(_bytes: &[u8], _from: usize, _to: usize, _at: usize) -> Keeping {
-        Keeping
+    fn after_timestamp(_bytes: &[u8], _from: usize, _to: usize, _at: usize) -> NoLine {
+        NoLine
     }
 }
 
-/// The loop of a task that copies changes from the chunk. The last timestamp's line has the bytes
-/// from `from` up to `to`; where these are equal, the chunk is not known to have it.
+/// The line is remembered: the loop of a task that copies changes from the chunk. The last
+/// timestamp's line has the bytes from `from` up to `to`; where these are equal, the chunk is not
+/// known to have it.
 // The line is one more pending piece. Against one that is known only right before a change this
 // saves `pick` of five scalars 19 % of its instructions; `cut` in its window takes 5 % more.
 #[derive(Clone, Copy)]
-pub(crate) struct Copying {
+pub(crate) struct KnownLine {
     pub(crate) from: usize,
     pub(crate) to: usize,
 }
 
-impl LoopKind for Copying {
+impl LineMemory for KnownLine {
     ghost line = { λ kind. (kind.from, kind.to) };
 
     #[inline(always)]
-    fn new() -> Copying {
-        Copying { from: 0, to: 0 }
+    fn new() -> KnownLine {
+        KnownLine { from: 0, to: 0 }
     }
 
     #[inline(always)]
-    fn after_mark(bytes: &[u8], from: usize, to: usize, at: usize) -> Copying {
-        if is_mark_line(bytes, from, to, at) {
-            return Copying { from, to };
+    fn after_timestamp(bytes: &[u8], from: usize, to: usize, at: usize) -> KnownLine {
+        if is_timestamp_line(bytes, from, to, at) {
+            return KnownLine { from, to };
         }
-        Copying { from: to, to }
+        KnownLine { from: to, to }
     }
 }
 
 /// What a task does with items, whole in the chunk or from the feed, that do not end the run.
-pub(crate) trait AheadTask<L: LoopKind> {
+pub(crate) trait AheadTask<L: LineMemory> {
     ghost use Rattle.vcd_engine.specs.declared.task_state.TaskState.{TaskState};
 
     // The task's state, as the case of the enum.
@@ -118,7 +120,7 @@ pub(crate) trait AheadTask<L: LoopKind> {
     // Whether it may run in a loop of this kind.
     ghost is_ready: { Self → Bool };
 
-    // Whether a timestamp of this time is left to the step.
+    // Whether a timestamp of this time is left to `TaskState::take`.
     ghost is_left: { Self → ℕ → Bool };
 
     /// Returns whether a timestamp of this time is left to `TaskState::take`: it ends the run, or
@@ -130,7 +132,7 @@ pub(crate) trait AheadTask<L: LoopKind> {
     fn note_time(&mut self, time: u64)
         requires ready { is_ready self.old ≡ true }
         requires left { is_left self.old time ≡ false }
-        ensures takes { TakesMark time (task_state self.old) (task_state self.new) }
+        ensures takes { TakesTimestamp time (task_state self.old) (task_state self.new) }
         ensures ready { is_ready self.new ≡ true }
         ensures same { SameTask (task_state self.old) (task_state self.new) };
 
@@ -166,7 +168,7 @@ struct WalkState<L> {
     line: L,
 }
 
-impl<L: LoopKind, C: AheadTask<L>> Visit<C> for WalkState<L> {
+impl<L: LineMemory, C: AheadTask<L>> Visit<C> for WalkState<L> {
     ghost use Rattle.std.specs.Prelude.{false};
     ghost use Rattle.vcd_engine.specs.Walks.{CanTake, TakesByTask};
 
@@ -189,17 +191,17 @@ impl<L: LoopKind, C: AheadTask<L>> Visit<C> for WalkState<L> {
     }
 
     #[inline(always)]
-    fn take_mark(
+    fn take_timestamp(
         &mut self,
         command: &mut C,
         _view: HeadView<'_>,
         _regs: Regs,
         time: u64,
-        mark: Plain<'_>,
+        timestamp: ScannedItem<'_>,
         extent: Extent<'_>,
     ) {
         let from = extent.from.passed();
-        self.line = L::after_mark(extent.to.bytes(), from, extent.to.passed(), mark.at);
+        self.line = L::after_timestamp(extent.to.bytes(), from, extent.to.passed(), timestamp.at);
         command.note_time(time);
     }
 
@@ -209,7 +211,7 @@ impl<L: LoopKind, C: AheadTask<L>> Visit<C> for WalkState<L> {
         command: &mut C,
         view: HeadView<'_>,
         regs: Regs,
-        change: Plain<'_>,
+        change: ScannedItem<'_>,
         extent: Extent<'_>,
         out: &mut W,
     ) -> Result<(), WriteFailed> {
@@ -221,7 +223,7 @@ impl<L: LoopKind, C: AheadTask<L>> Visit<C> for WalkState<L> {
 /// Takes the items that are whole in the chunk, and writes what is due with them, piece by piece.
 // The loop of each task is a function of its own, so that it has all registers.
 #[inline(never)]
-pub(crate) fn take_each<L: LoopKind, C: AheadTask<L>, W: Sink>(
+pub(crate) fn take_each<L: LineMemory, C: AheadTask<L>, W: Sink>(
     command: &mut C,
     view: HeadView<'_>,
     regs: Regs,
@@ -248,8 +250,9 @@ pub(crate) fn take_each<L: LoopKind, C: AheadTask<L>, W: Sink>(
 
 /// Takes an item that the feed gave, and writes what is due with it. Returns false: the item does
 /// not end the run. `regs` are the registers after it. Fails where a write does.
+// The item has no bytes in the chunk, so nothing of it stays pending: `pieces` need no flush.
 #[inline(always)]
-pub(crate) fn take_given<L: LoopKind, C: AheadTask<L>, W: Sink>(
+pub(crate) fn take_given<L: LineMemory, C: AheadTask<L>, W: Sink>(
     command: &mut C,
     view: HeadView<'_>,
     regs: Regs,

@@ -8,7 +8,7 @@ use Rattle.vcd_text.specs.declared.ahead.Ahead.{Ahead}
 use Rattle.vcd_body.specs.Whole.{HoldsItem, IsAlone}
 use Rattle.vcd_body.specs.Words.{Begins, is_comment}
 use Rattle.vcd_body.specs.declared.words.PhraseKind.{PhraseKind}
-use Rattle.vcd_body.specs.declared.words.PhraseKind.TheVariants.{Mark, Bit, Scalar, Vector, Real, Other}
+use Rattle.vcd_body.specs.declared.words.PhraseKind.TheVariants.{Timestamp, Bit, Scalar, Vector, Real, Other}
 use Rattle.vcd_body.proofs.ahead.item_comes.Goals as goal
 
 -- a token that is whole ahead
@@ -30,7 +30,7 @@ two a b c token next none t u begins =
       whole = begins;
     }
 
-alone : (first : PhraseKind) (token : List ℕ) → (first ≡ Bit) ⊎ (first ≡ Scalar) ⊎ (first ≡ Mark) → IsAlone first token
+alone : (first : PhraseKind) (token : List ℕ) → (first ≡ Bit) ⊎ (first ≡ Scalar) ⊎ (first ≡ Timestamp) → IsAlone first token
 alone first token (inl e) = subst (λ (f : PhraseKind). IsAlone f token) (sym e) tt
 alone first token (inr (inl e)) = subst (λ (f : PhraseKind). IsAlone f token) (sym e) tt
 alone first token (inr (inr e)) = subst (λ (f : PhraseKind). IsAlone f token) (sym e) tt

@@ -40,7 +40,7 @@ returns-clause-takes c = λ a r o.
           let two = passes_same limit (longest_of mid) lines bytes (bytes_of mid) (passed_of mid) (passed_of new) (start_of new code) code (t.same.1 ∙ over.0) (t.same.0 ∙ over.1) (m.gives lines) (ts ++ v ∷ []) one in
           (v ∷ u ∷ [], subst (Passed limit lines bytes (passed_of new)) (append_assoc ts (v ∷ []) (u ∷ [])) two);
       sound = rw text c.in_ok-found.ensures.sound;
-      plain = tt;
+      scanned = tt;
       sized = c.in_ok-found.ensures.sized;
       bits = tt;
       binary = λ e. absurd (false≢true e);

@@ -17,9 +17,9 @@ returns c =
     let x = c.in_ok-found.ensures.sized in
     record {
       code = λ h earlier v.
-          let f = subst (λ t. Finds h.codes t (Some c.in_ok-found.found.place)) text (c.in_ok-found.ensures.found h v) in
+          let f = subst (λ t. Finds h.codes t (Some c.in_ok-found.found.position)) text (c.in_ok-found.ensures.found h v) in
           (f.0, f.1, scalar_passes h.codes earlier token b f.0 (filled (drop 1 token) (ap (λ l. length l == 0) (sym text) ∙ sym c.is_empty.ensures ∙ c.if-is_empty.false)) f.2);
       sound = (x.0, x.1, (b.0, b.2, first_byte token b.0 b.1 b.3));
-      names = subst (Names c.args.view c.in_ok-found.found.place) text (found_named c.args.view c.in_ok-found.found.place c.after_first-code.result.now c.in_ok-found.ensures.found);
+      names = subst (Names c.args.view c.in_ok-found.found.position) text (found_named c.args.view c.in_ok-found.found.position c.after_first-code.result.now c.in_ok-found.ensures.found);
       sized = x;
     }

@@ -53,9 +53,9 @@ returns-clause-takes c = λ a r v.
           let two = passes_same limit (longest_of mid) lines bytes (bytes_of mid) (passed_of mid) (passed_of new) (start_of new code) code (o.same.1 ∙ over.0) (o.same.0 ∙ over.1) (m.gives lines) (ts ++ t ∷ []) one in
           (t ∷ u ∷ [], subst (Passed limit lines bytes (passed_of new)) (append_assoc ts (t ∷ []) (u ∷ [])) two);
       sound = rw text c.in_ok-found.ensures.sound;
-      plain = tt;
+      scanned = tt;
       sized = c.in_ok-found.ensures.sized;
-      bits = rw text (has_bits c.in_ok-found.found.place (drop 1 token) c.args.bits c.requires.bits);
+      bits = rw text (has_bits c.in_ok-found.found.position (drop 1 token) c.args.bits c.requires.bits);
       binary = c.are_binary_or_known-binary.ensures;
       spelled = (code, both_there bytes (bytes_of mid) _ _ _ token _ _ begins.0 begins.1 begins.3 text o.same.0 first second, c.in_ok-found.ensures.names, both_places bytes (bytes_of mid) _ _ _ token _ _ begins.0 begins.1 begins.3 text o.same.0 first second);
       begun = (code, both_there bytes (bytes_of mid) _ _ _ token _ _ begins.0 begins.1 begins.3 text o.same.0 begun second, c.in_ok-found.ensures.names, both_places bytes (bytes_of mid) _ _ _ token _ _ begins.0 begins.1 begins.3 text o.same.0 begun second);

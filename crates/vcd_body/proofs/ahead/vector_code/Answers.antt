@@ -10,7 +10,7 @@ use Rattle.vcd_body.proofs.ahead.vector_code.Goals as goal
 pub returns-then-takes : goal.returns-then-takes
 returns-then-takes c =
     let t = c.args.token.now in
-    let place = c.in_ok-found.found.place in
+    let position = c.in_ok-found.found.position in
     let x = c.in_ok-found.ensures.sized in
     let text = c.in-Ok.ensures.text in
     let long = ap length text in
@@ -24,10 +24,10 @@ returns-then-takes c =
             f.1,
             λ earlier.
                 let b = c.in-Ok.ensures.opens h.codes earlier in
-                let p = vector_passes h.codes earlier t c.requires.begins c.args.code.now f.0 f.2 (same_room (parts c.args.view) h v place f.0 x.0 (length (drop 1 t)) true f.1 x.1 room) in
+                let p = vector_passes h.codes earlier t c.requires.begins c.args.code.now f.0 f.2 (same_room (parts c.args.view) h v position f.0 x.0 (length (drop 1 t)) true f.1 x.1 room) in
                 record { begins = b.0; open_after = b.1; goes_on = p.0; whole = p.1 },
           );
-      sound = vector_sound c.args.view.codes.now (drop 1 t) place x.0 x.1 (omega (arith, some, long)) (ap (list_all is_value_digit) (sym text) ∙ c.in-Ok.ensures.digits.1) room;
-      names = found_named c.args.view place c.args.code.now c.in_ok-found.ensures.found;
+      sound = vector_sound c.args.view.codes.now (drop 1 t) position x.0 x.1 (omega (arith, some, long)) (ap (list_all is_value_digit) (sym text) ∙ c.in-Ok.ensures.digits.1) room;
+      names = found_named c.args.view position c.args.code.now c.in_ok-found.ensures.found;
       sized = x;
     }

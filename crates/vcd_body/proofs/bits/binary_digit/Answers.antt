@@ -10,7 +10,7 @@ returns-then-index-count c = sym (binary_past (count_in (len_of c.args.holding))
 pub returns : goal.returns
 returns c =
     let n = c.number_in.result in
-    let place = c.args.index in
-    ap (λ k. Some (48 + n / 2 ^ (k - 1 - place) % 2)) c.count_in-count.ensures
-    ∙ ap (λ k. Some (48 + k / 2 ^ (count_in (len_of c.args.holding) - 1 - place) % 2)) c.number_in.ensures
-    ∙ sym (binary_at (count_in (len_of c.args.holding)) (number_in (len_of c.args.holding)) place (omega (arith, c.count_in-count.ensures, c.if-index-count.false)))
+    let position = c.args.index in
+    ap (λ k. Some (48 + n / 2 ^ (k - 1 - position) % 2)) c.count_in-count.ensures
+    ∙ ap (λ k. Some (48 + k / 2 ^ (count_in (len_of c.args.holding) - 1 - position) % 2)) c.number_in.ensures
+    ∙ sym (binary_at (count_in (len_of c.args.holding)) (number_in (len_of c.args.holding)) position (omega (arith, c.count_in-count.ensures, c.if-index-count.false)))

@@ -15,7 +15,7 @@ pub returns : goal.returns
 returns c =
     let h = held_by c.args.held.holding.state (len_of c.args.held.holding) c.args.held.bytes.now in
     let size = c.args.size in
-    let place = c.args.index in
-    let same : place - c.saturating_sub-missing.result ≡ place - (size - length (digits_held h)) = omega (arith, c.saturating_sub-missing.ensures, c.count_of.ensures) in
+    let position = c.args.index in
+    let same : position - c.saturating_sub-missing.result ≡ position - (size - length (digits_held h)) = omega (arith, c.saturating_sub-missing.ensures, c.count_of.ensures) in
     c.digit_held-2.ensures ∙ ap (slice_get (digits_held h)) same
-    ∙ sym (shown_behind h size place c.in_ok-first.first (sym c.digit_held.ensures ∙ c.in_ok-first.was) (omega (arith, c.if-index-missing.false, c.saturating_sub-missing.ensures, c.count_of.ensures)))
+    ∙ sym (shown_behind h size position c.in_ok-first.first (sym c.digit_held.ensures ∙ c.in_ok-first.was) (omega (arith, c.if-index-missing.false, c.saturating_sub-missing.ensures, c.count_of.ensures)))

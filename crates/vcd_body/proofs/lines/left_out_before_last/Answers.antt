@@ -17,27 +17,27 @@ use Rattle.vcd_body.proofs.lines.left_out_before_last.Goals as goal
 
 pub is_bit_line-requires : goal.is_bit_line-requires
 is_bit_line-requires c =
-    let s = subst (HasSpelled c.requires.0 c.args.bytes.now c.args.from c.args.to c.args.plain.at c.args.plain.code_at c.args.plain.text.now) (c.in-Change.is ∙ ap (Change c.in-Change.code) c.in-Scalar.is) c.requires.1 in
-    (c.args.plain.text.now, s.0, s.1)
+    let s = subst (HasSpelled c.requires.0 c.args.bytes.now c.args.from c.args.to c.args.scanned.at c.args.scanned.code_at c.args.scanned.text.now) (c.in-Change.is ∙ ap (Change c.in-Change.code) c.in-Scalar.is) c.requires.1 in
+    (c.args.scanned.text.now, s.0, s.1)
 
 pub returns-in-Scalar-clause-within : goal.returns-in-Scalar-clause-within
 returns-in-Scalar-clause-within c =
     let same = c.in-Change.is ∙ ap (Change c.in-Change.code) c.in-Scalar.is in
-    let there = subst (HasSpelled c.requires.0 c.args.bytes.now c.args.from c.args.to c.args.plain.at c.args.plain.code_at c.args.plain.text.now) same c.requires.1 in
-    let within = bit_within c.args.bytes.now c.args.from c.args.to c.args.plain.text.now there.0 there.1 in
+    let there = subst (HasSpelled c.requires.0 c.args.bytes.now c.args.from c.args.to c.args.scanned.at c.args.scanned.code_at c.args.scanned.text.now) same c.requires.1 in
+    let within = bit_within c.args.bytes.now c.args.from c.args.to c.args.scanned.text.now there.0 there.1 in
     (omega arith, there.3.within)
 
 pub returns-in-Scalar-clause-line : goal.returns-in-Scalar-clause-line
 returns-in-Scalar-clause-line c =
-    let text = c.args.plain.text.now in
+    let text = c.args.scanned.text.now in
     let told = c.in_ok-size.ensures.told in
-    let size : c.args.plain.most ≡ 1 = sym told.0 ∙ c.if-size-eq1.true in
+    let size : c.args.scanned.most ≡ 1 = sym told.0 ∙ c.if-size-eq1.true in
     let same = c.in-Change.is ∙ ap (Change c.in-Change.code) c.in-Scalar.is in
-    let there = subst (HasSpelled c.requires.0 c.args.bytes.now c.args.from c.args.to c.args.plain.at c.args.plain.code_at text) same c.requires.1 in
+    let there = subst (HasSpelled c.requires.0 c.args.bytes.now c.args.from c.args.to c.args.scanned.at c.args.scanned.code_at text) same c.requires.1 in
     let within = bit_within c.args.bytes.now c.args.from c.args.to text there.0 there.1 in
     λ v h x spelled known sized views i.
-    let s = subst (HasSpelled v c.args.bytes.now c.args.from c.args.to c.args.plain.at c.args.plain.code_at text) same spelled in
-    let k = of_sized v h views c.in-Change.code c.args.plain.most (subst (λ it. IsSizedItem v.codes.now it c.args.plain.most) same sized) (λ z. absurd (omega (arith, size, z))) form.Scalar text s.0 c.args.bytes.now c.args.from c.args.to c.args.plain.at c.args.plain.code_at s.2 s.3 x (subst (λ it. IsItem h.codes text it x) same i) in
+    let s = subst (HasSpelled v c.args.bytes.now c.args.from c.args.to c.args.scanned.at c.args.scanned.code_at text) same spelled in
+    let k = of_sized v h views c.in-Change.code c.args.scanned.most (subst (λ it. IsSizedItem v.codes.now it c.args.scanned.most) same sized) (λ z. absurd (omega (arith, size, z))) form.Scalar text s.0 c.args.bytes.now c.args.from c.args.to c.args.scanned.at c.args.scanned.code_at s.2 s.3 x (subst (λ it. IsItem h.codes text it x) same i) in
     ap (λ l. l ++ 10 ∷ []) (without_none c.args.bytes.now c.args.from (c.args.to - 1) (omega arith)
     ∙ c.is_bit_line.ensures c.if-is_bit_line.true text s.0 s.1 s.3.ends)
     ∙ append_assoc (str_to_ascii_lowercase text) s.0 (10 ∷ [])
@@ -46,30 +46,30 @@ returns-in-Scalar-clause-line c =
 
 pub left_out_of_text-requires : goal.left_out_of_text-requires
 left_out_of_text-requires c =
-    let s = subst (HasSpelled c.requires.0 c.args.bytes.now c.args.from c.args.to c.args.plain.at c.args.plain.code_at c.args.plain.text.now) c.in-Change.is c.requires.1 in
+    let s = subst (HasSpelled c.requires.0 c.args.bytes.now c.args.from c.args.to c.args.scanned.at c.args.scanned.code_at c.args.scanned.text.now) c.in-Change.is c.requires.1 in
     (s.0, s.1)
 
 pub returns-in_default-form-clause-within : goal.returns-in_default-form-clause-within
 returns-in_default-form-clause-within c =
-    let s = subst (HasSpelled c.requires.0 c.args.bytes.now c.args.from c.args.to c.args.plain.at c.args.plain.code_at c.args.plain.text.now) c.in-Change.is c.requires.1 in
+    let s = subst (HasSpelled c.requires.0 c.args.bytes.now c.args.from c.args.to c.args.scanned.at c.args.scanned.code_at c.args.scanned.text.now) c.in-Change.is c.requires.1 in
     if_some_more c.left_out_of_text.result (λ n p. (p.0, s.3.within)) c.left_out_of_text.ensures
 
 pub returns-in_default-form-clause-line : goal.returns-in_default-form-clause-line
 returns-in_default-form-clause-line c =
-    let text = c.args.plain.text.now in
+    let text = c.args.scanned.text.now in
     let told = c.in_ok-size.ensures.told in
     let is = told.0 in
     let some = told.1 in
-    let size : 0 < c.args.plain.most = omega (arith, is, some) in
+    let size : 0 < c.args.scanned.most = omega (arith, is, some) in
     let same = c.in-Change.is in
     if_some_more c.left_out_of_text.result (λ n p. (
     λ v h x spelled known sized views i.
-    let s = subst (HasSpelled v c.args.bytes.now c.args.from c.args.to c.args.plain.at c.args.plain.code_at text) same spelled in
-    let k = of_sized v h views c.in-Change.code c.args.plain.most (subst (λ it. IsSizedItem v.codes.now it c.args.plain.most) same sized) (λ z. absurd (omega (arith, size, z))) c.in-Change.form text s.0 c.args.bytes.now c.args.from c.args.to c.args.plain.at c.args.plain.code_at s.2 s.3 x (subst (λ it. IsItem h.codes text it x) same i) in
+    let s = subst (HasSpelled v c.args.bytes.now c.args.from c.args.to c.args.scanned.at c.args.scanned.code_at text) same spelled in
+    let k = of_sized v h views c.in-Change.code c.args.scanned.most (subst (λ it. IsSizedItem v.codes.now it c.args.scanned.most) same sized) (λ z. absurd (omega (arith, size, z))) c.in-Change.form text s.0 c.args.bytes.now c.args.from c.args.to c.args.scanned.at c.args.scanned.code_at s.2 s.3 x (subst (λ it. IsItem h.codes text it x) same i) in
     ap (λ l. l ++ 10 ∷ []) (p.4 s.0 s.1 s.3.ends known)
     ∙ append_assoc p.1 (32 ∷ s.0) (10 ∷ [])
     ∙ sym (p.3 s.0)
-    ∙ line_of k.0 s.0 c.in_ok-size.size c.args.plain.most c.in-Change.form text k.2 is k.4 k.5
+    ∙ line_of k.0 s.0 c.in_ok-size.size c.args.scanned.most c.in-Change.form text k.2 is k.4 k.5
     ∙ sym (ap item_line k.1)
     )) c.left_out_of_text.ensures
   where

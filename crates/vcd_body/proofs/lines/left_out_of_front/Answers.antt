@@ -9,6 +9,6 @@ returns c =
     let inside = s.2.within in
     if_some_more c.left_out_of_text.result (λ k p.
     let line = p.4 s.0 s.1 ends c.requires.binary in
-    let f = front_there c.args.bytes.now c.args.from c.args.to k c.args.plain.code_at p.1 s.0 p.0 inside ends p.2 line in
+    let f = front_there c.args.bytes.now c.args.from c.args.to k c.args.scanned.code_at p.1 s.0 p.0 inside ends p.2 line in
     (f.0, omega arith, p.1, p.3, f.1))
     c.left_out_of_text.ensures

@@ -7,7 +7,7 @@ pub overflow_sub-k : goal.overflow_sub-k
 overflow_sub-k c = (shortest_end c.args.digits.now c.shortest.result.now c.shortest.ensures (sym c.is_empty.ensures ∙ c.if-is_empty.false)).0
 
 pub are_lower-requires : goal.are_lower-requires
-are_lower-requires c = record { within = (let long = ap length c.requires.place in omega (arith, long, length-take {A = ℕ}, length-drop {A = ℕ})); place = end_place c.args.bytes.now c.args.digits.now c.args.at (length c.args.digits.now - length c.shortest.result.now) (omega arith) c.requires.place }
+are_lower-requires c = record { within = (let long = ap length c.requires.position in omega (arith, long, length-take {A = ℕ}, length-drop {A = ℕ})); position = end_place c.args.bytes.now c.args.digits.now c.args.at (length c.args.digits.now - length c.shortest.result.now) (omega arith) c.requires.position }
 
 pub returns : goal.returns
 returns c =

@@ -27,4 +27,4 @@ returns-clause-packed c = λ k less.
     ∙ omega (arith, e0, e1, e2, e3, f0, f1, f2)
 
 pub returns-clause-before : goal.returns-clause-before
-returns-clause-before c = λ place before. get_or-put_chunk_below c.args.at c.args.bytes.now c.with_4_times-2.result place 0 before
+returns-clause-before c = λ position before. get_or-put_chunk_below c.args.at c.args.bytes.now c.with_4_times-2.result position 0 before

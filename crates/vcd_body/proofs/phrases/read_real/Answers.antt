@@ -27,7 +27,7 @@ pub returns-clause-reads : goal.returns-clause-reads
 returns-clause-reads g c = λ h i front placed v l.
     let t = (token_of c.args.feed.now).bytes in
     let opened = opened_text h.codes i front placed c.args.feed.now _ c.token.ensures (c.in_ok-real_text.ensures.opens h.codes (phrases_of placed)) l in
-    real_read h.codes i front placed c.read_code.new.feed t c.requires.begins c.in_ok-found.found.place c.in_ok-found.ensures.value
+    real_read h.codes i front placed c.read_code.new.feed t c.requires.begins c.in_ok-found.found.position c.in_ok-found.ensures.value
     (c.in_ok-found.ensures.reads h i front placed t v (number_asks h.codes (phrases_of placed) t c.requires.begins) opened)
 
 pub returns-clause-sound : goal.returns-clause-sound
@@ -37,4 +37,4 @@ returns-clause-sound g c =
     let some = few.0 in
     let most = few.1 in
     let x = c.in_ok-found.ensures.sized in
-    real_sound c.args.view.codes.now (drop 1 (value_of c.read_code.new.feed)) c.in_ok-found.found.place x.0 x.1 (omega (arith, long, some)) (omega (arith, long, most))
+    real_sound c.args.view.codes.now (drop 1 (value_of c.read_code.new.feed)) c.in_ok-found.found.position x.0 x.1 (omega (arith, long, some)) (omega (arith, long, most))

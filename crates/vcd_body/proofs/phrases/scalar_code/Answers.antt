@@ -21,10 +21,10 @@ returns-in-Some-clause-finds c =
     let x = c.in-Some.ensures.sized in
     record {
       code = λ h earlier v.
-          let f = subst (λ t. Finds h.codes t (Some c.in-Some.found.place)) text (c.in-Some.ensures.found h v) in
+          let f = subst (λ t. Finds h.codes t (Some c.in-Some.found.position)) text (c.in-Some.ensures.found h v) in
           (f.0, f.1, scalar_passes h.codes earlier token b f.0 (filled (drop 1 token) (ap (λ l. length l == 0) (sym text) ∙ sym c.is_empty.ensures ∙ c.if-is_empty.false)) f.2);
       sound = (x.0, x.1, (b.0, b.2, first_byte token b.0 b.1 b.3));
-      names = subst (Names c.args.view c.in-Some.found.place) text (found_named c.args.view c.in-Some.found.place c.after_first-code.result.now c.in-Some.ensures.found);
+      names = subst (Names c.args.view c.in-Some.found.position) text (found_named c.args.view c.in-Some.found.position c.after_first-code.result.now c.in-Some.ensures.found);
       sized = x;
     }
 

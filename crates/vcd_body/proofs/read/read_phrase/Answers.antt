@@ -32,13 +32,13 @@ returns-in_err-scalar_code-in-Bit-clause-reads g c =
     let b = given.begun_at h.codes i front items c.args.feed.now c.next_token.new.feed c.args.regs.now c.in_ok-next_token.field-0 c.if-not-branch.false s (c.in_ok-next_token.ensures.reads h.codes i front s.placed [] (given.reads_of h.codes i front items c.args.feed.now c.args.regs.now s)) in
     given.refused_own h.codes i front items c.next_token.new.feed c.args.regs.now c.token-token.result.now _ b c.token-token.ensures (c.in_err-scalar_code-in-Bit.ensures.refuses h (phrases_of b.placed) v))
 
-pub returns-in_err-read_mark-in-Mark-clause-reads : goal.returns-in_err-read_mark-in-Mark-clause-reads
-returns-in_err-read_mark-in-Mark-clause-reads g c =
-    let p = err_from_is_err_and c.from_residual-in_err-read_mark-in-Mark.result c.from_residual-in_err-read_mark-in-Mark.ensures.1 in
+pub returns-in_err-read_timestamp-in-Timestamp-clause-reads : goal.returns-in_err-read_timestamp-in-Timestamp-clause-reads
+returns-in_err-read_timestamp-in-Timestamp-clause-reads g c =
+    let p = err_from_is_err_and c.from_residual-in_err-read_timestamp-in-Timestamp.result c.from_residual-in_err-read_timestamp-in-Timestamp.ensures.1 in
     rw (p.1, p.2) (λ h i front items v s.
     let b = given.begun_at h.codes i front items c.args.feed.now c.next_token.new.feed c.args.regs.now c.in_ok-next_token.field-0 c.if-not-branch.false s (c.in_ok-next_token.ensures.reads h.codes i front s.placed [] (given.reads_of h.codes i front items c.args.feed.now c.args.regs.now s)) in
     given.refused_own h.codes i front items c.next_token.new.feed c.args.regs.now c.token-token.result.now _ b c.token-token.ensures
-    (c.in_err-read_mark-in-Mark.ensures.time h.codes (phrases_of b.placed) (given.known_so_far h.codes i front items c.next_token.new.feed c.args.regs.now b)))
+    (c.in_err-read_timestamp-in-Timestamp.ensures.time h.codes (phrases_of b.placed) (given.known_so_far h.codes i front items c.next_token.new.feed c.args.regs.now b)))
 
 pub returns-in_ok-scalar_code-in-Bit-clause-reads : goal.returns-in_ok-scalar_code-in-Bit-clause-reads
 returns-in_ok-scalar_code-in-Bit-clause-reads g c = λ h i front items v s.
@@ -58,11 +58,11 @@ returns-in_ok-read_real-in-Real-clause-reads g c = λ h i front items v s.
     let k = c.in_ok-read_real-in-Real.ensures.reads h i front b.placed v b.looks in
     (k.0, k.1, given.change_given h.codes i front items c.next_token.new.feed c.read_real.new.feed c.args.regs.now _ b k.2)
 
-pub returns-in_ok-read_mark-in-Mark-clause-reads : goal.returns-in_ok-read_mark-in-Mark-clause-reads
-returns-in_ok-read_mark-in-Mark-clause-reads g c = λ h i front items v s.
+pub returns-in_ok-read_timestamp-in-Timestamp-clause-reads : goal.returns-in_ok-read_timestamp-in-Timestamp-clause-reads
+returns-in_ok-read_timestamp-in-Timestamp-clause-reads g c = λ h i front items v s.
     let b = given.begun_at h.codes i front items c.args.feed.now c.next_token.new.feed c.args.regs.now c.in_ok-next_token.field-0 c.if-not-branch.false s (c.in_ok-next_token.ensures.reads h.codes i front s.placed [] (given.reads_of h.codes i front items c.args.feed.now c.args.regs.now s)) in
-    rw c.in_ok-read_mark-in-Mark.ensures.regs (given.time_given h.codes i front items c.next_token.new.feed c.args.regs.now c.token-token.result.now c.in_ok-read_mark-in-Mark.field-0 b c.token-token.ensures
-    (c.in_ok-read_mark-in-Mark.ensures.time h.codes (phrases_of b.placed) (given.known_so_far h.codes i front items c.next_token.new.feed c.args.regs.now b)))
+    rw c.in_ok-read_timestamp-in-Timestamp.ensures.regs (given.time_given h.codes i front items c.next_token.new.feed c.args.regs.now c.token-token.result.now c.in_ok-read_timestamp-in-Timestamp.field-0 b c.token-token.ensures
+    (c.in_ok-read_timestamp-in-Timestamp.ensures.time h.codes (phrases_of b.placed) (given.known_so_far h.codes i front items c.next_token.new.feed c.args.regs.now b)))
 
 pub returns-in-Other-clause-reads : goal.returns-in-Other-clause-reads
 returns-in-Other-clause-reads g c = λ h i front items v s.
@@ -72,8 +72,8 @@ returns-in-Other-clause-reads g c = λ h i front items v s.
 pub returns-in-Other-clause-sound : goal.returns-in-Other-clause-sound
 returns-in-Other-clause-sound g c = c.read_command.ensures.sound c.args.view.codes.now
 
-pub returns-in_ok-read_mark-in-Mark-clause-regs : goal.returns-in_ok-read_mark-in-Mark-clause-regs
-returns-in_ok-read_mark-in-Mark-clause-regs g c = c.in_ok-read_mark-in-Mark.ensures.regs
+pub returns-in_ok-read_timestamp-in-Timestamp-clause-regs : goal.returns-in_ok-read_timestamp-in-Timestamp-clause-regs
+returns-in_ok-read_timestamp-in-Timestamp-clause-regs g c = c.in_ok-read_timestamp-in-Timestamp.ensures.regs
 
 pub returns-in_err-next_token-clause-ahead : goal.returns-in_err-next_token-clause-ahead
 returns-in_err-next_token-clause-ahead g c = λ w. let e = (first_of_item c.args.feed.now c.next_token.new.feed _ c.in_err-next_token.ensures.ahead w).given in absurd (cc)
@@ -87,14 +87,14 @@ returns-then-not-branch-clause-ahead g c = λ w. let e = (first_of_item c.args.f
 pub returns-in_err-scalar_code-in-Bit-clause-ahead : goal.returns-in_err-scalar_code-in-Bit-clause-ahead
 returns-in_err-scalar_code-in-Bit-clause-ahead g c = λ w. (search rules, (first_of_item c.args.feed.now c.next_token.new.feed _ c.in_ok-next_token.ensures.ahead w).source_is)
 
-pub returns-in_err-read_mark-in-Mark-clause-ahead : goal.returns-in_err-read_mark-in-Mark-clause-ahead
-returns-in_err-read_mark-in-Mark-clause-ahead g c = λ w. (search rules, (first_of_item c.args.feed.now c.next_token.new.feed _ c.in_ok-next_token.ensures.ahead w).source_is)
+pub returns-in_err-read_timestamp-in-Timestamp-clause-ahead : goal.returns-in_err-read_timestamp-in-Timestamp-clause-ahead
+returns-in_err-read_timestamp-in-Timestamp-clause-ahead g c = λ w. (search rules, (first_of_item c.args.feed.now c.next_token.new.feed _ c.in_ok-next_token.ensures.ahead w).source_is)
 
 pub returns-in_ok-scalar_code-in-Bit-clause-ahead : goal.returns-in_ok-scalar_code-in-Bit-clause-ahead
 returns-in_ok-scalar_code-in-Bit-clause-ahead g c = λ w. (search rules, (first_of_item c.args.feed.now c.next_token.new.feed _ c.in_ok-next_token.ensures.ahead w).source_is)
 
-pub returns-in_ok-read_mark-in-Mark-clause-ahead : goal.returns-in_ok-read_mark-in-Mark-clause-ahead
-returns-in_ok-read_mark-in-Mark-clause-ahead g c = λ w. (search rules, (first_of_item c.args.feed.now c.next_token.new.feed _ c.in_ok-next_token.ensures.ahead w).source_is)
+pub returns-in_ok-read_timestamp-in-Timestamp-clause-ahead : goal.returns-in_ok-read_timestamp-in-Timestamp-clause-ahead
+returns-in_ok-read_timestamp-in-Timestamp-clause-ahead g c = λ w. (search rules, (first_of_item c.args.feed.now c.next_token.new.feed _ c.in_ok-next_token.ensures.ahead w).source_is)
 
 pub returns-in_err-read_vector-in-Vector-clause-ahead : goal.returns-in_err-read_vector-in-Vector-clause-ahead
 returns-in_err-read_vector-in-Vector-clause-ahead g c = λ w.

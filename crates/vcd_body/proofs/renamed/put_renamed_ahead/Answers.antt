@@ -7,10 +7,10 @@ use Rattle.vcd_body.proofs.ChangeLine.{bit_line}
 use Rattle.vcd_body.proofs.LineLemmas.{digit_there}
 use Rattle.vcd_body.proofs.renamed.put_renamed_ahead.Goals as goal
 
-pub bounds-bytes-plain : goal.bounds-bytes-plain
-bounds-bytes-plain g c =
+pub bounds-bytes-scanned : goal.bounds-bytes-scanned
+bounds-bytes-scanned g c =
     let s = c.requires.spelled in
-    let p = c.args.plain in
+    let p = c.args.scanned in
     let there = subst (λ f. HasChange c.args.bytes.now c.args.from c.args.to f p.text.now s.0) (c.is_bit.ensures c.if-is_bit.true).2 s.1 in
     (digit_there c.args.bytes.now c.args.from c.args.to p.at p.code_at p.text.now s.0 there s.2).0
 
@@ -18,7 +18,7 @@ pub returns-then-is_lower : goal.returns-then-is_lower
 returns-then-is_lower g c =
     let (size, event, form) = c.is_bit.ensures c.if-is_bit.true in
     let s = c.requires.spelled in
-    let p = c.args.plain in
+    let p = c.args.scanned in
     let bytes = c.args.bytes.now in
     let there = subst (λ f. HasChange bytes c.args.from c.args.to f p.text.now s.0) form s.1 in
     let digit = (digit_there bytes c.args.from c.args.to p.at p.code_at p.text.now s.0 there s.2).1 in

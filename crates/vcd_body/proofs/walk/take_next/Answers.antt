@@ -13,10 +13,10 @@ vector_tokens_ahead-requires-clause-opens g c = (c.args.ahead.now, c.in_ok-openi
 pub take_vector-requires-clause-opens : goal.take_vector-requires-clause-opens
 take_vector-requires-clause-opens g c = c.in_ok-tokens-in-Vector.ensures.opens c.args.ahead.now c.in_ok-opening.ensures.opens
 
-pub returns-in_err-take_mark-in-Mark : goal.returns-in_err-take_mark-in-Mark
-returns-in_err-take_mark-in-Mark g c =
-    let e : c.from_residual-in_err-take_mark-in-Mark.result ≡ None = search rules in
-    record { next = rw e (c.in_err-take_mark-in-Mark.ensures (g.W.Sink.device c.args.out.now)) }
+pub returns-in_err-take_timestamp-in-Timestamp : goal.returns-in_err-take_timestamp-in-Timestamp
+returns-in_err-take_timestamp-in-Timestamp g c =
+    let e : c.from_residual-in_err-take_timestamp-in-Timestamp.result ≡ None = search rules in
+    record { next = rw e (c.in_err-take_timestamp-in-Timestamp.ensures (g.W.Sink.device c.args.out.now)) }
 
 pub real_ahead-requires-clause-opens : goal.real_ahead-requires-clause-opens
 real_ahead-requires-clause-opens g c = (c.args.ahead.now, c.in_ok-opening.ensures.opens)

@@ -4,8 +4,8 @@ use Rattle.vcd_body.proofs.walk.walk_ahead.Goals as goal
 
 pub items-init : goal.items-init
 items-init g c =
-    let ended : c.begin_lines-lines.result.ended ≡ Ok false = search rules in
-    record { come = rw ended at c.begin_lines-lines.ensures }
+    let ended : c.take_first_lines-lines.result.ended ≡ Ok false = search rules in
+    record { come = rw ended at c.take_first_lines-lines.ensures }
 
 pub returns-in-Err : goal.returns-in-Err
 returns-in-Err g c = rw c.until-in-Err.ensures (_, c.items.invariant.come, (_, c.view-view.ensures, rw c.in-Err.is at c.in-Some.ensures.next))

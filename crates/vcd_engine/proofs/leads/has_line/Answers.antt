@@ -5,15 +5,15 @@ use Rattle.vcd_view.proofs.RowLemmas.{read_row}
 use Rattle.vcd_engine.proofs.LeadLemmas.{other_has_none, variable_has}
 use Rattle.vcd_engine.proofs.leads.has_line.Goals as goal
 
-pub returns-then-mark-eq1 : goal.returns-then-mark-eq1
-returns-then-mark-eq1 c = λ h names views is.
-    variable_has c.args.view h names c.args.row c.args.mark _ views (read_row (parts c.args.view) c.args.row _ c.requires) is c.in-Var.is true c.is_event.result (eq-eqb c.args.mark 1 c.if-mark-eq1.true) (c.is_event.ensures.event h views)
+pub returns-then-flag-eq1 : goal.returns-then-flag-eq1
+returns-then-flag-eq1 c = λ h names views is.
+    variable_has c.args.view h names c.args.row c.args.flag _ views (read_row (parts c.args.view) c.args.row _ c.requires) is c.in-Var.is true c.is_event.result (eq-eqb c.args.flag 1 c.if-flag-eq1.true) (c.is_event.ensures.event h views)
 
-pub returns-else-mark-eq1 : goal.returns-else-mark-eq1
-returns-else-mark-eq1 c = λ h names views is.
-    let none = ne_eqb c.args.mark 1 c.if-mark-eq1.false in
-    rw none (variable_has c.args.view h names c.args.row c.args.mark _ views (read_row (parts c.args.view) c.args.row _ c.requires) is c.in-Var.is false _ none refl)
+pub returns-else-flag-eq1 : goal.returns-else-flag-eq1
+returns-else-flag-eq1 c = λ h names views is.
+    let none = ne_eqb c.args.flag 1 c.if-flag-eq1.false in
+    rw none (variable_has c.args.view h names c.args.row c.args.flag _ views (read_row (parts c.args.view) c.args.row _ c.requires) is c.in-Var.is false _ none refl)
 
 pub returns-in-Scope : goal.returns-in-Scope
 returns-in-Scope c = λ h names views is.
-    other_has_none c.args.view h names c.args.row c.args.mark _ views (read_row (parts c.args.view) c.args.row _ c.requires) is c.in-Scope.is
+    other_has_none c.args.view h names c.args.row c.args.flag _ views (read_row (parts c.args.view) c.args.row _ c.requires) is c.in-Scope.is

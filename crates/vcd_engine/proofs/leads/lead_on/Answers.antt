@@ -26,9 +26,9 @@ loop-row-preserved-then-has_line c =
       leads = λ h names views is.
           let next : i + 1 ≡ c.loop-row.row = omega (arith, c.loop-row-test.true) in
           let so_far = subst (λ n. LeadFrom names h.declarations marks n c.loop-row.without) (sym next) (c.loop-row.invariant.leads h names views is) in
-          let mark = ap (λ l. get_or l i 0) (sym is) ∙ sym (c.loop-row.invariant.front i (omega (arith, c.loop-row-test.true))) in
-          let shown = subst (λ b. MatchBool b (IsSelectedAt names h.declarations i) (HaveNoLine names h.declarations i 1)) c.if-has_line.true (c.has_line.ensures h names views mark) in
-          leads_shown names h.declarations marks i c.loop-row.without within so_far shown (sym mark ∙ mark_of_shown names h.declarations i shown);
+          let flag = ap (λ l. get_or l i 0) (sym is) ∙ sym (c.loop-row.invariant.front i (omega (arith, c.loop-row-test.true))) in
+          let shown = subst (λ b. MatchBool b (IsSelectedAt names h.declarations i) (HaveNoLine names h.declarations i 1)) c.if-has_line.true (c.has_line.ensures h names views flag) in
+          leads_shown names h.declarations marks i c.loop-row.without within so_far shown (sym flag ∙ mark_of_shown names h.declarations i shown);
     }
 
 pub loop-row-preserved : goal.loop-row-preserved
@@ -37,15 +37,15 @@ loop-row-preserved c =
     let marks = c.loop-row.marks in
     let within : i < length marks = omega (arith, c.loop-row.invariant.within, c.loop-row-test.true) in
     record {
-      within = omega (arith, c.loop-row.invariant.within, c.loop-row-test.true, length-set marks i c.mark_over.result);
-      len = length-set marks i c.mark_over.result ∙ c.loop-row.invariant.len;
-      front = λ j l. get_or-set_other marks i j c.mark_over.result 0 (λ e. omega (arith, e, l)) ∙ c.loop-row.invariant.front j (omega (arith, l));
+      within = omega (arith, c.loop-row.invariant.within, c.loop-row-test.true, length-set marks i c.flag_over.result);
+      len = length-set marks i c.flag_over.result ∙ c.loop-row.invariant.len;
+      front = λ j l. get_or-set_other marks i j c.flag_over.result 0 (λ e. omega (arith, e, l)) ∙ c.loop-row.invariant.front j (omega (arith, l));
       leads = λ h names views is.
           let next : i + 1 ≡ c.loop-row.row = omega (arith, c.loop-row-test.true) in
           let so_far = subst (λ n. LeadFrom names h.declarations marks n c.loop-row.without) (sym next) (c.loop-row.invariant.leads h names views is) in
-          let mark = ap (λ l. get_or l i 0) (sym is) ∙ sym (c.loop-row.invariant.front i (omega (arith, c.loop-row-test.true))) in
-          let none = subst (λ b. MatchBool b (IsSelectedAt names h.declarations i) (HaveNoLine names h.declarations i 1)) c.if-has_line.false (c.has_line.ensures h names views mark) in
-          leads_past names h.declarations marks i c.loop-row.without within so_far none c.mark_over.result c.mark_over.ensures.other c.mark_over.ensures.within;
+          let flag = ap (λ l. get_or l i 0) (sym is) ∙ sym (c.loop-row.invariant.front i (omega (arith, c.loop-row-test.true))) in
+          let none = subst (λ b. MatchBool b (IsSelectedAt names h.declarations i) (HaveNoLine names h.declarations i 1)) c.if-has_line.false (c.has_line.ensures h names views flag) in
+          leads_past names h.declarations marks i c.loop-row.without within so_far none c.flag_over.result c.flag_over.ensures.other c.flag_over.ensures.within;
     }
 
 pub returns-clause-leads : goal.returns-clause-leads

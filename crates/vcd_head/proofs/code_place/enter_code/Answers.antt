@@ -9,34 +9,34 @@ pub returns-then-new-clause-codes : goal.returns-then-new-clause-codes
 returns-then-new-clause-codes c = λ ds v h is is_size.
     let bytes = c.args.bytes.now in
     let before = c.args.known.now in
-    let place = c.in_ok-place.place in
-    let e : EntersKey bytes before c.enter_key.new.known place true = subst (EntersKey bytes before c.enter_key.new.known place) c.if-new.true (c.in_ok-place.ensures.enters h.rises) in
-    entered_new c.args.text.now.items before _ ds v bytes c.args.size c.args.event place h is (all_bytes bytes c.type_inv.bytes)
+    let position = c.in_ok-position.position in
+    let e : EntersKey bytes before c.enter_key.new.known position true = subst (EntersKey bytes before c.enter_key.new.known position) c.if-new.true (c.in_ok-position.ensures.enters h.rises) in
+    entered_new c.args.text.now.items before _ ds v bytes c.args.size c.args.event position h is (all_bytes bytes c.type_inv.bytes)
     c.add.new.text.items is_size e.rises e.entered c.in_ok-add.ensures.text (c.in_ok-add.ensures.listed ∙ ap (λ l. l ++ code_with (length c.args.text.now.items) bytes c.args.size c.args.event ∷ []) e.list)
 
 pub returns-in_default-clause-codes : goal.returns-in_default-clause-codes
 returns-in_default-clause-codes c = λ ds v h is is_size.
     let bytes = c.args.bytes.now in
     let before = c.args.known.now in
-    let place = c.in_ok-place.place in
-    let e : EntersKey bytes before c.enter_key.new.known place false = subst (EntersKey bytes before c.enter_key.new.known place) c.if-new.false (c.in_ok-place.ensures.enters h.rises) in
-    let none : slice_get before.list.items place ≡ None = ap (λ l. slice_get l place) (sym e.list ∙ sym c.deref.ensures.value) ∙ sym c.code_in.ensures ∙ c.in_default.is in
-    absurd (entered_listed c.args.text.now.items before c.enter_key.new.known ds v bytes c.args.size c.args.event place h is (all_bytes bytes c.type_inv.bytes) e.rises e.entered e.list none)
+    let position = c.in_ok-position.position in
+    let e : EntersKey bytes before c.enter_key.new.known position false = subst (EntersKey bytes before c.enter_key.new.known position) c.if-new.false (c.in_ok-position.ensures.enters h.rises) in
+    let none : slice_get before.list.items position ≡ None = ap (λ l. slice_get l position) (sym e.list ∙ sym c.deref.ensures.value) ∙ sym c.code_in.ensures ∙ c.in_default.is in
+    absurd (entered_listed c.args.text.now.items before c.enter_key.new.known ds v bytes c.args.size c.args.event position h is (all_bytes bytes c.type_inv.bytes) e.rises e.entered e.list none)
 
 pub returns-then-not-is_of_kind-clause-codes : goal.returns-then-not-is_of_kind-clause-codes
 returns-then-not-is_of_kind-clause-codes c = λ ds v h is is_size.
     let bytes = c.args.bytes.now in
     let before = c.args.known.now in
-    let place = c.in_ok-place.place in
-    let e : EntersKey bytes before c.enter_key.new.known place false = subst (EntersKey bytes before c.enter_key.new.known place) c.if-new.false (c.in_ok-place.ensures.enters h.rises) in
-    let there : slice_get before.list.items place ≡ Some c.in-Some.code = ap (λ l. slice_get l place) (sym e.list ∙ sym c.deref.ensures.value) ∙ sym c.code_in.ensures ∙ c.in-Some.is in
-    entered_other c.args.text.now.items before c.enter_key.new.known ds v bytes c.args.size c.args.event place h is (all_bytes bytes c.type_inv.bytes) e.rises e.entered e.list c.in-Some.code there (sym c.is_of_kind.ensures ∙ c.if-not-is_of_kind.true)
+    let position = c.in_ok-position.position in
+    let e : EntersKey bytes before c.enter_key.new.known position false = subst (EntersKey bytes before c.enter_key.new.known position) c.if-new.false (c.in_ok-position.ensures.enters h.rises) in
+    let there : slice_get before.list.items position ≡ Some c.in-Some.code = ap (λ l. slice_get l position) (sym e.list ∙ sym c.deref.ensures.value) ∙ sym c.code_in.ensures ∙ c.in-Some.is in
+    entered_other c.args.text.now.items before c.enter_key.new.known ds v bytes c.args.size c.args.event position h is (all_bytes bytes c.type_inv.bytes) e.rises e.entered e.list c.in-Some.code there (sym c.is_of_kind.ensures ∙ c.if-not-is_of_kind.true)
 
 pub returns-clause-codes : goal.returns-clause-codes
 returns-clause-codes c = λ ds v h is is_size.
     let bytes = c.args.bytes.now in
     let before = c.args.known.now in
-    let place = c.in_ok-place.place in
-    let e : EntersKey bytes before c.enter_key.new.known place false = subst (EntersKey bytes before c.enter_key.new.known place) c.if-new.false (c.in_ok-place.ensures.enters h.rises) in
-    let there : slice_get before.list.items place ≡ Some c.in-Some.code = ap (λ l. slice_get l place) (sym e.list ∙ sym c.deref.ensures.value) ∙ sym c.code_in.ensures ∙ c.in-Some.is in
-    entered_known c.args.text.now.items before c.enter_key.new.known ds v bytes c.args.size c.args.event place h is (all_bytes bytes c.type_inv.bytes) e.rises e.entered e.list c.in-Some.code there (sym c.is_of_kind.ensures ∙ c.if-not-is_of_kind.false)
+    let position = c.in_ok-position.position in
+    let e : EntersKey bytes before c.enter_key.new.known position false = subst (EntersKey bytes before c.enter_key.new.known position) c.if-new.false (c.in_ok-position.ensures.enters h.rises) in
+    let there : slice_get before.list.items position ≡ Some c.in-Some.code = ap (λ l. slice_get l position) (sym e.list ∙ sym c.deref.ensures.value) ∙ sym c.code_in.ensures ∙ c.in-Some.is in
+    entered_known c.args.text.now.items before c.enter_key.new.known ds v bytes c.args.size c.args.event position h is (all_bytes bytes c.type_inv.bytes) e.rises e.entered e.list c.in-Some.code there (sym c.is_of_kind.ensures ∙ c.if-not-is_of_kind.false)

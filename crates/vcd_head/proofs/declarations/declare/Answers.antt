@@ -16,7 +16,7 @@ pub returns-in_default-clause-declares : goal.returns-in_default-clause-declares
 returns-in_default-clause-declares c = λ reference size spells most ps h start.
     let variable = c.args.variable in
     let is : code_of (spelled variable reference) ≡ record { text = variable.code.now; size = variable.size; event = c.is_event-event.result } = λ j. record { text = variable.code.now; size = variable.size; event = sym c.is_event-event.ensures j } in
-    let e = (rw (not_some c.in_ok-place.field-0 c.in_default.not-Some) at (c.in_ok-place.ensures.codes (declarations_of ps) (spelled variable reference) h.declares.codes is size)) in
+    let e = (rw (not_some c.in_ok-position.field-0 c.in_default.not-Some) at (c.in_ok-position.ensures.codes (declarations_of ps) (spelled variable reference) h.declares.codes is size)) in
     (sym e.0, holds_same most c.args.draft.now _ ps h e.1 e.2 refl refl refl refl refl)
 
 pub returns-clause-declares : goal.returns-clause-declares
@@ -29,7 +29,7 @@ returns-clause-declares c = λ reference size spells most ps h start.
     let v = spelled variable reference in
     let few = room most ps kind.Var start in
     let is : code_of v ≡ record { text = variable.code.now; size = variable.size; event = c.is_event-event.result } = λ j. record { text = variable.code.now; size = variable.size; event = sym c.is_event-event.ensures j } in
-    let e = (rw c.in-Some.is at (c.in_ok-place.ensures.codes ds v h.declares.codes is size)) in
+    let e = (rw c.in-Some.is at (c.in_ok-position.ensures.codes ds v h.declares.codes is size)) in
     let held = e.1 in
     let middle = c.enter_code.new.text.items in
     let known = c.enter_code.new.known in
@@ -40,10 +40,10 @@ returns-clause-declares c = λ reference size spells most ps h start.
     let length_grown = ap length held.grown in
     let from : c.len-start.result ≡ length (old ++ held.more) = omega (arith, length_grown) in
     let all : c.in_ok-all.all ≡ length join = c.in_ok-all.ensures.len ∙ ap length spells.text_is in
-    let row : Row = record { kind = kind.Var; parent = c.parent-parent.result; start = c.len-start.result; word = length type; name = length variable.reference.name.now; all = c.in_ok-all.all; code = c.in-Some.place } in (
+    let row : Row = record { kind = kind.Var; parent = c.parent-parent.result; start = c.len-start.result; word = length type; name = length variable.reference.name.now; all = c.in_ok-all.all; code = c.in-Some.position } in (
       sym e.0,
       holds_declared most d _ ps (Declaration.Var v) h
-          (var_entered most d _ ds v row held.more [] h.declares few spells.named grown (omega (arith, held.short)) (c.in_ok-push.ensures.items (record { parent = subst (λ n. n < 2 ^ 32) (sym c.parent-parent.ensures) (scope_narrow most d ds h.declares); code = code_narrow most d ds v c.in-Some.place h.declares few held.held_at })) codes held.held_at refl
+          (var_entered most d _ ds v row held.more [] h.declares few spells.named grown (omega (arith, held.short)) (c.in_ok-push.ensures.items (record { parent = subst (λ n. n < 2 ^ 32) (sym c.parent-parent.ensures) (scope_narrow most d ds h.declares); code = code_narrow most d ds v c.in-Some.position h.declares few held.held_at })) codes held.held_at refl
           refl c.parent-parent.ensures from refl all spells.name_is)
           refl refl refl,
     )

@@ -2,5 +2,5 @@ use Rattle.std.proofs.Common.{◌≡◌, true, length}
 use Rattle.vcd_view.specs.Entries.{are_right}
 use Rattle.vcd_head.proofs.entries.fill.Given as goal
 
-abbrev pub invariant-loop-place : goal.invariant-loop-place
-invariant-loop-place l = (are_right l.text l.codes l.initial.entries ≡ true → are_right l.text l.codes l.entries ≡ true) × (length l.entries ≡ length l.initial.entries)
+abbrev pub invariant-loop-position : goal.invariant-loop-position
+invariant-loop-position l = (are_right l.text l.codes l.initial.entries ≡ true → are_right l.text l.codes l.entries ≡ true) × (length l.entries ≡ length l.initial.entries)

@@ -4,13 +4,13 @@ use Rattle.vcd_head.specs.Fronts.{bytes_at, rank_in, rank_of}
 use Rattle.vcd_head.proofs.RankLemmas.{ranks_more}
 use Rattle.vcd_head.proofs.index.ranks_of.Goals as goal
 
-pub loop-place-preserved : goal.loop-place-preserved
-loop-place-preserved c =
+pub loop-position-preserved : goal.loop-position-preserved
+loop-position-preserved c =
     let text = c.args.text.now in
     let codes = c.args.codes.now in
-    let place = c.loop-place.place in
+    let position = c.loop-position.position in
     let rank = c.rank_of.result in
-    let short : length (bytes_at text codes place) ≤ 4 = subst (λ bs. length bs ≤ 4) c.bytes_at-bytes.ensures (omega arith) in (
-      c.in_ok-push.ensures.items ∙ ap (λ l. l ++ rank ∷ []) c.loop-place.invariant.0 ∙ ranks_more (rank_in text codes) place rank (c.rank_of.ensures ∙ ap (λ bs. rank_of bs place) c.bytes_at-bytes.ensures),
-      below_more (λ p. length (bytes_at text codes p) ≤ 4) place c.loop-place.invariant.1 short,
+    let short : length (bytes_at text codes position) ≤ 4 = subst (λ bs. length bs ≤ 4) c.bytes_at-bytes.ensures (omega arith) in (
+      c.in_ok-push.ensures.items ∙ ap (λ l. l ++ rank ∷ []) c.loop-position.invariant.0 ∙ ranks_more (rank_in text codes) position rank (c.rank_of.ensures ∙ ap (λ bs. rank_of bs position) c.bytes_at-bytes.ensures),
+      below_more (λ p. length (bytes_at text codes p) ≤ 4) position c.loop-position.invariant.1 short,
     )

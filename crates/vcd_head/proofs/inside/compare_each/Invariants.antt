@@ -7,9 +7,9 @@ use Rattle.vcd_view.specs.Views.{Views}
 use Rattle.vcd_head.proofs.MatchLemmas.{Matching}
 use Rattle.vcd_head.proofs.inside.compare_each.Given as goal
 
-abbrev pub invariant-loop-place : goal.invariant-loop-place
-invariant-loop-place l = record {
+abbrev pub invariant-loop-position : goal.invariant-loop-position
+invariant-loop-position l = record {
   len : length l.matched ≡ 16384;
   asked : (h : Header) (v : Variable) → Views (parts l.view) h → slice_get h.declarations l.row ≡ Some (Declaration.Var v)
-      → Matching (selects_path (path_of (take l.row h.declarations) (Declaration.Var v))) (map string_bytes l.names) l.place l.initial.matched l.matched l.some;
+      → Matching (selects_path (path_of (take l.row h.declarations) (Declaration.Var v))) (map string_bytes l.names) l.position l.initial.matched l.matched l.some;
 }

@@ -37,9 +37,9 @@ pub returns-in_ok-put_openings-in-Var : goal.returns-in_ok-put_openings-in-Var
 returns-in_ok-put_openings-in-Var g c = counted (search rules) (λ h d v is fits.
     let at = sym c.row_at.ensures ∙ c.in-Some.is in
     let (u, e) = var_row_is (parts c.args.view) h c.args.row c.in-Some.declared d v at is c.in-Var.is in
-    let place = place_read (parts c.args.view) h c.args.row c.in-Some.declared u v at (is ∙ ap Some e) in
-    let within = place.within in
-    let is_place = place.place in
+    let position = place_read (parts c.args.view) h c.args.row c.in-Some.declared u v at (is ∙ ap Some e) in
+    let within = position.within in
+    let is_place = position.position in
     let sum : c.saturating_add.result ≡ c.args.first + code_place h u.code = omega (arith, c.saturating_add.ensures, within, is_place, fits) in
     let line = subst (λ (code : List ℕ). Takes (g.W.Sink.device c.put_openings.new.w) (g.W.Sink.device c.put_variable.new.w) (var_line u code) c.put_variable.result) (c.text.ensures ∙ c.of-id.ensures ∙ ap new_code sum) (c.put_variable.ensures.0 h u v (is ∙ ap Some e)) in
     subst (λ (x : Declaration). Takes (g.W.Sink.device c.args.w.now) (g.W.Sink.device c.put_variable.new.w) (due h c.args.first c.args.scopes.pending c.args.scopes.written (take c.args.row h.declarations) x) c.put_variable.result) (sym e)

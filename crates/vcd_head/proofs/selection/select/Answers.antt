@@ -64,7 +64,7 @@ returns-in-Some-clause-names c = λ h v.
     let names = c.args.names.now in
     let done = c.min-done.result in
     ap (λ l. first_unmatched l h.declarations) (split_at string_bytes done names)
-    ∙ unmatched_first (map string_bytes (take done names)) (map string_bytes (drop done names)) h.declarations c.in-Some.place (sym (c.mark_selected.ensures.names h v) ∙ c.in-Some.is)
+    ∙ unmatched_first (map string_bytes (take done names)) (map string_bytes (drop done names)) h.declarations c.in-Some.position (sym (c.mark_selected.ensures.names h v) ∙ c.in-Some.is)
 
 pub returns-in-Some-mark_selected-clause-names : goal.returns-in-Some-mark_selected-clause-names
 returns-in-Some-mark_selected-clause-names c = λ h v.
@@ -72,12 +72,12 @@ returns-in-Some-mark_selected-clause-names c = λ h v.
     let names = c.args.names.now in
     let from = c.loop-done.done in
     let to = c.min-done-in-loop-done.result in
-    let place = c.in-Some-mark_selected.place in
+    let position = c.in-Some-mark_selected.position in
     let both = ap (map string_bytes) (take_group from to names (omega arith) (omega arith)) ∙ map-append string_bytes (take from names) (slice_range names from to) in
     let found = sym c.in-Some-mark_selected.is ∙ c.mark_selected-in-loop-done.ensures.names h v in
     let count : length (map string_bytes (take from names)) ≡ from = length-map (take from names) string_bytes ∙ length-take-le from names (omega arith) in
-    let here = ap (λ l. first_unmatched l ds) both ∙ unmatched_later (map string_bytes (take from names)) (map string_bytes (slice_range names from to)) ds (Some place) (c.loop-done.invariant.matched h v) found ∙ ap (λ n. Some (n + place)) count in
-    ap (λ l. first_unmatched l ds) (split_at string_bytes to names) ∙ unmatched_first (map string_bytes (take to names)) (map string_bytes (drop to names)) ds (from + place) here
+    let here = ap (λ l. first_unmatched l ds) both ∙ unmatched_later (map string_bytes (take from names)) (map string_bytes (slice_range names from to)) ds (Some position) (c.loop-done.invariant.matched h v) found ∙ ap (λ n. Some (n + position)) count in
+    ap (λ l. first_unmatched l ds) (split_at string_bytes to names) ∙ unmatched_first (map string_bytes (take to names)) (map string_bytes (drop to names)) ds (from + position) here
 
 pub returns-clause-names : goal.returns-clause-names
 returns-clause-names c = λ h v.

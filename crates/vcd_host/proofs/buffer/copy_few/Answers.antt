@@ -4,9 +4,9 @@ use Rattle.vcd_host.proofs.buffer.copy_few.Goals as goal
 
 pub returns-clause-copied : goal.returns-clause-copied
 returns-clause-copied c =
-    let place = c.args.place in
+    let position = c.args.position in
     let to = c.args.to.now in
     let room = c.requires.room in
     let same : c.copy_from_slice.new.self ≡ c.args.from = search rules in
     let long : length c.args.from ≡ 8 = search rules in
-    take-put_mid place _ to c.copy_from_slice.new.self (place + 8) (omega (arith, ap length same, long)) (omega (arith, room)) ∙ ap (λ (l : List ℕ). take place to ++ l) same
+    take-put_mid position _ to c.copy_from_slice.new.self (position + 8) (omega (arith, ap length same, long)) (omega (arith, room)) ∙ ap (λ (l : List ℕ). take position to ++ l) same

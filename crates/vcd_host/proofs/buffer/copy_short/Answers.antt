@@ -7,4 +7,4 @@ pub returns-clause-copied : goal.returns-clause-copied
 returns-clause-copied c =
     let front = take 64 c.args.from.now in
     let long : length front ≡ 64 = length-take-le 64 c.args.from.now c.requires.there in
-    take_more_put_chunk c.args.place c.args.to.now front (c.args.place + 64) (omega (arith, long)) c.requires.room
+    take_more_put_chunk c.args.position c.args.to.now front (c.args.position + 64) (omega (arith, long)) c.requires.room

@@ -13,7 +13,7 @@ use Rattle.vcd_merge.proofs.MergeItem.{section_is, event_of, line_is, number_fit
 use Rattle.vcd_merge.proofs.merging.put_unsized.Goals as goal
 
 pub put_renamed-requires-clause-digits : goal.put_renamed-requires-clause-digits
-put_renamed-requires-clause-digits g c = λ plain other. some_digits c.args.codes.now c.args.code c.args.form c.args.text.now c.requires.sound other
+put_renamed-requires-clause-digits g c = λ scanned other. some_digits c.args.codes.now c.args.code c.args.form c.args.text.now c.requires.sound other
 
 pub returns-then-is_left_out-clause-takes : goal.returns-then-is_left_out-clause-takes
 returns-then-is_left_out-clause-takes g c = λ r section v scale first h items x same views known time number few is.

@@ -25,7 +25,7 @@ returns-in-None-clause-turns g c = λ scale first l items shows at.
     let not = c.in-None.ensures in
     let big : 2 ^ 64 ≤ c.in-Time.time * c.args.seat.now.factor = omega (arith, not) in
     let dump = marked_dump scale (limit_of c.next_item.new.feed) l.header l.front l.input items at.small c.next_item.new.feed c.in-Time.time c.next_item.new.regs refl (large scale c.in-Time.time (rw at.factor_is at big)) gives in
-    rw c.too_large.ensures (refl, refl, rw c.line-in-None.ensures dump, writes-none (g.W.Sink.device _), no_more_at_item l l.input items c.next_item.new.feed (BodyItem.Time c.in-Time.time) c.next_item.new.regs gives)
+    rw c.time_too_large.ensures (refl, refl, rw c.line-in-None.ensures dump, writes-none (g.W.Sink.device _), no_more_at_item l l.input items c.next_item.new.feed (BodyItem.Time c.in-Time.time) c.next_item.new.regs gives)
 
 pub returns-in_err-put_unsized-in-Change-clause-turns : goal.returns-in_err-put_unsized-in-Change-clause-turns
 returns-in_err-put_unsized-in-Change-clause-turns g c = λ scale first l items shows at.

@@ -3,11 +3,11 @@ use Rattle.std.proofs.lemmas.List.{drop_more}
 use Rattle.vcd_view.specs.Entries.{above}
 use Rattle.vcd_view.proofs.entries.number_of.Goals as goal
 
-pub loop-place-preserved : goal.loop-place-preserved
-loop-place-preserved c =
-    let p = c.loop-place.place in
-    let back : p - 1 + 1 ≡ p = omega (arith, c.loop-place-test.true) in
-    let step = drop_more c.args.code.now (p - 1) 0 (omega (arith, c.loop-place-test.true, c.loop-place.invariant.0)) in (
-      omega (arith, c.loop-place.invariant.0),
-      rw (step, back) (c.above-number.ensures ∙ ap (λ n. above n (get_or c.args.code.now (p - 1) 0)) c.loop-place.invariant.1),
+pub loop-position-preserved : goal.loop-position-preserved
+loop-position-preserved c =
+    let p = c.loop-position.position in
+    let back : p - 1 + 1 ≡ p = omega (arith, c.loop-position-test.true) in
+    let step = drop_more c.args.code.now (p - 1) 0 (omega (arith, c.loop-position-test.true, c.loop-position.invariant.0)) in (
+      omega (arith, c.loop-position.invariant.0),
+      rw (step, back) (c.above-number.ensures ∙ ap (λ n. above n (get_or c.args.code.now (p - 1) 0)) c.loop-position.invariant.1),
     )

@@ -2,8 +2,8 @@ use Rattle.std.proofs.Common.{◌≡◌, ◌≤◌, drop, length}
 use Rattle.vcd_view.specs.Entries.{number_in}
 use Rattle.vcd_view.proofs.entries.number_of.Given as goal
 
-abbrev pub invariant-loop-place : goal.invariant-loop-place
-invariant-loop-place l = (l.place ≤ length l.code) × (l.number ≡ number_in (drop l.place l.code))
+abbrev pub invariant-loop-position : goal.invariant-loop-position
+invariant-loop-position l = (l.position ≤ length l.code) × (l.number ≡ number_in (drop l.position l.code))
 
-abbrev pub decreases-loop-place : goal.decreases-loop-place
-decreases-loop-place l = l.place
+abbrev pub decreases-loop-position : goal.decreases-loop-position
+decreases-loop-position l = l.position

@@ -17,16 +17,16 @@ returns-in-Some c = λ text cs h e r.
     let bytes = c.args.bytes.now in
     let self = c.args.self.now in
     let found : position (nat_eq (key_in bytes)) self.rising.items ≡ position (nat_eq c.key_of.result) c.deref.result.now = λ j. position (nat_eq (sym c.key_of.ensures j)) (sym c.deref.ensures.value j) in
-    let told = finds_number bytes self.rising.items self.keys.keys c.in-Some.place r (found ∙ sym (c.in-Some.ensures (subst Rises (sym c.deref.ensures.value) r))) in
+    let told = finds_number bytes self.rising.items self.keys.keys c.in-Some.position r (found ∙ sym (c.in-Some.ensures (subst Rises (sym c.deref.ensures.value) r))) in
     subst (Finds cs bytes) told (finds_key bytes (all_bytes bytes c.type_inv.bytes) (keys_of self) cs h.texts e)
 
-pub returns-in_err-place : goal.returns-in_err-place
-returns-in_err-place c = λ text cs h e r.
+pub returns-in_err-position : goal.returns-in_err-position
+returns-in_err-position c = λ text cs h e r.
     let bytes = c.args.bytes.now in
     let self = c.args.self.now in
     let found : position (nat_eq (key_in bytes)) self.rising.items ≡ position (nat_eq c.key_of.result) c.deref.result.now = λ j. position (nat_eq (sym c.key_of.ensures j)) (sym c.deref.ensures.value j) in
-    let told = finds_behind bytes self.rising.items self.keys.keys (found ∙ sym (c.place_in.ensures (subst Rises (sym c.deref.ensures.value) r)) ∙ c.in_default.is) in
-    let none : position (is_key bytes) self.keys.keys ≡ None = sym c.find_key.ensures ∙ c.in_err-place.was in
+    let told = finds_behind bytes self.rising.items self.keys.keys (found ∙ sym (c.index_in_rising.ensures (subst Rises (sym c.deref.ensures.value) r)) ∙ c.in_default.is) in
+    let none : position (is_key bytes) self.keys.keys ≡ None = sym c.find_key.ensures ∙ c.in_err-position.was in
     let result : None ≡ c.from_residual.result = search rules in
     subst (Finds cs bytes) (told ∙ ap (option_map (λ i. length self.rising.items + i)) none ∙ result) (finds_key bytes (all_bytes bytes c.type_inv.bytes) (keys_of self) cs h.texts e)
 
@@ -34,10 +34,10 @@ pub returns : goal.returns
 returns c = λ text cs h e r.
     let bytes = c.args.bytes.now in
     let self = c.args.self.now in
-    let place = c.in_ok-place.place in
+    let place = c.in_ok-position.position in
     let found : position (nat_eq (key_in bytes)) self.rising.items ≡ position (nat_eq c.key_of.result) c.deref.result.now = λ j. position (nat_eq (sym c.key_of.ensures j)) (sym c.deref.ensures.value j) in
-    let told = finds_behind bytes self.rising.items self.keys.keys (found ∙ sym (c.place_in.ensures (subst Rises (sym c.deref.ensures.value) r)) ∙ c.in_default.is) in
-    let some : position (is_key bytes) self.keys.keys ≡ Some place = sym c.find_key.ensures ∙ c.in_ok-place.was in
+    let told = finds_behind bytes self.rising.items self.keys.keys (found ∙ sym (c.index_in_rising.ensures (subst Rises (sym c.deref.ensures.value) r)) ∙ c.in_default.is) in
+    let some : position (is_key bytes) self.keys.keys ≡ Some place = sym c.find_key.ensures ∙ c.in_ok-position.was in
     let within = place_within (is_key bytes) self.keys.keys place some in
     let all = length_keys bytes self.rising.items self.keys.keys in
     let as_many = len_of bytes (all_bytes bytes c.type_inv.bytes) (keys_of self) cs e in

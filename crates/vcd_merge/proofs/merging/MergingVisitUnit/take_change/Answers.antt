@@ -39,7 +39,7 @@ returns-in_err-put_due_time-clause-takes g c = change_taken _ _ _ c.args.change 
     let is = rw c.in-Change.is at at in
     let y : Change = record { code = is.0; form = model_form c.in-Change.form; text = c.args.change.text.now } in
     let told = subst (λ (i : Item). IsSizedItem c.args.view.codes.now i c.args.change.most) c.in-Change.is c.requires.item.sized in
-    let sized = subst (λ (l : List Code). IsSized l (record { place = c.in-Change.code; most = c.args.change.most })) (sym same) told in
+    let sized = subst (λ (l : List Code). IsSized l (record { position = c.in-Change.code; most = c.args.change.most })) (sym same) told in
     let out : (is.0.event && leaves_open items) ≡ false = rw (no_event c.in-Change.code c.args.change.most (parts v) h is.0 views is.1 sized c.if-change-eq0.false) refl in
     let e : c.from_residual.result ≡ Err c.in_err-put_due_time.field-0.0 = search rules in
     let t = rw time at c.in_err-put_due_time.ensures.puts.0 in
@@ -50,7 +50,7 @@ returns-clause-takes g c = change_taken _ _ _ c.args.change c.requires.item (rec
     let is = rw c.in-Change.is at at in
     let y : Change = record { code = is.0; form = model_form c.in-Change.form; text = c.args.change.text.now } in
     let told = subst (λ (i : Item). IsSizedItem c.args.view.codes.now i c.args.change.most) c.in-Change.is c.requires.item.sized in
-    let sized = subst (λ (l : List Code). IsSized l (record { place = c.in-Change.code; most = c.args.change.most })) (sym same) told in
+    let sized = subst (λ (l : List Code). IsSized l (record { position = c.in-Change.code; most = c.args.change.most })) (sym same) told in
     let out : (is.0.event && leaves_open items) ≡ false = rw (no_event c.in-Change.code c.args.change.most (parts v) h is.0 views is.1 sized c.if-change-eq0.false) refl in
     let fits = number_fits h c.in-Change.code is.0 is.1 first few in
     let sum : c.saturating_add-number.result ≡ first + c.in-Change.code = omega (arith, c.saturating_add-number.ensures) in

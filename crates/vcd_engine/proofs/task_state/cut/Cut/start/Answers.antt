@@ -58,6 +58,6 @@ returns-clause-starts g c = λ h views.
           )
       | inr none ↦
           let later = later_than from none.why in
-          let plain = plain_at from (λ e. omega (arith, later, e)) in
-          rw (none.same, none.nothing) (can, starts_plain h _ c.requires.order refl held plain, (rw (open_plain h from to plain) head, c.in_ok-put_head.ensures.counts))
+          let scanned = plain_at from (λ e. omega (arith, later, e)) in
+          rw (none.same, none.nothing) (can, starts_plain h _ c.requires.order refl held scanned, (rw (open_plain h from to scanned) head, c.in_ok-put_head.ensures.counts))
     ]

@@ -5,22 +5,22 @@ use Rattle.vcd_body.specs.Device.{DueBy}
 use Rattle.vcd_body.specs.Given.{IsItem}
 use Rattle.vcd_body.specs.Items.{regs_after}
 use Rattle.vcd_body.specs.Taken.{TakesItem}
-use Rattle.vcd_body.specs.declared.ahead.Plain.{Plain}
+use Rattle.vcd_body.specs.declared.ahead.ScannedItem.{ScannedItem}
 use Rattle.vcd_body.proofs.Results.{if_ok_more}
 use Rattle.vcd_engine.specs.Engine.{request_in}
 use Rattle.vcd_engine.specs.Pieces.{IsPart, PutsOn, pending_in}
 use Rattle.vcd_engine.proofs.NextLemmas.{goes_on_item}
-use Rattle.vcd_engine.proofs.PieceLemmas.{next_line_is, no_mark_here, placed_there, same_regs}
+use Rattle.vcd_engine.proofs.PieceLemmas.{next_line_is, no_timestamp_here, placed_there, same_regs}
 use Rattle.vcd_engine.proofs.task_state.walk.WalkStateVisit.take_change.Goals as goal
 
 pub take_item-requires-clause-span : goal.take_item-requires-clause-span
 take_item-requires-clause-span g c =
     let l = c.of-change.result in
     let there = c.of-change.ensures.span in
-    let is = c.of-change.ensures.plain in
+    let is = c.of-change.ensures.scanned in
     let f = c.requires.form in
-    let item : TakesItem c.args.view c.args.extent.from c.args.extent.to c.args.regs l.plain = rw is c.requires.item in
-    placed_there c.args.view c.args.extent.from c.args.extent.to c.args.regs l.plain l.bytes l.from l.to item there.bytes there.from there.to (f.1.0, f.0, rw is f.1.1)
+    let item : TakesItem c.args.view c.args.extent.from c.args.extent.to c.args.regs l.scanned = rw is c.requires.item in
+    placed_there c.args.view c.args.extent.from c.args.extent.to c.args.regs l.scanned l.bytes l.from l.to item there.bytes there.from there.to (f.1.0, f.0, rw is f.1.1)
 
 pub take_item-requires-clause-line : goal.take_item-requires-clause-line
 take_item-requires-clause-line g c =
@@ -35,22 +35,22 @@ returns-clause-takes g c =
     let p = c.args.change in
     let item = c.requires.item in
     let f = c.requires.form in
-    let is = c.of-change.ensures.plain in
+    let is = c.of-change.ensures.scanned in
     let same = c.of-change.ensures.span.bytes ∙ item.same.0 in
     let t = request_in (g.C.AheadTask.task_state c.args.command.now) in
     let old = g.W.Sink.device c.args.out.now in
     let new = g.W.Sink.device c.take_item.new.out in
     let result = c.take_item.result in
     record {
-      plain = p;
+      scanned = p;
       item = item;
       regs = same_regs c.args.regs p.item f.1.0 f.0 f.1.1;
       line = next_line_is _ _ _ _ _ _ (sym item.same.0) refl refl c.requires.stands.line;
       one = λ h items x views known read few keeps.
-          let one = c.take_item.ensures.takes h items c.args.regs x views known (subst (λ (q : Plain). c.args.regs ≡ regs_after c.args.regs q.item) (sym is) (same_regs c.args.regs p.item f.1.0 f.0 f.1.1)) (subst (λ (q : Plain). IsItem h.codes q.text.now q.item x) (sym is) read) few keeps in
+          let one = c.take_item.ensures.takes h items c.args.regs x views known (subst (λ (q : ScannedItem). c.args.regs ≡ regs_after c.args.regs q.item) (sym is) (same_regs c.args.regs p.item f.1.0 f.0 f.1.1)) (subst (λ (q : ScannedItem). IsItem h.codes q.text.now q.item x) (sym is) read) few keeps in
           record {
             due = subst (λ (bs : List ℕ). DueBy (λ due. PutsOn (pending_in bs c.args.self.now.pieces) (pending_in bs c.take_item.new.pieces) old new due result) (open_text t h items) (open_text t h (items ++ x ∷ []))) same one.0;
-            on = goes_on_item t h.codes p.text.now p.item x (no_mark_here p.item f.1.0 f.0 f.1.1) read;
+            on = goes_on_item t h.codes p.text.now p.item x (no_timestamp_here p.item f.1.0 f.0 f.1.1) read;
             keeps = one.1;
           };
       counts = c.take_item.ensures.counts;

@@ -1,0 +1,13 @@
+use Rattle.std.proofs.Common.{drop, subst}
+use Rattle.vcd_body.specs.Words.{Begins}
+use Rattle.vcd_body.proofs.WordLemmas.{first_rest}
+use Rattle.vcd_body.proofs.ahead.line_timestamp.Goals as goal
+
+pub returns-clause-opens : goal.returns-clause-opens
+returns-clause-opens c =
+    let n = c.in_ok-token.ensures in
+    let token = c.in_ok-token.token.now in
+    record {
+      token = n.takes;
+      begins = subst (λ t. Begins t c.kind_by-kind.result) (first_rest token n.takes.some) (c.kind_by-kind.ensures (drop 1 token));
+    }

@@ -1,0 +1,61 @@
+use Rattle.std.proofs.Common.{refl, ℕ, [], ◌∷◌, ◌<◌, ◌≤◌, drop, length, subst, sym, arith}
+use Rattle.std.proofs.lemmas.Bool.{false≢true}
+use Rattle.vcd_model.specs.Bytes.{decimal_value}
+use Rattle.vcd_model.specs.BodyPhrases.{items_of}
+use Rattle.vcd_model.specs.Items.{BodyItem, time_after}
+use Rattle.vcd_model.specs.Tokens.{Token}
+use Rattle.vcd_text.specs.Ahead.{bytes_of, longest_of, passed_of, start_of}
+use Rattle.vcd_text.specs.Passed.{line_ahead}
+use Rattle.vcd_body.proofs.AheadLemmas.{passes_same, mark_taken}
+use Rattle.vcd_body.proofs.FindLemmas.{time_whole}
+use Rattle.vcd_body.proofs.LineLemmas.{token_begun, token_there, mark_there}
+use Rattle.vcd_body.proofs.PhraseLemmas.{mark_misplaced, time_passes}
+use Rattle.vcd_body.specs.Reads.{Passes}
+use Rattle.vcd_body.specs.Words.{Begins}
+use Rattle.vcd_body.specs.declared.words.PhraseKind.{PhraseKind}
+use Rattle.vcd_body.proofs.ahead.timestamp_ahead.Goals as goal
+
+pub returns-in-Ok-clause-takes : goal.returns-in-Ok-clause-takes
+returns-in-Ok-clause-takes c = λ a v o.
+    let token = c.args.opening.token.now in
+    let taken = o.token in
+    let regs = c.args.regs.now in
+    let time = c.args.time in
+    let bytes = bytes_of a in
+    let from = passed_of a in
+    let to = passed_of c.args.ahead in
+    let further = taken.further in
+    let less : from < to = omega (arith, further) in
+    let there = token_there bytes from to token taken.further taken.within taken.before taken.place in
+    let m = c.timestamp_of.ensures in
+    let digits = c.requires.time in
+    let may = c.in-Ok.ensures.may in
+    let late : regs.time ≤ decimal_value (drop 1 token) = subst (λ (n : ℕ). regs.time ≤ n) (sym digits.1) may.forth in
+    rw (m.item, m.text, m.most, m.positions.1, m.positions.0, m.bits, m.binary, c.begin_of-begin.ensures) (record {
+      gives = λ h limit lines bytes before items v over k g.
+          let one = passes_same limit (longest_of a) lines bytes (bytes_of a) from to (start_of c.args.ahead token) token over.0 over.1 (taken.gives lines) g.tokens g.passed in
+          mark_taken h.codes limit lines bytes before items from regs g k _ time (line_ahead lines bytes (start_of c.args.ahead token)) token less one (λ earlier e. subst (λ (n : ℕ). Passes h.codes earlier token (BodyItem.Time n) × (time_after (items_of earlier) ≤ n)) digits.1 (time_passes h.codes earlier token (subst (λ (f : PhraseKind). Begins token f) c.requires.kind o.begins) regs e (time_whole (drop 1 token) time digits.0 digits.1 digits.2) may.outside late));
+      passes = λ limit lines bytes ts over p.
+          let t : Token = record { bytes = token; line = line_ahead lines bytes (start_of c.args.ahead token) } in
+          (t ∷ [], passes_same limit (longest_of a) lines bytes (bytes_of a) from to (start_of c.args.ahead token) token over.0 over.1 (taken.gives lines) ts p);
+      sound = tt;
+      scanned = refl;
+      sized = refl;
+      bits = tt;
+      binary = λ e. absurd (false≢true e);
+      spelled = mark_there bytes _ _ token _ taken.some c.requires.time there;
+      begun = mark_there bytes _ _ token _ taken.some c.requires.time (token_begun bytes from to token there);
+      further = less;
+      within = subst (λ (bs : _). to ≤ length bs) (sym taken.same.0) taken.within;
+      same = taken.same;
+    })
+
+pub returns-in-Ok-clause-spelled : goal.returns-in-Ok-clause-spelled
+returns-in-Ok-clause-spelled c = λ a o.
+    let token = c.args.opening.token.now in
+    let taken = o.token in
+    let there = token_there (bytes_of a) (passed_of a) (passed_of c.args.ahead) token taken.further taken.within taken.before taken.place in
+    rw (c.timestamp_of.ensures.positions.1, c.begin_of-begin.ensures) (mark_there (bytes_of a) _ _ token _ taken.some c.requires.time there)
+
+pub returns-in-Err-clause-none : goal.returns-in-Err-clause-none
+returns-in-Err-clause-none c = λ _. mark_misplaced c.args.regs.now c.args.time _ c.in-Err.ensures.may

@@ -1,5 +1,0 @@
-use Rattle.vcd_body.proofs.MarkLine.{mark_line_there}
-use Rattle.vcd_body.proofs.lines.is_mark_line.Goals as goal
-
-pub returns : goal.returns
-returns c = λ e time m. mark_line_there c.args.bytes.now c.args.from c.args.to c.args.at time e m

@@ -1,0 +1,23 @@
+use Rattle.std.proofs.Common.{◌≡◌, ◌++◌, append-nil, refl, subst, sym, take}
+use Rattle.vcd_body.specs.Items.{regs_after}
+use Rattle.vcd_body.specs.declared.item.Item.{Item}
+use Rattle.vcd_changes.specs.Rows.{row_added}
+use Rattle.vcd_changes.proofs.RowLemmas.{not_both}
+use Rattle.vcd_changes.proofs.walk.CollectingVisitRows.take_timestamp.Goals as goal
+
+pub returns-clause-takes : goal.returns-clause-takes
+returns-clause-takes c = λ out.
+    let own = c.args.self.now in
+    let timestamp = c.args._timestamp in
+    let rows = take own.count c.args._rows.now.rows.now in
+    record {
+      scanned = timestamp;
+      item = c.requires.item;
+      done = refl;
+      same = record { index = refl; loan = refl };
+      room = c.requires.stands;
+      regs = refl;
+      full = λ e. absurd (not_both _ e c.requires.left);
+      added = λ e. subst (λ (i : Item). rows ≡ rows ++ row_added own.index (regs_after c.args._regs timestamp.item).time timestamp.text.now i) (sym c.requires.time) (sym (append-nil rows));
+      end = λ e. rw e refl;
+    }

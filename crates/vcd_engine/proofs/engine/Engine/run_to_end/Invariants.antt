@@ -1,0 +1,25 @@
+use Rattle.std.proofs.Common.{◌≡◌, ◌-◌, ◌^◌, List, [], true}
+use Rattle.vcd_model.specs.Input.{Input}
+use Rattle.vcd_model.specs.Tokens.{Token}
+use Rattle.vcd_model.specs.Header.{Header}
+use Rattle.vcd_model.specs.Items.{BodyItem}
+use Rattle.vcd_model.specs.Outcome.{open_text}
+use Rattle.vcd_model.specs.Settled.{is_settled_behind}
+use Rattle.vcd_text.specs.Feed.{HasGiven, chunk_len_of, limit_of, seen, supply_of}
+use Rattle.vcd_text.specs.ReadAhead.{ReadsAsNeeded}
+use Rattle.vcd_text.specs.Device.{Device, Writes}
+use Rattle.vcd_engine.specs.Engine.{Holds, Runs, is_going, request_of_engine}
+use Rattle.vcd_text.specs.Advances.{Advances, CallEnd}
+use Rattle.vcd_engine.specs.Room.{room_in, view_in}
+use Rattle.vcd_engine.proofs.engine.Engine.run_to_end.Given as goal
+
+abbrev pub invariant-items : goal.invariant-items
+invariant-items g l = Advances g.S.Source.failures l.fn.feed l.feed CallEnd.GoesOn × (is_going l.self ≡ true) × (request_of_engine l.self ≡ request_of_engine l.fn.self)
+    × ((g.W.Sink.device l.out).failures ≡ (g.W.Sink.device l.fn.out).failures) × ((view_in l.self ≡ view_in l.fn.self) × (room_in l.self ≡ room_in l.fn.self))
+    × ((h : Header) (i : Input) (front : List Token) (begin : Device) → Holds l.fn.self h [] → HasGiven i front l.fn.feed
+    → Writes begin (g.W.Sink.device l.fn.out) (open_text (request_of_engine l.fn.self) h [])
+    → ((items : List BodyItem) × Runs l.self h i front items l.feed × Writes begin (g.W.Sink.device l.out) (open_text (request_of_engine l.fn.self) h items)
+    × ReadsAsNeeded (limit_of l.fn.feed) (chunk_len_of l.fn.feed) (supply_of l.fn.feed) (supply_of l.feed) i front (is_settled_behind (request_of_engine l.fn.self) h)))
+
+abbrev pub decreases-items : goal.decreases-items
+decreases-items g l = 2 ^ 63 - seen l.feed

@@ -1,7 +1,0 @@
-use Rattle.std.proofs.Common.{◌≡◌, ℕ, ◌<◌, false, get_or}
-use Rattle.vcd_head.specs.Keys.{is_key}
-use Rattle.vcd_head.specs.declared.code_key.CodeKey.{CodeKey}
-use Rattle.vcd_head.proofs.codes.place_among.Given as goal
-
-abbrev pub invariant-loop-place : goal.invariant-loop-place
-invariant-loop-place l = (d : CodeKey) (k : ℕ) → k < l.place → is_key l.bytes (get_or l.keys k d) ≡ false

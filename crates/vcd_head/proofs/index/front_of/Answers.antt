@@ -1,9 +1,0 @@
-use Rattle.std.proofs.Common.{arith}
-use Rattle.vcd_head.proofs.IndexLemmas.{front_fits}
-use Rattle.vcd_head.proofs.index.front_of.Goals as goal
-
-pub overflow_mul-number : goal.overflow_mul-number
-overflow_mul-number c = omega (arith, front_fits c.loop-place.number c.loop-place.place 0 c.loop-place.invariant.1 (omega (arith, c.loop-place-test.true, c.requires)) (omega arith))
-
-pub overflow_add-number : goal.overflow_add-number
-overflow_add-number c = omega (arith, front_fits c.loop-place.number c.loop-place.place c.byte_at.result c.loop-place.invariant.1 (omega (arith, c.loop-place-test.true, c.requires)) c.byte_at.ensures.small)

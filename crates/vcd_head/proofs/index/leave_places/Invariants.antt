@@ -1,6 +1,0 @@
-use Rattle.std.proofs.Common.{◌≡◌, ◌++◌, map, take, drop}
-use Rattle.vcd_head.specs.Fronts.{place_in_rank}
-use Rattle.vcd_head.proofs.index.leave_places.Given as goal
-
-abbrev pub invariant-loop-rank : goal.invariant-loop-rank
-invariant-loop-rank l = l.ranks ≡ map place_in_rank (take l.rank-index l.initial.ranks) ++ drop l.rank-index l.initial.ranks

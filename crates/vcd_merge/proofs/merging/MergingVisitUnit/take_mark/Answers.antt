@@ -1,9 +1,0 @@
-use Rattle.std.proofs.Common.{◌*◌, ◌^◌, refl}
-use Rattle.std.proofs.lemmas.Bool.{leb-false}
-use Rattle.vcd_merge.proofs.AheadTrails.{mark_taken}
-use Rattle.vcd_merge.proofs.merging.MergingVisitUnit.take_mark.Goals as goal
-
-pub returns-clause-takes : goal.returns-clause-takes
-returns-clause-takes c = λ out.
-    let fits = leb-false (2 ^ 64) (c.args.time * c.args.self.now.factor) c.requires.left in
-    mark_taken _ _ _ c.args._mark c.requires.item (record { factor = refl; first = refl; before = refl }) c.args.time c.requires.time fits refl refl refl refl
