@@ -312,7 +312,7 @@ fn past_white(bytes: &[u8], from: usize) -> usize
 }
 
 /// Returns where the white bytes from this one on end.
-// Mostly the next byte is another one, as after CR LF: then no call is made.
+// Mostly the next byte is not white, as after the LF of CR LF: then no call is made.
 #[inline(always)]
 fn white_end(bytes: &[u8], at: usize) -> usize
     requires { (at < length bytes.now) × (is_white_space (slice_index bytes.now at) ≡ true) }
