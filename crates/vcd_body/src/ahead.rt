@@ -55,14 +55,12 @@ impl ScannedItem<'_> {
     }
 }
 
-/// Returns a change of the code that was found.
+/// Returns a change of the code that was found, whose digits are not known as a number.
 #[inline(always)]
 fn change_of(
     found: Found,
     form: Form,
     text: &[u8],
-    bits: Option<Bits>,
-    binary: bool,
     begin: usize,
     at: usize,
     code_at: usize,
@@ -74,8 +72,8 @@ fn change_of(
       begin = begin;
       at = at;
       code_at = code_at;
-      bits = bits;
-      binary = binary;
+      bits = None;
+      binary = false;
     } }
 {
     ScannedItem {
@@ -88,8 +86,8 @@ fn change_of(
         begin,
         at,
         code_at,
-        bits,
-        binary,
+        bits: None,
+        binary: false,
     }
 }
 
@@ -236,7 +234,7 @@ pub(crate) fn scalar_ahead<'a>(
     let found = scalar_code(token, view).ok()?;
     let text = first_byte_of(token);
     let at = begin_of(token, ahead);
-    Some(change_of(found, Form::Scalar, text, None, false, at, at, at + 1))
+    Some(change_of(found, Form::Scalar, text, at, at, at + 1))
 }
 
 /// Returns the code after a digit, where a look at one entry finds it.
@@ -274,7 +272,7 @@ pub(crate) fn short_ahead<'a>(ahead: &mut Ahead<'a>, view: HeadView<'_>) -> Opti
     let text = first_byte_of(token);
     let at = begin_of(token, next);
     *ahead = next;
-    Some(change_of(found, Form::Scalar, text, None, false, at, at, at + 1))
+    Some(change_of(found, Form::Scalar, text, at, at, at + 1))
 }
 
 /// Returns whether two lines of two bytes come right here: the begin of a run for `short_ahead`.
@@ -421,16 +419,18 @@ pub(crate) fn vector_ahead<'a>(
     let digits = after_first(tokens.token);
     let binary = are_binary_or_known(digits, bits);
     let found = vector_code(tokens.token, tokens.code, view, binary)?;
-    Some(change_of(
-        found,
-        Form::Vector,
-        digits,
+    Some(ScannedItem {
         bits,
         binary,
-        tokens.at,
-        tokens.at + 1,
-        tokens.code_at,
-    ))
+        ..change_of(
+            found,
+            Form::Vector,
+            digits,
+            tokens.at,
+            tokens.at + 1,
+            tokens.code_at,
+        )
+    })
 }
 
 /// Returns the change that an `r` and the text of a real number begin, as `vector_tokens_ahead` and
@@ -452,16 +452,7 @@ pub(crate) fn real_ahead<'a>(
     let found = real_code(token, code, view)?;
     let code_at = begin_of(code, *ahead);
     let text = rest_of(token);
-    Some(change_of(
-        found,
-        Form::RealText,
-        text,
-        None,
-        false,
-        at,
-        at + 1,
-        code_at,
-    ))
+    Some(change_of(found, Form::RealText, text, at, at + 1, code_at))
 }
 
 /// Returns the time of the timestamp that a token is; none where it spells none. The look-ahead is
