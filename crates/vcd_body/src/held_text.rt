@@ -25,7 +25,8 @@ fn put_repeated<W: Sink>(digit: u8, count: usize, w: &mut W) -> Result<(), Write
     Ok(())
 }
 
-// Returns the digit at an index of those that are held, 0 where there is none.
+// Returns the digit at an index of those that are held, as a byte (`b'0'`, `b'1'`, `b'x'` or
+// `b'z'`), and the number 0 where the index is past them.
 #[inline(always)]
 fn digit_or(held: HeldValue<'_>, index: usize) -> u8
     ensures { result ≡ get_or (digits_of held.entry) index 0 }

@@ -26,7 +26,7 @@ fn used_by(holding: Holding) -> usize
     }
 }
 
-/// Returns whether digits are some where several are held.
+/// Returns whether what is held has a digit. It has none only in a table that is not laid out.
 #[inline(always)]
 fn holds_some(holding: Holding) -> bool
     ensures yes { result ≡ true → 1 ≤ some_by holding.state (len_of holding) }
@@ -117,8 +117,8 @@ fn hold_text(slot: &mut Slot, share: &mut Share, state: State, len: usize)
     share.upper = (len / UPPER) as u32;
 }
 
-/// Returns how many bytes a text takes at least: one for each byte of a real number, one for four
-/// digits.
+/// Returns how many bytes of a share a text needs: one for each byte of a real number, one for four
+/// digits. `hold` takes one for each digit where there is room.
 #[inline(always)]
 fn least_bytes(form: Form, len: usize) -> usize
     ensures { result ≡ least_bytes form len }
@@ -274,8 +274,8 @@ pub(crate) fn flip_at(slots: &mut [Slot], code: usize, digit: u8) -> Stepped
     }
 }
 
-/// Sets the value of a code to binary digits over such digits, where they make values of as many at
-/// this size, and counts the step.
+/// Sets the value of a code from one binary number to another, and counts the step. Nothing
+/// changes where the slot holds no such number, or one of both has more than `size` digits.
 #[inline(always)]
 pub(crate) fn step_at(slots: &mut [Slot], code: usize, size: usize, bits: Bits) -> Stepped
     ensures counted { result ≡ Stepped.Counted → StepsTo code size bits slots.old slots.new }
@@ -302,7 +302,8 @@ pub(crate) fn step_at(slots: &mut [Slot], code: usize, size: usize, bits: Bits) 
 // How many bytes the share of a code has at least: as many as the text of a real number may have.
 const LEAST_SHARE: usize = 64;
 
-/// Returns how many bytes the value of a code of this size takes at most.
+/// Returns how many bytes a code of this size is given: enough for its longest value with four
+/// digits to a byte, and for any real number. The last code has the bytes that are left, too.
 #[inline(always)]
 fn share_of(size: usize) -> usize
     ensures { result ≡ share_of size }
