@@ -61,7 +61,7 @@ impl<'n> Group<'n> {
 
     /// Returns the index of the name that is at this index of the order.
     #[inline(always)]
-    fn name_at(&self, at: usize) -> usize
+    fn index_at(&self, at: usize) -> usize
         ensures position { result ≡ get_or self.now.order at 0 }
         ensures within { result < 16384 }
     {
@@ -78,7 +78,7 @@ impl<'n> Group<'n> {
         ensures next { result ≡ next_in (names_of self.now) self.now.order passed at }
         ensures within { 0 < result → passed < 2 ^ 63 }
     {
-        let name = name_at(self.names, self.name_at(at));
+        let name = name_at(self.names, self.index_at(at));
         match name.get(passed) {
             Some(byte) => usize::from(*byte) + 1,
             None => 0,
@@ -116,14 +116,14 @@ impl<'n> Group<'n> {
         if run.first >= run.end || self.next_at(run.first, run.passed) != 0 {
             return false;
         }
-        if matched[self.name_at(run.first)] {
+        if matched[self.index_at(run.first)] {
             return true;
         }
         for at in run.first..run.end {
             if self.next_at(at, run.passed) != 0 {
                 return true;
             }
-            matched[self.name_at(at)] = true;
+            matched[self.index_at(at)] = true;
         }
         true
     }
@@ -179,14 +179,14 @@ impl<'n> Group<'n> {
 
     /// Returns how many of these bytes all names of a run continue with.
     #[inline(always)]
-    fn shared(&self, run: NameRun, bytes: &[u8]) -> usize
+    fn shared_by_run(&self, run: NameRun, bytes: &[u8]) -> usize
         ensures within { result ≤ length bytes.now }
         ensures fits { run.passed + result < 2 ^ 64 }
         ensures first { GoesOnWith self.now run.passed run.first bytes.now result }
         ensures last { GoesOnWith self.now run.passed (run.end - 1) bytes.now result }
     {
-        let first = name_at(self.names, self.name_at(run.first));
-        let last = name_at(self.names, self.name_at(run.end.saturating_sub(1)));
+        let first = name_at(self.names, self.index_at(run.first));
+        let last = name_at(self.names, self.index_at(run.end.saturating_sub(1)));
         shared(
             bytes_after(first, run.passed),
             bytes_after(last, run.passed),
@@ -204,7 +204,7 @@ impl<'n> Group<'n> {
         ensures run { (front : List ℕ) → run.first < run.end → IsRun self.now matched.old front run
             → IsRunOn self.now matched.old matched.new (front ++ take result.1 bytes.now) result.0 }
     {
-        let shared = self.shared(run, bytes);
+        let shared = self.shared_by_run(run, bytes);
         let along = NameRun {
             passed: run.passed + shared,
             ..run

@@ -12,9 +12,9 @@ returns-in-Some-clause-run c = λ front some f.
     let old = c.args.matched.now in
     let bytes = c.args.bytes.now in
     let r = c.args.run in
-    let n = c.shared-shared.result in
+    let n = c.shared_by_run-shared.result in
     let along : NameRun = record { first = r.first; end = r.end; passed = r.passed + n; whole = r.whole } in
-    let follows = follows_along names order old front bytes n r along f some c.shared-shared.ensures.within c.shared-shared.ensures.first c.shared-shared.ensures.last refl refl refl refl in
+    let follows = follows_along names order old front bytes n r along f some c.shared_by_run-shared.ensures.within c.shared_by_run-shared.ensures.first c.shared_by_run-shared.ensures.last refl refl refl refl in
     let within : n < length bytes = search rules in
     let byte : c.in-Some.byte.now ≡ get_or bytes n 0 = search rules in
     subst (λ p. GoesOn names order old c.step.new.matched p c.step.result) (append_assoc front (take n bytes) (c.in-Some.byte.now ∷ []) ∙ ap (λ b. front ++ (take n bytes ++ b ∷ [])) byte ∙ ap (λ l. front ++ l) (sym (take_more bytes n 0 within)))
@@ -25,7 +25,7 @@ returns-in-None-clause-run c = λ front some f.
     let names = map string_bytes c.args.self.now.names.now in
     let order = c.args.self.now.order in
     let r = c.args.run in
-    let n = c.shared-shared.result in
+    let n = c.shared_by_run-shared.result in
     let along : NameRun = record { first = r.first; end = r.end; passed = r.passed + n; whole = r.whole } in
     goes_nowhere names order c.args.matched.now (front ++ take n c.args.bytes.now) along
-    (follows_along names order c.args.matched.now front c.args.bytes.now n r along f some c.shared-shared.ensures.within c.shared-shared.ensures.first c.shared-shared.ensures.last refl refl refl refl)
+    (follows_along names order c.args.matched.now front c.args.bytes.now n r along f some c.shared_by_run-shared.ensures.within c.shared_by_run-shared.ensures.first c.shared_by_run-shared.ensures.last refl refl refl refl)

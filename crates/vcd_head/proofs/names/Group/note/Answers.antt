@@ -12,11 +12,11 @@ returns-then-run c = λ front f.
       | then-run-via-else-run+then-next_at-ne0 w ↦ none_noted names order c.args.matched.now front c.args.run f (inr (λ e. w.if-next_at-ne0.true (w.next_at.ensures.next ∙ e)))
     ]
 
-pub returns-then-matched-name_at : goal.returns-then-matched-name_at
-returns-then-matched-name_at c = λ front f.
+pub returns-then-matched-index_at : goal.returns-then-matched-index_at
+returns-then-matched-index_at c = λ front f.
     let names = map string_bytes c.args.self.now.names.now in
     let order = c.args.self.now.order in
-    noted_before names order c.args.matched.now front c.args.run f c.if-run.false (sym c.next_at.ensures.next ∙ c.if-next_at-ne0.false) (ap (λ p. get_or c.args.matched.now p false) (sym c.name_at.ensures.position) ∙ c.if-matched-name_at.true)
+    noted_before names order c.args.matched.now front c.args.run f c.if-run.false (sym c.next_at.ensures.next ∙ c.if-next_at-ne0.false) (ap (λ p. get_or c.args.matched.now p false) (sym c.index_at.ensures.position) ∙ c.if-matched-index_at.true)
 
 pub returns-then-next_at-ne0-2 : goal.returns-then-next_at-ne0-2
 returns-then-next_at-ne0-2 c = λ front f.
@@ -31,12 +31,12 @@ loop-at-preserved c =
     let order = c.args.self.now.order in
     let at = c.loop-at.at in
     let matched = c.loop-at.matched in
-    let position = c.name_at-in-loop-at.ensures.position in
+    let position = c.index_at-in-loop-at.ensures.position in
     record {
-      len = length-set matched c.name_at-in-loop-at.result true ∙ c.loop-at.invariant.len;
+      len = length-set matched c.index_at-in-loop-at.result true ∙ c.loop-at.invariant.len;
       up = omega (arith, c.loop-at.invariant.up);
       noting = λ front f. subst (λ p. Noting names order front c.args.matched.now (set matched p true) c.args.run.first (at + 1)) (sym position)
-          (noting_next names order c.args.matched.now front c.args.run f matched at c.loop-at.invariant.up c.loop-at-test.true (sym c.next_at-in-loop-at.ensures.next ∙ c.if-next_at-ne0-2.false) (omega (arith, c.loop-at.invariant.len, position, c.name_at-in-loop-at.ensures.within)) (c.loop-at.invariant.noting front f));
+          (noting_next names order c.args.matched.now front c.args.run f matched at c.loop-at.invariant.up c.loop-at-test.true (sym c.next_at-in-loop-at.ensures.next ∙ c.if-next_at-ne0-2.false) (omega (arith, c.loop-at.invariant.len, position, c.index_at-in-loop-at.ensures.within)) (c.loop-at.invariant.noting front f));
     }
 
 pub returns : goal.returns
