@@ -46,7 +46,7 @@ struct Collecting {
     room: usize,
     // The index of the code among the header's.
     index: usize,
-    // How many bytes are passed with the change of the last row.
+    // How many bytes of the chunk are passed where the change of the last row ends.
     end: usize,
 }
 
@@ -61,7 +61,8 @@ impl Collecting {
         self.room <= self.count
     }
 
-    /// Returns how many bytes of the chunk are passed: none after the change of the last row.
+    /// Returns how many bytes of the chunk are passed: where the rows are full, those up to the end
+    /// of the last row's change, else all that the walk took.
     #[inline(always)]
     fn passed(&self, ahead: Ahead<'_>) -> usize
         ensures { result ≡ passed_with ahead.entry self.now }
@@ -74,8 +75,8 @@ impl Collecting {
     }
 }
 
-// This visit can end a walk before a timestamp alone: `take_change` must leave `over` as it was. So
-// once the rows are full, the changes up to the next timestamp are taken in vain.
+// A walk asks a visit before timestamps alone whether it ends. So once the rows are full, it takes
+// the changes up to the next timestamp for nothing, and `passed` leaves them out.
 impl<'r> Visit<Rows<'r>> for Collecting {
     ghost use Rattle.std.specs.Prelude.{false};
     ghost use Rattle.vcd_changes.specs.Walk.{HasRoom, TakesRow, is_full};
