@@ -12,7 +12,7 @@
 # make static  links ./vcdkit-static, the program without any shared library: seconds after make
 # make dist    a tarball, Debian packages and a wheel of it in dist/, with documents, man page,
 #     completions, scripts and the Python package; with ./libvcdkit.so too, where it is
-# make library ./libvcdkit.a, ./libvcdkit.so and ./vcdkit.pc, for callers in C and Python: three
+# make library ./libvcdkit.a, ./libvcdkit.so and ./vcdkit.pc, for callers in C and Python: two
 #     to five minutes after make
 # make dist-check          tries them without the kit, and that they come out the same byte for
 #     byte: a minute
