@@ -75,8 +75,8 @@ impl Collecting {
     }
 }
 
-// A walk asks a visit before timestamps alone whether it ends. So once the rows are full, it takes
-// the changes up to the next timestamp for nothing, and `passed` leaves them out.
+// `is_over` is always false, so this visit ends a walk only before a timestamp. Once the rows are
+// full, the walk takes the changes up to the next one for nothing, and `passed` leaves them out.
 impl<'r> Visit<Rows<'r>> for Collecting {
     ghost use Rattle.std.specs.Prelude.{false};
     ghost use Rattle.vcd_changes.specs.Walk.{HasRoom, TakesRow, is_full};
