@@ -36,3 +36,4 @@ pub mod ScalarLemmas
 pub mod MarkLine
 pub mod AskedLemmas
 pub mod Results
+pub mod OtherBytes

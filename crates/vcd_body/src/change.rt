@@ -1,9 +1,9 @@
 // Value changes as they are written.
-ghost use Rattle.std.specs.Prelude.{◌≡◌, ◌≢◌, ℕ, ◌-◌, ◌^◌, ◌<◌, ◌≤◌, ◌++◌, ◌∷◌, ◌==◌, List, [], false, take, length, slice_index};
+ghost use Rattle.std.specs.Prelude.{◌≡◌, ◌≢◌, ℕ, ◌-◌, ◌^◌, ◌<◌, ◌≤◌, ◌++◌, ◌∷◌, ◌==◌, List, [], false, get_or, take, length, slice_index};
 ghost use Rattle.vcd_body.specs.Names.{Puts, PutsTo, PutsWhere, extended, extension, line_under, short, str_to_ascii_lowercase, to_ascii_lowercase as lower};
 
 use crate::item::Form;
-use crate::words::rest_of;
+use crate::words::{clear_bits, others_32, rest_of};
 use vcd_text::{Sink, WriteFailed, put};
 
 // Returns the digit by which digits that begin with `digit`, in lower case, are extended on the
@@ -21,12 +21,48 @@ pub(crate) fn extended_by(digit: u8) -> u8
     extension_of(digit.to_ascii_lowercase())
 }
 
+// Returns how many bytes on the left are the first one, at least.
+fn same_as_first(bytes: &[u8]) -> usize
+    requires { 32 ≤ length bytes.now }
+    ensures few { result < length bytes.now }
+    ensures same { (k : ℕ) → k < result → get_or bytes.now k 0 ≡ get_or bytes.now 0 0 }
+{
+    let first = bytes[0];
+    let last = bytes.len() - 32;
+    let mut at = 0;
+    while at < last {
+        let others = others_32(bytes, at, first);
+        if others != 0 {
+            return at + clear_bits(others, 32);
+        }
+        at += 32;
+    }
+    last + clear_bits(others_32(bytes, last, first), 32)
+}
+
+// Returns digits without some of the first ones, which extend to the same value: of 32 or more of
+// which the first ones are the same, all of these but the last, unless they are `1`.
+// 32 at a time: with the loop of `shortest` alone `pick` of all of a dump of Verilator's, a third of
+// it vectors of 128 bits, takes 2.8 times as many instructions.
+fn without_same(digits: &[u8]) -> &[u8]
+    requires { 0 < length digits.now }
+    ensures some { 0 < length result.now }
+    ensures few { length result.now ≤ length digits.now }
+    ensures value { (size : ℕ) → length digits.now ≤ size
+        → extended result.now size ≡ extended digits.now size }
+{
+    if digits.len() < 32 || digits[0] == b'1' {
+        return digits;
+    }
+    &digits[same_as_first(digits).saturating_sub(1)..]
+}
+
 // Returns the shortest digits that extend to the same value.
 pub(crate) fn shortest(digits: &[u8]) -> &[u8]
     requires { 0 < length digits.now }
     ensures { (size : ℕ) → str_to_ascii_lowercase result.now ≡ short (extended digits.now size) }
 {
-    let mut rest = digits;
+    let mut rest = without_same(digits);
     'digits: while rest.len() > 1 {
         if rest[0].to_ascii_lowercase() != extended_by(rest[1]) {
             return rest;

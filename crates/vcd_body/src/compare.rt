@@ -5,8 +5,9 @@ ghost use Rattle.vcd_body.specs.Names.{Decides, HasDigits, are_two, differs, dig
 use crate::change::extended_by;
 use crate::held::{count_of, digit_shown};
 use crate::item::Form;
-use crate::packed::held_digit;
+use crate::packed::{held_digit, holds_packed};
 use crate::slot::{HeldValue, State, digit_of_state};
+use crate::words::are_any_digits;
 
 // Returns what a text is extended by.
 fn extension_of_text(text: &[u8]) -> u8
@@ -61,12 +62,15 @@ fn are_same(held: HeldValue<'_>, text: &[u8], size: usize) -> bool
     true
 }
 
-// Returns whether digits that are held a byte each and a text of as many are the same. It looks
-// from the right too.
+// Returns whether digits that are held a byte each and a text of as many are the same. Where they are
+// written in the same way all are looked at together, else from the right too.
 fn are_same_unpacked(bytes: &[u8], text: &[u8]) -> bool
     requires { length bytes.now ≡ length text.now }
     ensures { Decides result (map held_digit bytes.now ≡ str_to_ascii_lowercase text.now) }
 {
+    if bytes == text && are_any_digits(text) {
+        return true;
+    }
     let mut index = text.len();
     while index > 0 {
         index -= 1;
@@ -90,6 +94,7 @@ fn several_differ(held: HeldValue<'_>, size: usize, text: &[u8]) -> bool
     }
     match held.holding.state {
         State::Unpacked if count == text.len() => !are_same_unpacked(held.bytes, text),
+        State::Packed if count == text.len() && holds_packed(held.bytes, text) => false,
         _ => !are_same(held, text, count.max(text.len())),
     }
 }

@@ -5,6 +5,7 @@ ghost use Rattle.vcd_body.specs.Names.{AreBinaryIf, BodyItem, HasChange, HasTime
 use crate::ahead::ScannedItem;
 use crate::change::{extension_of, may_have_capital, shortest};
 use crate::item::{Form, Item};
+use crate::words::{clear_bits, others_32};
 use std::simd::prelude::*;
 
 /// Returns a mask: bit k is set where byte `at + k` may be a capital letter: of letters and digits
@@ -104,17 +105,6 @@ fn has_one_blank(
 
 /// Returns a mask: bit k is set where byte `at + k` is not `0`.
 #[inline(always)]
-fn nonzero_32(bytes: &[u8], at: usize) -> u64
-    requires { at + 32 ≤ length bytes.now }
-    ensures zero { (k : ℕ) → k < 32 → bit_at result k ≡ 0 → slice_index bytes.now (at + k) ≡ 48 }
-    ensures other { (k : ℕ) → k < 32 → bit_at result k ≡ 1 → slice_index bytes.now (at + k) ≢ 48 }
-{
-    let v = u8x32::from_slice(&bytes[at..]);
-    v.simd_ne(u8x32::splat(b'0')).to_bitmask()
-}
-
-/// Returns a mask: bit k is set where byte `at + k` is not `0`.
-#[inline(always)]
 fn nonzero_64(bytes: &[u8], at: usize) -> u64
     requires { at + 64 ≤ length bytes.now }
     ensures zero { (k : ℕ) → k < 64 → bit_at result k ≡ 0 → slice_index bytes.now (at + k) ≡ 48 }
@@ -124,33 +114,29 @@ fn nonzero_64(bytes: &[u8], at: usize) -> u64
     v.simd_ne(u8x64::splat(b'0')).to_bitmask()
 }
 
-/// Returns how many of the lowest n bits of a mask are not set before the first one that is, or
-/// before the last of them.
-#[inline(always)]
-fn clear_bits(mask: u64, n: usize) -> usize
-    requires some { 1 ≤ n }
-    requires few { n ≤ 64 }
-    ensures less { result < n }
-    ensures clear { (k : ℕ) → k < result → bit_at mask k ≡ 0 }
-    ensures set { result + 1 < n → bit_at mask result ≡ 1 }
+/// Returns how many digits on the left the shortest ones leave out.
+// Not inlined: most digits are the shortest.
+#[inline(never)]
+fn needless(digits: &[u8]) -> usize
+    requires { 0 < length digits.now }
+    ensures few { result ≤ length digits.now }
+    ensures rest { (size : ℕ)
+        → str_to_ascii_lowercase (drop result digits.now) ≡ short (extended digits.now size) }
 {
-    if mask == 0 {
-        return n - 1;
-    }
-    (mask.trailing_zeros() as usize).min(n - 1)
+    digits.len() - shortest(digits).len()
 }
 
 /// Returns how many digits on the left the shortest ones leave out, or `None` where these are not
 /// in lower case or there is no digit. The digits begin at this offset of the bytes.
 #[inline(never)]
-fn needless(bytes: &[u8], at: usize, digits: &[u8]) -> Option<usize>
+fn needless_before_lower(bytes: &[u8], at: usize, digits: &[u8]) -> Option<usize>
     requires { StandsAt bytes.now at digits.now }
     ensures { IfSome result (IsNeedless digits.now) }
 {
     if digits.is_empty() {
         return None;
     }
-    let k = digits.len() - shortest(digits).len();
+    let k = needless(digits);
     if !are_lower(bytes, at + k, &digits[k..]) {
         return None;
     }
@@ -171,7 +157,7 @@ fn left_out_of_binary(bytes: &[u8], at: usize, digits: &[u8]) -> Option<usize>
         if n == 0 || bytes.len() - at < 32 {
             return None;
         }
-        return Some(clear_bits(nonzero_32(bytes, at), n));
+        return Some(clear_bits(others_32(bytes, at, b'0'), n));
     }
     if n == 64 {
         return Some(clear_bits(nonzero_64(bytes, at), 64));
@@ -179,7 +165,7 @@ fn left_out_of_binary(bytes: &[u8], at: usize, digits: &[u8]) -> Option<usize>
     if digits[0] == b'1' {
         return Some(0);
     }
-    needless(bytes, at, digits)
+    Some(needless(digits))
 }
 
 /// Returns how many digits on the left the shortest ones leave out, or `None` where these are not
@@ -196,7 +182,7 @@ fn left_out_of(bytes: &[u8], at: usize, digits: &[u8], binary: bool) -> Option<u
         return left_out_of_binary(bytes, at, digits);
     }
     if !are_shortest(digits) {
-        return needless(bytes, at, digits);
+        return needless_before_lower(bytes, at, digits);
     }
     if !are_lower(bytes, at, digits) {
         return None;

@@ -1,7 +1,8 @@
 // Digits in a share: a byte each, or four to a byte, one of each quarter of them.
-ghost use Rattle.std.specs.Prelude.{◌≡◌, ◌≢◌, ◌≤◌, ◌<◌, ◌+◌, ◌-◌, ◌*◌, ◌/◌, ◌==◌, ℕ, Some, get_or, length, map, slice_get, true};
-ghost use Rattle.vcd_body.specs.Names.{ArePacked, AreTwo, HasFour, MayPack, chunk, code_among, code_of, code_or, digit_of, digits_in, four_codes, held_digit, quarter_of};
+ghost use Rattle.std.specs.Prelude.{◌≡◌, ◌≢◌, ◌≤◌, ◌<◌, ◌+◌, ◌-◌, ◌*◌, ◌/◌, ◌==◌, ℕ, Some, get_or, length, map, slice_get, false, true};
+ghost use Rattle.vcd_body.specs.Names.{ArePacked, AreTwo, HasFour, MayPack, chunk, code_among, code_of, code_or, digit_of, digits_in, four_codes, held_digit, quarter_of, str_to_ascii_lowercase};
 
+use crate::words::are_any_digits;
 use std::simd::prelude::*;
 
 /// Returns a digit as two bits. It is written so that it takes no branches.
@@ -107,7 +108,8 @@ fn codes_16(bytes: &[u8], at: usize) -> u8x16
 /// Returns whether two rows of 16 codes differ.
 #[inline(always)]
 fn codes_differ(first: u8x16, second: u8x16) -> bool
-    ensures { result ≡ true → first ≢ second }
+    ensures other { result ≡ true → first ≢ second }
+    ensures same { length first ≡ 16 → length second ≡ 16 → result ≡ false → first ≡ second }
 {
     first.simd_ne(second).to_bitmask() != 0
 }
@@ -167,8 +169,22 @@ fn with_4_times(low: u8x16, high: u8x16) -> u8x16
     low + (twice + twice)
 }
 
-/// Packs 16 digits of each quarter.
+/// Returns 16 digits of each quarter, packed.
 // Four digits a byte, one of each quarter: 16 bytes by four loads and no shuffle.
+#[inline(always)]
+fn packed_16(text: &[u8], quarter: usize, at: usize) -> u8x16
+    requires within { at + 16 ≤ quarter }
+    requires quarter { 3 * quarter ≤ length text.now }
+    ensures long { length result ≡ 16 }
+    ensures each { (k : ℕ) → k < 16 → get_or result k 0 ≡ four_codes text.now quarter (at + k) }
+{
+    let third = codes_16(text, at + 2 * quarter);
+    let last = codes_16(text, at + (text.len() - quarter));
+    let both = with_4_times(codes_16(text, at + quarter), with_4_times(third, last));
+    with_4_times(codes_16(text, at), both)
+}
+
+/// Packs 16 digits of each quarter.
 #[inline(always)]
 fn pack_16(bytes: &mut [u8], text: &[u8], quarter: usize, at: usize)
     requires within { at + 16 ≤ quarter }
@@ -177,10 +193,55 @@ fn pack_16(bytes: &mut [u8], text: &[u8], quarter: usize, at: usize)
     ensures packed { (k : ℕ) → k < 16 → HasFour bytes.new text.now quarter (at + k) }
     ensures before { (index : ℕ) → index < at → get_or bytes.new index 0 ≡ get_or bytes.old index 0 }
 {
-    let third = codes_16(text, at + 2 * quarter);
-    let last = codes_16(text, at + (text.len() - quarter));
-    let both = with_4_times(codes_16(text, at + quarter), with_4_times(third, last));
-    with_4_times(codes_16(text, at), both).copy_to_slice(&mut bytes[at..]);
+    packed_16(text, quarter, at).copy_to_slice(&mut bytes[at..]);
+}
+
+/// Returns true only where 16 bytes hold 16 digits of each quarter.
+#[inline(always)]
+fn are_packed_16(bytes: &[u8], text: &[u8], quarter: usize, at: usize) -> bool
+    requires within { at + 16 ≤ quarter }
+    requires room { quarter ≤ length bytes.now }
+    requires quarter { 3 * quarter ≤ length text.now }
+    ensures { result ≡ true → (k : ℕ) → k < 16 → HasFour bytes.now text.now quarter (at + k) }
+{
+    !codes_differ(
+        u8x16::from_slice(&bytes[at..]),
+        packed_16(text, quarter, at),
+    )
+}
+
+/// Returns true only where a share holds the digits of each quarter. It looks at 16 of each at a
+/// time, and at some of the last 16 twice.
+fn are_packed(bytes: &[u8], text: &[u8], quarter: usize) -> bool
+    requires { MayPack bytes.now text.now quarter }
+    ensures { result ≡ true → ArePacked bytes.now text.now quarter }
+{
+    let last = quarter - 16;
+    let mut at = 0;
+    while at < last {
+        if !are_packed_16(bytes, text, quarter, at) {
+            return false;
+        }
+        at += 16;
+    }
+    are_packed_16(bytes, text, quarter, last)
+}
+
+/// Returns true only where a share holds as many packed digits as the text has, and these are its
+/// digits.
+// By bytes of the share: digit by digit `edges` of vectors of 128 bits that stay the same takes 7.8
+// times as many instructions.
+pub(crate) fn holds_packed(bytes: &[u8], text: &[u8]) -> bool
+    ensures { result ≡ true → digits_in (length text.now) bytes.now ≡ str_to_ascii_lowercase text.now }
+{
+    let quarter = text.len().div_ceil(4);
+    if quarter < 16 || bytes.len() < quarter {
+        return false;
+    }
+    if !are_packed(bytes, text, quarter) {
+        return false;
+    }
+    are_any_digits(text)
 }
 
 /// Returns 16 digits without the bits that `0` and `1` share: 0 or 1 for these, more than 1 for all

@@ -1,5 +1,5 @@
 // What tokens of a body are.
-ghost use Rattle.std.specs.Prelude.{◌≡◌, ℕ, ◌+◌, ◌<◌, ◌≤◌, length, true, List, drop, take, ◌∷◌, ◌^◌, ◌&&◌, not, Some, None, ◌-◌, ◌/◌, ◌%◌, IfSome};
+ghost use Rattle.std.specs.Prelude.{◌≡◌, ◌≢◌, slice_index, ℕ, ◌+◌, ◌<◌, ◌≤◌, length, true, List, drop, take, ◌∷◌, ◌^◌, ◌&&◌, not, Some, None, ◌-◌, ◌/◌, ◌%◌, IfSome};
 ghost use Rattle.vcd_body.specs.Names.{AreBinary, AreBinaryIf, AreBitsAt, Begins, IsBinaryAt, IsDigitAt, MayBe, StandsAt, StandsFor, binary_digits, bit_at, bit_in, byte, command_is, is_comment, is_empty, is_end as ends, is_value_digit as is_digit, list_all};
 
 use crate::bits::Bits;
@@ -147,6 +147,33 @@ fn is_value_digit(byte: u8) -> bool
     byte == b'0' || byte == b'1' || byte == b'x' || byte == b'X' || byte == b'z' || byte == b'Z'
 }
 
+/// Returns a mask: bit k is set where byte `at + k` is another one than this.
+#[inline(always)]
+pub(crate) fn others_32(bytes: &[u8], at: usize, byte: u8) -> u64
+    requires { at + 32 ≤ length bytes.now }
+    ensures same { (k : ℕ) → k < 32 → bit_at result k ≡ 0 → slice_index bytes.now (at + k) ≡ byte }
+    ensures other { (k : ℕ) → k < 32 → bit_at result k ≡ 1 → slice_index bytes.now (at + k) ≢ byte }
+{
+    let v = u8x32::from_slice(&bytes[at..]);
+    v.simd_ne(u8x32::splat(byte)).to_bitmask()
+}
+
+/// Returns how many of the lowest n bits of a mask are not set before the first one that is, or
+/// before the last of them.
+#[inline(always)]
+pub(crate) fn clear_bits(mask: u64, n: usize) -> usize
+    requires some { 1 ≤ n }
+    requires few { n ≤ 64 }
+    ensures less { result < n }
+    ensures clear { (k : ℕ) → k < result → bit_at mask k ≡ 0 }
+    ensures set { result + 1 < n → bit_at mask result ≡ 1 }
+{
+    if mask == 0 {
+        return n - 1;
+    }
+    (mask.trailing_zeros() as usize).min(n - 1)
+}
+
 /// Returns a mask: bit k is set where byte `at + k` is neither `0` nor `1`.
 #[inline(always)]
 fn nonbinary_32(bytes: &[u8], at: usize) -> u64
@@ -243,7 +270,7 @@ fn are_many_digits(digits: &[u8]) -> bool
 // Not inlined, as `are_binary`. Many x and z are looked at 32 at a time: `check` of wide vectors
 // takes 309 an item, one by one 359.
 #[inline(never)]
-fn are_any_digits(digits: &[u8]) -> bool
+pub(crate) fn are_any_digits(digits: &[u8]) -> bool
     ensures { result ≡ list_all is_digit digits.now }
 {
     are_many_digits(digits) || digits.iter().all(|digit| is_value_digit(*digit))

@@ -18,3 +18,6 @@ pub returns : goal.returns
 returns c =
     let i = c.digits.invariant in
     shortest_of c.digits.rest.now c.args.digits.now (one_bare c.digits.rest.now i.0 (omega arith)) i.1 i.2
+
+pub digits-init : goal.digits-init
+digits-init c = (c.without_same-rest.ensures.some, c.without_same-rest.ensures.few, c.without_same-rest.ensures.value)

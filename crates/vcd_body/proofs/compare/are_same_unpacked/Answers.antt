@@ -1,8 +1,10 @@
-use Rattle.std.proofs.Common.{◌≡◌, ◌≤◌, ◌<◌, ◌-◌, ◌⊎◌, inl, inr, ℕ, length, get_or, refl, sym, ◌∙◌, arith}
+use Rattle.std.proofs.Common.{◌≡◌, ◌≤◌, ◌<◌, ◌-◌, ◌⊎◌, inl, inr, ℕ, length, get_or, map, refl, sym, ap, ◌∙◌, arith}
 use Rattle.std.proofs.lemmas.Bool.{cases_lt}
 use Rattle.std.specs.Char.{to_ascii_lowercase}
 use Rattle.vcd_body.specs.Packed.{held_digit}
 use Rattle.vcd_body.proofs.CompareLemmas.{unpacked_at, same_unpacked}
+use Rattle.std.proofs.lemmas.Slice.Eq.{bytes_eq-Decides}
+use Rattle.vcd_body.proofs.PackedLemmas.{lower_digits}
 use Rattle.vcd_body.proofs.compare.are_same_unpacked.Goals as goal
 
 pub loop-index-init : goal.loop-index-init
@@ -38,3 +40,10 @@ returns c = (
   λ t. same_unpacked c.args.bytes.now c.args.text.now c.requires (λ k h. c.loop-index.invariant.1 k (omega (arith, c.loop-index-test.false)) h),
   λ e. refl,
 )
+
+pub returns-then-are_any_digits : goal.returns-then-are_any_digits
+returns-then-are_any_digits c =
+    let same = (bytes_eq-Decides c.args.bytes.now c.args.text.now).0 (sym c.eq.ensures ∙ c.if-eq.true) in (
+      λ yes. ap (map held_digit) same ∙ lower_digits c.args.text.now (sym c.are_any_digits.ensures ∙ c.if-are_any_digits.true),
+      λ e. refl,
+    )

@@ -1,12 +1,13 @@
-use Rattle.std.proofs.Common.{map, length, not, sym, ap, ◌∙◌, arith}
+use Rattle.std.proofs.Common.{◌≡◌, true, map, length, not, refl, sym, ap, ◌∙◌, arith}
 use Rattle.std.specs.Char.{to_ascii_lowercase}
 use Rattle.std.specs.Str.{bytes_eq, str_to_ascii_lowercase}
 use Rattle.std.proofs.lemmas.List.{length-map}
 use Rattle.vcd_model.specs.Values.{extend}
-use Rattle.vcd_body.specs.Packed.{held_digit}
+use Rattle.vcd_body.specs.Packed.{digits_in, held_digit}
 use Rattle.vcd_body.specs.Stored.{digits_held, digits_with, held_by, len_of}
 use Rattle.vcd_body.specs.declared.slot.State.{State}
 use Rattle.vcd_body.proofs.CompareLemmas.{differ_at_longest, differ_where_as_many}
+use Rattle.vcd_body.proofs.PackedLemmas.{length_digits}
 use Rattle.vcd_body.proofs.compare.several_differ.Goals as goal
 
 pub returns-in_default : goal.returns-in_default
@@ -25,3 +26,12 @@ returns-in-Unpacked c =
     let h = length-map share held_digit in
     differ_where_as_many (map held_digit share) (str_to_ascii_lowercase text) c.args.size (omega (arith, l, h, c.count_of-count.ensures, ap length is, c.if-count-text.true)) c.are_same_unpacked.result c.are_same_unpacked.ensures
     ∙ sym (ap (λ xs. not (bytes_eq (extend xs c.args.size) (extend (str_to_ascii_lowercase text) c.args.size))) is)
+
+pub returns-in-Packed : goal.returns-in-Packed
+returns-in-Packed c =
+    let share = c.args.held.bytes.now in
+    let n = len_of c.args.held.holding in
+    let is = ap (λ (s : State). digits_held (held_by s n share)) c.in-Packed.is in
+    let many : n ≡ length c.args.text.now = omega (arith, length_digits n share, c.count_of-count.ensures, ap length is, c.if-count-text-2.true) in
+    let same = is ∙ ap (λ m. digits_in m share) many ∙ c.holds_packed.ensures c.if-holds_packed.true in
+    differ_where_as_many (digits_with c.args.held.holding share) (str_to_ascii_lowercase c.args.text.now) c.args.size (ap length same) true ((λ yes. same), λ e. refl)

@@ -1,5 +1,6 @@
 use Rattle.std.proofs.Common.{◌≡◌, ◌<◌, ◌+◌, ◌∙◌, ℕ, length, refl, arith, sym}
 use Rattle.std.specs.Prelude.{slice_index}
+use Rattle.vcd_body.proofs.OtherBytes.{lower_behind}
 use Rattle.vcd_body.proofs.Shortest.{short_behind_zeros}
 use Rattle.vcd_body.proofs.WordLemmas.{byte_there}
 use Rattle.vcd_body.proofs.lines.left_out_of_binary.Goals as goal
@@ -13,8 +14,8 @@ returns-then-n-le32 c =
     let there : (j : ℕ) → j < length l → slice_index l j ≡ slice_index c.args.bytes.now (c.args.at + j) = λ j few. byte_there l c.args.bytes.now c.args.at (length l) j few c.requires.position in (
       omega (arith, less),
       λ two. short_behind_zeros k l less
-          (λ j few. there j (omega (arith, few, less)) ∙ c.nonzero_32.ensures.zero j (omega (arith, few, less)) (z.clear j few))
-          (λ more e. c.nonzero_32.ensures.other k (omega (arith, less)) (z.set more) (sym (there k less) ∙ e))
+          (λ j few. there j (omega (arith, few, less)) ∙ c.others_32.ensures.same j (omega (arith, few, less)) (z.clear j few))
+          (λ more e. c.others_32.ensures.other k (omega (arith, less)) (z.set more) (sym (there k less) ∙ e))
           (two refl),
     )
 
@@ -39,3 +40,9 @@ returns-then-digits-eq49 c =
       omega arith,
       λ two. short_behind_zeros 0 c.args.digits.now (omega (arith, many)) (λ j few. absurd (omega (arith, few))) (λ more e. omega (arith, e, c.if-digits-eq49.true)) (two refl),
     )
+
+pub returns : goal.returns
+returns c = (
+  c.needless.ensures.few,
+  λ two size. sym (lower_behind c.needless.result c.args.digits.now (two refl)) ∙ c.needless.ensures.rest size,
+)

@@ -1,30 +1,12 @@
-use Rattle.std.proofs.Common.{◌≡◌, ◌+◌, ◌*◌, ◌-◌, length, get_or, ap, ◌∙◌, arith}
+use Rattle.std.proofs.Common.{◌∙◌, arith}
 use Rattle.std.proofs.lemmas.Simd.{get_or-put_chunk_at, get_or-put_chunk_below}
-use Rattle.vcd_body.specs.Packed.{code_or}
-use Rattle.vcd_body.proofs.CodeLanes.{code_lane}
-use Rattle.vcd_body.proofs.PackedLemmas.{or_small}
 use Rattle.vcd_body.proofs.packed.pack_16.Goals as goal
 
 pub returns-clause-packed : goal.returns-clause-packed
 returns-clause-packed c = λ k less.
-    let text = c.args.text.now in
-    let q = c.args.quarter in
-    let at = c.args.at in
-    let low = c.requires.within in
-    let most = c.requires.quarter in
-    let s0 = or_small text (at + k) in
-    let s1 = or_small text (at + k + q) in
-    let s2 = or_small text (at + k + 2 * q) in
-    let s3 = or_small text (at + k + (length text - q)) in
-    let e0 : get_or c.codes_16-2.result k 0 ≡ code_or text (at + k) = ap (λ l. get_or l k 0) c.codes_16-2.ensures ∙ code_lane text at k (at + k) (omega (arith, low, most)) less (omega arith) in
-    let e1 : get_or c.codes_16.result k 0 ≡ code_or text (at + k + q) = ap (λ l. get_or l k 0) c.codes_16.ensures ∙ code_lane text (at + q) k (at + k + q) (omega (arith, low, most)) less (omega arith) in
-    let e2 : get_or c.codes_16-third.result k 0 ≡ code_or text (at + k + 2 * q) = ap (λ l. get_or l k 0) c.codes_16-third.ensures ∙ code_lane text (at + 2 * q) k (at + k + 2 * q) (omega (arith, low, most)) less (omega arith) in
-    let e3 : get_or c.codes_16-last.result k 0 ≡ code_or text (at + k + (length text - q)) = ap (λ l. get_or l k 0) c.codes_16-last.ensures ∙ code_lane text (at + (length text - q)) k (at + k + (length text - q)) (omega (arith, low, most)) less (omega arith) in
-    let f2 = c.with_4_times.ensures.each k less (omega (arith, e2, e3, s2, s3)) in
-    let f1 = c.with_4_times-both.ensures.each k less (omega (arith, e1, f2, e2, e3, s1, s2, s3)) in
-    let f0 = c.with_4_times-2.ensures.each k less (omega (arith, e0, f1, f2, e1, e2, e3, s0, s1, s2, s3)) in
-    get_or-put_chunk_at at c.args.bytes.now c.with_4_times-2.result k 0 (omega (arith, c.with_4_times-2.ensures.long, less)) (omega (arith, c.with_4_times-2.ensures.long, low, c.requires.room))
-    ∙ omega (arith, e0, e1, e2, e3, f0, f1, f2)
+    let long = c.packed_16.ensures.long in
+    get_or-put_chunk_at c.args.at c.args.bytes.now c.packed_16.result k 0 (omega (arith, long, less)) (omega (arith, long, c.requires.within, c.requires.room))
+    ∙ c.packed_16.ensures.each k less
 
 pub returns-clause-before : goal.returns-clause-before
-returns-clause-before c = λ position before. get_or-put_chunk_below c.args.at c.args.bytes.now c.with_4_times-2.result position 0 before
+returns-clause-before c = λ position before. get_or-put_chunk_below c.args.at c.args.bytes.now c.packed_16.result position 0 before

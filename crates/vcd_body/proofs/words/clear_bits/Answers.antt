@@ -2,7 +2,7 @@ use Rattle.std.proofs.Common.{◌≡◌, arith, w64, subst}
 use Rattle.std.specs.Int.{bit_at}
 use Rattle.std.proofs.lemmas.Nat.Bits.{bit_at-trailing_zeros}
 use Rattle.vcd_body.proofs.WordLemmas.{no_bits}
-use Rattle.vcd_body.proofs.lines.clear_bits.Goals as goal
+use Rattle.vcd_body.proofs.words.clear_bits.Goals as goal
 
 pub returns-then-mask-eq0-clause-clear : goal.returns-then-mask-eq0-clause-clear
 returns-then-mask-eq0-clause-clear c = λ k less. no_bits _ k c.if-mask-eq0.true

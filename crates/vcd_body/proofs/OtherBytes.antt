@@ -1,0 +1,98 @@
+-- A mask of the bytes that are another one, and digits that are left out where they are not.
+use Rattle.std.proofs.Common.{◌≡◌, ◌≢◌, ℕ, zero, suc, ◌+◌, ◌<◌, ◌≤◌, ◌*◌, ◌%◌, ◌^◌, ◌==◌, ◌⊎◌, inl, inr, Bool, true, false, cond, not, List, [], ◌∷◌, length, map, replicate, drop, get_or, w8, refl, sym, ap, ◌∙◌, arith}
+use Rattle.std.specs.Prelude.{slice_index}
+use Rattle.std.specs.Char.{to_ascii_lowercase}
+use Rattle.std.specs.Int.{bit_at}
+use Rattle.std.specs.Str.{str_to_ascii_lowercase}
+use Rattle.std.proofs.lemmas.Bool.{agree_below_at, eq-eqb, eqb-true, ne_eqb}
+use Rattle.std.proofs.lemmas.List.{get_or-map, length-map}
+use Rattle.std.proofs.lemmas.Simd.{bit_mask_l, get_or-chunk, length-chunk, length-zip2, mask_l-mod, tops_compared, zip2_splat}
+use lib.Lanes.{chunk, mask_l, top, zip2}
+use Rattle.vcd_model.specs.Values.{extension}
+use Rattle.vcd_body.specs.Changes.{AreBinary}
+use Rattle.vcd_body.proofs.Shortest.{Suffices, one_of_two, one_out}
+
+pub others_bit : (b : ℕ) (xs : List ℕ) (i n : ℕ) → i + n ≤ length xs → n ≤ 64 → (k : ℕ) → k < n
+    → bit_at (mask_l (map (top 7) (zip2 (λ x y. cond (not (x == y)) 255 0) (chunk i n xs) (replicate n b))) % 2 ^ 64) k ≡ cond {A = ℕ} (not (slice_index xs (i + k) == b)) 1 0
+others_bit b xs i n room few k less =
+    let v = chunk i n xs in
+    let p : ℕ → Bool = λ x. not (x == b) in
+    let ms = map p v in
+    let long : length v ≡ n = length-chunk i n xs room in
+    let tests : map (top 7) (zip2 (λ x y. cond (not (x == y)) 255 0) v (replicate n b)) ≡ ms = tops_compared w8 (λ x y. not (x == y)) v (replicate n b) ∙ zip2_splat (λ x y. not (x == y)) v n b long in
+    let mask = ap (λ l. mask_l l % 2 ^ 64) tests ∙ mask_l-mod ms 64 (omega (arith, length-map v p)) in
+    let at : get_or ms k false ≡ p (get_or xs (i + k) 0) = get_or-map p v k 0 false (omega arith) ∙ ap p (get_or-chunk i n xs k 0 less) in
+    ap (λ m. bit_at m k) mask ∙ bit_mask_l ms k ∙ ap (λ (t : Bool). cond {A = ℕ} t 1 0) at
+
+-- its bits tell
+pub clear_is : (x b : ℕ) {bit : ℕ} → bit ≡ cond {A = ℕ} (not (x == b)) 1 0 → bit ≡ 0 → x ≡ b
+clear_is x b is none = by_test (x == b) refl (sym is ∙ none)
+  where
+    by_test : (t : Bool) → (x == b) ≡ t → cond {A = ℕ} (not t) 1 0 ≡ 0 → x ≡ b
+    by_test true e h = eqb-true x b e
+    by_test false e h = absurd (omega (arith, h))
+
+pub set_is : (x b : ℕ) {bit : ℕ} → bit ≡ cond {A = ℕ} (not (x == b)) 1 0 → bit ≡ 1 → x ≢ b
+set_is x b is set same =
+    let t : (x == b) ≡ true = eq-eqb x b same in
+    let one = sym (ap (λ (r : Bool). cond {A = ℕ} (not r) 1 0) t) ∙ sym is ∙ set in
+    absurd (omega (arith, one))
+
+-- rows with no such byte are the same
+all_same : (xs ys : List ℕ) → length xs ≡ length ys → mask_l (zip2 (λ x y. not (x == y)) xs ys) ≡ 0 → xs ≡ ys
+all_same [] [] long e = refl
+all_same [] (y ∷ ys) long e = absurd (omega arith)
+all_same (x ∷ xs) [] long e = absurd (omega arith)
+all_same (x ∷ xs) (y ∷ ys) long e =
+    let none : cond {A = ℕ} (not (x == y)) 1 0 + 2 * mask_l (zip2 (λ x y. not (x == y)) xs ys) ≡ 0 = e in
+    let here : x ≡ y = clear_is x y refl (omega (arith, none)) in
+    let others : xs ≡ ys = all_same xs ys (omega arith) (omega (arith, none)) in
+    rw (here, others) refl
+
+pub off : (b : Bool) → not b ≡ true → b ≡ false
+off true h = cc
+off false h = refl
+
+pub on : (b : Bool) → not b ≡ false → b ≡ true
+on true h = refl
+on false h = cc
+
+pub mask_same : (xs ys : List ℕ) → length xs ≡ 16 → length ys ≡ 16 → not (mask_l (map (top 7) (zip2 (λ a b. cond (not (a == b)) 255 0) xs ys)) % 2 ^ 64 == 0) ≡ false → xs ≡ ys
+mask_same xs ys a b none =
+    let tests = zip2 (λ x y. not (x == y)) xs ys in
+    let long = length-zip2 (λ x y. not (x == y)) xs ys (a ∙ sym b) in
+    let whole = ap (λ l. mask_l l % 2 ^ 64) (tops_compared w8 (λ x y. not (x == y)) xs ys) ∙ mask_l-mod tests 64 (omega (arith, long, a)) in
+    all_same xs ys (a ∙ sym b) (sym whole ∙ eqb-true _ 0 (on _ none))
+
+-- ---- digits that are 0 and 1 alone
+
+binary_lower : (d : ℕ) → (d ≡ 48) ⊎ (d ≡ 49) → to_ascii_lowercase d ≡ d
+binary_lower d (inl e) = rw e refl
+binary_lower d (inr e) = rw e refl
+
+-- some last ones are in lower case
+pub lower_behind : (k : ℕ) (l : List ℕ) → AreBinary l → str_to_ascii_lowercase (drop k l) ≡ drop k l
+lower_behind zero [] two = refl
+lower_behind zero (d ∷ l) two =
+    let here = binary_lower d (one_of_two d (two 0 (omega arith))) in
+    let others = lower_behind zero l (λ j less. two (suc j) (omega arith)) in
+    rw (here, others) refl
+lower_behind (suc k) [] two = refl
+lower_behind (suc k) (d ∷ l) two = lower_behind k l (λ j less. two (suc j) (omega arith))
+
+-- ---- digits that begin with one several times
+
+-- one that is no 1 extends itself
+again : (d : ℕ) → d < 256 → d ≢ 49 → to_ascii_lowercase d ≡ extension (to_ascii_lowercase d ∷ [])
+again d fit other =
+    let same = agree_below_at (λ x. to_ascii_lowercase x == 49) (λ x. x == 49) 256 d refl fit in
+    sym (ap (λ (t : Bool). cond t 48 (to_ascii_lowercase d)) (same ∙ ne_eqb d 49 other))
+
+-- all but the last of them are left out
+pub same_lead : (k d : ℕ) (l digits : List ℕ) → k < length l → ((j : ℕ) → j ≤ k → get_or l j 0 ≡ d) → d < 256 → d ≢ 49 → Suffices l digits → Suffices (drop k l) digits
+same_lead zero d l digits less same fit other s = s
+same_lead (suc k) d [] digits less same fit other s = absurd (omega arith)
+same_lead (suc k) d (x ∷ l) digits less same fit other s =
+    let first = ap to_ascii_lowercase (same 0 (omega arith)) in
+    let second = ap (λ y. extension (to_ascii_lowercase y ∷ [])) (same 1 (omega arith)) in
+    same_lead k d l digits (omega arith) (λ j few. same (suc j) (omega arith)) fit other (one_out (x ∷ l) l digits refl (omega arith) (first ∙ again d fit other ∙ sym second) s)
