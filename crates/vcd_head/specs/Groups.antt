@@ -12,11 +12,11 @@ names_of g = map string_bytes g.names.now
 
 -- the run is that of this front of a path
 abbrev pub IsRun : Group → List Bool → (front : List ℕ) → NameRun → Type 0
-IsRun g flags front r = Follows (names_of g) g.order flags front r
+IsRun g flags front r = Follows (names_of g) g.order.now flags front r
 
 -- the run is that of a longer front, and names that select all after it were flagged
 abbrev pub IsRunOn : Group → (old new : List Bool) → (front : List ℕ) → NameRun → Type 0
-IsRunOn g old new front r = GoesOn (names_of g) g.order old new front r
+IsRunOn g old new front r = GoesOn (names_of g) g.order.now old new front r
 
 -- whatever front of a path the first run is of, the second is of this longer one
 abbrev pub RunsOn : Group → (old new : List Bool) → NameRun → (longer : List ℕ → List ℕ) → NameRun → Type 0
@@ -29,9 +29,9 @@ FlagsSome g old new run test some = (front : List ℕ) → IsRun g old front run
 
 -- between two indexes of its order the next byte of the names does not fall
 abbrev pub AreRising : Group → ℕ → (first end : ℕ) → Type 0
-AreRising g passed first end = Rises (names_of g) g.order passed first end
+AreRising g passed first end = Rises (names_of g) g.order.now passed first end
 
 -- after this many bytes the name at an index of its order continues with the first of these, this
 -- many
 abbrev pub GoesOnWith : Group → ℕ → ℕ → List ℕ → ℕ → Type 0
-GoesOnWith g passed i bytes n = AreShared (next_bytes (names_of g) g.order passed i) bytes n
+GoesOnWith g passed i bytes n = AreShared (next_bytes (names_of g) g.order.now passed i) bytes n

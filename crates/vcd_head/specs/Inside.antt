@@ -26,12 +26,12 @@ row_path h row v = path_of (take row h.declarations) (Declaration.Var v)
 
 -- what is held of each scope that was entered is right
 pub record AreOpen (h : Header) (names : List (List ℕ)) (order : List ℕ) (flags : List Bool) (o : Open) : Type 0 where
-  pub held : (k : ℕ) (s : Inside) → k ≤ o.entered → slice_get o.inside k ≡ Some s → Follows names order flags (front h.declarations s.scope) s.run
+  pub held : (k : ℕ) (s : Inside) → k ≤ o.entered → slice_get o.inside.now k ≡ Some s → Follows names order flags (front h.declarations s.scope) s.run
   pub same : AreSame names flags
 
 -- so it is of a group of names
 abbrev pub IsOpen : Header → Group → List Bool → Open → Type 0
-IsOpen h g flags o = AreOpen h (names_of g) g.order flags o
+IsOpen h g flags o = AreOpen h (names_of g) g.order.now flags o
 
 -- over the rows of this view what is held stays right
 abbrev pub KeepsOpen : HeadView → Group → (old_flags new_flags : List Bool) → (old new : Open) → Type 0
@@ -44,7 +44,7 @@ pub record HasEntered (h : Header) (names : List (List ℕ)) (order : List ℕ) 
 
 -- so it is where what was held before was right
 abbrev pub Enters : Header → Group → (front : List ℕ) → (old_flags new_flags : List Bool) → (old new : Open) → Type 0
-Enters h g front old_flags new_flags old new = IsOpen h g old_flags old → HasEntered h (names_of g) g.order front old_flags new_flags new
+Enters h g front old_flags new_flags old new = IsOpen h g old_flags old → HasEntered h (names_of g) g.order.now front old_flags new_flags new
 
 -- so, and the names that select this path were flagged, and this is whether there are some
 pub record HasSelected (h : Header) (g : Group) (path : List ℕ) (old_flags new_flags : List Bool) (new : Open) (some : Bool) : Type 0 where

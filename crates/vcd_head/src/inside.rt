@@ -1,7 +1,7 @@
 // The names that continue inside the open scopes, so that a row is compared by its own name
 // alone.
-ghost use Rattle.std.specs.Prelude.{◌≡◌, ◌<◌, ◌≤◌, suc, Bool, List, length, map, string_bytes, take, IfSome};
-ghost use Rattle.vcd_head.specs.Names.{AnyOpen, AnyRow, AnyVariable, AreSame, ComparesAt, EntersScope, FlagsSelected, GivesAround, Header, IsOpen, IsOrder, KeepsOpen, Matches, SelectsAt, StaysOpen, front, is_selected, names_of, row_path, scopes_text, selects_path};
+ghost use Rattle.std.specs.Prelude.{[], ◌≡◌, ◌<◌, ◌≤◌, suc, Bool, List, length, map, string_bytes, take, IfSome};
+ghost use Rattle.vcd_head.specs.Names.{AnyOpen, AnyRow, AnyVariable, AreSame, ComparesAt, EntersScope, FlagsSelected, GivesAround, Header, IsOpen, IsOrder, IsRun, KeepsOpen, Matches, SelectsAt, StaysOpen, front, is_selected, names_of, row_path, scopes_text, selects_path};
 
 use crate::enclosing::Enclosing;
 use crate::names::{GROUP_NAMES, Group, NameRun};
@@ -9,7 +9,7 @@ use crate::selection::selects;
 use vcd_view::{HeadView, Kind};
 
 // How many scopes may be open, and one for what is outside of all.
-const MAX_OPEN: usize = 1001;
+pub(crate) const MAX_OPEN: usize = 1001;
 
 // The names that continue inside a scope.
 #[derive(Clone, Copy)]
@@ -19,31 +19,43 @@ pub(crate) struct Inside {
     pub(crate) run: NameRun,
 }
 
+impl Inside {
+    /// Returns what is outside of all scopes, where all names of a group continue.
+    pub(crate) fn outermost(group: &Group<'_>) -> Self
+        ensures scope { result.scope ≡ 0 }
+        ensures run { (flags : List Bool) → IsOrder (names_of group.now) group.now.order.now
+            → AreSame (names_of group.now) flags → IsRun group.now flags [] result.run }
+    {
+        Inside {
+            scope: 0,
+            run: group.all(),
+        }
+    }
+}
+
 // The scopes that are open, the innermost last. A scope is entered at the first variable in it, so
 // that a name that selects all in it selects something. What is held of a scope is right whatever
 // order rows are taken in, and is looked at where it is of the scope around a row. So a name that
 // selects a whole scope costs nothing at its other rows.
 #[derive(Drop)]
-pub(crate) struct Open {
-    inside: [Inside; MAX_OPEN],
+pub(crate) struct Open<'o> {
+    inside: &'o mut [Inside; MAX_OPEN],
     // How many are open.
     depth: usize,
     // How many of them, the outermost, were entered.
     entered: usize,
 }
 
-impl Open {
-    /// Returns what is open before the first row: nothing but what is outside of all scopes.
-    pub(crate) fn new(group: &Group<'_>) -> Self
-        ensures { (h : Header) (flags : List Bool) → IsOrder (names_of group.now) group.now.order
+impl<'o> Open<'o> {
+    /// Returns what is open before the first row: nothing but what is outside of all scopes. It is
+    /// held in `inside`, whatever was there before.
+    pub(crate) fn new(group: &Group<'_>, inside: &'o mut [Inside; MAX_OPEN]) -> Self
+        ensures { (h : Header) (flags : List Bool) → IsOrder (names_of group.now) group.now.order.now
             → AreSame (names_of group.now) flags → IsOpen h group.now flags result }
     {
-        let outermost = Inside {
-            scope: 0,
-            run: group.all(),
-        };
+        inside[0] = Inside::outermost(group);
         Open {
-            inside: [outermost; MAX_OPEN],
+            inside,
             depth: 0,
             entered: 0,
         }

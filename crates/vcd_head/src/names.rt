@@ -14,8 +14,8 @@ pub(crate) const GROUP_NAMES: usize = 16_384;
 #[derive(Drop)]
 pub(crate) struct Group<'n> {
     pub(crate) names: &'n [String],
-    order: [u16; GROUP_NAMES],
-    pub(crate) ghost within: { (i : ℕ) → get_or order i 0 < 16384 },
+    order: &'n [u16; GROUP_NAMES],
+    pub(crate) ghost within: { (i : ℕ) → get_or order.now i 0 < 16384 },
     pub(crate) ghost few: { length names.now ≤ 16384 },
 }
 
@@ -34,21 +34,19 @@ pub(crate) struct NameRun {
 impl<'n> Group<'n> {
     ghost use Rattle.vcd_head.specs.Names.{AreRising, FlagsSome, GoesOnWith, IsRun, IsRunOn, Narrows, RunsOn, names_of};
 
-    /// Returns the group of these names, at most 16,384, sorted by their bytes.
-    pub(crate) fn new(names: &'n [String]) -> Self
-        requires { length names.now ≤ 16384 }
+    /// Returns the group of these names, at most 16,384, which are in this order.
+    pub(crate) fn new(names: &'n [String], order: &'n [u16; GROUP_NAMES]) -> Self
+        requires few { length names.now ≤ 16384 }
+        requires order { IsOrder (map string_bytes names.now) order.now }
         ensures names { result.names.now ≡ names.now }
-        ensures order { IsOrder (map string_bytes names.now) result.order }
+        ensures order { result.order.now ≡ order.now }
     {
-        Group {
-            names,
-            order: order_of(names),
-        }
+        Group { names, order }
     }
 
     /// Returns the run of all names, which begin with an empty front.
     pub(crate) fn all(&self) -> NameRun
-        ensures { (flags : List Bool) → IsOrder (names_of self.now) self.now.order
+        ensures { (flags : List Bool) → IsOrder (names_of self.now) self.now.order.now
             → AreSame (names_of self.now) flags → IsRun self.now flags [] result }
     {
         NameRun {
@@ -62,10 +60,11 @@ impl<'n> Group<'n> {
     /// Returns the index of the name that is at this index of the order.
     #[inline(always)]
     fn index_at(&self, at: usize) -> usize
-        ensures position { result ≡ get_or self.now.order at 0 }
+        ensures position { result ≡ get_or self.now.order.now at 0 }
         ensures within { result < 16384 }
     {
-        match self.order.get(at) {
+        let order = self.order;
+        match order.get(at) {
             Some(position) => usize::from(*position),
             None => 0,
         }
@@ -75,7 +74,7 @@ impl<'n> Group<'n> {
     /// where the name ends before.
     #[inline(always)]
     fn next_at(&self, at: usize, passed: usize) -> usize
-        ensures next { result ≡ next_in (names_of self.now) self.now.order passed at }
+        ensures next { result ≡ next_in (names_of self.now) self.now.order.now passed at }
         ensures within { 0 < result → passed < 2 ^ 63 }
     {
         let name = name_at(self.names, self.index_at(at));
@@ -91,7 +90,7 @@ impl<'n> Group<'n> {
     fn first_from(&self, first: usize, end: usize, passed: usize, least: usize) -> usize
         ensures range { first ≤ end → (first ≤ result) × (result ≤ end) }
         ensures split { first ≤ end → AreRising self.now passed first end
-            → IsSplit (names_of self.now) self.now.order passed first end least result }
+            → IsSplit (names_of self.now) self.now.order.now passed first end least result }
     {
         let mut low = first;
         let mut high = end;
@@ -146,7 +145,7 @@ impl<'n> Group<'n> {
     #[inline(always)]
     fn with_byte(&self, run: NameRun, byte: u8, whole: bool) -> NameRun
         ensures narrows { run.first ≤ run.end → AreRising self.now run.passed run.first run.end
-            → Narrows (names_of self.now) self.now.order byte run result }
+            → Narrows (names_of self.now) self.now.order.now byte run result }
         ensures whole { result.whole ≡ whole }
     {
         let next = usize::from(byte) + 1;
@@ -269,14 +268,13 @@ impl<'n> Group<'n> {
     }
 }
 
-/// Returns the indexes of the names in the order of their bytes.
-fn order_of(names: &[String]) -> [u16; GROUP_NAMES]
-    requires { length names.now ≤ 16384 }
-    ensures { IsOrder (map string_bytes names.now) result }
+/// Writes the indexes of the names, in the order of their bytes, over zeros.
+pub(crate) fn put_names(order: &mut [u16; GROUP_NAMES], names: &[String])
+    requires few { length names.now ≤ 16384 }
+    requires zeros { (i : ℕ) → get_or order.old i 0 ≡ 0 }
+    ensures { IsOrder (map string_bytes names.now) order.new }
 {
-    let mut order = [0; GROUP_NAMES];
     put_order(&mut order[..names.len()], names);
-    order
 }
 
 /// Writes the indexes of names, in the order of the names' bytes, to `positions`.

@@ -3,8 +3,8 @@ ghost use Rattle.std.specs.Prelude.{◌≡◌, ◌≢◌, false, ◌+◌, ◌<�
 ghost use Rattle.vcd_head.specs.Names.{AllMarked, AnyDeclared, AnyHeader, AnyRow, AnyVariable, Declaration, GoesOnAfter, Header, IsFirstFalse, IsViewOf, Marked, RefusesUnmatched, counted_from_one, first_unmatched, is_variable, marked_places, marks_of, parent, row_and_scopes, row_path, scopes_at, selects_after, selects_path};
 
 use crate::enclosing::Enclosing;
-use crate::inside::Open;
-use crate::names::{GROUP_NAMES, Group};
+use crate::inside::{Inside, MAX_OPEN, Open};
+use crate::names::{GROUP_NAMES, Group, put_names};
 use vcd_view::{HeadView, Kind};
 
 // What a name says of a path whose prefix it was compared with.
@@ -148,8 +148,11 @@ fn mark_selected(view: HeadView<'_>, names: &[String], marks: &mut [u8]) -> Opti
     ensures within { IfSome result (λ position. position < length names.now) }
     ensures len { length marks.new ≡ length marks.old }
 {
-    let group = Group::new(names);
-    let mut open = Open::new(&group);
+    let mut order = [0; GROUP_NAMES];
+    put_names(&mut order, names);
+    let group = Group::new(names, &order);
+    let mut inside = [Inside::outermost(&group); MAX_OPEN];
+    let mut open = Open::new(&group, &mut inside);
     let mut matched = [false; GROUP_NAMES];
     // 1 plus the row of a scope that is marked, with those around it; 0 before.
     let mut marked = 0;

@@ -14,7 +14,7 @@ use Rattle.vcd_head.proofs.selection.mark_selected.Goals as goal
 use Rattle.vcd_head.proofs.selection.mark_selected.Goals.{then-take, else-take}
 
 pub loop-row-init : goal.loop-row-init
-loop-row-init c = record { marks = λ h v. marked_first (map string_bytes c.args.names.now) h.declarations c.args.marks.now; around = λ h v i l b. cc; matched = λ h v. none_matched (map string_bytes c.args.names.now) h.declarations 16384 (omega (arith, length-map c.args.names.now string_bytes)); held = λ h v. c.new-open.ensures h _ (subst (λ ns. IsOrder (map string_bytes ns) c.new-group.result.order) (sym c.new-group.ensures.names) c.new-group.ensures.order) (λ p q name a b. read_same false 16384 p ∙ sym (read_same false 16384 q)) }
+loop-row-init c = record { marks = λ h v. marked_first (map string_bytes c.args.names.now) h.declarations c.args.marks.now; around = λ h v i l b. cc; matched = λ h v. none_matched (map string_bytes c.args.names.now) h.declarations 16384 (omega (arith, length-map c.args.names.now string_bytes)); held = λ h v. c.new-open.ensures h _ (subst (λ ns. IsOrder (map string_bytes ns) c.new-group.result.order.now) (sym c.new-group.ensures.names) (subst (IsOrder (map string_bytes c.args.names.now)) (sym c.new-group.ensures.order) c.put_names.ensures)) (λ p q name a b. read_same false 16384 p ∙ sym (read_same false 16384 q)) }
 
 pub loop-row-preserved : goal.loop-row-preserved
 loop-row-preserved c = record {
@@ -68,3 +68,6 @@ returns-clause-names c = λ h v.
 
 pub returns-clause-within : goal.returns-clause-within
 returns-clause-within c = first_within c.loop-row.matched (length c.args.names.now) c.first_false.result c.first_false.ensures
+
+pub put_names-requires-clause-zeros : goal.put_names-requires-clause-zeros
+put_names-requires-clause-zeros c = λ i. read_same 0 16384 i

@@ -13,5 +13,5 @@ invariant-loop-row l = record {
   marks : (h : Header) → Views (parts l.view) h → Marked (marked_places (map string_bytes l.names) (take l.row h.declarations)) l.initial.marks l.marks;
   around : (h : Header) → Views (parts l.view) h → AllMarked (scopes_at h.declarations l.marked) l.marks;
   matched : (h : Header) → Views (parts l.view) h → HaveMatched (map string_bytes l.names) (take l.row h.declarations) l.matched;
-  held : (h : Header) → Views (parts l.view) h → AreOpen h (map string_bytes l.group.names.now) l.group.order l.matched l.open;
+  held : (h : Header) → Views (parts l.view) h → AreOpen h (map string_bytes l.group.names.now) l.group.order.now l.matched l.open;
 }

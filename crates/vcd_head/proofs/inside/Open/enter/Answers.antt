@@ -13,7 +13,7 @@ pub returns : goal.returns
 returns c = λ h v within are.
     let ds = h.declarations in
     let names = map string_bytes c.args.group.now.names.now in
-    let order = c.args.group.now.order in
+    let order = c.args.group.now.order.now in
     let d = there ds c.args.row within in
     let inside = front ds (suc c.args.row) in
     let is : scopes_text (take c.args.row ds) ++ (c.name_of.result.now ++ 46 ∷ []) ≡ inside = ap (λ l. scopes_text (take c.args.row ds) ++ (l ++ 46 ∷ [])) (c.name_of.ensures h d.0 v d.1) ∙ sym (front_next ds c.args.row d.0 d.1) in

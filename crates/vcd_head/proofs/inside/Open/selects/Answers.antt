@@ -13,7 +13,7 @@ pub returns : goal.returns
 returns c = λ h d v at var are.
     let e = take c.args.row h.declarations in
     let names = map string_bytes c.args.group.now.names.now in
-    let order = c.args.group.now.order in
+    let order = c.args.group.now.order.now in
     let old = c.args.matched.now in
     let mid = c.if-self.matched in
     let now = c.if-self.self in

@@ -7,7 +7,7 @@ use Rattle.vcd_head.proofs.names.Group.enter.Goals as goal
 pub returns : goal.returns
 returns c = λ front f.
     let names = map string_bytes c.args.self.now.names.now in
-    let order = c.args.self.now.order in
+    let order = c.args.self.now.order.now in
     let component = c.args.component.now in
     let named = c.follow-named.ensures front f in
     let new = c.step.new.matched in

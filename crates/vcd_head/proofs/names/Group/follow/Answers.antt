@@ -9,7 +9,7 @@ loop-done-init c = record {
   within = omega arith;
   goes = λ front f.
       let names = map string_bytes c.args.self.now.names.now in
-      let order = c.args.self.now.order in
+      let order = c.args.self.now.order.now in
       subst (λ p. GoesOn names order c.args.matched.now c.args.matched.now p c.args.run) (sym (append-nil front)) (goes_nowhere names order c.args.matched.now front c.args.run f);
 }
 
@@ -25,7 +25,7 @@ loop-done-preserved c =
       within = within;
       goes = λ front f.
           let names = map string_bytes c.args.self.now.names.now in
-          let order = c.args.self.now.order in
+          let order = c.args.self.now.order.now in
           let old = c.args.matched.now in
           let new = c.hop-count.new.matched in
           let so_far = c.loop-done.invariant.goes front f in
@@ -36,7 +36,7 @@ loop-done-preserved c =
 pub returns-then-run : goal.returns-then-run
 returns-then-run c = λ front f.
     let names = map string_bytes c.args.self.now.names.now in
-    let order = c.args.self.now.order in
+    let order = c.args.self.now.order.now in
     let bytes = c.args.bytes.now in
     let done = c.loop-done.done in
     subst (λ p. GoesOn names order c.args.matched.now c.loop-done.matched p c.loop-done.run) (append_assoc front (take done bytes) (drop done bytes) ∙ ap (λ l. front ++ l) (take-append-drop done bytes))
@@ -45,5 +45,5 @@ returns-then-run c = λ front f.
 pub returns : goal.returns
 returns c = λ front f.
     let names = map string_bytes c.args.self.now.names.now in
-    let order = c.args.self.now.order in
+    let order = c.args.self.now.order.now in
     subst (λ l. GoesOn names order c.args.matched.now c.loop-done.matched (front ++ l) c.loop-done.run) (take_all c.loop-done.done c.args.bytes.now c.loop-done-test.false) (c.loop-done.invariant.goes front f)

@@ -5,8 +5,8 @@ use Rattle.vcd_head.proofs.names.Group.follow.Given as goal
 abbrev pub invariant-loop-done : goal.invariant-loop-done
 invariant-loop-done l = record {
   within : l.done ≤ length l.bytes;
-  goes : (front : List ℕ) → Follows (map string_bytes l.self.names.now) l.self.order l.initial.matched front l.initial.run
-      → GoesOn (map string_bytes l.self.names.now) l.self.order l.initial.matched l.matched (front ++ take l.done l.bytes) l.run;
+  goes : (front : List ℕ) → Follows (map string_bytes l.self.names.now) l.self.order.now l.initial.matched front l.initial.run
+      → GoesOn (map string_bytes l.self.names.now) l.self.order.now l.initial.matched l.matched (front ++ take l.done l.bytes) l.run;
 }
 
 abbrev pub decreases-loop-done : goal.decreases-loop-done

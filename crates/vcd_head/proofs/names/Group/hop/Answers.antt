@@ -8,7 +8,7 @@ use Rattle.vcd_head.proofs.names.Group.hop.Goals as goal
 pub returns-in-Some-clause-run : goal.returns-in-Some-clause-run
 returns-in-Some-clause-run c = λ front some f.
     let names = map string_bytes c.args.self.now.names.now in
-    let order = c.args.self.now.order in
+    let order = c.args.self.now.order.now in
     let old = c.args.matched.now in
     let bytes = c.args.bytes.now in
     let r = c.args.run in
@@ -23,7 +23,7 @@ returns-in-Some-clause-run c = λ front some f.
 pub returns-in-None-clause-run : goal.returns-in-None-clause-run
 returns-in-None-clause-run c = λ front some f.
     let names = map string_bytes c.args.self.now.names.now in
-    let order = c.args.self.now.order in
+    let order = c.args.self.now.order.now in
     let r = c.args.run in
     let n = c.shared_by_run-shared.result in
     let along : NameRun = record { first = r.first; end = r.end; passed = r.passed + n; whole = r.whole } in

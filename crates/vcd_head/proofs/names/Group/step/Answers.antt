@@ -6,7 +6,7 @@ use Rattle.vcd_head.proofs.names.Group.step.Goals as goal
 pub returns : goal.returns
 returns c = λ front f.
     let names = map string_bytes c.args.self.now.names.now in
-    let order = c.args.self.now.order in
+    let order = c.args.self.now.order.now in
     let m = c.note_at-ends.ensures front f in
     let n = c.with_byte.ensures.narrows f.up (rises_in names order c.args.matched.now front c.args.run f) in
     record {
