@@ -10,6 +10,7 @@ mod WordRows
 mod CornerRows
 mod TokenRows
 mod SettledRows
+mod DueRows
 mod UnitRows
 mod DumpBase
 mod PickRows
@@ -48,6 +49,10 @@ pub mod DumpLaws
 pub mod FirstTokens
 pub mod Unsettled
 pub mod UnsettledMerge
+pub mod FrontTokens
+pub mod DueText
+pub mod MergeDue
+pub mod CutOff
 pub mod SampleText
 pub mod PickUses
 pub mod PickCounts

@@ -206,7 +206,7 @@ alike h s u ts xs ys f =
 
 -- ---- a timestamp that ends the run
 
-first_part : (test : BodyItem → Bool) (p q : List BodyItem) → list_any test p ≡ true
+pub first_part : (test : BodyItem → Bool) (p q : List BodyItem) → list_any test p ≡ true
     → (list_any test (p ++ q) ≡ true) × (up_to_first test (p ++ q) ≡ up_to_first test p)
 first_part test [] q e = cc
 first_part test (x ∷ p) q e = by_test (test x) refl e (first_part test p q)
@@ -217,7 +217,7 @@ first_part test (x ∷ p) q e = by_test (test x) refl e (first_part test p q)
     by_test true f e more = (rw f refl, rw f refl)
     by_test false f e more = let m = more e in (rw f m.0, rw f (ap (λ l. x ∷ l) m.1))
 
-ended_early : (task : Request) (h : Header) (items : List BodyItem) (name : List ℕ)
+pub ended_early : (task : Request) (h : Header) (items : List BodyItem) (name : List ℕ)
     (fault : Option Fault) → list_any (ends_early task) items ≡ true
     → over_body task h items name fault
     ≡ clean_outcome (open_text task h (up_to_first (ends_early task) items))

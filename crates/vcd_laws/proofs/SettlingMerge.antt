@@ -117,14 +117,14 @@ first_stays f xs ys (More y xs' ys' late more) h = ap (λ g. Some g) (starts f y
 -- ---- inputs that continue after the first fault
 
 -- an input is the same, or continues after f
-record GoesOn (f : KeyedFault) (hs : List Header) (n : ℕ) (d d' : Dump) : Type 0 where
-  header : d'.header ≡ d.header
-  fault : d.fault ≡ None
-  more : List BodyItem
-  items : d'.items ≡ d.items ++ more
-  late : key_lt f.key (key_after (factor hs d.header) n d.items) ≡ true
+pub record GoesOn (f : KeyedFault) (hs : List Header) (n : ℕ) (d d' : Dump) : Type 0 where
+  pub header : d'.header ≡ d.header
+  pub fault : d.fault ≡ None
+  pub more : List BodyItem
+  pub items : d'.items ≡ d.items ++ more
+  pub late : key_lt f.key (key_after (factor hs d.header) n d.items) ≡ true
 
-abbrev GoOn : KeyedFault → List Header → ℕ → List Dump → List Dump → Type 0
+abbrev pub GoOn : KeyedFault → List Header → ℕ → List Dump → List Dump → Type 0
 GoOn f hs n [] [] = Unit {0}
 GoOn f hs n [] (d' ∷ ds') = ⊥
 GoOn f hs n (d ∷ ds) [] = ⊥
@@ -231,7 +231,7 @@ module _ (names : List (List ℕ)) (hs : List Header) (ds ds' : List Dump) (f : 
       ap (items_before f) (merged_by_input cs ∙ ap (λ (h : List Header). by_key (keyed_rest h 0 [] cs)) e)
       ∙ filter-by_key (λ y. key_lt y.key f.key) (keyed_rest hs 0 [] cs)
 
-  outcome_stays : merge_outcome names ds' ≡ merge_outcome names ds
+  pub outcome_stays : merge_outcome names ds' ≡ merge_outcome names ds
   outcome_stays =
       let name = name_at names f.key.input in
       with_fault names ds' f first'
@@ -370,14 +370,14 @@ body_known scale h s rest xs =
 
 -- an input of which this is known: its dump is the known one, or it continues from that; and not
 -- where all is known
-abbrev DumpOf : List Header → SeenBody → Dump → Type 0
+abbrev pub DumpOf : List Header → SeenBody → Dump → Type 0
 DumpOf hs s d' = (d' ≡ dump_seen hs s) ⊎ ((is_some s.whole ≡ false) × (d'.header ≡ (dump_seen hs s).header) × ((dump_seen hs s).fault ≡ None) × ((more : List BodyItem) × (d'.items ≡ (dump_seen hs s).items ++ more)))
 
 same_opened : (o : Opened) (h : Header) (ts : List Token) → o.header ≡ h → o.rest ≡ ts → o ≡ opened_at h o.stream ts
 same_opened o h ts e f =
     ap (λ (k : Header). opened_at k o.stream o.rest) e ∙ ap (opened_at h o.stream) f
 
-dump_seen_of : (hs : List Header) (s : SeenBody) (o : Opened) → IsSoFar s o → DumpOf hs s (dump_in hs o)
+pub dump_seen_of : (hs : List Header) (s : SeenBody) (o : Opened) → IsSoFar s o → DumpOf hs s (dump_in hs o)
 unfolding body_of
 dump_seen_of hs s o is = by_whole s.whole refl is.rest
   where
@@ -406,18 +406,18 @@ dump_seen_of hs s o is = by_whole s.whole refl is.rest
 
 -- ---- all bodies
 
-abbrev AllSoFar : List SeenBody → List Opened → Type 0
+abbrev pub AllSoFar : List SeenBody → List Opened → Type 0
 AllSoFar [] [] = Unit {0}
 AllSoFar [] (o ∷ os) = ⊥
 AllSoFar (s ∷ ss) [] = ⊥
 AllSoFar (s ∷ ss) (o ∷ os) = IsSoFar s o × AllSoFar ss os
 
-or_parts : (a b : Bool) → (a || b) ≡ true → (a ≡ true) ⊎ (b ≡ true)
+pub or_parts : (a b : Bool) → (a || b) ≡ true → (a ≡ true) ⊎ (b ≡ true)
 or_parts true b e = inl refl
 or_parts false b e = inr e
 
 -- an input at its end does not continue
-ended_same : (hs : List Header) (s : SeenBody) (d' : Dump) → is_at_its_end s (dump_seen hs s) ≡ true → DumpOf hs s d'
+pub ended_same : (hs : List Header) (s : SeenBody) (d' : Dump) → is_at_its_end s (dump_seen hs s) ≡ true → DumpOf hs s d'
     → d' ≡ dump_seen hs s
 ended_same hs s d' e (inl same) = same
 ended_same hs s d' e (inr h) = by_parts (or_parts (is_some s.whole) (is_some (dump_seen hs s).fault) e)
@@ -464,7 +464,7 @@ unfolding dump_of
 seen_headers hs [] = refl
 seen_headers hs (s ∷ ss) = ap (λ l. s.header ∷ l) (seen_headers hs ss)
 
-opened_headers : (ss : List SeenBody) (os : List Opened) → AllSoFar ss os → map (λ (o : Opened). o.header) os ≡ map (λ (s : SeenBody). s.header) ss
+pub opened_headers : (ss : List SeenBody) (os : List Opened) → AllSoFar ss os → map (λ (o : Opened). o.header) os ≡ map (λ (s : SeenBody). s.header) ss
 opened_headers [] [] all = refl
 opened_headers [] (o ∷ os) all = absurd all
 opened_headers (s ∷ ss) [] all = absurd all
@@ -474,7 +474,7 @@ opened_headers (s ∷ ss) (o ∷ os) all =
     rw (e, opened_headers ss os all.1) refl
 
 -- bodies that settle a merge give it this outcome
-merge_known : (names : List (List ℕ)) (ss : List SeenBody) (os : List Opened) → AllSoFar ss os
+pub merge_known : (names : List (List ℕ)) (ss : List SeenBody) (os : List Opened) → AllSoFar ss os
     → bodies_settle ss ≡ true
     → merge_outcome names (dumps_of os) ≡ merge_outcome names (map (dump_seen (map (λ s. s.header) ss)) ss)
 merge_known names ss os all e =
@@ -510,7 +510,7 @@ seen_reading limit most (Seen.All stream) input same over =
     )
 
 -- what is known of the headers is true of two lists of inputs
-abbrev BothOpen : ℕ → List Header → List Input → List Input → SeenHeaders → Type 0
+abbrev pub BothOpen : ℕ → List Header → List Input → List Input → SeenHeaders → Type 0
 BothOpen limit hs is js Faulty =
     (e : ℕ × Fault) × (open_from limit hs is ≡ Err e) × (open_from limit hs js ≡ Err e)
 BothOpen limit hs is js NotWhole = Unit {0}
@@ -560,7 +560,7 @@ opens_whole limit hs s input inputs is e =
           ∙ opening_whole limit hs inputs (stream_of limit input) (with_more r seen.0) e,
     )
 
-both_open : (limit : ℕ) (hs : List Header) (ss : List Seen) (is js : List Input) → AreSeen limit ss is
+pub both_open : (limit : ℕ) (hs : List Header) (ss : List Seen) (is js : List Input) → AreSeen limit ss is
     → AreSeen limit ss js → BothOpen limit hs is js (headers_seen hs ss)
 unfolding open_from
 both_open limit hs [] [] [] a b = ([], [], refl, refl, tt, tt)

@@ -37,14 +37,14 @@ fold_least a (b ∷ xs) x (inr (inl e)) = let m = earlier_least a b in let l = m
 fold_least a (b ∷ xs) x (inr (inr j)) = fold_least (earlier_halt a b) xs x (inr j)
 
 -- no halt is before the first
-reduce_least : (xs : List HaltPlace) (x : HaltPlace) → In x xs
+pub reduce_least : (xs : List HaltPlace) (x : HaltPlace) → In x xs
     → (y : HaltPlace) × (reduce earlier_halt xs ≡ Some y) × (y.place ≤ x.place)
 reduce_least [] x i = absurd i
 reduce_least (a ∷ xs) x i = (fold earlier_halt a xs, refl, fold_least a xs x i)
 
 -- ---- tokens that are given
 
-long_in : (limit : ℕ) (text : List ℕ) (i : ℕ) (places : List ℕ) → In i places
+pub long_in : (limit : ℕ) (text : List ℕ) (i : ℕ) (places : List ℕ) → In i places
     → nat_lt limit (length (run_at text i)) ≡ true
     → In i (filter (λ j. nat_lt limit (length (run_at text j))) places)
 long_in limit text i [] there e = absurd there

@@ -322,7 +322,7 @@ ended_other hs n (s ∷ ss) (d' ∷ ds') all =
     by_case (inl (same, ends, other)) x f = other x (sym (ap (λ (c : Dump). c.fault) same) ∙ f)
     by_case (inr (ends, none, h, i, (u, w, lacks))) x f = by_missing u w lacks x f
 
-faults_of : (hs : List Header) (ds : List Dump) → headers_of ds ≡ hs → first_fault ds ≡ reduce earlier_fault (faults_rest hs 0 ds)
+pub faults_of : (hs : List Header) (ds : List Dump) → headers_of ds ≡ hs → first_fault ds ≡ reduce earlier_fault (faults_rest hs 0 ds)
 unfolding first_fault
 faults_of hs ds e =
     ap (λ (h : List Header). reduce earlier_fault (filter_map (λ o. o) (each_after (keyed_fault h) [] ds))) e
@@ -381,7 +381,7 @@ least_of a (y ∷ ys) g e =
     by_test true h n = (not_chain y.key a.key h n, n)
     by_test false h n = (n, not_trans y.key a.key h n)
 
-least : (ys : List KeyedFault) (g : KeyedFault) → reduce earlier_fault ys ≡ Some g
+pub least : (ys : List KeyedFault) (g : KeyedFault) → reduce earlier_fault ys ≡ Some g
     → AllByRecursion (λ y. key_lt y.key g.key ≡ false) ys
 least [] g e = tt
 least (y ∷ ys) g e = let same : fold earlier_fault y ys ≡ g = cc in let m = least_of y ys g same in (m.0, m.1)
@@ -505,7 +505,7 @@ none_past x hs n (s ∷ ss) (d' ∷ ds') all e =
         let g : with_key (key_after (factor hs d'.header) n d'.items) (Some (missing u)) (faults_rest hs (n + 1) ds') ≡ []
         = ap (λ (o : Option Fault). with_key (key_after (factor hs d'.header) n d'.items) o (faults_rest hs (n + 1) ds')) (sym (failed_missing u d'.fault w lacks)) ∙ e in cc
 
-none_reduced : (xs : List KeyedFault) → reduce earlier_fault xs ≡ None → xs ≡ []
+pub none_reduced : (xs : List KeyedFault) → reduce earlier_fault xs ≡ None → xs ≡ []
 none_reduced [] e = refl
 none_reduced (x ∷ xs) e = cc
 

@@ -9,3 +9,4 @@ pub mod OverMerge
 pub mod Counted
 pub mod Checked
 pub mod Final
+pub mod Due
