@@ -57,16 +57,18 @@ struct vcdkit_change {
 
 /* A reading of the changes of a variable. All zeros at the first call. */
 struct vcdkit_reading {
-    uint64_t place[8]; /* where the next call resumes: for the library alone */
+    uint64_t place[8]; /* where the next call resumes: for the library alone. It moves on with
+                        * VCDKIT_ALL and VCDKIT_FULL alone */
     uint64_t count;    /* how many changes the last call found: never more than the array has
                         * room for, and 0 with VCDKIT_NO_CODE and VCDKIT_NO_MEMORY */
     uint64_t fault;    /* the fault of the dump, where there is one:
-                        *  1 token too long, 2 unexpected end of input, 3 unknown command,
-                        *  4 command out of place, 5 bad timescale, 6 bad scope, 7 bad variable,
-                        *  8 code declared with another size or kind, 9 upscope without scope,
-                        *  10 scopes too deep, 11 too many declarations, 13 bad time,
-                        *  14 time goes back, 15 bad value, 16 unknown code, 17 value too wide,
-                        *  18 real text too long, 19 time inside a section, 21 input too long */
+                        *  1 token too long (over 1,048,576 bytes), 2 unexpected end of input,
+                        *  3 unknown command, 4 command out of place, 5 bad timescale,
+                        *  6 bad scope, 7 bad variable, 8 code declared with another size or kind,
+                        *  9 upscope without scope, 10 scopes too deep, 11 too many declarations,
+                        *  13 bad time, 14 time goes back, 15 bad value, 16 unknown code,
+                        *  17 value too wide, 18 real text too long, 19 time inside a section,
+                        *  21 input too long */
     uint64_t line;     /* the line of the fault */
 };
 
@@ -75,7 +77,7 @@ enum {
     VCDKIT_ALL = 0,       /* the dump has no further change, and no fault */
     VCDKIT_FAULT = 1,     /* the dump has a fault, after the changes that were found */
     VCDKIT_NO_CODE = 2,   /* no variable has the code */
-    VCDKIT_NO_MEMORY = 3, /* memory ran out */
+    VCDKIT_NO_MEMORY = 3, /* memory ran out: the same call may be made again */
     VCDKIT_FULL = 4,      /* the array is full: the next call finds the changes after these */
     VCDKIT_BAD_PLACE = 5  /* no call has left this reading */
 };

@@ -24,7 +24,7 @@ use Rattle.vcd_changes.proofs.HeaderLemmas.{one_whole}
 abbrev pub codes_in : List (Placed HeaderPhrase) → List IdCode
 codes_in placed = (header_of (phrases_of placed)).codes
 
-pub has_codes : {X : Type 0} {g : Ghosts X} (f : Feed X g) (dump : List ℕ) (s : HeadShown) (head : GivesHead 16777216 (whole dump) f s) → limit_of f ≡ 65536 → HasCodes dump head.given (codes_in head.placed)
+pub has_codes : {X : Type 0} {g : Ghosts X} (f : Feed X g) (dump : List ℕ) (s : HeadShown) (head : GivesHead 16777216 (whole dump) f s) → limit_of f ≡ 1048576 → HasCodes dump head.given (codes_in head.placed)
 has_codes f dump s head limit = record { placed = head.placed; first = subst (λ (n : ℕ). IsPrefixOf head.given (stream_of n (whole dump)).tokens) limit head.stands.given_first; header = head.whole; codes_are = refl }
 
 same_header : (dump : List ℕ) (front front' : List Token) (codes codes' : List IdCode) → HasCodes dump front codes → HasCodes dump front' codes' → (front ≡ front') × (codes ≡ codes')

@@ -59,14 +59,14 @@ pub has_not_failed : {X : Type 0} {g : Ghosts X} (f : Feed X g) (dump : List ℕ
 has_not_failed {X} {g} f dump given h = open_phase f.parked.phase (length f.token.now) (g.rest f.source.now) f.chunk.now f.parked dump given h.at
 
 -- the next call resumes where the items end that a feed has given
-pub is_after : {X : Type 0} {g : Ghosts X} (codes : List IdCode) (i : Input) (front : List Token) (items : List BodyItem) (f : Feed X g) (r : Regs) (o : Offset) → GaveItems codes i front items f r → limit_of f ≡ 65536 → chunk_len_of f ≡ 8192
+pub is_after : {X : Type 0} {g : Ghosts X} (codes : List IdCode) (i : Input) (front : List Token) (items : List BodyItem) (f : Feed X g) (r : Regs) (o : Offset) → GaveItems codes i front items f r → limit_of f ≡ 1048576 → chunk_len_of f ≡ 8192
     → ((j : Input) (given : List Token) → HasGiven j given f → HasGivenTo (chunk_len_of f) (limit_of f) o j given) → IsOffset o → IsAfter codes i front items (place_of o r)
 is_after codes i front items f r o gave limit chunk to comes = record {
   given = gave.given;
   placed = gave.placed;
   begun = λ e. absurd (omega arith);
   comes = comes;
-  stands = subst (λ (n : ℕ). HasGivenTo n 65536 o i (front ++ gave.given)) chunk (subst (λ (n : ℕ). HasGivenTo (chunk_len_of f) n o i (front ++ gave.given)) limit (to i (front ++ gave.given) gave.stands));
+  stands = subst (λ (n : ℕ). HasGivenTo n 1048576 o i (front ++ gave.given)) chunk (subst (λ (n : ℕ). HasGivenTo (chunk_len_of f) n o i (front ++ gave.given)) limit (to i (front ++ gave.given) gave.stands));
   so_far = gave.so_far;
   items_are = gave.items_are;
   known = subst (AreRegsAfter items) (sym (regs_back o r)) gave.known;
@@ -78,6 +78,6 @@ goes_on codes i front items f p after stands = record { given = after.given; pla
 
 -- how a reading ends that has met no fault
 pub ends_well : {X : Type 0} {g : Ghosts X} (codes : List IdCode) (i : Input) (front : List Token) (items : List BodyItem) (f : Feed X g) (r : Regs) (count : ℕ) (rows : List ChangeRow) (filled : Filled) (reading : Reading)
-    → EndsSo codes i front items f r count rows (Ok filled) → limit_of f ≡ 65536 → reading.count ≡ count → (GaveItems codes i front items f r → IsAfter codes i front items reading.place) → EndsAt codes i front items reading rows (status_of filled)
+    → EndsSo codes i front items f r count rows (Ok filled) → limit_of f ≡ 1048576 → reading.count ≡ count → (GaveItems codes i front items f r → IsAfter codes i front items reading.place) → EndsAt codes i front items reading rows (status_of filled)
 ends_well codes i front items f r count rows filled.All reading h limit same after = inl (refl, subst (λ (n : ℕ). BodyHas codes i front n items None) limit h.has, after h.gave)
 ends_well codes i front items f r count rows filled.Full reading h limit same after = inr (inr (refl, same ∙ h.1, after h.0))

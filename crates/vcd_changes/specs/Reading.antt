@@ -59,7 +59,7 @@ pub record IsAfter (codes : List IdCode) (i : Input) (front : List Token) (items
   pub placed : List (Placed BodyPhrase)
   pub begun : p.begun ≢ 0
   pub comes : IsOffset p.offset
-  pub stands : HasGivenTo 8192 65536 p.offset i (front ++ given)
+  pub stands : HasGivenTo 8192 1048576 p.offset i (front ++ given)
   pub so_far : IsSoFar (body_grammar codes) given placed []
   pub items_are : items_of (phrases_of placed) ≡ items
   pub known : AreRegsAfter items (regs_of p)
@@ -67,7 +67,7 @@ pub record IsAfter (codes : List IdCode) (i : Input) (front : List Token) (items
 -- the dump begins with these tokens of a whole header with no fault, which has these codes
 pub record HasCodes (dump : List ℕ) (front : List Token) (codes : List IdCode) : Type 0 where
   pub placed : List (Placed HeaderPhrase)
-  pub first : IsPrefixOf front (stream_of 65536 (whole dump)).tokens
+  pub first : IsPrefixOf front (stream_of 1048576 (whole dump)).tokens
   pub header : IsWhole (header_grammar 16777216) front placed
   pub codes_are : codes ≡ (header_of (phrases_of placed)).codes
 
@@ -87,12 +87,17 @@ abbrev pub status_of : Filled → ℕ
 status_of filled.All = 0
 status_of filled.Full = 4
 
+-- the next call resumes where this one did, unless the body has no others or the rows are full: so
+-- after a fault, or where memory ran out, the same call may be made again
+abbrev pub StaysAt : (old new : Reading) → (status : ℕ) → Type 0
+StaysAt old new status = status ≢ 0 → status ≢ 4 → new.place ≡ old.place
+
 -- how a call ends whose reading has come after these items: the body has no others and no fault; or
 -- it has this fault; or the rows are full, and the next call resumes
 abbrev pub EndsAt : List IdCode → Input → List Token → List BodyItem → Reading → List ChangeRow → ℕ → Type 0
 EndsAt codes i front items r rows status =
-    ((status ≡ 0) × BodyHas codes i front 65536 items None × IsAfter codes i front items r.place)
-    ⊎ ((status ≡ 1) × BodyHas codes i front 65536 items (Some (record { number = r.fault; line = r.line })))
+    ((status ≡ 0) × BodyHas codes i front 1048576 items None × IsAfter codes i front items r.place)
+    ⊎ ((status ≡ 1) × BodyHas codes i front 1048576 items (Some (record { number = r.fault; line = r.line })))
     ⊎ ((status ≡ 4) × (r.count ≡ length rows) × IsAfter codes i front items r.place)
 
 -- What a call finds after these items of the body: others, whose changes of this code are in the
@@ -106,5 +111,5 @@ pub record Finds (codes : List IdCode) (i : Input) (front : List Token) (items :
 pub data FindsIn (dump : List ℕ) (items : List BodyItem) (code : List ℕ) (r : Reading) (rows : List ChangeRow) (status : ℕ) : Type 0 where
   Found : (front : List Token) (codes : List IdCode) (has : HasCodes dump front codes) (finds : Finds codes (whole dump) front items code r rows status) → FindsIn dump items code r rows status
   NoCode : (front : List Token) (codes : List IdCode) (has : HasCodes dump front codes) (none : find (has_text code) codes ≡ None) (count_is : r.count ≡ 0) (status_is : status ≡ 2) → FindsIn dump items code r rows status
-  BadHeader : (fault : header_fault_of (stream_of 65536 (whole dump)) (read_header 16777216 (stream_of 65536 (whole dump))) ≡ Some (record { number = r.fault; line = r.line })) (none : r.count ≡ 0) (status_is : status ≡ 1) → FindsIn dump items code r rows status
+  BadHeader : (fault : header_fault_of (stream_of 1048576 (whole dump)) (read_header 16777216 (stream_of 1048576 (whole dump))) ≡ Some (record { number = r.fault; line = r.line })) (none : r.count ≡ 0) (status_is : status ≡ 1) → FindsIn dump items code r rows status
   NoMemory : (count_is : r.count ≡ 0) (status_is : status ≡ 3) → FindsIn dump items code r rows status

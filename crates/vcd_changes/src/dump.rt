@@ -8,7 +8,7 @@ ghost use Rattle.vcd_model.specs.Declarations.{IdCode};
 ghost use Rattle.vcd_model.specs.Items.{BodyItem};
 ghost use Rattle.vcd_text.specs.Answer.{whole};
 ghost use Rattle.vcd_text.specs.Feed.{chunk_len_of, limit_of};
-ghost use Rattle.vcd_changes.specs.Reading.{Finds, FindsIn, GoesOnAt, Refused, status_of};
+ghost use Rattle.vcd_changes.specs.Reading.{Finds, FindsIn, GoesOnAt, Refused, StaysAt, status_of};
 
 use crate::reading::{Reading, place_of, regs_of};
 use crate::row::ChangeRow;
@@ -20,8 +20,8 @@ use vcd_head::{HeadFault, HeadView, read_head_with_hasher};
 use vcd_text::{Bytes, Feed};
 use vcd_view::find;
 
-/// The most bytes that a token may have.
-const LIMIT: usize = 65_536;
+/// The most bytes that a token may have: as many as where the program is given no `--token-limit`.
+const LIMIT: usize = 1_048_576;
 
 /// The most bytes that are read in one call. Few, since each call of `changes` reads so many of the
 /// header and of the body, also where its rows are full long before their end.
@@ -68,13 +68,14 @@ fn read_on(
     reading: &mut Reading,
     rows: &mut [ChangeRow],
 ) -> u8
-    requires { (limit_of feed.old ≡ 65536) × (chunk_len_of feed.old ≡ 8192) }
+    requires { (limit_of feed.old ≡ 1048576) × (chunk_len_of feed.old ≡ 8192) }
     ensures finds { (h : Header) (dump : List ℕ) (front : List Token) (items : List BodyItem)
         (code : IdCode) → IsViewOf view.entry h
         → GaveItems h.codes (whole dump) front items feed.old regs
         → slice_get h.codes index ≡ Some code
         → Finds h.codes (whole dump) front items code.text reading.new rows.new result }
     ensures most { reading.new.count ≤ length rows.new }
+    ensures place { StaysAt reading.old reading.new result }
 {
     let mut regs = regs;
     let mut count = 0;
@@ -105,7 +106,8 @@ fn after(dump: &[u8], n: u64) -> &[u8]
 
 /// Notes the fault of a header in the reading, with no rows, and returns the status.
 fn refused(fault: HeadFault, line: u64, reading: &mut Reading) -> u8
-    ensures { Refused fault line reading.new result }
+    ensures refused { Refused fault line reading.new result }
+    ensures place { reading.new.place ≡ reading.old.place }
 {
     reading.count = 0;
     if fault == HeadFault::OutOfMemory {
@@ -131,6 +133,8 @@ fn read_changes<B: BuildHasher>(
         → IfOk result (FindsIn dump.now items code.now reading.new rows.new) }
     ensures most { reading.new.count ≤ length rows.new }
     ensures none { IfErr result (λ _. reading.new.count ≡ 0) }
+    ensures place { IfOk result (StaysAt reading.old reading.new) }
+    ensures stays { IfErr result (λ _. reading.new.place ≡ reading.old.place) }
 {
     let mut chunk = vec![in alloc; 0u8; CHUNK]?;
     let mut token = vec![in alloc; 0u8; LIMIT]?;
@@ -173,6 +177,7 @@ pub fn changes<B: BuildHasher>(
     ensures finds { (items : List BodyItem) → GoesOnAt dump.now items reading.old.place
         → FindsIn dump.now items code.now reading.new rows.new result }
     ensures most { reading.new.count ≤ length rows.new }
+    ensures place { StaysAt reading.old reading.new result }
 {
     reading.count = 0;
     match read_changes(alloc, dump, code, hasher, reading, rows) {

@@ -19,13 +19,13 @@ pub fn check<S: Source, W: Sink>(
     ensures runs { RunsWhole S.failures Request.Check view.entry
         feed.old feed.new (W.device out.old) (W.device out.new) result }
 {
-    let mut room = Room {
+    let room = Room {
         values: &mut [],
         slots: &mut [],
         shares: &mut [],
         marks: &mut [],
     };
-    run_task(Task::Check, view, feed, &mut room, out)
+    run_task(Task::Check, view, feed, room, out)
 }
 
 /// Writes the header of the variables that the names select and of the scopes around them, and then
@@ -36,12 +36,12 @@ pub fn check<S: Source, W: Sink>(
 pub fn pick<S: Source, W: Sink>(
     view: HeadView<'_>,
     feed: &mut Feed<'_, '_, '_, '_, S>,
-    room: &mut Room<'_>,
+    room: Room<'_>,
     names: &[String],
     out: &mut W,
 ) -> Result<Done, Stop>
-    requires run { MayRun S.failures feed.old view (room_size room.old) (W.device out.old) }
-    requires room { HasRoomFor (Task.Pick names) view room.old }
+    requires run { MayRun S.failures feed.old view (room_size room) (W.device out.old) }
+    requires room { HasRoomFor (Task.Pick names) view room }
     ensures runs { RunsWhole S.failures (Request.Pick (map string_bytes names.now)) view.entry
         feed.old feed.new (W.device out.old) (W.device out.new) result }
 {
@@ -55,12 +55,12 @@ pub fn pick<S: Source, W: Sink>(
 pub fn edges<S: Source, W: Sink>(
     view: HeadView<'_>,
     feed: &mut Feed<'_, '_, '_, '_, S>,
-    room: &mut Room<'_>,
+    room: Room<'_>,
     names: &[String],
     out: &mut W,
 ) -> Result<Done, Stop>
-    requires run { MayRun S.failures feed.old view (room_size room.old) (W.device out.old) }
-    requires room { HasRoomFor (Task.Edges names) view room.old }
+    requires run { MayRun S.failures feed.old view (room_size room) (W.device out.old) }
+    requires room { HasRoomFor (Task.Edges names) view room }
     ensures runs { RunsWhole S.failures (Request.Edges (map string_bytes names.now)) view.entry
         feed.old feed.new (W.device out.old) (W.device out.new) result }
 {
@@ -74,14 +74,14 @@ pub fn edges<S: Source, W: Sink>(
 pub fn cut<S: Source, W: Sink>(
     view: HeadView<'_>,
     feed: &mut Feed<'_, '_, '_, '_, S>,
-    room: &mut Room<'_>,
+    room: Room<'_>,
     from: u64,
     to: u64,
     out: &mut W,
 ) -> Result<Done, Stop>
-    requires run { MayRun S.failures feed.old view (room_size room.old) (W.device out.old) }
+    requires run { MayRun S.failures feed.old view (room_size room) (W.device out.old) }
     requires order { from ≤ to }
-    requires room { HasRoomFor (Task.Cut from to) view room.old }
+    requires room { HasRoomFor (Task.Cut from to) view room }
     ensures runs { RunsTask S.failures (Request.Cut from to) view.entry
         feed.old feed.new (W.device out.old) (W.device out.new) result }
 {
@@ -96,15 +96,15 @@ pub fn cut<S: Source, W: Sink>(
 pub fn sample<S: Source, W: Sink>(
     view: HeadView<'_>,
     feed: &mut Feed<'_, '_, '_, '_, S>,
-    room: &mut Room<'_>,
+    room: Room<'_>,
     times: &[u64],
     names: &[String],
     out: &mut W,
 ) -> Result<Done, Stop>
-    requires run { MayRun S.failures feed.old view (room_size room.old) (W.device out.old) }
+    requires run { MayRun S.failures feed.old view (room_size room) (W.device out.old) }
     requires some { times.now ≢ [] }
     requires rising { IsStrictlyIncreasing times.now }
-    requires room { HasRoomFor (Task.Sample times names) view room.old }
+    requires room { HasRoomFor (Task.Sample times names) view room }
     ensures runs { RunsTask S.failures (Request.Sample times.now (map string_bytes names.now)) view.entry
         feed.old feed.new (W.device out.old) (W.device out.new) result }
 {

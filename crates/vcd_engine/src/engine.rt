@@ -332,22 +332,16 @@ pub fn run_task<S: Source, W: Sink>(
     task: Task<'_>,
     view: HeadView<'_>,
     feed: &mut Feed<'_, '_, '_, '_, S>,
-    room: &mut Room<'_>,
+    room: Room<'_>,
     out: &mut W,
 ) -> Result<Done, Stop>
-    requires run { MayRun S.failures feed.old view (room_size room.old) (W.device out.old) }
+    requires run { MayRun S.failures feed.old view (room_size room) (W.device out.old) }
     requires valid { IsValid (request_of task) }
-    requires room { HasRoomFor task view room.old }
+    requires room { HasRoomFor task view room }
     ensures runs { RunsTask S.failures (request_of task.entry) view.entry feed.old feed.new
         (W.device out.old) (W.device out.new) result }
     ensures answer { EndsAsAsked (request_of task.entry) result }
 {
-    let room = Room {
-        values: &mut *room.values,
-        slots: &mut *room.slots,
-        shares: &mut *room.shares,
-        marks: &mut *room.marks,
-    };
     let begun = Begun::start(task, view, room, out)?;
     let mut engine = Engine::new(begun, view);
     engine.run_to_end(feed, out)

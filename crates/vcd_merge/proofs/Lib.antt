@@ -17,6 +17,7 @@ pub mod MergeRuns
 pub mod MergeCloses
 pub mod WholeInputs
 pub mod MergeReads
+pub mod OnTurn
 pub mod MergeStart
 pub mod MergeRoomLemmas
 pub mod MergeWholes

@@ -15,12 +15,13 @@ use Rattle.vcd_model.specs.Tokens.{Token, stream_of}
 use Rattle.vcd_text.specs.Answer.{failed_after}
 use Rattle.vcd_text.specs.ReadAhead.{ReadsAsNeeded}
 use Rattle.vcd_text.specs.ReadAhead.ReadsAsNeeded.{Nothing}
-use Rattle.vcd_text.specs.Device.{Device, Supply, Writes, WritesSome, supply}
-use Rattle.vcd_text.proofs.Writes.{both-written, some-behind, some-first}
+use Rattle.vcd_text.specs.Device.{Appends, Device, Supply, Writes, WritesSome, supply}
+use Rattle.vcd_text.proofs.Writes.{appends-twice, both-written, some-behind, some-first}
 use Rattle.vcd_body.specs.Answer.{IsLeft, reads_failed}
 use Rattle.vcd_merge.specs.MergeOrder.{IsNext}
 use Rattle.vcd_merge.specs.MergeParts.{part_len}
-use Rattle.vcd_merge.specs.MergeRun.{Belongs, Follows, settles_among}
+use Rattle.vcd_merge.specs.MergeRun.{AreReadOnTurn, Belongs, Follows, settles_among}
+use Rattle.vcd_merge.specs.MergeRun.AreReadOnTurn.{OnTurn, Unread}
 use Rattle.vcd_merge.specs.MergeStep.{AreGiven, Gives, HasFault, Holds, IsReady, ReadsOne, Standing, failures_with}
 use Rattle.vcd_merge.specs.MergeTrail.{GoOn, ReadInTurn}
 use Rattle.vcd_body.specs.Asked.{HaveJust}
@@ -36,7 +37,8 @@ use Rattle.vcd_body.specs.declared.answer.Stop.TheVariants.{Dump as Faulty, Read
 use Rattle.vcd_model.proofs.MergeSoFar.{fault_output, head_first}
 use Rattle.vcd_merge.proofs.MergeReads as reads
 use Rattle.vcd_merge.proofs.InTurn.{go_item, go_same, go_still}
-use Rattle.vcd_merge.proofs.MergeReads.{AreReadSoFar, IsRead, cut_left, left_whole, other_left, read_more, reads_for}
+use Rattle.vcd_merge.proofs.OnTurn.{begins, on_turn}
+use Rattle.vcd_merge.proofs.MergeReads.{AreReadSoFar, IsRead, IsReadSo, cut_left, left_whole, other_left, read_more, reads_for}
 use Rattle.vcd_merge.proofs.MergeSteps.{get_map, len_map, same_or_not}
 use Rattle.vcd_merge.proofs.MergeStops.{BackFits, EndFits, HasLaterFault, StopFits, WriteFits, backs, clean_is, ends, fault_merged, kept_some, stops, writes, written_some}
 use Rattle.vcd_merge.proofs.MergeWholes as whole
@@ -150,6 +152,17 @@ module _ {X : Type 0} (rest : X → _) (failures : X → ℕ) (hs : List Header)
       abbrev IsFollowed : Result Done Stop → Type 0
       IsFollowed r = Follows limit chunk lanes names olds news begin new r
 
+      -- the output has what is due before the last step, and maybe more
+      abbrev IsOut : Type 0
+      IsOut = (more : List ℕ) × Appends begin.held new.held (merge_open hs (merged_items ds) ++ more)
+
+      out_with : (more : List ℕ) → Appends out.held new.held more → IsOut
+      out_with more then = (more, appends-twice begin.held out.held new.held (merge_open hs (merged_items ds)) more w.0 then)
+
+      -- no read failed in the last step: by it one input was read on its turn
+      turn_of : {A : Type 0} (k j : ℕ) (r : Result A Stop) → reads_failed r ≡ 0 → map failures s'.sources ≡ failures_with (map failures s.sources) k r → ReadsOne rest lanes ds s s' j None → AreReadTo ds s.seats
+      turn_of k j r none counts one = read_on ds s.seats k j r (go_still ds s.seats) none counts one
+
       new_many : {A : Type 0} (k : ℕ) (r : Result A Stop) → map failures s'.sources ≡ failures_with (map failures s.sources) k r → length news ≡ length lanes
       new_many k r counts =
           let a = reads.as_many failures s.sources s'.sources k r counts in
@@ -200,19 +213,36 @@ module _ {X : Type 0} (rest : X → _) (failures : X → ℕ) (hs : List Header)
             let y = reads.unmap (supply rest failures) s'.sources k new at_new in
             (one.0, reads_for rest failures limit chunk hs es ends k x.lane old new x.left y.0 y.2 (is_settled_behind Request.Merge x.lane.header) (λ r ts have. open_behind x.lane.header r.items ts have) one.1)
 
-        all_follow : (r : Result Done Stop) → length news ≡ length lanes → AreAllRead → Belongs (merge_outcome names (entire_of hs limit ws.list)) names begin new r → IsFollowed r
-        all_follow r as_many each belongs =
+        abbrev AreAllOnTurn : Type 0
+        AreAllOnTurn = (k : ℕ) (x : whole.Whole hs limit) (old new : Supply) → P k x → slice_get lanes k ≡ Some x.lane → slice_get olds k ≡ Some old → slice_get news k ≡ Some new → IsReadSo limit chunk hs ds s.seats k x.lane old new x.left
+
+        -- each was read on its turn, and what is due before the last step is on the output
+        all_on_turn : IsOut → AreAllOnTurn → AreReadOnTurn limit chunk hs (map (λ (x : whole.Whole hs limit). x.lane) ws.list) olds news (map (λ (x : whole.Whole hs limit). x.left) ws.list) begin new
+        all_on_turn due turns =
+            subst (λ (ls : List Lane). AreReadOnTurn limit chunk hs ls olds news (map (λ (x : whole.Whole hs limit). x.left) ws.list) begin new) (sym ws.lanes_are)
+            (OnTurn ds holds.given.dumps_are (begins rest hs lanes limit chunk ds s holds.given ready is_limit) due.0 due.1 (λ k l old new i at_l at_old at_new at_i.
+            let x = reads.unmap (λ (x : whole.Whole hs limit). x.left) ws.list k i at_i in
+            let lane : Some x.0.lane ≡ Some l = sym (lane_of k x.0 x.1) ∙ at_l in
+            let is : x.0.lane ≡ l = cc in
+            let so = turns k x.0 old new (fits k x.0 x.1) (lane_of k x.0 x.1) at_old at_new in
+            on_turn rest hs lanes limit chunk ds s holds.given ready is_limit k l old new i
+            (subst (λ (j : _). IsReadSo limit chunk hs ds s.seats k l old new j) x.2 (subst (λ (m : Lane). IsReadSo limit chunk hs ds s.seats k m old new x.0.left) is so))))
+
+        all_follow : (r : Result Done Stop) → length news ≡ length lanes → AreAllRead → IsOut → AreAllOnTurn → Belongs (merge_outcome names (entire_of hs limit ws.list)) names begin new r → IsFollowed r
+        all_follow r as_many each due turns belongs =
             let len = len_map (λ (x : whole.Whole hs limit). x.lane) ws.list in
             let same = ap (λ (ls : List Lane). length ls) ws.lanes_are in
             let left = left_all hs limit P chunk 0 ws.list olds news (omega (arith, len, same, many)) (omega (arith, len, same, as_many)) ws.fit
             (λ k x old new p at at_old at_new. let i : 0 + k ≡ k = omega arith in settled_behind each k x old new (subst (λ (j : ℕ). P j x) i p) at at_old at_new) in
-            follows hs limit chunk ws.list lanes names olds news begin new r ws.lanes_are holds.given.lanes_are left (needed each) belongs
+            follows hs limit chunk ws.list lanes names olds news begin new r ws.lanes_are holds.given.lanes_are left (needed each) (all_on_turn due turns) belongs
 
         -- where each input is left whole
-        all_whole : (r : Result Done Stop) → length news ≡ length lanes → AreReadTo es ends → ((k : ℕ) (x : whole.Whole hs limit) → P k x → x.left ≡ x.lane.input) → Belongs (merge_outcome names (entire_of hs limit ws.list)) names begin new r → IsFollowed r
-        all_whole r as_many more left belongs =
+        all_whole : (r : Result Done Stop) → length news ≡ length lanes → AreReadTo es ends → AreReadTo ds s.seats → IsOut → ((k : ℕ) (x : whole.Whole hs limit) → P k x → x.left ≡ x.lane.input) → Belongs (merge_outcome names (entire_of hs limit ws.list)) names begin new r → IsFollowed r
+        all_whole r as_many more turns due left belongs =
             all_follow r as_many
             (λ k x old new p at at_old at_new. subst (IsRead limit chunk hs es ends k x.lane old new) (sym (left k x p)) (left_whole rest failures hs limit chunk lanes olds es ends s'.sources more k x.lane old new at at_old at_new))
+            due
+            (λ k x old new p at at_old at_new. subst (IsReadSo limit chunk hs ds s.seats k x.lane old new) (sym (left k x p)) (left_whole rest failures hs limit chunk lanes olds ds s.seats s'.sources turns k x.lane old new at at_old at_new).1)
             belongs
 
       -- all inputs have ended
@@ -222,7 +252,7 @@ module _ {X : Type 0} (rest : X → _) (failures : X → ℕ) (hs : List Header)
           let ws = ends rest hs lanes ds s s' limit is_limit ready seats tokens gives.given gives.finished in
           let outcome = clean_is rest hs lanes ds s s' limit is_limit ready seats tokens gives.given gives.finished names in
           let written = both-written begin out new (merge_open hs (merged_items ds)) (merge_close (merged_items ds)) w gives.closes in
-          all_whole (EndFits rest hs lanes ds s s' limit is_limit ready seats tokens gives.given) ds s'.seats ws (λ j x p. p.later) (Ok Whole) (new_many {A = More} k (Ok (Ended Whole)) counts) (read_same {A = More} k gives.input (Ok (Ended Whole)) refl counts gives.reads) (λ j x p. p.left)
+          all_whole (EndFits rest hs lanes ds s s' limit is_limit ready seats tokens gives.given) ds s'.seats ws (λ j x p. p.later) (Ok Whole) (new_many {A = More} k (Ok (Ended Whole)) counts) (read_same {A = More} k gives.input (Ok (Ended Whole)) refl counts gives.reads) (turn_of {A = More} k gives.input (Ok (Ended Whole)) refl counts gives.reads) (out_with _ gives.closes.0) (λ j x p. p.left)
           (subst (λ (o : Outcome). Belongs o names begin new (Ok Whole)) (sym outcome) (refl, written))
 
       -- nothing was written with the fault
@@ -242,7 +272,7 @@ module _ {X : Type 0} (rest : X → _) (failures : X → ℕ) (hs : List Header)
           let ws = stops rest hs lanes ds s limit is_limit ready holds.given input line fault None gives.0 in
           let outcome = fault_merged rest hs lanes ds s limit is_limit ready holds.given input line fault None gives.0 names in
           let o = output_is input (record { number = fault; line = line }) gives.2 in
-          all_whole (StopFits rest hs lanes ds s limit is_limit ready holds.given input line fault None gives.0) ds s.seats ws (λ j x p. p.behind) (Err stop) (new_many {A = More} k (Err stop) counts) (read_on {A = More} ds s.seats k input (Err stop) (go_still ds s.seats) refl counts gives.3)
+          all_whole (StopFits rest hs lanes ds s limit is_limit ready holds.given input line fault None gives.0) ds s.seats ws (λ j x p. p.behind) (Err stop) (new_many {A = More} k (Err stop) counts) (turn_of {A = More} k input (Err stop) refl counts gives.3) (turn_of {A = More} k input (Err stop) refl counts gives.3) (out_with [] gives.2.0)
           (λ j x p. by_place j x p (same_or_not j input))
           (subst (λ (o : Outcome). Belongs o names begin new (Err stop)) (sym outcome) (o.0, gives.1, o.1))
         where
@@ -259,6 +289,8 @@ module _ {X : Type 0} (rest : X → _) (failures : X → ℕ) (hs : List Header)
           let o = output_is input (record { number = 31; line = line }) gives.1 in
           all_follow (StopFits rest hs lanes ds s limit is_limit ready holds.given input line 31 (Some n) has) ds s.seats ws (λ j x p. p.behind) (Err stop) (new_many {A = More} k (Err stop) counts)
           (λ j x old new p at at_old at_new. by_place j x old new p (same_or_not j input) at at_old at_new)
+          (out_with [] gives.1.0)
+          (λ j x old new p at at_old at_new. (by_place j x old new p (same_or_not j input) at at_old at_new).1)
           (subst (λ (o : Outcome). Belongs o names begin new (Err stop)) (sym outcome) ((line, o.0), o.1))
         where
           n : ℕ
@@ -289,17 +321,17 @@ module _ {X : Type 0} (rest : X → _) (failures : X → ℕ) (hs : List Header)
           let ws = writes rest hs lanes ds s s' limit is_limit ready seats tokens t.0 t.1 t.2 t.3 in
           let some = written_some rest hs lanes ds s s' limit is_limit ready seats tokens t.0 t.1 t.2 t.3 names begin out new w t.4 in
           all_whole (WriteFits rest hs lanes ds s s' limit is_limit ready seats tokens t.0 t.1 t.2 t.3) (with_item ds t.0 t.1 t.2) s'.seats ws (λ j x p. p.later) (Err Write) (new_many {A = More} k (Err Write) counts)
-          (read_item {A = More} k t.0 (Err Write) t.1 t.2 t.3.dump_at refl counts t.5) (λ j x p. p.left) some
+          (read_item {A = More} k t.0 (Err Write) t.1 t.2 t.3.dump_at refl counts t.5) (turn_of {A = More} k t.0 (Err Write) refl counts t.5) (out_with _ t.4.2.0.1) (λ j x p. p.left) some
       cut_short k counts (inr (inl t)) =
           let ws = ends rest hs lanes ds s s' limit is_limit ready seats tokens t.given t.finished in
           let outcome = clean_is rest hs lanes ds s s' limit is_limit ready seats tokens t.given t.finished names in
           let due = t.closes in
           let some : WritesSome begin new (merge_open hs (merged_items ds) ++ merge_close (merged_items ds)) = some-behind begin out new (merge_open hs (merged_items ds)) (merge_close (merged_items ds)) w (subst (WritesSome out new) (sym due.1) due.2) in
-          all_whole (EndFits rest hs lanes ds s s' limit is_limit ready seats tokens t.given) ds s'.seats ws (λ j x p. p.later) (Err Write) (new_many {A = More} k (Err Write) counts) (read_same {A = More} k t.input (Err Write) refl counts t.reads) (λ j x p. p.left)
+          all_whole (EndFits rest hs lanes ds s s' limit is_limit ready seats tokens t.given) ds s'.seats ws (λ j x p. p.later) (Err Write) (new_many {A = More} k (Err Write) counts) (read_same {A = More} k t.input (Err Write) refl counts t.reads) (turn_of {A = More} k t.input (Err Write) refl counts t.reads) (out_with _ due.2.0.1) (λ j x p. p.left)
           (subst (λ (o : Outcome). WritesSome begin new o.output) (sym outcome) some)
       cut_short k counts (inr (inr t)) =
           let ws = backs rest hs lanes ds s limit is_limit ready holds.given t.input t.next in
-          all_whole (BackFits rest hs lanes ds s limit is_limit ready holds.given t.input t.next) ds s.seats ws (λ j x p. p.later) (Err Write) (new_many {A = More} k (Err Write) counts) (unread (counts ∙ scanned {A = More} (map failures s.sources) k (Err Write) refl) t.unread) (λ j x p. p.left)
+          all_whole (BackFits rest hs lanes ds s limit is_limit ready holds.given t.input t.next) ds s.seats ws (λ j x p. p.later) (Err Write) (new_many {A = More} k (Err Write) counts) (unread (counts ∙ scanned {A = More} (map failures s.sources) k (Err Write) refl) t.unread) (unread (counts ∙ scanned {A = More} (map failures s.sources) k (Err Write) refl) t.unread) (out_with _ t.writes.0.1) (λ j x p. p.left)
           (kept_some rest hs lanes ds s limit is_limit ready holds.given t.input t.next names begin out new w t.writes)
 
       -- it has stopped: the fault is the first of the merged inputs, and the output is what comes
@@ -340,7 +372,7 @@ module _ (hs : List Header) (lanes : List Lane) (limit chunk : ℕ) (headers : m
       (λ k x old new p at at_old at_new. let e : new ≡ old = cc (sym at_new ∙ at_old) in (inl (ap (λ (z : Supply). z.failures) e, p), Nothing e)) in
       let under : headers_of (entire_of hs limit ws.list) ≡ hs = entire_headers hs limit ws.list ∙ ap headers_of ws.dumps_are ∙ headers_none lanes ∙ headers in
       let first = head_first names hs (entire_of hs limit ws.list) under in
-      follows hs limit chunk ws.list lanes names olds olds begin new (Err Write) ws.lanes_are headers left (λ k x old new at at_old at_new. let e : new ≡ old = cc (sym at_new ∙ at_old) in Nothing e) (subst (WritesSome begin new) (sym first.1) (some-first begin new (merge_open hs []) first.0 some))
+      follows hs limit chunk ws.list lanes names olds olds begin new (Err Write) ws.lanes_are headers left (λ k x old new at at_old at_new. let e : new ≡ old = cc (sym at_new ∙ at_old) in Nothing e) (Unread refl) (subst (WritesSome begin new) (sym first.1) (some-first begin new (merge_open hs []) first.0 some))
     where
       headers_none : (ls : List Lane) → headers_of (map (λ (l : Lane). record { header = l.header; items = []; fault = None }) ls) ≡ map (λ (l : Lane). l.header) ls
       headers_none [] = refl

@@ -7,7 +7,7 @@ use Rattle.vcd_model.specs.Outcome.{Opened, body_of, merge_outcome}
 use Rattle.vcd_model.proofs.MergeOutcome.{dump_under, dumps_under}
 use Rattle.vcd_text.specs.Device.{Device, Supply}
 use Rattle.vcd_text.specs.ReadAhead.{ReadsAsNeeded}
-use Rattle.vcd_merge.specs.MergeRun.{AreLeft, AreOpened, Belongs, Follows, settles_among}
+use Rattle.vcd_merge.specs.MergeRun.{AreLeft, AreOpened, AreReadOnTurn, Belongs, Follows, settles_among}
 use Rattle.vcd_merge.specs.Seat.{Lane}
 use Rattle.vcd_body.specs.declared.answer.Done.{Done}
 use Rattle.vcd_body.specs.declared.answer.Stop.{Stop}
@@ -51,8 +51,8 @@ module _ (hs : List Header) (limit : ℕ) where
 
   -- a merge over them has the outcome of their dumps
   pub follows : (chunk : ℕ) (ws : List (Whole hs limit)) (lanes : List Lane) (names : List (List ℕ)) (olds news : List Supply) (begin new : Device) (result : Result Done Stop) → lanes_of hs limit ws ≡ lanes → map (λ (l : Lane). l.header) lanes ≡ hs
-      → AreLeft limit chunk (lanes_of hs limit ws) olds news (lefts_of hs limit ws) → AreNeeded chunk ws olds news → Belongs (merge_outcome names (entire_of hs limit ws)) names begin new result → Follows limit chunk lanes names olds news begin new result
-  follows chunk ws lanes names olds news begin new result e headers left needed belongs =
+      → AreLeft limit chunk (lanes_of hs limit ws) olds news (lefts_of hs limit ws) → AreNeeded chunk ws olds news → AreReadOnTurn limit chunk hs (lanes_of hs limit ws) olds news (lefts_of hs limit ws) begin new → Belongs (merge_outcome names (entire_of hs limit ws)) names begin new result → Follows limit chunk lanes names olds news begin new result
+  follows chunk ws lanes names olds news begin new result e headers left needed turns belongs =
       let dumps = dumps_under (map (opened_of hs limit) ws) hs (opened_headers ws ∙ ap (map (λ (l : Lane). l.header)) e ∙ headers) ∙ opened_dumps ws in
       subst (λ (ls : List Lane). Follows limit chunk ls names olds news begin new result) e (record {
         lefts = lefts_of hs limit ws;
@@ -60,5 +60,6 @@ module _ (hs : List Header) (limit : ℕ) where
         opened = map (opened_of hs limit) ws;
         are_opened = opened_all ws;
         needed = needed_all chunk ws olds news needed;
+        on_turn = subst (λ (hs' : List Header). AreReadOnTurn limit chunk hs' (lanes_of hs limit ws) olds news (lefts_of hs limit ws) begin new) (sym (ap (map (λ (l : Lane). l.header)) e ∙ headers)) turns;
         belongs = subst (λ (ds : List Dump). Belongs (merge_outcome names ds) names begin new result) (sym dumps) belongs;
       })

@@ -10,6 +10,7 @@ use Rattle.vcd_text.specs.declared.device.Bytes.{Bytes}
 use Rattle.vcdkit.specs.Failure.{writes_failed}
 use Rattle.vcdkit.specs.Message.{Shows}
 use Rattle.vcdkit.specs.Run.{IsOutcome}
+use Rattle.vcdkit.proofs.TurnLemmas.{turns_over}
 use Rattle.vcdkit.specs.Run.IsOutcome.{Whole, Part}
 use Rattle.vcd_program.specs.Memory.{IsLeftAs, IsLeftIn, OpensIn, noted}
 use Rattle.vcd_host.specs.Fills.{Fills}
@@ -72,7 +73,9 @@ module _ (n n' m m' status : ℕ) (ws vs : List ℕ) where
       (w.0, s.0, (w.1, s.1, fails.2))
 
   leaves-after : (words : Option Words) (want : Want) (limit : ℕ) (names texts : List Text) (old new : List Supply) → After (Leaves words want limit names texts old new)
-  leaves-after words want limit names texts old new (Leaves.WithOutcome inputs read needed leaves) = let o = outcome-after _ leaves in (o.0, o.1, Leaves.WithOutcome inputs read needed o.2)
+  leaves-after words want limit names texts old new (Leaves.WithOutcome inputs read needed turns leaves) =
+      let o = outcome-after _ leaves in
+      (o.0, o.1, Leaves.WithOutcome inputs read needed (turns_over want limit 65536 texts old new inputs (holding false (n ∷ [])) (holding false (n' ∷ ws)) (holding false []) (holding false ws) (λ text held. rest held) turns) o.2)
   leaves-after words want limit names texts old new (Leaves.NoMemory inputs read fails) = let o = fails-after (codes "out of memory") fails in (o.0, o.1, Leaves.NoMemory inputs read o.2)
 
   runs-after : (words : Option Words) (asked : List (Option Text)) (host after : Memory) → After (Runs OpensIn bytes_of no_failures none_failed words asked host after)

@@ -137,7 +137,7 @@ module _ (a b : Bool) where
     where
       by_end : Opened files input asked readers host after → (texts : List Text) → HaveTexts files input asked texts
           → Leaves words want limit (map called asked) texts (map (supply bytes_of no_failures) readers) (map (supply bytes_of no_failures) done) (holding false []) (holding a out) (holding false []) (holding b err) status → IsLeftOf words asked files input left ⊎ IsOutOfMemory left
-      by_end o texts have (Leaves.WithOutcome inputs read needed leaves) =
+      by_end o texts have (Leaves.WithOutcome inputs read needed turns leaves) =
           let all = all-read (is_settled want) limit 65536 [] texts readers done inputs read in
           inl (IsLeftOf.Ran (record { want = want; limit = limit }) is texts have (is-left left after out err status asked (command_outcome words (map called asked) (map whole texts)) holds (o.notes ∙ ap (λ l. l ++ asked) n)
           (subst (λ l. IsOutcome (command_outcome words (map called asked) l) (holding false []) (holding a out) (holding false []) (holding b err) status) all leaves)))

@@ -87,8 +87,8 @@ command-is words want limit names inputs e = rw (e, command_outcome) refl
 -- a job that was run leaves the outcome of its words
 pub leaves-of : (words : Option Words) (want : Want) (limit : ℕ) (names texts : List Text) (old new : List Supply) (out out' err err' : Device) (status : ℕ) → job_of words ≡ Ok (record { want = want; limit = limit })
     → HasRun want limit 65536 names texts old new out out' err err' status → Leaves words want limit names texts old new out out' err err' status
-leaves-of words want limit names texts old new out out' err err' status e (HasRun.WithOutcome inputs read needed left) =
-    Leaves.WithOutcome inputs read needed (subst (λ o. IsOutcome o out out' err err' status) (sym (command-is words want limit names inputs e)) left)
+leaves-of words want limit names texts old new out out' err err' status e (HasRun.WithOutcome inputs read needed turns left) =
+    Leaves.WithOutcome inputs read needed turns (subst (λ o. IsOutcome o out out' err err' status) (sym (command-is words want limit names inputs e)) left)
 leaves-of words want limit names texts old new out out' err err' status e (HasRun.NoMemory inputs read written shown is) = Leaves.NoMemory inputs read (written, shown, is)
 
 -- ---- before a job is run

@@ -16,7 +16,7 @@ use Rattle.vcd_text.specs.declared.device.Source.{Ghosts}
 use Rattle.vcd_words.specs.Words.{parse_status_of, program_app, words_used}
 use Rattle.vcdkit.specs.Failure.{CountsReads, EndsAtReadOf, writes_failed}
 use Rattle.vcdkit.specs.Message.{Shows, end_message, end_status, unopened_outcome}
-use Rattle.vcdkit.specs.Run.{AreNeeded, AreRead, IsOutcome}
+use Rattle.vcdkit.specs.Run.{AreInTurn, AreNeeded, AreRead, IsOutcome}
 use Rattle.vcd_host.specs.Asked.{inputs_asked}
 use Rattle.vcd_host.specs.Opens.{Opens, OpensSome, OpensUpTo, called}
 use Rattle.vcd_host.specs.declared.host.OpenFault.{OpenFault}
@@ -41,10 +41,11 @@ EndsSo names asked before after last_failed out out' err err' status =
     (why : _) × CountsReads before after why × (failures_then (writes_failed why) out' ≡ out.failures + writes_failed why) × (status ≡ end_status why) × Shows err err' (end_message names asked why)
     × EndsAtReadOf last_failed why
 
--- over inputs with these names and texts: the outcome of the words and of what was read of each,
--- and no more was read than what settles it; or nothing where memory ran out
+-- over inputs with these names and texts: the outcome of the words and of what was read of each; no
+-- more was read than what settles it, and of a merge none before its turn; or nothing where memory
+-- ran out
 pub data Leaves (words : Option Words) (want : Want) (limit : ℕ) (names texts : List Text) (old new : List Supply) (out out' err err' : Device) (status : ℕ) : Type 0 where
-  WithOutcome : (inputs : List Input) (read : AreRead (is_settled want) limit 65536 [] texts old new inputs) (needed : AreNeeded want limit 65536 old new inputs) (leaves : IsOutcome (command_outcome words names inputs) out out' err err' status)
+  WithOutcome : (inputs : List Input) (read : AreRead (is_settled want) limit 65536 [] texts old new inputs) (needed : AreNeeded want limit 65536 old new inputs) (in_turn : AreInTurn want limit 65536 texts old new inputs out out') (leaves : IsOutcome (command_outcome words names inputs) out out' err err' status)
       → Leaves words want limit names texts old new out out' err err' status
   NoMemory : (inputs : List Input) (read : AreRead is_header_over limit 65536 [] texts old new inputs) (fails : Fails (codes "out of memory") out out' err err' status)
       → Leaves words want limit names texts old new out out' err err' status

@@ -1,30 +1,79 @@
 //! The machine that a process runs on, as a host.
-ghost use Rattle.std.specs.Prelude.{◌≡◌, ◌-◌, ◌^◌, ◌<◌, ◌≤◌, ⊤};
+ghost use Rattle.std.specs.Prelude.{◌≡◌, ◌-◌, ◌^◌, ◌<◌, ◌≤◌, ℕ, ⊤, List, map, Result, string_bytes};
+ghost use Rattle.vcd_program.specs.Machine.{bytes_left, Error, OpensOn, read_as, RunsOver};
 ghost use Rattle.vcd_program.specs.Names.{failed_calls};
 
 use crate::command_line::run_program;
+use std::alloc::Global;
 use std::env::Env;
 use std::fs::File;
 use std::hash::{BuildHasher, BuildHasherDefault, FoldHasher, RandomState};
 use std::io::{ErrorKind, Read, Stdin};
 use std::{env, io};
-use vcd_host::{Buffered, Host, OpenFault};
+use vcd_host::{Buffered, Host, OpenFault, Output};
 use vcd_text::{Sink, Watch};
 use vcd_words::UseFault;
 use vcdkit::{Again, use_fault};
 
-/// An input of the machine.
-#[derive(Drop)]
-pub enum Stream {
-    /// A file.
-    File(Again<File>),
+/// Where a process opens its files and finds its standard input. The host is proved over any such
+/// machine, so of the process's own all that is not proved is that each of its two calls is what it
+/// says.
+trait Machine {
+    /// A file that is open.
+    type File: Read + Drop;
+
     /// Standard input.
-    Input(Again<Stdin>),
+    type Input: Read + Drop;
+
+    // What `open` may return for this name.
+    ghost opens: { Self → List ℕ → Result Self.File Error → Type 0 };
+
+    // What `input` may return.
+    ghost gives: { Self → Self.Input → Type 0 };
+
+    /// Opens the file of this name, to read it.
+    fn open(&self, name: &str) -> io::Result<Self::File>
+        ensures { opens self.now name.now result };
+
+    /// Returns standard input.
+    fn input(&self) -> Self::Input
+        ensures { gives self.now result };
+}
+
+/// The machine that the process runs on. No clause says which file or stream a call gives.
+impl Machine for HostRuntime {
+    type File = File;
+
+    type Input = Stdin;
+
+    ghost opens = { λ _ _ _. ⊤ };
+
+    ghost gives = { λ _ _. ⊤ };
+
+    fn open(&self, name: &str) -> io::Result<File> {
+        File::open(self, name)
+    }
+
+    fn input(&self) -> Stdin {
+        self.stdin()
+    }
+}
+
+/// An input of a machine with such files and such a standard input.
+#[derive(Drop)]
+pub enum Stream<F, I> {
+    /// A file.
+    File(Again<F>),
+    /// Standard input.
+    Input(Again<I>),
     /// An input of a machine that gives no random numbers: each read of it fails.
     Refused,
 }
 
-impl Read for Stream {
+// Over files and inputs whose bytes are known it gives these, so no failed read is its end.
+impl<F: Read, I: Read> Read for Stream<F, I> {
+    ghost remaining = { λ stream. bytes_left F.remaining I.remaining stream };
+
     fn read(&mut self, into: &mut [u8]) -> io::Result<usize> {
         match self {
             Stream::File(file) => file.read(into),
@@ -34,18 +83,19 @@ impl Read for Stream {
     }
 }
 
-/// Opens the files of the machine.
+/// Opens the files of a machine.
 #[derive(Drop)]
-struct MachineHost<'r> {
-    rt: &'r HostRuntime,
+struct MachineHost<'r, M> {
+    machine: &'r M,
     /// Whether the machine gave random numbers. Where it gave none, each read of an input fails.
     is_seeded: bool,
 }
 
-impl MachineHost<'_> {
+impl<M: Machine> MachineHost<'_, M> {
     /// Returns an input that was opened.
-    fn input(&self, stream: Stream) -> Watch<Stream>
-        ensures { failed_calls result ≡ 0 }
+    fn input(&self, stream: Stream<M::File, M::Input>) -> Watch<Stream<M::File, M::Input>>
+        ensures device { result.device ≡ read_as self.now.is_seeded stream }
+        ensures failures { failed_calls result ≡ 0 }
     {
         if self.is_seeded {
             return Watch::new(stream);
@@ -54,16 +104,16 @@ impl MachineHost<'_> {
     }
 }
 
-impl Host for MachineHost<'_> {
-    type Input = Watch<Stream>;
+impl<M: Machine> Host for MachineHost<'_, M> {
+    type Input = Watch<Stream<M::File, M::Input>>;
 
-    ghost opens = { λ _ _ _ _. ⊤ };
+    ghost opens = { λ old name result new. OpensOn M.opens M.gives old name result new };
 
-    fn open(&mut self, name: Option<&str>) -> Result<Watch<Stream>, OpenFault> {
+    fn open(&mut self, name: Option<&str>) -> Result<Watch<Stream<M::File, M::Input>>, OpenFault> {
         let Some(name) = name else {
-            return Ok(self.input(Stream::Input(Again::new(self.rt.stdin()))));
+            return Ok(self.input(Stream::Input(Again::new(self.machine.input()))));
         };
-        match File::open(self.rt, name) {
+        match self.machine.open(name) {
             Ok(file) => Ok(self.input(Stream::File(Again::new(file)))),
             Err(error) if error.kind() == ErrorKind::OutOfMemory => Err(OpenFault::OutOfMemory),
             Err(_) => Err(OpenFault::Unopened),
@@ -81,6 +131,27 @@ fn words_of<R: Env + AllocGlobal>(rt: &R) -> Result<Vec<String>, UseFault<'stati
     Ok(words.collect(rt.alloc())?)
 }
 
+/// Runs the program on these words over the inputs of this machine, and returns the exit status, as
+/// `run_program` does. Where the machine gave no random numbers, no input can be read.
+fn run_over<M: Machine, W: Output, E: Sink, B: BuildHasher>(
+    alloc: Global,
+    machine: &M,
+    is_seeded: bool,
+    words: &[String],
+    out: &mut W,
+    err: &mut E,
+    hasher: &B,
+) -> u8
+    requires out_failures { (W.device out.old).failures < 2 ^ 64 - 1 }
+    requires err_failures { (E.device err.old).failures < 2 ^ 64 - 2 }
+    ensures { RunsOver M.opens M.gives M.File.remaining M.Input.remaining W.device W.flushes
+        machine.now is_seeded (map string_bytes words.now)
+        (W.device out.old) out.new (E.device err.old) (E.device err.new) result }
+{
+    let mut host = MachineHost { machine, is_seeded };
+    run_program(alloc, words, &mut host, out, err, hasher)
+}
+
 /// Runs the program on these words over the files and the streams of the process, and returns the
 /// exit status. Messages are written on `err`.
 fn run_words<E: Sink, B: BuildHasher>(
@@ -94,14 +165,7 @@ fn run_words<E: Sink, B: BuildHasher>(
     ensures { result ≤ 3 }
 {
     match Buffered::new(rt.alloc(), Again::new(rt.stdout())) {
-        Ok(mut out) => run_program(
-            rt.alloc(),
-            words,
-            &mut MachineHost { rt, is_seeded },
-            &mut out,
-            err,
-            hasher,
-        ),
+        Ok(mut out) => run_over(rt.alloc(), rt, is_seeded, words, &mut out, err, hasher),
         Err(_) => use_fault(UseFault::OutOfMemory, err),
     }
 }

@@ -18,7 +18,7 @@ use vcd_tools::{Done, Room, Stop, Task, cut, edges, pick, sample};
 fn dispatch<S: Source, W: Sink>(
     view: HeadView<'_>,
     feed: &mut Feed<'_, '_, '_, '_, S>,
-    room: &mut Room<'_>,
+    room: Room<'_>,
     task: Task<'_>,
     out: &mut W,
 ) -> Result<Done, Stop>
@@ -26,9 +26,9 @@ fn dispatch<S: Source, W: Sink>(
     requires out_failures { (W.device out.old).failures < 2 ^ 64 - 1 }
     requires open { HasNotFailed feed.old }
     requires valid { IsValid (request_of task) }
-    requires room { HasRoomFor task view room.old }
+    requires room { HasRoomFor task view room }
     requires bound { AreWithinBound (limit_of feed.old) (chunk_len_of feed.old) view
-        (room_size room.old) }
+        (room_size room) }
 {
     match task {
         Task::Check => Ok(Done::Early),
@@ -58,13 +58,13 @@ fn run_behind<S: Source, W: Sink>(
     let mut slots = vec![in alloc; Slot::new(); need.slots]?;
     let mut shares = vec![in alloc; Share::new(); need.slots]?;
     let mut marks = vec![in alloc; 0u8; need.marks]?;
-    let mut room = Room {
+    let room = Room {
         values: &mut values,
         slots: &mut slots,
         shares: &mut shares,
         marks: &mut marks,
     };
-    Ok(dispatch(view, feed, &mut room, task, out))
+    Ok(dispatch(view, feed, room, task, out))
 }
 
 // Runs a task over a source.

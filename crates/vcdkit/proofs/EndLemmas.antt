@@ -35,6 +35,7 @@ use Rattle.vcd_words.specs.Refusal.{model_refusal}
 use Rattle.vcdkit.specs.Inputs.{AreBegun, AreParked, AreShown, HaveBegun, Stops}
 use Rattle.vcdkit.specs.Message.{end_message, end_status, refusal_status, Shows}
 use Rattle.vcdkit.specs.Run.{AreNeeded, EndsAll, HasRun, LeavesAll}
+use Rattle.vcdkit.specs.Run.AreMergedInTurn.{InBodies, InHeaders}
 use Rattle.vcdkit.specs.Run.HasRun.{WithOutcome, NoMemory}
 use Rattle.vcdkit.specs.Run.IsOutcome.{Whole, Part}
 use Rattle.vcdkit.proofs.HeaderLemmas.{unsettled_header}
@@ -76,23 +77,23 @@ module _ (want : Want) (asked : List (List ℕ)) (limit chunk : ℕ) (names text
   pub has_run : (end : Result Done Failure) → Ends end → status ≡ end_status (failure_of end) → Says end → Runs
   has_run (Ok d) e k s =
       let o = due (Ok d) e in
-      WithOutcome e.lefts e.read e.needed (Whole e.leaves.1 (subst (λ (l : List ℕ). Shows err err' l) (sym (ap (λ (o : Outcome). o.message) e.leaves.0)) s) (k ∙ sym (ap (λ (o : Outcome). o.status) e.leaves.0)))
+      WithOutcome e.lefts e.read e.needed e.in_turn (Whole e.leaves.1 (subst (λ (l : List ℕ). Shows err err' l) (sym (ap (λ (o : Outcome). o.message) e.leaves.0)) s) (k ∙ sym (ap (λ (o : Outcome). o.status) e.leaves.0)))
   has_run (Err (Stopped (Dump input line fault))) e k s =
       let o = due (Err (Stopped (Dump input line fault))) e in
       let message : o.message ≡ end_message names asked (Some (Stopped (Dump input line fault))) = ap (λ (o : Outcome). o.message) e.leaves.0 ∙ rw (e.leaves.1, fault_outcome) refl in
       let is : o.status ≡ 1 = ap (λ (o : Outcome). o.status) e.leaves.0 ∙ rw (e.leaves.1, fault_outcome) refl in
-      WithOutcome e.lefts e.read e.needed (Whole e.leaves.2 (subst (λ (l : List ℕ). Shows err err' l) (sym message) s) (k ∙ sym is))
+      WithOutcome e.lefts e.read e.needed e.in_turn (Whole e.leaves.2 (subst (λ (l : List ℕ). Shows err err' l) (sym message) s) (k ∙ sym is))
   has_run (Err (Stopped (Read input))) e k s =
       let o = due (Err (Stopped (Read input))) e in
       let message : o.message ≡ end_message names asked (Some (Stopped (Read input))) = ap (λ (o : Outcome). o.message) e.leaves.0.1 in
-      WithOutcome e.lefts e.read e.needed (Whole e.leaves.1 (subst (λ (l : List ℕ). Shows err err' l) (sym message) s) (k ∙ sym (ap (λ (o : Outcome). o.status) e.leaves.0.1)))
-  has_run (Err (Stopped Write)) e k s = WithOutcome e.lefts e.read e.needed (Part e.leaves s k)
+      WithOutcome e.lefts e.read e.needed e.in_turn (Whole e.leaves.1 (subst (λ (l : List ℕ). Shows err err' l) (sym message) s) (k ∙ sym (ap (λ (o : Outcome). o.status) e.leaves.0.1)))
+  has_run (Err (Stopped Write)) e k s = WithOutcome e.lefts e.read e.needed e.in_turn (Part e.leaves s k)
   has_run (Err (Stopped (Unmatched place))) e k s =
-      WithOutcome e.lefts e.read e.needed (Whole e.leaves.1 (subst (λ (l : List ℕ). Shows err err' l) (sym (ap (λ (o : Outcome). o.message) e.leaves.0)) s) (k ∙ sym (ap (λ (o : Outcome). o.status) e.leaves.0)))
+      WithOutcome e.lefts e.read e.needed e.in_turn (Whole e.leaves.1 (subst (λ (l : List ℕ). Shows err err' l) (sym (ap (λ (o : Outcome). o.message) e.leaves.0)) s) (k ∙ sym (ap (λ (o : Outcome). o.status) e.leaves.0)))
   has_run (Err (Refused why)) e k s =
       let o = due (Err (Refused why)) e in
       let output : o.output ≡ [] = ap (λ (o : Outcome). o.output) e.leaves.0 ∙ refused_output (name_at names 0) why in
-      WithOutcome e.lefts e.read e.needed (Whole (subst (λ (l : List ℕ). Writes out out' l) (sym output) e.leaves.1) (subst (λ (l : List ℕ). Shows err err' l) (sym (ap (λ (o : Outcome). o.message) e.leaves.0)) s)
+      WithOutcome e.lefts e.read e.needed e.in_turn (Whole (subst (λ (l : List ℕ). Writes out out' l) (sym output) e.leaves.1) (subst (λ (l : List ℕ). Shows err err' l) (sym (ap (λ (o : Outcome). o.message) e.leaves.0)) s)
       (k ∙ sym (ap (λ (o : Outcome). o.status) e.leaves.0 ∙ refused_status (name_at names 0) why)))
   has_run (Err OutOfMemory) e k s = NoMemory e.lefts e.read e.leaves s k
 
@@ -131,17 +132,17 @@ module _ (limit chunk : ℕ) (names texts : List (List ℕ)) (old new : List Sup
   stopped (Stopped (Dump input line fault)) h =
       let s = stops (is_settled Want.Merge) (unsettled_header Want.Merge) _ h in
       let o = faulted (outcome Want.Merge limit names s.lefts) (name_at names input) (record { number = fault; line = line }) out (at_fault Want.Merge limit names s.lefts input _ s.first.1) in
-      record { lefts = s.lefts; read = s.read; needed = needed _ _ s; leaves = (o.0, s.first.0, o.1) }
+      record { lefts = s.lefts; read = s.read; needed = needed _ _ s; in_turn = InHeaders _ h; leaves = (o.0, s.first.0, o.1) }
   stopped (Stopped (Read input)) h =
       let s = stops (is_settled Want.Merge) (unsettled_header Want.Merge) _ h in
       let o = faulted (outcome Want.Merge limit names s.lefts) (name_at names input) (record { number = 31; line = s.first.0 }) out (at_fault Want.Merge limit names s.lefts input _ s.first.1) in
-      record { lefts = s.lefts; read = s.read; needed = needed _ _ s; leaves = ((s.first.0, o.0), o.1) }
+      record { lefts = s.lefts; read = s.read; needed = needed _ _ s; in_turn = InHeaders _ h; leaves = ((s.first.0, o.0), o.1) }
   stopped (Stopped Write) h = let s = stops (is_settled Want.Merge) (unsettled_header Want.Merge) _ h in absurd s.first
   stopped (Stopped (Unmatched place)) h = let s = stops (is_settled Want.Merge) (unsettled_header Want.Merge) _ h in absurd s.first
   stopped (Refused why) h = let s = stops (is_settled Want.Merge) (unsettled_header Want.Merge) _ h in absurd s.first
   stopped OutOfMemory h =
       let s = stops is_header_over (λ most ts e. e) _ h in
-      record { lefts = s.lefts; read = s.read; needed = needed _ _ s; leaves = writes-none out }
+      record { lefts = s.lefts; read = s.read; needed = needed _ _ s; in_turn = InHeaders _ h; leaves = writes-none out }
 
 -- ---- a merge after its headers
 
@@ -162,10 +163,10 @@ module _ (limit chunk : ℕ) (names texts : List (List ℕ)) (old mid new : List
   pub merged : (result : Result Done Stop) → Follows limit chunk lanes names mid new out out' result → EndsAll Want.Merge [] limit chunk names texts old new out out' (merge_end result)
   merged (Ok d) f =
       let r = merged_read limit chunk [] texts old mid new lanes f.lefts f.opened b f.are_left f.are_opened in
-      record { lefts = f.lefts; read = r.0; needed = merge_needed limit chunk texts old mid new lanes f.lefts f.opened b f.are_left f.are_opened f.needed; leaves = merge_leaves names _ (outcome Want.Merge limit names f.lefts) out out' (Ok d) (merge_due limit names f.lefts f.opened r.1) f.belongs }
+      record { lefts = f.lefts; read = r.0; needed = merge_needed limit chunk texts old mid new lanes f.lefts f.opened b f.are_left f.are_opened f.needed; in_turn = InBodies lanes mid b f.on_turn; leaves = merge_leaves names _ (outcome Want.Merge limit names f.lefts) out out' (Ok d) (merge_due limit names f.lefts f.opened r.1) f.belongs }
   merged (Err stop) f =
       let r = merged_read limit chunk [] texts old mid new lanes f.lefts f.opened b f.are_left f.are_opened in
-      record { lefts = f.lefts; read = r.0; needed = merge_needed limit chunk texts old mid new lanes f.lefts f.opened b f.are_left f.are_opened f.needed; leaves = merge_leaves names _ (outcome Want.Merge limit names f.lefts) out out' (Err stop) (merge_due limit names f.lefts f.opened r.1) f.belongs }
+      record { lefts = f.lefts; read = r.0; needed = merge_needed limit chunk texts old mid new lanes f.lefts f.opened b f.are_left f.are_opened f.needed; in_turn = InBodies lanes mid b f.on_turn; leaves = merge_leaves names _ (outcome Want.Merge limit names f.lefts) out out' (Err stop) (merge_due limit names f.lefts f.opened r.1) f.belongs }
 
 -- over readers with these texts
 pub merge_ends : {X : Type 0} (n n' limit limit1 limit2 chunk chunk1 chunk2 : ℕ) (rest : X → Option (List ℕ)) (failures : X → ℕ) (names texts : List (List ℕ)) (old mid new : List X) (heads : List Head) (seats : List Seat) (chunks tokens : List ℕ) (out out' : Device) (result : Result Done Stop)

@@ -2,6 +2,7 @@ mod MessageLemmas
 mod OutcomeLemmas
 pub mod HeaderLemmas
 pub mod NeededLemmas
+pub mod TurnLemmas
 mod InputsLemmas
 pub mod OpenLemmas
 mod EndLemmas

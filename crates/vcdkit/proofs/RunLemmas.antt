@@ -39,6 +39,7 @@ use Rattle.vcd_words.specs.Job.{is_merge, model_want, names_asked}
 use Rattle.vcdkit.specs.Inputs.{HasFailed, IsBegun}
 use Rattle.vcdkit.specs.Run.{Ends, EndsAll, IsAfter, IsOfJob, Leaves, LeavesAll, settled_for}
 use Rattle.vcdkit.proofs.NeededLemmas.{none_others}
+use Rattle.vcdkit.proofs.TurnLemmas.{none_in_turn}
 use Rattle.vcdkit.proofs.HeaderLemmas.{all_read, left_since, reads_for, settled_header, settled_run, unsettled_header}
 use Rattle.vcd_merge.specs.MergeStep.{EndsAtReadOf as EndsAtStops}
 use Rattle.vcd_merge.specs.Seat.{Lane}
@@ -357,6 +358,7 @@ module _ {X : Type 0} (rest : X → Option (List ℕ)) (failures : X → ℕ) (r
         lefts = g.left ∷ [];
         read = (g.is_left, g.read, refl);
         needed = none_others wanted limit chunk _ _ _ one;
+        in_turn = none_in_turn wanted limit chunk (t ∷ []) _ _ _ out out' one;
         leaves = subst (λ (o : Outcome). LeavesAll (name ∷ []) (names_asked wanted) o out out' end) same (leaves_one (names_asked wanted) g.due name out out' end g.leaves);
       }
   one_ends name (t ∷ u ∷ texts) c h = cc

@@ -16,6 +16,9 @@ use Rattle.vcd_engine.specs.TaskRun.{Belongs}
 use Rattle.vcd_body.specs.Answer.{IsLeft}
 use Rattle.vcd_body.specs.declared.answer.Done.{Done}
 use Rattle.vcd_body.specs.declared.answer.Stop.TheVariants.{Dump, Read, Write, Unmatched}
+use Rattle.vcd_merge.specs.MergeRun.{AreReadOnTurn}
+use Rattle.vcd_merge.specs.Seat.{Lane}
+use Rattle.vcdkit.specs.Inputs.{AreBegun, Stops, headers_in}
 use Rattle.vcdkit.specs.declared.failure.Failure.{Failure}
 use Rattle.vcdkit.specs.declared.failure.Failure.TheVariants.{Stopped, Refused, OutOfMemory}
 use Rattle.vcd_words.specs.Refusal.{model_refusal}
@@ -104,12 +107,24 @@ abbrev pub AreNeeded : model.Want → (limit chunk : ℕ) → (old new : List Su
 AreNeeded model.Want.Merge limit chunk old new inputs = (k : ℕ) (s t : Supply) (i : Input) → slice_get old k ≡ Some s → slice_get new k ≡ Some t → slice_get inputs k ≡ Some i → ReadsAsNeeded limit chunk s t i [] (settles_among limit inputs k)
 AreNeeded want limit chunk old new inputs = Unit {0}
 
--- how a run over readers with these texts ends: with the outcome of what is left of them, and no
--- more was read of each than what settles it
+-- how the inputs of a merge were read: their headers one after the other, up to one that ended the
+-- merge, and of those after it nothing; or all of the headers, and then each body on its turn alone
+pub data AreMergedInTurn (limit chunk : ℕ) (texts : List (List ℕ)) (old new : List Supply) (inputs : List Input) (out out' : Device) : Type 0 where
+  InHeaders : (why : Failure) (stops : Stops limit chunk 0 [] texts old new why) → AreMergedInTurn limit chunk texts old new inputs out out'
+  InBodies : (lanes : List Lane) (mid : List Supply) (begun : AreBegun limit chunk [] texts old mid lanes) (bodies : AreReadOnTurn limit chunk (headers_in lanes) lanes mid new inputs out out') → AreMergedInTurn limit chunk texts old new inputs out out'
+
+-- other jobs have one input
+abbrev pub AreInTurn : model.Want → (limit chunk : ℕ) → List (List ℕ) → (old new : List Supply) → List Input → (out out' : Device) → Type 0
+AreInTurn model.Want.Merge limit chunk texts old new inputs out out' = AreMergedInTurn limit chunk texts old new inputs out out'
+AreInTurn want limit chunk texts old new inputs out out' = Unit {0}
+
+-- how a run over readers with these texts ends: with the outcome of what is left of them; no more
+-- was read of each than what settles it, and of a merge none before its turn
 pub record EndsAll (want : model.Want) (asked : List (List ℕ)) (limit chunk : ℕ) (names texts : List (List ℕ)) (old new : List Supply) (out out' : Device) (result : Result Done Failure) : Type 0 where
   pub lefts : List Input
   pub read : AreRead (λ most. settled_for result (is_settled want most) (is_header_over most)) limit chunk [] texts old new lefts
   pub needed : AreNeeded want limit chunk old new lefts
+  pub in_turn : AreInTurn want limit chunk texts old new lefts out out'
   pub leaves : LeavesAll names asked (model.outcome want limit names lefts) out out' result
 
 -- a run leaves this outcome on its output, on the error stream and in its status, as far as its
@@ -123,7 +138,7 @@ pub data IsOutcome (o : Outcome) (out out' err err' : Device) (status : ℕ) : T
 -- how a job ends over readers with these texts
 pub data HasRun (want : model.Want) (limit chunk : ℕ) (names texts : List (List ℕ)) (old new : List Supply) (out out' err err' : Device) (status : ℕ) : Type 0 where
   -- with the outcome of its inputs
-  WithOutcome : (inputs : List Input) (read : AreRead (is_settled want) limit chunk [] texts old new inputs) (needed : AreNeeded want limit chunk old new inputs) (leaves : IsOutcome (model.outcome want limit names inputs) out out' err err' status)
+  WithOutcome : (inputs : List Input) (read : AreRead (is_settled want) limit chunk [] texts old new inputs) (needed : AreNeeded want limit chunk old new inputs) (in_turn : AreInTurn want limit chunk texts old new inputs out out') (leaves : IsOutcome (model.outcome want limit names inputs) out out' err err' status)
       → HasRun want limit chunk names texts old new out out' err err' status
   -- without output, where memory ran out; no more was read than the headers
   NoMemory : (inputs : List Input) (read : AreRead is_header_over limit chunk [] texts old new inputs) (written : Writes out out' []) (shown : Shows err err' (program_line (codes "out of memory"))) (status_is : status ≡ 3)

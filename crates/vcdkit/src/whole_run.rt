@@ -41,16 +41,16 @@ fn run_in<S: Source, W: Sink>(
     task: Option<Task<'_>>,
     view: HeadView<'_>,
     feed: &mut Feed<'_, '_, '_, '_, S>,
-    room: &mut Room<'_>,
+    room: Room<'_>,
     out: &mut W,
 ) -> Result<Done, Stop>
     requires feed_failures { S.failures (source_of feed.old) < 2 ^ 64 - 1 }
     requires out_failures { (W.device out.old).failures < 2 ^ 64 - 1 }
     requires open { HasNotFailed feed.old }
     requires valid { IfSome task (λ some. IsValid (request_of_task some)) }
-    requires room { IsEnough task view room.old }
+    requires room { IsEnough task view room }
     requires bound { AreWithinBound (limit_of feed.old) (chunk_len_of feed.old) view
-        (room_size room.old) }
+        (room_size room) }
     ensures gives { Does (request_for task.entry) view.entry feed.old feed.new
         (W.device out.old) (W.device out.new) result }
     ensures reads { S.failures (source_of feed.new)
@@ -92,13 +92,13 @@ fn run_want<S: Source, W: Sink>(
     let task = task_of(want, view)?;
     let need = need_of(task, view);
     let mut memory = room_for(alloc, need)?;
-    let mut room = Room {
+    let room = Room {
         values: &mut memory.values,
         slots: &mut memory.slots,
         shares: &mut memory.shares,
         marks: &mut memory.marks,
     };
-    ended(run_in(task, view, feed, &mut room, out), 0)
+    ended(run_in(task, view, feed, room, out), 0)
 }
 
 /// Runs a job over one input: takes its windows, reads its header, and then runs what is wanted.

@@ -12,7 +12,7 @@ mod seed;
 mod words;
 
 ghost use Rattle.std.specs.Prelude.{◌≤◌, List, length, map};
-ghost use Rattle.vcdkit_c.specs.Names.{BodyItem, bytes_of, FindsIn, GoesOnAt, RunsInto};
+ghost use Rattle.vcdkit_c.specs.Names.{BodyItem, bytes_of, FindsIn, GoesOnAt, RunsInto, StaysAt};
 
 use crate::fill::fill;
 use crate::seed::Seed;
@@ -86,6 +86,7 @@ pub extern "C" fn vcdkit_changes(
     ensures finds { (items : List BodyItem) → GoesOnAt dump.now items reading.old.place
         → FindsIn dump.now items code.now reading.new rows.new result }
     ensures most { reading.new.count ≤ length rows.new }
+    ensures place { StaysAt reading.old reading.new result }
 {
     changes(alloc, dump, code, &Seed::new(seed), reading, rows)
 }

@@ -1,0 +1,43 @@
+-- A machine as a host: what is read of its files and of its standard input, and what is opened.
+use Rattle.std.specs.Prelude.{◌≡◌, ◌≢◌, ℕ, Bool, true, false, List, Option, Some, None, Result, Ok, Err}
+use Rattle.std.specs.IoError.{error_kind}
+pub use Rattle.std.specs.declared.io.Error.{Error}
+use Rattle.std.specs.declared.io.ErrorKind.TheVariants as kind
+use Rattle.clap.specs.Words.{Text}
+use Rattle.vcd_text.specs.Device.{Device}
+use Rattle.vcd_text.specs.Watch.{failed_calls, has_just_failed}
+use Rattle.vcd_text.specs.declared.device.Watch.{Watch}
+use Rattle.vcd_host.specs.declared.host.OpenFault.{OpenFault}
+use Rattle.vcd_host.specs.declared.host.OpenFault.TheVariants.{Unopened, OutOfMemory}
+use Rattle.vcd_program.specs.Runs.{Finishes, RunsOn}
+use Rattle.vcd_program.specs.declared.machine.MachineHost.{MachineHost}
+use Rattle.vcd_program.specs.declared.machine.Stream.{Stream}
+use Rattle.vcd_program.specs.declared.machine.Stream.TheVariants.{File, Input, Refused}
+
+-- the bytes that reads of an input give from here on, where those of its file or of standard input
+-- are known
+abbrev pub bytes_left : {F I : Type 0} → (F → Option (List ℕ)) → (I → Option (List ℕ)) → Stream F I → Option (List ℕ)
+bytes_left of_file of_input (File file) = of_file file.device
+bytes_left of_file of_input (Input input) = of_input input.device
+bytes_left of_file of_input Refused = None
+
+-- what is read for an input: on a machine without random numbers nothing of it
+abbrev pub read_as : {F I : Type 0} → Bool → Stream F I → Stream F I
+read_as true stream = stream
+read_as false stream = Refused
+
+-- What a host opens whose machine opens files so and gives such a standard input: where there is a
+-- name the file of this name, else standard input. No other host is left.
+abbrev pub OpensOn : {M F I : Type 0} → (M → List ℕ → Result F Error → Type 0) → (M → I → Type 0) → MachineHost M → Option (List ℕ) → Result (Watch (Stream F I)) OpenFault → MachineHost M → Type 0
+OpensOn opens gives old None (Ok watch) new = (input : _) × gives old.machine.now input × (watch.device ≡ read_as old.is_seeded (Input (record { device = input })))
+OpensOn opens gives old None (Err fault) new = ⊥
+OpensOn opens gives old (Some name) (Ok watch) new = (file : _) × opens old.machine.now name (Ok file) × (watch.device ≡ read_as old.is_seeded (File (record { device = file })))
+OpensOn opens gives old (Some name) (Err Unopened) new = (error : Error) × opens old.machine.now name (Err error) × (error_kind error ≢ kind.OutOfMemory)
+OpensOn opens gives old (Some name) (Err OutOfMemory) new = (error : Error) × opens old.machine.now name (Err error) × (error_kind error ≡ kind.OutOfMemory)
+
+-- What the program leaves that is run on these words over this machine: that of a host which is this
+-- machine.
+abbrev pub RunsOver : {M F I W : Type 0} → (M → List ℕ → Result F Error → Type 0) → (M → I → Type 0) → (F → Option (List ℕ)) → (I → Option (List ℕ)) → (W → Device) → (W → Bool → W → Type 0) → M → Bool → List Text → (out : Device) → (out' : W) → (err err' : Device) → ℕ → Type 0
+RunsOver {M} {F} {I} opens gives of_file of_input device flushes machine is_seeded words out out' err err' status =
+    (host host' : MachineHost M) × (host.machine.now ≡ machine) × (host.is_seeded ≡ is_seeded)
+    × Finishes device flushes (λ out_now err_now n. RunsOn {I = Watch (Stream F I)} words (OpensOn opens gives) (λ w. bytes_left of_file of_input w.device) failed_calls has_just_failed host host' out out_now err err_now n) out' err' status
