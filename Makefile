@@ -79,7 +79,6 @@ hostile: vcdkit
 docs-check:
 	docs/check.py
 	docs/edits.py
-	test ! -e docs/budgets.txt || docs/budgets.py
 	packaging/links.py .
 
 # Both link and pack what `make` built, and prove nothing.

@@ -1,5 +1,5 @@
 //! What a program is run in: where its inputs are opened, and where its output goes.
-ghost use Rattle.std.specs.Prelude.{◌≡◌, ℕ, Bool, List, Option, IfOk, is_ok, option_map, Result, true};
+ghost use Rattle.std.specs.Prelude.{◌≡◌, ◌≤◌, ℕ, Bool, List, length, Option, IfOk, IfSome, is_ok, option_map, Result, true};
 ghost use Rattle.vcd_host.specs.Names.{Keeps, OpenFault};
 
 use vcd_text::{Sink, Source, Watch, WriteFailed};
@@ -26,6 +26,15 @@ pub trait Host {
     fn open(&mut self, name: Option<&str>) -> Result<Self::Input, OpenFault>
         ensures opens { opens self.old (option_map (λ n. n.now) name.entry) result self.new }
         ensures fresh { IfOk result (λ input. Self.Input.failures input ≡ 0) };
+
+    /// Returns how many bytes the reads of an input give at most, where the host knows it. The
+    /// provided one knows nothing.
+    fn most_of(_input: &Self::Input) -> Option<usize>
+        ensures { IfSome (Self.Input.rest _input.now)
+            (λ text. IfSome result (λ most. length text ≤ most)) }
+    {
+        None
+    }
 }
 
 /// A sink that may keep bytes in a buffer until it is flushed.

@@ -1,5 +1,5 @@
 //! Inputs that are opened one by one.
-ghost use Rattle.std.specs.Prelude.{◌≡◌, ◌++◌, ◌∷◌, [], All, IfErr, IfOk, OnOk, map, string_bytes};
+ghost use Rattle.std.specs.Prelude.{◌≡◌, ◌++◌, ◌∷◌, ◌≤◌, [], All, IfErr, IfOk, IfSome, OnOk, length, map, string_bytes};
 ghost use Rattle.vcd_host.specs.Names.{AddsOne, called, Opens, OpensOne, OpenStop, StopsAmong, StopsAt, text_of};
 
 use crate::host::{Host, OpenFault};
@@ -96,4 +96,19 @@ pub fn open_inputs<'a, H: Host>(
         open_next(alloc, *name, host, &mut opened)?;
     }
     Ok(opened)
+}
+
+/// Returns how many bytes each of these inputs gives at most, where the host knows it of all.
+pub fn most_of_all<H: Host>(inputs: &[H::Input]) -> Option<usize>
+    ensures { IfSome result (λ most.
+        All (λ r. IfSome (H.Input.rest r) (λ text. length text ≤ most)) inputs.now) }
+{
+    let mut longest = 0;
+    for input in inputs {
+        let Some(most) = H::most_of(input) else {
+            return None;
+        };
+        longest = longest.max(most);
+    }
+    Some(longest)
 }

@@ -5,10 +5,10 @@ ghost use Rattle.vcd_program.specs.Names.{Answers, AsksFor, Finishes, kind_of, M
 use clap::{ArgMatches, Error};
 use std::alloc::{AllocError, Global};
 use std::hash::BuildHasher;
-use vcd_host::{Host, OpenStop, Output, called, inputs_of, open_inputs};
+use vcd_host::{Host, OpenStop, Output, called, inputs_of, most_of_all, open_inputs};
 use vcd_text::{Sink, put};
 use vcd_words::{Job, UseFault, command_of, job_of, parse_status};
-use vcdkit::{open_fault, run_with_hasher, use_fault, write_fault};
+use vcdkit::{open_fault, run_within, use_fault, write_fault};
 
 /// Opens the inputs that the matches of this job name, runs it over them, and returns the exit
 /// status. `out` is not flushed. Where memory runs out or an input does not open, nothing is
@@ -33,15 +33,19 @@ fn run_job<H: Host, W: Sink, E: Sink, B: BuildHasher>(
         return use_fault(UseFault::OutOfMemory, err);
     };
     match open_inputs(alloc, asked.as_slice(), host) {
-        Ok(mut inputs) => run_with_hasher(
-            alloc,
-            job,
-            inputs.names.as_slice(),
-            inputs.readers.as_mut_slice(),
-            out,
-            err,
-            hasher,
-        ),
+        Ok(mut inputs) => {
+            let longest = most_of_all::<H>(&inputs.readers);
+            run_within(
+                alloc,
+                job,
+                longest,
+                inputs.names.as_slice(),
+                inputs.readers.as_mut_slice(),
+                out,
+                err,
+                hasher,
+            )
+        }
         Err(OpenStop::Unopened(name)) => open_fault(called(name), err),
         Err(OpenStop::OutOfMemory) => use_fault(UseFault::OutOfMemory, err),
     }

@@ -87,6 +87,10 @@ impl<'a> Host for Memory<'a> {
             None => Err(OpenFault::Unopened),
         }
     }
+
+    fn most_of(input: &Bytes<'a>) -> Option<usize> {
+        Some(input.rest.len())
+    }
 }
 
 /// What a program left.

@@ -8,3 +8,4 @@ pub mod OpenLemmas
 mod EndLemmas
 mod RunLemmas
 pub mod Statuses
+mod WithinLemmas

@@ -1,5 +1,5 @@
 -- What the calls of a run promise, by what readers and writers tell of themselves.
-use Rattle.std.specs.Prelude.{◌≡◌, ℕ, ◌+◌, ◌-◌, ◌^◌, ◌<◌, ◌≤◌, true, All, List, [], length, map, Option, Some, Result}
+use Rattle.std.specs.Prelude.{◌≡◌, ℕ, ◌+◌, ◌-◌, ◌^◌, ◌<◌, ◌≤◌, ◌⊎◌, true, All, IfSome, List, [], length, map, Option, Some, Result}
 use Rattle.vcd_model.specs.Header.{Header}
 use Rattle.vcd_model.specs.Input.{Input}
 use Rattle.vcd_model.specs.Job.{Want as ModelWant, request_of}
@@ -55,6 +55,21 @@ pub record AreReaders {X : Type 0} (failures : X → ℕ) (readers : List X) : T
   pub some : 0 < length readers
   pub few : length readers ≤ 64
   pub low : All (λ r. failures r < 2 ^ 64 - 1) readers
+
+-- each reader gives at most so many bytes, where that is known, and its bytes are
+abbrev pub AreWithin : {X : Type 0} → (X → Option (List ℕ)) → Option ℕ → List X → Type 0
+AreWithin rest longest readers = IfSome longest (λ most. All (λ r. IfSome (rest r) (λ text. length text ≤ most)) readers)
+
+-- the length is known, and is at most this
+abbrev pub IsWithin : Option ℕ → ℕ → Type 0
+IsWithin longest limit = (most : ℕ) × (longest ≡ Some most) × (most ≤ limit)
+
+-- the same job, with windows that may be shorter: no input of so many bytes has a token that is
+-- longer than they are
+pub record Narrows (longest : Option ℕ) (wide narrow : Job) : Type 0 where
+  pub task : narrow.task ≡ wide.task
+  pub limit : (narrow.limit ≡ wide.limit) ⊎ ((narrow.limit ≤ wide.limit) × IsWithin longest narrow.limit)
+  pub chunk : narrow.chunk ≤ wide.chunk
 
 -- ---- a run and its message
 

@@ -41,4 +41,4 @@ pub use message::{open_fault, use_fault, write_fault};
 pub use vcd_words::{
     Job, MOST_FILES, UseFault, Want, command_of, files_of, input_of, job_of, parse_status,
 };
-pub use whole_run::{run, run_with_hasher};
+pub use whole_run::{run, run_with_hasher, run_within};

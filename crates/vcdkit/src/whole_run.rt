@@ -1,6 +1,6 @@
 //! A job, from its readers to its output, its message and its status.
 ghost use Rattle.std.specs.Prelude.{◌≡◌, ◌+◌, ◌-◌, ◌^◌, ◌<◌, ◌≤◌, map, length, string_bytes, true, false, IfSome};
-ghost use Rattle.vcdkit.specs.Names.{AreReaders, AreWithinBound, chunk_len_of, CountsAt, CountsReadsOf, CountsWrites, Does, end_of, EndsAtRead, EndsAtReadOf, EndsAtStop, EndsSo, FailOnce, failure_of, HasNotFailed, InputEnds, is_asked, is_merge, IsEnough, IsValid, JobEnds, limit_of, MayFailOnce, merge_end, Merges, names_asked, reads_failed, request_for, request_of_task, room_size, RunsJob, SameLoans, source_of, stop_writes, WantEnds, writes_failed};
+ghost use Rattle.vcdkit.specs.Names.{AreReaders, AreWithin, AreWithinBound, chunk_len_of, CountsAt, CountsReadsOf, CountsWrites, Does, end_of, EndsAtRead, EndsAtReadOf, EndsAtStop, EndsSo, FailOnce, failure_of, HasNotFailed, InputEnds, is_asked, is_merge, IsEnough, IsValid, JobEnds, limit_of, MayFailOnce, merge_end, Merges, names_asked, Narrows, reads_failed, request_for, request_of_task, room_size, RunsJob, SameLoans, source_of, stop_writes, WantEnds, writes_failed};
 
 use crate::failure::Failure;
 use crate::inputs::{MOST_DECLARATIONS, Reading, open_input, open_inputs, windows_for};
@@ -224,6 +224,53 @@ pub fn run_with_hasher<S: Source, W: Sink, E: Sink, B: BuildHasher>(
         Ok(_) => 0,
         Err(failure) => report(failure, names, job.task.names(), err),
     }
+}
+
+/// The least length of a window that is shortened.
+const SHORTEST: usize = 64;
+
+/// Returns the same job, whose windows are no longer than the input that gives most, where that is
+/// known.
+fn narrowed(job: Job, longest: Option<usize>) -> Job
+    ensures { Narrows longest job result }
+{
+    let Some(most) = longest else {
+        return job;
+    };
+    let length = most.max(SHORTEST);
+    Job {
+        limit: job.limit.min(length),
+        chunk: job.chunk.min(length),
+        task: job.task,
+    }
+}
+
+/// Runs a job over the readers, as `run_with_hasher` does. Where it is known how many bytes each of
+/// them gives at most, the windows are no longer than that: what is written is the same, and a call
+/// over small inputs takes and clears less memory.
+pub fn run_within<S: Source, W: Sink, E: Sink, B: BuildHasher>(
+    alloc: Global,
+    job: Job,
+    longest: Option<usize>,
+    names: &[String],
+    readers: &mut [S],
+    out: &mut W,
+    err: &mut E,
+    hasher: &B,
+) -> u8
+    requires names { length names.now ≡ length readers.old }
+    requires readers { AreReaders S.failures readers.old }
+    requires within { AreWithin S.rest longest readers.old }
+    requires alone { is_merge job.task ≡ false → length readers.old ≡ 1 }
+    requires sinks { MayFailOnce W.Sink E.Sink out.old err.old }
+    ensures failures { FailOnce W.Sink E.Sink out.old out.new err.old err.new }
+    ensures ends { EndsSo S.Source W.Sink E.Sink job (map string_bytes names.now)
+        readers.old readers.new out.old out.new err.old err.new result }
+    ensures gives { RunsJob S.Source W.Sink E.Sink job (map string_bytes names.now)
+        readers.old readers.new out.old out.new err.old err.new result }
+{
+    let narrow = narrowed(job, longest);
+    run_with_hasher(alloc, narrow, names, readers, out, err, hasher)
 }
 
 /// Runs a job over the readers, whose names are said in messages, and returns the exit status: 0

@@ -16,13 +16,13 @@ returns-in_default-clause-runs g c =
     no-memory g.H.Host.opens g.H.Input.Source.rest g.H.Input.Source.failures g.H.Input.Source.last_failed (words_used m) (inputs_asked m) c.args.host.now (g.W.Sink.device c.args.out.now) (g.E.Sink.device c.args.err.now) (g.E.Sink.device c.use_fault.new.err) c.use_fault.result _ c.requires.job
     (memory-shown (g.E.Sink.device _) (g.E.Sink.device _) c.use_fault.ensures.line) c.use_fault.ensures.status
 
-pub run_with_hasher-requires-clause-names : goal.run_with_hasher-requires-clause-names
-run_with_hasher-requires-clause-names g c =
+pub run_within-requires-clause-names : goal.run_within-requires-clause-names
+run_within-requires-clause-names g c =
     let many = opens-many g.H.Host.opens c.args.host.now (map text_of c.as_slice.result.now) c.in-Ok-open_inputs.inputs.readers.items c.open_inputs.new.host c.in-Ok-open_inputs.ensures.opened in
     ap length c.as_slice-in-Ok-open_inputs.ensures.value ∙ names-many string_bytes c.in-Ok-open_inputs.inputs.names.items (map text_of c.as_slice.result.now) c.in-Ok-open_inputs.ensures.names ∙ sym many ∙ ap length (sym c.as_mut_slice.ensures.value)
 
-pub run_with_hasher-requires-clause-readers : goal.run_with_hasher-requires-clause-readers
-run_with_hasher-requires-clause-readers g c =
+pub run_within-requires-clause-readers : goal.run_within-requires-clause-readers
+run_within-requires-clause-readers g c =
     let m = c.args.matches.now in
     let asked = asked-is m (model_want c.args.job.task) c.args.job.limit c.requires.job in
     let named : map text_of c.as_slice.result.now ≡ inputs_asked m =
@@ -41,9 +41,9 @@ returns-in-Ok-open_inputs-clause-runs g c =
     ap (map text_of) c.as_slice.ensures.value ∙ c.in-Ok.ensures ∙ ap (λ merge. inputs_for merge m) (c.is_merge.ensures ∙ merge-same c.args.job.task) ∙ asked.0 in
     let opened = subst (λ names. Opens g.H.Host.opens c.args.host.now names c.in-Ok-open_inputs.inputs.readers.items c.open_inputs.new.host) named c.in-Ok-open_inputs.ensures.opened in
     let opened_now = subst (λ readers. Opens g.H.Host.opens c.args.host.now (inputs_asked m) readers c.open_inputs.new.host) (sym c.as_mut_slice.ensures.value) opened in
-    ran g.H.Host.opens g.H.Input.Source.rest g.H.Input.Source.failures g.H.Input.Source.last_failed (words_used m) (inputs_asked m) c.args.host.now c.open_inputs.new.host (g.W.Sink.device c.args.out.now) (g.W.Sink.device c.run_with_hasher.new.out) (g.E.Sink.device c.args.err.now) (g.E.Sink.device c.run_with_hasher.new.err) c.run_with_hasher.result
-    (model_want c.args.job.task) c.args.job.limit c.args.job.chunk (map string_bytes c.as_slice-in-Ok-open_inputs.result.now) (names_asked c.args.job.task) c.as_mut_slice.result.now c.run_with_hasher.new.readers
-    c.requires.job c.requires.chunk (ap (map string_bytes) c.as_slice-in-Ok-open_inputs.ensures.value ∙ c.in-Ok-open_inputs.ensures.names ∙ ap (map called) named) (names-same c.args.job.task) opened_now c.run_with_hasher.ensures.ends c.run_with_hasher.ensures.gives
+    ran g.H.Host.opens g.H.Input.Source.rest g.H.Input.Source.failures g.H.Input.Source.last_failed (words_used m) (inputs_asked m) c.args.host.now c.open_inputs.new.host (g.W.Sink.device c.args.out.now) (g.W.Sink.device c.run_within.new.out) (g.E.Sink.device c.args.err.now) (g.E.Sink.device c.run_within.new.err) c.run_within.result
+    (model_want c.args.job.task) c.args.job.limit c.args.job.chunk (map string_bytes c.as_slice-in-Ok-open_inputs.result.now) (names_asked c.args.job.task) c.as_mut_slice.result.now c.run_within.new.readers
+    c.requires.job c.requires.chunk (ap (map string_bytes) c.as_slice-in-Ok-open_inputs.ensures.value ∙ c.in-Ok-open_inputs.ensures.names ∙ ap (map called) named) (names-same c.args.job.task) opened_now c.run_within.ensures.ends c.run_within.ensures.gives
 
 pub returns-in-Err-Unopened-clause-runs : goal.returns-in-Err-Unopened-clause-runs
 returns-in-Err-Unopened-clause-runs g c =

@@ -1,0 +1,221 @@
+-- A run is the same under two token limits, where no input is longer than either.
+use Rattle.std.proofs.Common.{◌≡◌, ℕ, ◌+◌, ◌<◌, ◌≤◌, Bool, false, inl, inr, zero, suc, ◌⊎◌, List, [], ◌∷◌, ◌++◌, filter, length, drop, map, slice_get, take, Option, Some, None, Result, Ok, Err, refl, sym, ap, subst, ◌∙◌, arith}
+use Rattle.std.specs.Prelude.{All, IfSome, nat_lt, option_map, slice_set}
+use Rattle.std.specs.List.{AllByRecursion, position_or_len, reduce}
+use Rattle.std.proofs.lemmas.Bool.Decides.{nat_tests}
+use Rattle.std.proofs.lemmas.List.{length-drop, length-take}
+use Rattle.vcd_model.specs.Bytes.{is_white_space}
+use Rattle.vcd_model.specs.Header.{Header, header_of}
+use Rattle.vcd_model.specs.HeaderReading.{header_fault_of, read_header}
+use Rattle.vcd_model.specs.Input.{Input}
+use Rattle.vcd_model.specs.Job.{Want, outcome, over_opened}
+use Rattle.vcd_model.specs.Outcome.{Opened, Outcome, allowed_after, fault_outcome, name_at, open_from, with_opened}
+use Rattle.vcd_model.specs.Reading.{Fault, phrases_of}
+use Rattle.vcd_model.specs.SettledMerge.{Seen, is_settled_merge}
+use Rattle.vcd_model.specs.Tokens.{HaltPlace, Stream, Token, comes_before, earlier_halt, end_at, failed_read, first_halt, given_places, halt_place, run_at, stream_of, stream_until, token_places, too_long_tokens, too_much_input}
+use Rattle.vcd_model.specs.Laws.{IsPrefixOf}
+use Rattle.vcd_model.specs.Settled.{is_header_over, is_settled}
+use Rattle.vcd_text.specs.Answer.{whole}
+use Rattle.vcd_text.specs.Device.{Device, Supply}
+use Rattle.vcd_text.specs.ReadAhead.{Near, ReadsAsNeeded}
+use Rattle.vcd_text.specs.ReadAhead.ReadsAsNeeded.{Nothing, ToToken, ToEnd}
+use Rattle.vcd_view.proofs.ListLemmas.{from_all}
+use Rattle.vcd_body.specs.Answer.{IsLeft}
+use Rattle.vcd_words.specs.declared.job.Job.{Job}
+use Rattle.vcdkit.specs.Calls.{AreWithin, IsWithin, Narrows}
+use Rattle.vcdkit.specs.Run.{AreNeeded, AreRead, HasRun, IsOutcome, header_behind, known, settles_among}
+use Rattle.vcdkit.proofs.HeaderLemmas.{reads_for}
+use Rattle.vcdkit.specs.Run.HasRun.{WithOutcome, NoMemory}
+
+-- ---- an input
+
+-- the limits are the same, or the text is not longer than either
+abbrev pub IsShort : (a b : ℕ) → List ℕ → Type 0
+IsShort a b text = (a ≡ b) ⊎ ((length text ≤ a) × (length text ≤ b))
+
+filter_none : {X : Type 0} (p : X → Bool) (xs : List X) → ((x : X) → p x ≡ false) → filter p xs ≡ []
+filter_none p [] fails = refl
+filter_none p (x ∷ xs) fails = rw (fails x) (filter_none p xs fails)
+
+no_longer : (limit : ℕ) (text : List ℕ) (i : ℕ) → length text ≤ limit → nat_lt limit (length (run_at text i)) ≡ false
+no_longer limit text i short =
+    let run : length (run_at text i) ≤ limit = omega (arith, length-take (position_or_len is_white_space (drop i text)) (drop i text), length-drop i text, short) in
+    grind (arith, nat_tests)
+
+none_too_long : (limit : ℕ) (text : List ℕ) → length text ≤ limit → too_long_tokens limit text ≡ []
+none_too_long limit text short =
+    ap (map _) (filter_none (λ i. nat_lt limit (length (run_at text i))) (token_places text) (λ i. no_longer limit text i short))
+
+module _ (a b : ℕ) where
+  same_halt : (i : Input) → IsShort a b i.bytes → first_halt a i ≡ first_halt b i
+  unfolding first_halt
+  same_halt i (inl same) = ap (λ n. first_halt n i) same
+  same_halt i (inr short) = ap (λ (l : List HaltPlace). reduce earlier_halt (too_much_input i.bytes ++ l ++ failed_read i)) (none_too_long a i.bytes short.0 ∙ sym (none_too_long b i.bytes short.1))
+
+  same_stream : (i : Input) → IsShort a b i.bytes → stream_of a i ≡ stream_of b i
+  unfolding stream_of given_places
+  same_stream i short = ap (λ (h : Option HaltPlace). stream_until i (filter (λ p. comes_before (end_at i.bytes p) h) (token_places i.bytes)) h) (same_halt i short)
+
+  same_place : (i : Input) → IsShort a b i.bytes → halt_place a i ≡ halt_place b i
+  same_place i short = ap (λ (h : Option HaltPlace). option_map (λ (halt : HaltPlace). halt.place) h) (same_halt i short)
+
+  same_header : (earlier : List Header) (i : Input) → IsShort a b i.bytes → header_behind earlier a i ≡ header_behind earlier b i
+  same_header earlier i short = ap (λ (s : Stream). header_of (phrases_of (read_header (allowed_after earlier) s).placed)) (same_stream i short)
+
+-- ---- how much of it was read
+
+near_more : (c d : ℕ) (rest : Option (List ℕ)) (place : ℕ) (i : Input) → c ≤ d → Near c rest place i → Near d rest place i
+near_more c d None place i le near = near
+near_more c d (Some more) place i le near = omega (arith, le, near)
+
+near_if : (c d : ℕ) (rest : Option (List ℕ)) (at : Option ℕ) (i : Input) → c ≤ d → IfSome at (λ place. Near c rest place i) → IfSome at (λ place. Near d rest place i)
+near_if c d rest None i le near = near
+near_if c d rest (Some place) i le near = near_more c d rest place i le near
+
+module _ (a b c d : ℕ) (le : c ≤ d) where
+  needed_within : (old new : Supply) (i : Input) (front : List Token) (settled : List Token → Bool) → IsShort a b i.bytes → ReadsAsNeeded a c old new i front settled → ReadsAsNeeded b d old new i front settled
+  needed_within old new i front settled short (Nothing same) = Nothing same
+  needed_within old new i front settled short (ToToken asked last first so_far near) =
+      ToToken asked last (subst (λ (s : Stream). IsPrefixOf (front ++ asked ++ last ∷ []) s.tokens) (same_stream a b i short) first) so_far (near_more c d new.rest _ i le near)
+  needed_within old new i front settled short (ToEnd asked all so_far near) =
+      ToEnd asked (subst (λ (s : Stream). s.tokens ≡ front ++ asked) (same_stream a b i short) all) so_far
+      (near_if c d new.rest (halt_place b i) i le (subst (λ (at : Option ℕ). IfSome at (λ place. Near c new.rest place i)) (same_place a b i short) near))
+
+  -- what is left of an input is not longer
+  left_short : (text : List ℕ) (s t : Supply) (i : Input) → IsShort a b text → IsLeft (whole text) s t i → IsShort a b i.bytes
+  left_short text s t i (inl same) is = inl same
+  left_short text s t i (inr short) (inl is) = inr (subst (λ (j : Input). (length j.bytes ≤ a) × (length j.bytes ≤ b)) (sym is.1) short)
+  left_short text s t i (inr short) (inr is) =
+      let n = is.1 in
+      let cut : (length (take n text) ≤ a) × (length (take n text) ≤ b) = (omega (arith, short.0, length-take n text), omega (arith, short.1, length-take n text)) in
+      inr (subst (λ (j : Input). (length j.bytes ≤ a) × (length j.bytes ≤ b)) (sym is.2) cut)
+
+  read_within : (settled : ℕ → List Token → Bool) (earlier : List Header) (texts : List (List ℕ)) (old new : List Supply) (inputs : List Input) → AllByRecursion (IsShort a b) texts
+      → AreRead settled a c earlier texts old new inputs → AreRead settled b d earlier texts old new inputs
+  read_within settled earlier [] old new inputs short read = read
+  read_within settled earlier (text ∷ texts) [] new inputs short read = absurd read
+  read_within settled earlier (text ∷ texts) (s ∷ old) [] inputs short read = absurd read
+  read_within settled earlier (text ∷ texts) (s ∷ old) (t ∷ new) [] short read = absurd read
+  read_within settled earlier (text ∷ texts) (s ∷ old) (t ∷ new) (i ∷ inputs) short read =
+      let one = left_short text s t i short.0 read.0 in (
+        read.0,
+        needed_within s t i [] (settled (allowed_after earlier)) one read.1,
+        read_within settled (earlier ++ header_behind earlier b i ∷ []) texts old new inputs short.1
+            (subst (λ (h : Header). AreRead settled a c (earlier ++ h ∷ []) texts old new inputs) (same_header a b earlier i one) read.2),
+      )
+
+  lefts_short : (settled : ℕ → List Token → Bool) (earlier : List Header) (texts : List (List ℕ)) (old new : List Supply) (inputs : List Input) → AllByRecursion (IsShort a b) texts
+      → AreRead settled a c earlier texts old new inputs → AllByRecursion (λ (i : Input). IsShort a b i.bytes) inputs
+  lefts_short settled earlier [] old new inputs short read = subst (AllByRecursion (λ (i : Input). IsShort a b i.bytes)) (sym read) tt
+  lefts_short settled earlier (text ∷ texts) [] new inputs short read = absurd read
+  lefts_short settled earlier (text ∷ texts) (s ∷ old) [] inputs short read = absurd read
+  lefts_short settled earlier (text ∷ texts) (s ∷ old) (t ∷ new) [] short read = absurd read
+  lefts_short settled earlier (text ∷ texts) (s ∷ old) (t ∷ new) (i ∷ inputs) short read = (
+    left_short text s t i short.0 read.0,
+    lefts_short settled (earlier ++ header_behind earlier a i ∷ []) texts old new inputs short.1 read.2,
+  )
+
+-- ---- all inputs
+
+-- an input with this stream, before others
+abbrev pub opened_by : List Header → Stream → (Header → Result (List Opened) (ℕ × Fault)) → Result (List Opened) (ℕ × Fault)
+opened_by earlier s others =
+    let reading = read_header (allowed_after earlier) s in
+    let h = header_of (phrases_of reading.placed) in
+    elim (header_fault_of s reading) [
+      | Some f ↦ Err (length earlier, f)
+      | None ↦ with_opened (record { header = h; stream = s; rest = reading.rest }) (others h)
+    ]
+
+module _ (a b : ℕ) where
+  same_known : (inputs : List Input) → AllByRecursion (λ (i : Input). IsShort a b i.bytes) inputs → known a inputs ≡ known b inputs
+  same_known [] short = refl
+  same_known (i ∷ inputs) short = rw (same_stream a b i short.0, same_known inputs short.1) refl
+
+  same_opened : (earlier : List Header) (inputs : List Input) → AllByRecursion (λ (i : Input). IsShort a b i.bytes) inputs → open_from a earlier inputs ≡ open_from b earlier inputs
+  unfolding open_from
+  same_opened earlier [] short = refl
+  same_opened earlier (i ∷ inputs) short =
+      ap (λ (s : Stream). opened_by earlier s (λ h. open_from a (earlier ++ h ∷ []) inputs)) (same_stream a b i short.0)
+      ∙ ap (λ (o : Result (List Opened) (ℕ × Fault)). opened_by earlier (stream_of b i) (λ _. o)) (same_opened (earlier ++ header_behind earlier b i ∷ []) inputs short.1)
+
+  same_outcome : (want : Want) (names : List (List ℕ)) (inputs : List Input) → AllByRecursion (λ (i : Input). IsShort a b i.bytes) inputs → outcome want a names inputs ≡ outcome want b names inputs
+  unfolding outcome
+  same_outcome want names inputs short = ap (λ (o : Result (List Opened) (ℕ × Fault)). elim o [ Err e ↦ fault_outcome [] (name_at names e.0) e.1 | Ok os ↦ over_opened want names os ]) (same_opened [] inputs short)
+
+  short_at : (inputs : List Input) (k : ℕ) (i : Input) → AllByRecursion (λ (i : Input). IsShort a b i.bytes) inputs → slice_get inputs k ≡ Some i → IsShort a b i.bytes
+  short_at [] k i short is = absurd (cc)
+  short_at (j ∷ inputs) zero i short is = let e : j ≡ i = cc in subst (λ (x : Input). IsShort a b x.bytes) e short.0
+  short_at (j ∷ inputs) (suc k) i short is = short_at inputs k i short.1 is
+
+  same_settled : (inputs : List Input) (k : ℕ) (ts : List Token) → AllByRecursion (λ (i : Input). IsShort a b i.bytes) inputs → settles_among a inputs k ts ≡ settles_among b inputs k ts
+  same_settled inputs k ts short = ap (λ (ss : List Seen). is_settled_merge (slice_set ss k (Seen.First ts))) (same_known inputs short)
+
+module _ (a b c d : ℕ) (le : c ≤ d) (old new : List Supply) (inputs : List Input) (short : AllByRecursion (λ (i : Input). IsShort a b i.bytes) inputs) where
+  merge_within : AreNeeded Want.Merge a c old new inputs → AreNeeded Want.Merge b d old new inputs
+  merge_within needed k s t i is_s is_t is_i =
+      reads_for b d s t i [] (settles_among a inputs k) (settles_among b inputs k) (λ ts e. sym (same_settled a b inputs k ts short) ∙ e)
+      (needed_within a b c d le s t i [] (settles_among a inputs k) (short_at a b inputs k i short is_i) (needed k s t i is_s is_t is_i))
+
+  all_within : (want : Want) → AreNeeded want a c old new inputs → AreNeeded want b d old new inputs
+  all_within Want.Merge needed = merge_within needed
+  all_within Want.Check needed = needed
+  all_within Want.Listing needed = needed
+  all_within (Want.Pick names) needed = needed
+  all_within (Want.Cut from to) needed = needed
+  all_within (Want.Sample times names) needed = needed
+  all_within (Want.Edges names) needed = needed
+
+-- ---- a run
+
+pub run_within : (a b c d : ℕ) → c ≤ d → (want : Want) (names texts : List (List ℕ)) (old new : List Supply) (out out' err err' : Device) (status : ℕ) → AllByRecursion (IsShort a b) texts
+    → HasRun want a c names texts old new out out' err err' status → HasRun want b d names texts old new out out' err err' status
+run_within a b c d le want names texts old new out out' err err' status short (WithOutcome inputs read needed leaves) =
+    let all = lefts_short a b c d le (is_settled want) [] texts old new inputs short read in
+    WithOutcome inputs (read_within a b c d le (is_settled want) [] texts old new inputs short read) (all_within a b c d le old new inputs all want needed)
+    (subst (λ (o : Outcome). IsOutcome o out out' err err' status) (same_outcome a b want names inputs all) leaves)
+run_within a b c d le want names texts old new out out' err err' status short (NoMemory inputs read written shown status_is) =
+    NoMemory inputs (read_within a b c d le is_header_over [] texts old new inputs short read) written shown status_is
+
+-- ---- readers that give few bytes
+
+-- a reader that is known to give few bytes
+short_text : (longest : Option ℕ) (wide narrow : Job) (text : List ℕ) → Narrows longest wide narrow → IfSome longest (λ most. length text ≤ most) → IsShort narrow.limit wide.limit text
+short_text longest wide narrow text n within = by_limit n.limit
+  where
+    by_limit : (narrow.limit ≡ wide.limit) ⊎ ((narrow.limit ≤ wide.limit) × IsWithin longest narrow.limit) → IsShort narrow.limit wide.limit text
+    by_limit (inl same) = inl same
+    by_limit (inr less) =
+        let few : length text ≤ less.1.0 = subst (λ (o : Option ℕ). IfSome o (λ most. length text ≤ most)) less.1.1 within in
+        let most = less.1.2 in
+        let below = less.0 in
+        inr (omega (arith, few, most), omega (arith, few, most, below))
+
+all_on : {X : Type 0} (P Q : X → Type 0) (xs : List X) → ((x : X) → P x → Q x) → AllByRecursion P xs → AllByRecursion Q xs
+all_on P Q [] on all = tt
+all_on P Q (x ∷ xs) on all = (on x all.0, all_on P Q xs on all.1)
+
+all_unknown : (texts : List (List ℕ)) → AllByRecursion (λ (text : List ℕ). IfSome None (λ (most : ℕ). length text ≤ most)) texts
+all_unknown [] = tt
+all_unknown (text ∷ texts) = (tt, all_unknown texts)
+
+module _ {X : Type 0} (rest : X → Option (List ℕ)) where
+  few_texts : (most : ℕ) (readers : List X) (texts : List (List ℕ)) → AllByRecursion (λ r. IfSome (rest r) (λ text. length text ≤ most)) readers → map rest readers ≡ map (λ text. Some text) texts
+      → AllByRecursion (λ (text : List ℕ). length text ≤ most) texts
+  few_texts most [] [] all is = tt
+  few_texts most [] (text ∷ texts) all is = absurd (cc)
+  few_texts most (r ∷ readers) [] all is = absurd (cc)
+  few_texts most (r ∷ readers) (text ∷ texts) all is =
+      let one : rest r ≡ Some text = cc in
+      let others : map rest readers ≡ map (λ text. Some text) texts = cc in
+      (subst (λ (o : Option (List ℕ)). IfSome o (λ text. length text ≤ most)) one all.0, few_texts most readers texts all.1 others)
+
+  texts_within : (longest : Option ℕ) (readers : List X) (texts : List (List ℕ)) → AreWithin rest longest readers → map rest readers ≡ map (λ text. Some text) texts
+      → AllByRecursion (λ (text : List ℕ). IfSome longest (λ most. length text ≤ most)) texts
+  texts_within None readers texts within is = all_unknown texts
+  texts_within (Some most) readers texts within is = few_texts most readers texts (from_all (λ r. IfSome (rest r) (λ text. length text ≤ most)) readers within) is
+
+  pub short_texts : (longest : Option ℕ) (wide narrow : Job) (readers : List X) (texts : List (List ℕ)) → Narrows longest wide narrow → AreWithin rest longest readers → map rest readers ≡ map (λ text. Some text) texts
+      → AllByRecursion (IsShort narrow.limit wide.limit) texts
+  short_texts longest wide narrow readers texts n within is =
+      all_on (λ text. IfSome longest (λ most. length text ≤ most)) (IsShort narrow.limit wide.limit) texts (λ text few. short_text longest wide narrow text n few) (texts_within longest readers texts within is)
