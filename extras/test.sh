@@ -50,6 +50,8 @@ if [[ -n $with_numpy ]]; then
 else
     echo 'the package is not tried with numpy: there is none'
 fi
+same 'the package, against another reader' 0 \
+    "$(python3 python/tests/test_against_reader.py 2>&1; echo $?)"
 [[ -n $library ]] || echo 'the package is not tried over the library: no libvcdkit.so'
 
 same 'the version of the package' "$("$VCDKIT" --version)" "$(vcdkit-find --version |
@@ -103,6 +105,9 @@ same 'vcdkit-table --rise: the values before it' 'time (ns),reset,count0,count1
 25,0,1,0
 35,0,0,1
 45,0,1,1' "$(vcdkit-table --rise clk samples/counter.vcd reset count0 count1)"
+same 'vcdkit-table --fall: a window that begins at an edge' 'time (ps),bench.slow.count
+100000,1001' "$(vcdkit-table --fall bench.slow.clock --from 100ns --to 101ns $dump \
+    bench.slow.count)"
 printf '%s' '$timescale 1ns $end $var reg 6 ! q $end $var real 64 " level $end ' \
     '$enddefinitions $end #0 r0.5 " #3 bxx1 ! #5 b101010 ! r-1e3 "' > "$folder/small.vcd"
 same 'vcdkit-table --hex: a real number, no value' 'time (ns),q,level
@@ -126,8 +131,12 @@ same 'vcdkit-table --at, a unit' 'time (us),bench.slow.count,bench.level
 same 'vcdkit-table --from' 'time (ps),bench.slow.count
 100000,1001
 105000,1010' "$(vcdkit-table --from 100ns --to 110ns $dump bench.slow.count)"
-same 'vcdkit-table: a clock that is a scope' 'status 2' \
-    "$(status vcdkit-table --rise bench.slow $dump bench.slow.count | tail -n 1)"
+for clock in 'bench.slow:it selects 4 signals' 'bench.slow.overflow:it is an event' \
+    'bench.level:it is a real number' 'bench.slow.count:it has 4 bits'; do
+    same "vcdkit-table: a clock that is none, ${clock%:*}" \
+        "vcdkit-table: ${clock%:*}: is no clock of one bit: ${clock#*:}
+status 2" "$(status vcdkit-table --rise "${clock%:*}" $dump bench.slow.count)"
+done
 same 'vcdkit-table: an unknown name' \
     'vcdkit-table: level: selects nothing; there is bench.level
 status 1' "$(status vcdkit-table $dump level)"
@@ -135,6 +144,17 @@ status 1' "$(status vcdkit-table $dump level)"
 same 'vcdkit-x' '0ps bench.step.parity xx
 status 1' "$(status vcdkit-x --to 10ns $dump bench.step)"
 same 'vcdkit-x: none' 'status 0' "$(status vcdkit-x --from 100ns $dump bench.slow)"
+
+printf '%s' '$var wire 1 ! a $end $var wire 2 " b $end $enddefinitions $end #0 x! b0 " ' \
+    '#10 0! bx " #20 b10 " bx " #25 bxx " #30 x! 1! bz "' > "$folder/x.vcd"
+same 'vcdkit-x: at the end of each time' '0 a x
+10 b xx
+status 1' "$(status vcdkit-x "$folder/x.vcd")"
+same 'vcdkit-x --from: at the end of that time' 'status 0' \
+    "$(status vcdkit-x --from 10 "$folder/x.vcd" a)"
+same 'vcdkit-x --z --from: a value from before' '15 b xx
+30 b zz
+status 1' "$(status vcdkit-x --z --from 15 "$folder/x.vcd")"
 
 same 'vcdkit-diff: none' 'status 0' "$(status vcdkit-diff $dump $dump)"
 sed '/^#350$/,/^#450$/s/^b11 1$/b1011 1/' $dump > "$folder/other.vcd"
@@ -208,6 +228,26 @@ END
 same 'vcdkit-wave --around, --span: as much on each side' \
     "$(vcdkit-wave --from 65ns --to 75ns --mark 70ns $dump bench.slow | cksum)" \
     "$(vcdkit-wave --around 70ns --span 5ns $dump bench.slow | cksum)"
+# texts FILE: the texts of a picture, which has to be well-formed
+texts() {
+    python3 -c 'import sys, xml.etree.ElementTree as tree
+print(*[ascii(one.text)[1:-1] for one in tree.parse(sys.argv[1]).iter()
+        if one.tag.endswith("text")], sep=",")' "$1" 2>&1
+}
+printf '$timescale 1ns $end $scope module t $end $var wire 1 ! a\001<\351\303\251 $end
+    $var real 64 " r&\177 $end $enddefinitions $end #0 0! r\002 " #20 1!\n' > "$folder/odd.vcd"
+vcdkit-wave --width 100 "$folder/odd.vcd" t > "$folder/odd.svg"
+same 'vcdkit-wave: names that XML cannot have, an axis from 0' \
+    '0 ns,20 ns,t.a\ufffd<\ufffd\xe9,t.r&\x7f,\ufffd' "$(texts "$folder/odd.svg")"
+printf '$timescale 100s $end $var wire 1 ! a $end $enddefinitions $end #0 0! #%s 1!\n' \
+    18446744073709551615 > "$folder/long.vcd"
+vcdkit-wave --width 100 "$folder/long.vcd" a > "$folder/long.svg"
+same 'vcdkit-wave: all of the time there is' '0 s,a' "$(texts "$folder/long.svg")"
+for width in 99 0 -5 1e3 ''; do
+    same "vcdkit-wave --width '$width'" 'vcdkit-wave: error: argument --width: it is a number of '\
+'pixels, at least 100
+status 2' "$(status vcdkit-wave --width="$width" $dump bench.slow | tail -n 2)"
+done
 same 'vcdkit-wave: nothing there' 'status 2' \
     "$(status vcdkit-wave --from 2us --to 3us $dump bench.slow | tail -n 1)"
 same 'vcdkit-wave: an unknown name' 'status 1' \
@@ -468,6 +508,9 @@ for script in extras/vcdkit-*; do
     same "$name: no program" "3 $name: there is no program none, which VCDKIT names" \
         "$(said=$(VCDKIT=none VCDKIT_LIBRARY='' "$name" "${words[@]}" 2>&1 > /dev/null)
            echo "$? $said")"
+    same "$name: another program" "3 $name: $(type -P true), which VCDKIT names, is no vcdkit" \
+        "$(said=$(VCDKIT=$(type -P true) VCDKIT_LIBRARY='' "$name" "${words[@]}" 2>&1 \
+            > /dev/null); echo "$? $said")"
     [[ $name == vcdkit-diff ]] ||
         same "$name: a full device" "3 $name: write failed" \
             "$(said=$("$name" "${words[@]}" 2>&1 > /dev/full); echo "$? $said")"

@@ -6,9 +6,11 @@ VCDKIT_LIBRARY names the library; without it the program alone is tried. CORPUS 
 dumps. Expected values were read off the samples, or are those of a reader in this file, which has
 nothing of vcdkit.
 """
+import copy
 import glob
 import json
 import os
+import pickle
 import subprocess
 import sys
 import tempfile
@@ -28,7 +30,7 @@ except ImportError:
     pandas = None
 import vcdkit
 from vcdkit import (Dump, DumpFault, Edges, NoTimescale, RunFailed, Timescale, UnknownName,
-                    UsageError, Value, merge)
+                    UsageError, Value, VcdkitError, merge)
 
 PROGRAM = vcdkit._program.path()
 SAMPLES = os.path.join(TOP, "samples")
@@ -218,8 +220,55 @@ class Questions:
         self.assertEqual(table, {"time": [100, 1150], "bench.slow.count": [0, 11]})
         table = dump.table("bench.slow.count", digits=True)
         self.assertEqual(table["bench.slow.count"][0], "xxxx")
-        with self.assertRaises(UsageError):
-            list(dump.rows("bench.slow.count", rise="bench.slow"))
+        for clock, said in (("bench.slow", "selects 4 signals"),
+                            ("bench.slow.overflow", "an event"),
+                            ("bench.level", "a real number"), ("bench.slow.count", "4 bits")):
+            for edge in "rise", "fall":
+                with self.assertRaises(UsageError) as raised:
+                    dump.rows("bench.slow.count", **{edge: clock})
+                self.assertIn(said, str(raised.exception))
+
+    def test_a_path_of_two(self):
+        dump = Dump(b'$var wire 1 ! a $end $var wire 2 " a $end $var wire 1 % b $end '
+                    b'$var reg 1 % b $end $var reg 1 + time $end $enddefinitions $end '
+                    b'#0 0! b1 " #1 1! 1+ #2 b10 " 1%')
+        wanted = {"time": [0, 1, 2], "a !": [0, 1, 1], 'a "': [1, 1, 2], "b": [None, None, 1],
+                  "time +": [None, 1, 1]}
+        self.assertEqual(dump.table(["a", "b", "time"]), wanted)
+        self.assertEqual(dump.table(["a", "b", "time"], at=[0, 1, 1, 2]), wanted)
+        self.assertEqual(list(dump.rows("a", at=[2, 0])), [(2, ["1", "10"]), (0, ["0", "01"])])
+        self.assertEqual(dump.sample(0, "a"), {0: {"a": "01"}})
+
+    def test_rows_where_a_value_changed(self):
+        dump = Dump(b'$var wire 2 ! q $end $var real 64 " r $end $enddefinitions $end #0 b0 ! '
+                    b'#1 b00 ! rNaN " #2 rnan " b1 ! b0 ! #3 $dumpall b0 ! rnan " $end #4 r1.0 " '
+                    b'#5 bx ! r1 " #6 bxx ! r1e0 " #7 r-1 " #8 b1 ! b1 !')
+        rows = [(0, ["00", None]), (1, ["00", float("nan")]), (4, ["00", 1.0]), (5, ["xx", 1.0]),
+                (7, ["xx", -1.0]), (8, ["01", -1.0])]
+        self.assertEqual(repr(list(dump.rows(["q", "r"]))), repr(rows))
+        self.assertEqual(list(dump.cut(6, 7).rows(["q", "r"])), [(6, ["xx", 1.0]), rows[4]])
+        self.assertEqual(repr(list(dump.cut(2, 4).rows(["q", "r"]))),
+                         repr([(2, rows[1][1]), rows[2]]))
+
+    def test_rows_at_edges_of_a_window(self):
+        header = b'$var wire 1 ! c $end $var wire 2 " q $end $enddefinitions $end '
+        for body in (b'#0 0! b1 " #10 1! b10 " #20 0! #30 1! b11 " #40 0! #50 1! b0 "',
+                     b'#0 $dumpvars 0! b1 " $end 1! b10 " #20 0! #30 1! b11 " #40 0! #50 1!',
+                     b'0! b1 " 1! #0 0! #0 1! b0 " #30 0! b1 " 1! b11 "',  # a glitch
+                     b'#5 b1 " #30 0! 1! b11 " #40 $dumpall 0! b0 " $end #50 1! b1 "',
+                     b'#5 b1 " #30 $dumpvars 0! b11 " $end 1! #40 $dumpvars 0! b0 " $end',
+                     b'#30 $dumpvars 0! b11 " $end 1! #40 0! #50 $dumpvars 1! b0 " $end'):
+            for clock in {"rise": "c"}, {"fall": "c"}:
+                whole = list(Dump(header + body).rows(["q", "c"], **clock))
+                self.assertTrue(whole or "fall" in clock)
+                for begin in 0, 3, 5, 10, 15, 20, 25, 30, 31, 40:
+                    part = Dump(header + body).cut(begin, 45)
+                    wanted = [row for row in whole if begin <= row[0] <= 45]
+                    for one in part, Dump(part.read()):
+                        self.assertEqual(list(one.rows(["q", "c"], **clock)), wanted,
+                                         (body, begin))
+        rows = Dump(NESTED).cut("100ns").rows("bench.slow.count", fall="bench.slow.clock")
+        self.assertEqual(next(rows), (1000, ["1001"]))
 
     def test_rows_end_with_the_values_of_sample(self):
         for dump in dumps():
@@ -316,6 +365,19 @@ class Questions:
                 call()
             self.assertIn(said, str(raised.exception))
 
+    def test_errors_are_pickled_and_copied(self):
+        for call in (Dump(BROKEN, "bad.vcd").check, lambda: Dump(NESTED).edges("count"),
+                     lambda: Dump(b"$enddefinitions $end\n", "n.vcd").ticks("5ns"),
+                     lambda: Dump(NESTED).cut("x"), Dump("/no/such/file").check):
+            with self.assertRaises(VcdkitError) as raised:
+                call()
+            error = raised.exception
+            for again in pickle.loads(pickle.dumps(error)), copy.copy(error), copy.deepcopy(error):
+                self.assertIs(type(again), type(error))
+                for name in "file", "line", "fault", "name", "status":
+                    self.assertEqual(getattr(again, name, None), getattr(error, name, None))
+                self.assertEqual(str(again), str(error))
+
     def test_threads(self):
         wanted, found = Dump(NESTED).check(), []
         many = [threading.Thread(target=lambda: found.append(Dump(NESTED).check()))
@@ -339,6 +401,19 @@ class ByProgram(Questions, unittest.TestCase):
             self.assertIn("VCDKIT=FILE", str(raised.exception))
         finally:
             os.environ["PATH"] = path
+            if named:
+                os.environ["VCDKIT"] = named
+
+    def test_another_program(self):
+        named, os.environ["VCDKIT"] = os.environ.get("VCDKIT"), "true"
+        try:
+            for call in (Dump(NESTED).check, Dump(NESTED).edges, lambda: Dump(NESTED).signals,
+                         lambda: merge(Dump(NESTED)).read()):
+                with self.assertRaises(RunFailed) as raised:
+                    call()
+                self.assertIn("true, which VCDKIT names, is no vcdkit", str(raised.exception))
+        finally:
+            del os.environ["VCDKIT"]
             if named:
                 os.environ["VCDKIT"] = named
 

@@ -1,13 +1,14 @@
 """The text that vcdkit writes of a dump: a header, and then on each line a timestamp, a section's
 command or a value."""
 import re
-from typing import BinaryIO, Iterator, List, NamedTuple, Optional, Tuple
+from typing import BinaryIO, Container, Iterator, List, NamedTuple, Optional, Tuple
 
 from .times import Timescale
 from .values import Signal, Value, extension, real
 
 BLOCK = 1 << 22
 BODY = b"$enddefinitions $end\n"
+Changes = List[Tuple[bytes, bytes]]  # a code and a value each
 
 
 class Header(NamedTuple):
@@ -42,25 +43,35 @@ def skip_header(out: BinaryIO) -> None:
             break
 
 
-def steps(out: BinaryIO) -> Iterator[Tuple[int, List[Tuple[bytes, bytes]]]]:
-    """Returns of each timestamp its changes, pairs of a code and a value without its `b`. What
-    comes before the first one has time 0. No two steps that follow each other have one time."""
-    time, found = 0, []
+def steps(out: BinaryIO, codes: Container[bytes]) -> Iterator[Tuple[int, Changes, Changes]]:
+    """Returns of each timestamp the changes of some codes, pairs of a code and a value without its
+    `b`: those that are values from before it, and the others. What comes before the first timestamp
+    has time 0. No two steps that follow each other have one time.
+
+    Values from before it are those of a `$dumpvars` with which the values of these codes begin:
+    `cut` begins with the values just before its first time, and goes on with what changes at it."""
+    time, before, found, is_begin, has_begun = 0, [], [], False, False
     for line in out:
         first = line[:1]
         if first == b"#":
             now = int(line[1:])
             if now != time:
-                if found:
-                    yield time, found
-                time, found = now, []
-        elif first == b"b" or first == b"r":
-            value, code = line.split()
-            found.append((code, value[1:] if first == b"b" else value))
-        elif first != b"$":
-            found.append((line[1:-1], first))
-    if found:
-        yield time, found
+                if before or found:
+                    yield time, before, found
+                time, before, found = now, [], []
+        elif first == b"$":
+            is_begin = not has_begun and line == b"$dumpvars\n"
+        else:
+            if first == b"b" or first == b"r":
+                value, code = line.split()
+                value = value[1:] if first == b"b" else value
+            else:
+                value, code = first, line[1:-1]
+            if code in codes:
+                (before if is_begin else found).append((code, value))
+                has_begun = True
+    if before or found:
+        yield time, before, found
 
 
 def full(text: str, size: int) -> Value:

@@ -1,6 +1,7 @@
 """Answers by the program vcdkit, over pipes."""
 import contextlib
 import errno
+import functools
 import os
 import shutil
 import signal
@@ -38,6 +39,17 @@ def not_started(program: str, error: OSError) -> RunFailed:
     if error.errno == errno.E2BIG:
         return RunFailed("too many names for a command line: name scopes")
     return RunFailed("%s: %s" % (program, error.strerror))
+
+
+@functools.lru_cache(maxsize=None)
+def is_vcdkit(program: str) -> bool:
+    """Whether a program says that it is vcdkit; it is asked once."""
+    try:
+        said = subprocess.run([program, "--version"], stdin=subprocess.DEVNULL,
+                              stdout=subprocess.PIPE, stderr=subprocess.DEVNULL).stdout
+    except OSError:
+        return True  # what cannot be started is refused as such
+    return said.startswith(b"vcdkit ")
 
 
 class _Part:
@@ -102,6 +114,8 @@ class _Pipe:
         program = path()
         if not program:
             raise RunFailed(refusal())
+        if os.environ.get("VCDKIT") and not is_vcdkit(program):
+            raise RunFailed("%s, which VCDKIT names, is no vcdkit" % program)
         files = [self.feed(one) for one in text.of]
         if text.command != "merge":
             return self.start([program, text.command, *text.words], files[0],

@@ -1,13 +1,13 @@
-"""Rows: those that vcdkit writes, and those of a table, from the steps of a body (_body.steps)."""
+"""Rows: those that vcdkit writes, and those of a table, from the text of a body (_body.steps)."""
 import gc
 import itertools
-from typing import Any, Dict, Iterable, Iterator, List, Optional, Sequence, Tuple
+from typing import Any, BinaryIO, Dict, Iterable, Iterator, List, Optional, Sequence, Tuple
 
 from . import _body
 from .values import Edges, Signal
 
-Step = Tuple[int, List[Tuple[bytes, bytes]]]
 Row = Tuple[int, List[Any]]
+NAN = float("nan")  # one object, so that rows with it are equal
 
 
 def words_of(rows: str) -> List[str]:
@@ -85,35 +85,41 @@ class _Values:
         self.signals = dict(zip(self.codes, columns))
         self.values: Dict[bytes, Any] = {}
 
-    def take(self, changes: Iterable[Tuple[bytes, bytes]]) -> bool:
-        """Takes changes; whether one is of the table."""
-        found = [(code, value) for code, value in changes if code in self.signals]
-        for code, value in found:
-            self.values[code] = _body.value(value, self.signals[code])
-        return bool(found)
+    def take(self, changes: _body.Changes) -> None:
+        """Takes changes, of which some may be of other signals."""
+        for code, value in changes:
+            if code in self.signals:
+                now = _body.value(value, self.signals[code])
+                self.values[code] = NAN if now != now else now
 
     def row(self) -> List[Any]:
         """Returns the values, None where there is none yet."""
         return [self.values.get(code) for code in self.codes]
 
 
-def at_changes(steps: Iterable[Step], columns: Sequence[Signal]) -> Iterator[Row]:
-    """Returns a row for each time at which a signal changes, with the values at its end."""
-    values = _Values(columns)
-    for time, changes in steps:
-        if values.take(changes):
-            yield time, values.row()
+def at_changes(text: BinaryIO, columns: Sequence[Signal]) -> Iterator[Row]:
+    """Returns a row for each time at whose end a value is another one than before it, with the
+    values at its end."""
+    values, last = _Values(columns), [None] * len(columns)
+    for time, before, changes in _body.steps(text, values.signals):
+        values.take(before)
+        values.take(changes)
+        row = values.row()
+        if row != last:
+            yield time, row
+        last = row
 
 
-def at_edges(steps: Iterable[Step], columns: Sequence[Signal], clock: Signal, before: bytes,
-             after: bytes) -> Iterator[Row]:
+def at_edges(text: BinaryIO, columns: Sequence[Signal], clock: Signal, edge: Tuple[bytes, bytes]
+             ) -> Iterator[Row]:
     """Returns a row for each time at which a clock of one bit goes from one digit to another, with
     the values just before that time."""
     values, code, now = _Values(columns), clock.code.encode(), b""
-    for time, changes in steps:
+    for time, before, changes in _body.steps(text, {code, *values.signals}):
+        values.take(before)
         is_edge = False
-        for digit in [value for of, value in changes if of == code]:
-            is_edge, now = is_edge or (now, digit) == (before, after), digit
+        for digit in [value for of, value in before + changes if of == code]:
+            is_edge, now = is_edge or (now, digit) == edge, digit
         if is_edge:
             yield time, values.row()
         values.take(changes)

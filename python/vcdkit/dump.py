@@ -3,7 +3,8 @@ import contextlib
 import numbers
 import os
 import re
-from typing import Any, BinaryIO, Dict, Iterable, Iterator, List, Optional, Sequence, Tuple, Union
+from typing import (Any, BinaryIO, Dict, Iterable, Iterator, List, Optional, Sequence, Set,
+                    Tuple, Union)
 
 from . import _body, _library, _program, _rows
 from ._body import Header
@@ -191,16 +192,26 @@ class Dump:
         A value is a Value; a float of a real number, or its text where that is none; None where
         there is none yet. Times may come in any order. Without names all signals are sampled;
         events have no value. Of variables with one path the last one counts."""
-        asked = {time: self.ticks(time) for time in
-                 ([times] if isinstance(times, (numbers.Number, str)) else times)}
-        every = sorted(set(asked.values()))
-        found: Dict[int, Dict[str, Any]] = {time: {} for time in every}
+        asked = self._asked(times)
+        found = {ticks: {path: values[-1] for path, values in every.items()}
+                 for ticks, every in self._sampled(asked.values(), names).items()}
+        return {time: found[ticks] for time, ticks in asked.items()}
+
+    def _asked(self, times: Union[Time, Iterable[Time]]) -> Dict[Time, int]:
+        """Returns the ticks of each time, as it was given."""
+        alone = isinstance(times, (numbers.Number, str))
+        return {time: self.ticks(time) for time in ([times] if alone else times)}
+
+    def _sampled(self, times: Iterable[int], names: Names) -> Dict[int, Dict[str, List[Any]]]:
+        """Returns of each time, in ticks, the values of the variables of each path."""
+        every = sorted(set(times))
+        found: Dict[int, Dict[str, List[Any]]] = {time: {} for time in every}
         for begin in range(0, len(every), TIMES_OF_A_CALL):
             at = ",".join(map(str, every[begin:begin + TIMES_OF_A_CALL]))
             words = self._words("sample", ["--at", at, "--", *_list(names)])
             for time, path, value in zip(words[0::3], words[1::3], words[2::3]):
-                found[int(time)][path] = value_of(value)
-        return {time: found[ticks] for time, ticks in asked.items()}
+                found[int(time)].setdefault(path, []).append(value_of(value))
+        return found
 
     def edges(self, names: Names = ()) -> Dict[str, Edges]:
         """Returns of each path how often its value changes, and its least significant bit rises and
@@ -233,37 +244,69 @@ class Dump:
         """Returns rows of a table: a time in ticks, and the value of each signal of names (select),
         as sample() has it; events are left out.
 
-        By default a row for each time at which one of them changes, with the values at its end.
+        By default a row for each time at which one of them changes, with the values at its end, and
+        of a cut its begin; what is written again, or comes and goes within a time, is no change.
         With `rise` or `fall`, the path of a clock of one bit, a row for each time at which it rises
-        or falls, with the values just before that time, as a flip-flop takes them. With `at`, a row
-        for each of these times."""
+        or falls, with the values just before that time, as a flip-flop takes them; those of the
+        `$dumpvars` that begins the dump, or a cut, are from before its time. UsageError where that
+        path is no such clock. With `at`, a row for each of these times."""
         columns = [one for one in self.select(names) if one.type != "event"]
+        clock = self._clock(rise or fall) if at is None and (rise or fall) else None
+        return self._rows(names, columns, at, clock, (b"0", b"1") if rise else (b"1", b"0"))
+
+    def _rows(self, names: Names, columns: List[Signal], at: Optional[Iterable[Time]],
+              clock: Optional[Signal], edge: Tuple[bytes, bytes]
+              ) -> Iterator[Tuple[int, List[Any]]]:
         if at is not None:
-            paths = [one.path for one in columns]
-            for time, values in self.sample(at, paths).items():
-                yield self.ticks(time), [values[path] for path in paths]
+            ticks = self._asked(at).values()
+            paths: Dict[str, List[int]] = {}
+            for place, one in enumerate(columns):
+                paths.setdefault(one.path, []).append(place)
+            found = self._sampled(ticks, paths) if paths else {}
+            for time in ticks:
+                row: List[Any] = [None] * len(columns)
+                for path, places in paths.items():
+                    for place, value in zip(places, found[time][path]):
+                        row[place] = value
+                yield time, row
             return
-        clocks = self.select(rise or fall or [])
-        if len(clocks) > 1:
-            raise UsageError("%s: is no clock: it selects %d signals" % (rise or fall, len(clocks)))
-        with self.pick([*_list(names), *[one.path for one in clocks]]).open() as out:
+        with self.pick([*_list(names), *([clock.path] if clock else [])]).open() as out:
             _body.skip_header(out)
-            if clocks:
-                edge = (b"0", b"1") if rise else (b"1", b"0")
-                yield from _rows.at_edges(_body.steps(out), columns, clocks[0], *edge)
+            if clock:
+                yield from _rows.at_edges(out, columns, clock, edge)
             else:
-                yield from _rows.at_changes(_body.steps(out), columns)
+                yield from _rows.at_changes(out, columns)
+
+    def _clock(self, name: str) -> Signal:
+        """Returns the signal of one bit that a name selects; UsageError where it is none."""
+        chosen = self.select(name)
+        clock = chosen[0]
+        is_what = ("it selects %d signals" % len(chosen) if len({one.code for one in chosen}) > 1
+                   else "it is an event" if clock.type == "event"
+                   else "it is a real number" if clock.is_real
+                   else "it has %d bits" % clock.size if clock.size != 1 else "")
+        if is_what:
+            raise UsageError("%s: is no clock of one bit: %s" % (name, is_what))
+        return clock
 
     def table(self, names: Names, digits: bool = False, **which) -> Dict[str, List[Any]]:
         """Returns the rows() as columns: "time", in ticks, and each path. Values are numbers, None
-        where they have an x or a z, or Values with `digits`. pandas.DataFrame() takes it."""
-        paths = [one.path for one in self.select(names) if one.type != "event"]
+        where they have an x or a z, or Values with `digits`. pandas.DataFrame() takes it.
+
+        Where variables that are not one value have one path, their columns are the path, a blank
+        and the code each; so is that of a path `time`."""
+        chosen = [one for one in self.select(names) if one.type != "event"]
+        codes: Dict[str, Set[str]] = {"time": {""}}
+        for one in chosen:
+            codes.setdefault(one.path, set()).add(one.code)
+        keys = [one.path if len(codes[one.path]) == 1 else one.path + " " + one.code
+                for one in chosen]
         rows = list(self.rows(names, **which))
         columns = [list(column) for column in zip(*(values for _, values in rows))] or [
-            [] for _ in paths]
+            [] for _ in keys]
         if not digits:
             columns = [[_body.number(one) for one in column] for column in columns]
-        return {"time": [time for time, _ in rows], **dict(zip(paths, columns))}
+        return {"time": [time for time, _ in rows], **dict(zip(keys, columns))}
 
     # Dumps of it.
 

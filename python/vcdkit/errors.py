@@ -18,6 +18,9 @@ class DumpFault(VcdkitError, ValueError):
         super().__init__("%s:%d: %s" % (file, line, fault))
         self.file, self.line, self.fault = file, line, fault
 
+    def __reduce__(self):  # else pickle and copy give the message alone to a class of three words
+        return type(self), (self.file, self.line, self.fault)
+
 
 class UnknownName(VcdkitError, LookupError):
     """A name that selects no variable; the message says what comes near."""
@@ -26,7 +29,10 @@ class UnknownName(VcdkitError, LookupError):
 
     def __init__(self, name: str, hint: str = ""):
         super().__init__("%s: selects nothing%s" % (name, hint))
-        self.name = name
+        self.name, self._hint = name, hint
+
+    def __reduce__(self):
+        return type(self), (self.name, self._hint)
 
 
 class NoTimescale(VcdkitError, ValueError):

@@ -240,9 +240,9 @@ def first_of_any(dumps, pairs, factors, until):
             of_code[side].setdefault(pair[side].code.encode(), []).append(pair)
     with dumps[0].open() as one, dumps[1].open() as other:
         steps = []
-        for out in one, other:
+        for out, codes in zip((one, other), of_code):
             _body.skip_header(out)
-            steps.append(_body.steps(out))
+            steps.append(_body.steps(out, codes))
         heads = [next(step, None) for step in steps]
         while any(heads):
             time = min(head[0] * factor for head, factor in zip(heads, factors) if head)
@@ -251,7 +251,7 @@ def first_of_any(dumps, pairs, factors, until):
             touched, triggered = {}, [set(), set()]
             for side in (0, 1):
                 if heads[side] and heads[side][0] * factors[side] == time:
-                    for code, value in heads[side][1]:
+                    for code, value in heads[side][1] + heads[side][2]:
                         state[side][code] = value
                         triggered[side].add(code)
                         for pair in of_code[side].get(code, ()):

@@ -1,9 +1,10 @@
 """Writes the values of several signals as CSV, a column for each
 
-A row for each time at which one of them changed, with their values at its end. With --rise or
---fall, a row for each time at which a clock rises or falls, with the values just before that time,
-as a flip-flop takes them. With --at, a row for each of these times. So what comes and goes within
-one time is not seen, and events have no column.
+A row for each time at which one of them changed, with their values at its end, and one for --from,
+where they have values. With --rise or --fall, a row for each time at which a clock of one bit rises
+or falls, with the values just before that time, as a flip-flop takes them. With --at, a row for
+each of these times. So what comes and goes within one time, or is written again, is not seen, and
+events have no column.
 
 Values have all their digits, or are numbers (--hex, --decimal). Where a value has an x or a z,
 --hex writes x or z for four such digits and X for a mixture, and --decimal leaves all digits. `-`
@@ -54,10 +55,11 @@ def main(words):
     is_part = (asked.begin, asked.end) != (of.get_default("begin"), of.get_default("end"))
     # Values at the begin of a cut are a section, and none that changed.
     dump = whole.cut(asked.begin, asked.end) if is_part and not asked.at else whole
+    at = asked.at.split(",") if asked.at else None
+    rows = dump.rows(asked.names, at, asked.rise, asked.fall)
     out = csv.writer(sys.stdout, lineterminator="\n")
     out.writerow(["time (%s)" % in_unit] + [one.path for one in columns])
-    at = asked.at.split(",") if asked.at else None
-    for time, values in dump.rows(asked.names, at, asked.rise, asked.fall):
+    for time, values in rows:
         out.writerow([time if in_unit == "tick" else scale.decimal(time, in_unit)] + [
             shown(value, one.size, asked.form) for value, one in zip(values, columns)])
     return 0

@@ -7,6 +7,9 @@ grey block. --mark draws a line at a time, that of a failure for one.
 examples:
   vcdkit-wave --from 100ns --to 200ns --mark 158ns sim.vcd tb.clk tb.bus > failure.svg
   vcdkit-wave --around 158ns --span 20ns sim.vcd.gz tb.cpu > failure.svg"""
+import argparse
+import math
+import re
 from xml.sax.saxutils import escape
 
 from .. import Dump, UsageError, Value, _body
@@ -14,6 +17,8 @@ from ..times import UNITS
 from . import add_file, add_form, add_window, command, parser
 
 ROW, HIGH, PAD, TOP, CHAR = 26, 16, 10, 34, 6.7  # pixels
+LEAST_WIDTH = 100  # pixels: room for a time of the axis
+NOT_OF_XML = re.compile("[^\t\n\r -\ud7ff\ue000-\ufffd\U00010000-\U0010ffff]")
 X, Z, GREEN, LANE, BLOCK, BACK = "#ff4040", "#ffa020", "#3fd07f", "#58a6ff", "#5b6570", "#10161d"
 STYLE = """text{font:11px 'DejaVu Sans Mono',Menlo,Consolas,monospace;fill:#d8dee4}
 .axis{fill:#8b98a5}.name{fill:#e6edf3}.mark{stroke:#ff6060;stroke-dasharray:4 3}
@@ -81,14 +86,14 @@ class Picture:
 
     def text(self, x, y, text, kind="", anchor="start"):
         self.add('<text x="%.1f" y="%.1f" class="%s" text-anchor="%s">%s</text>', x, y, kind,
-                 anchor, escape(text))
+                 anchor, escape(NOT_OF_XML.sub("\ufffd", text)))
 
     def axis(self, bottom):
         """Draws a grid with times, which are 1, 2 or 5 of a power of ten apart."""
         unit, ticks = self.window.unit(self.span)
-        step = next(one * 10**power for power in range(-3, 20) for one in (1, 2, 5)
+        step = next(one * 10**power for power in range(-3, 24) for one in (1, 2, 5)
                     if one * 10**power * ticks * (self.right - self.left) / self.span >= 90)
-        number = -(-self.window.begin // (step * ticks))
+        number = math.ceil(self.window.begin / (step * ticks))
         while number * step * ticks <= self.window.end:
             x = self.x(number * step * ticks)
             self.add('<path class="grid" d="M%.1f %dV%d"/>', x, TOP - 6, bottom)
@@ -179,6 +184,13 @@ def window_of(dump, asked):
     return max(at - span, 0), at + span
 
 
+def width(text):
+    """Reads the word of --width."""
+    if not text.isascii() or not text.isdigit() or int(text) < LEAST_WIDTH:
+        raise argparse.ArgumentTypeError("it is a number of pixels, at least %d" % LEAST_WIDTH)
+    return int(text)
+
+
 @command
 def main(words):
     of = parser("vcdkit-wave", __doc__, "the picture was written")
@@ -186,8 +198,8 @@ def main(words):
     of.add_argument("--around", metavar="TIME", help="the middle of the window, and a mark")
     of.add_argument("--span", metavar="TIME", help="how much before and after it, each")
     of.add_argument("--mark", metavar="TIME", help="draw a line at this time")
-    of.add_argument("--width", type=int, default=1000, metavar="N",
-                    help="width of the traces, in pixels (1000)")
+    of.add_argument("--width", type=width, default=1000, metavar="N",
+                    help="width of the traces, in pixels (1000; at least %d)" % LEAST_WIDTH)
     add_form(of)
     add_file(of, "+")
     asked = of.parse_args(words)

@@ -1,7 +1,8 @@
 """Lists the values with an x or a z that signals take in a window of time
 
-A row has the time, the path and the value: of each value with an x at the first time, and of each
-that is taken after it. --z counts z as well. Without names all signals are looked at. So a CI job
+A row has the time, the path and the value: of each value with an x at the end of the first time,
+and of each that is another one at the end of a later time. So what comes and goes within one time
+is not seen. --z counts z as well. Without names all signals are looked at. So a CI job
 asks that nothing is unknown once reset is over.
 
 examples:
@@ -25,13 +26,16 @@ def main(words):
         if not one.is_real and one.type != "event":
             paths.setdefault(one.code.encode(), []).append(one)
     part = dump.pick(asked.names) if asked.names else dump
-    letters, status = (b"x", b"z") if asked.z else (b"x",), 0
+    letters, status, unknown = (b"x", b"z") if asked.z else (b"x",), 0, {}
     with part.cut(asked.begin, asked.end).open() as out:
         _body.skip_header(out)
-        for time, found in _body.steps(out):
-            for code, value in found:
-                if any(letter in value for letter in letters) and value[:1] != b"r":
-                    for one in paths.get(code, ()):
-                        status = 1
-                        print(dump.time(time), one.path, _body.value(value, one))
+        for time, before, found in _body.steps(out, paths):
+            for code, value in dict(before + found).items():
+                is_shown = any(letter in value for letter in letters) and value[:1] != b"r"
+                now = _body.value(value, paths[code][0]) if is_shown else None
+                if is_shown and unknown.get(code) != now:
+                    status = 1
+                    for one in paths[code]:
+                        print(dump.time(time), one.path, now)
+                unknown[code] = now
     return status
