@@ -289,18 +289,6 @@ pub(crate) fn two_short_lines_come(ahead: Ahead<'_>) -> bool
     next.two_byte_line_comes()
 }
 
-/// Returns whether a short line comes, and then another one or a timestamp.
-// Asked at one short line alone, `merge` of scalars takes 3 % more.
-#[inline(always)]
-pub(crate) fn short_lines_come(ahead: Ahead<'_>) -> bool
-    ensures { result ≡ true
-        → IsRun (longest_of ahead.entry) (bytes_of ahead.entry) (passed_of ahead.entry) 2 }
-{
-    let rest = &ahead.bytes()[ahead.passed()..];
-    two_short_lines_come(ahead)
-        || (ahead.two_byte_line_comes() && matches!(rest.get(3), Some(b'#')))
-}
-
 /// Returns whether the next token ahead begins with `$`, as a keyword does. Then only white bytes
 /// come before it, and no item.
 // Asked before a loop over items ahead, since no such loop takes a keyword: without this, and with

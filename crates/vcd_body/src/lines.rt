@@ -242,33 +242,12 @@ fn left_out_of_text(
     }
 }
 
-/// Returns how many bytes after the first one to leave out of the bytes of an item that was taken
-/// ahead, so that the others are the line that would be written: the first digits of a vector that
-/// has more than it needs. The item has the bytes from `from` up to `to`. Where the result is none,
-/// its bytes may be the line all the same.
-#[inline(always)]
-pub fn left_out(scanned: ScannedItem<'_>, bytes: &[u8], from: usize, to: usize) -> Option<usize>
-    requires { (v : HeadView) × SpellsScanned v bytes.now from to scanned }
-    ensures { IfSome result (λ k. (from + 1 + k ≤ to) × ((v : HeadView) (h : Header) (x : BodyItem)
-        → SpellsScanned v bytes.now from to scanned.entry
-        → AreBinaryIf scanned.entry.binary scanned.entry.text.now
-        → IsSizedItem v.codes.now scanned.entry.item scanned.entry.most → IsViewOf v h
-        → IsItem h.codes scanned.entry.text.now scanned.entry.item x
-        → bytes_without bytes.now from to k ≡ item_line x)) }
-{
-    let left_out = left_out_before_last(scanned, bytes, from, to)?;
-    if bytes[to - 1] != b'\n' {
-        return None;
-    }
-    Some(left_out)
-}
-
 /// Returns how many bytes of a change that was taken ahead to leave out after its first one, so
 /// that the others but the last, and a line feed, are the line that would be written. The change
 /// has the bytes from `from` up to `to`: the last one is that after its code. None for a timestamp,
 /// and where the size is not known. None for a change does not say that its bytes are not the line.
 #[inline(always)]
-pub fn left_out_before_last(
+pub fn left_out(
     scanned: ScannedItem<'_>,
     bytes: &[u8],
     from: usize,

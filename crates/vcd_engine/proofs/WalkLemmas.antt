@@ -9,7 +9,7 @@ use Rattle.vcd_text.proofs.Writes.{counts-on}
 use Rattle.vcd_text.specs.declared.ahead.Ahead.{Ahead}
 use Rattle.vcd_text.specs.declared.device.WriteFailed.{WriteFailed}
 use Rattle.vcd_view.specs.declared.view.HeadView.{HeadView}
-use Rattle.vcd_body.specs.Walk.{Again, Begins, Further, HasCome, Stage, TakesShown, Trail, Walks}
+use Rattle.vcd_body.specs.Walk.{Again, Begins, Further, Stage, Trail, Walks}
 use Rattle.vcd_body.specs.declared.item.Regs.{Regs}
 use Rattle.vcd_body.proofs.WalkLemmas.{walk_passes}
 use Rattle.vcd_engine.specs.Ahead.{RunsOver}
@@ -119,18 +119,15 @@ module _ (v : HeadView) (a : Ahead) (r : Regs) (m : TaskState) (begin : Device) 
 
 module _ {L C : Type 0} (line : L → ℕ × ℕ) (is_ready : C → Bool) (task_state : C → TaskState) (v : HeadView) (s : Stage (WalkState L) C) where
   abbrev On : Stage (WalkState L) C → Result Bool WriteFailed → Type 0
-  On z ended = Walks (TakesByTask line task_state) (CanTake line is_ready) (λ _. false) (λ w. w ≡ v) s z ended
-
-  one_did : (b c : Stage (WalkState L) C) (result : Result (Unit {0}) WriteFailed) → TakesShown (TakesByTask line task_state) (CanTake line is_ready) (λ w. w ≡ v) b c result → TakesByTask line task_state v b c result
-  one_did b c result one = subst (λ (w : HeadView). TakesByTask line task_state w b c result) one.1 one.2.did
+  On z ended = Walks (TakesByTask line task_state) (CanTake line is_ready) (λ _. false) v s z ended
 
   pub passed_to : (z : Stage (WalkState L) C) (ended : Result Bool WriteFailed) → On z ended → PassesTo s.ahead (passed_of z.ahead)
   passed_to z ended on lines ts passed = (walk_passes _ _ _ _ s (longest_of s.ahead) lines (bytes_of s.ahead) ts (refl, refl) passed z ended on).1
 
   module _ (r : Regs) (m : TaskState) (begin : Device) (walked : HasWalked v s.ahead r m begin (walk_of line s) s.visit.pieces s.out (task_state s.command)) where
-    along : (z : Stage (WalkState L) C) → Trail (TakesByTask line task_state) (CanTake line is_ready) (λ _. false) (λ w. w ≡ v) s z → HasWalked v s.ahead r m begin (walk_of line z) z.visit.pieces z.out (task_state z.command)
+    along : (z : Stage (WalkState L) C) → Trail (TakesByTask line task_state) (CanTake line is_ready) (λ _. false) v s z → HasWalked v s.ahead r m begin (walk_of line z) z.visit.pieces z.out (task_state z.command)
     along z Begins = walked
-    along _ (Further b c so_far one on) = walk_on v s.ahead r m begin _ _ _ _ (along b so_far) _ _ _ _ _ (one_did b c (Ok tt) one) tt refl
+    along _ (Further b c so_far one on) = walk_on v s.ahead r m begin _ _ _ _ (along b so_far) _ _ _ _ _ one.did tt refl
     along _ (Again b c so_far there same is) = rw is (walk_same v s.ahead r m begin _ _ _ _ (along b so_far) there same)
 
     -- no other item was taken
@@ -140,4 +137,4 @@ module _ {L C : Type 0} (line : L → ℕ × ℕ) (is_ready : C → Bool) (task_
 
     -- or a write of what is due with one more failed
     pub walk_wrong : (z : Stage (WalkState L) C) (e : WriteFailed) → On z (Err e) → (t : WalkEnd) → t.passed ≡ passed_of z.ahead → t.regs ≡ z.regs → t.written ≡ Err e → RunsOver v s.ahead r m (task_state z.command) begin z.out t
-    walk_wrong z e on t passed_is regs_is written_is = walk_fails v s.ahead r m begin _ _ _ _ (along on.0 on.1.trail) _ _ _ _ _ (one_did on.0 z (Err e) on.2) t e refl passed_is regs_is e written_is (passed_to z (Err e) on)
+    walk_wrong z e on t passed_is regs_is written_is = walk_fails v s.ahead r m begin _ _ _ _ (along on.0 on.1.trail) _ _ _ _ _ on.2.did t e refl passed_is regs_is e written_is (passed_to z (Err e) on)

@@ -2,7 +2,7 @@
 ghost use Rattle.std.specs.Prelude.{◌≡◌, ℕ, ◌+◌, ◌-◌, ◌^◌, ◌<◌, ◌≤◌, ◌++◌, ◌∷◌, List, [], length, slice_range, IfErr, IfOk, IfSome};
 ghost use Rattle.vcd_engine.specs.Names.{BodyItem, bytes_without, HasGoodText, Header, HeadView, pending_in, IsSpanned, IsItem, IsLine, IsNoTimestamp, IsPart, IsViewOf, item_line, LiesUpTo, line_without, Puts, PutsBehind, time_line};
 
-use vcd_body::{Extent, Item, ScannedItem, left_out_before_last, put_time};
+use vcd_body::{Extent, Item, ScannedItem, left_out, put_time};
 use vcd_text::{Sink, WriteFailed, put_front, put_parts};
 
 /// An item that is no timestamp, with its span: a change in the chunk begins at `from`, and was
@@ -72,7 +72,7 @@ impl<'a> SpannedItem<'a> {
         if self.scanned.most == 0 {
             return None;
         }
-        left_out_before_last(self.scanned, self.bytes, self.from, self.to)
+        left_out(self.scanned, self.bytes, self.from, self.to)
     }
 }
 

@@ -9,7 +9,7 @@ ghost use Rattle.vcd_body.specs.Whole.{IsPrompt};
 use crate::order::Turn;
 use crate::seat::Seat;
 use vcd_body::{
-    Extent, Form, Item, Regs, ScannedItem, Stop, Viewed, Visit, change_text, keyword_comes,
+    Extent, Form, Item, Regs, ScannedItem, Stop, Visit, change_text, keyword_comes,
     next_item, pass_items, pass_on, put_renamed, put_renamed_ahead, put_time, walk_ahead,
 };
 use vcd_head::Head;
@@ -89,21 +89,6 @@ struct Merging {
     written: Option<u64>,
     // Items are taken while the time is below this one.
     before: u64,
-}
-
-/// The header of an input. A walk makes the view where it uses it.
-#[derive(Clone, Copy)]
-struct Headed<'h> {
-    head: &'h Head,
-}
-
-impl<'h> Viewed for Headed<'h> {
-    ghost shows = { λ headed view. parts view ≡ shown headed.head.now };
-
-    #[inline(always)]
-    fn view(&self) -> HeadView<'_> {
-        self.head.view()
-    }
 }
 
 impl Visit<()> for Merging {
@@ -217,7 +202,8 @@ fn take_ahead<S: Source, W: Sink>(
         written: *written,
         before,
     };
-    let walked = walk_ahead(&mut (), merging, Headed { head }, seat.regs, ahead, out);
+    let view = head.view();
+    let walked = walk_ahead(&mut (), merging, view, seat.regs, ahead, out);
     let passed = walked.ahead.passed();
     let ended = walked.ended;
     seat.regs = walked.regs;
