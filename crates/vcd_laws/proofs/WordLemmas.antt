@@ -1,5 +1,5 @@
 -- What words ask for is a job.
-use Rattle.std.proofs.Common.{◌≡◌, ◌≢◌, ℕ, ◌^◌, ◌<◌, ◌≤◌, ℤ, Bool, true, false, not, cond, ◌&&◌, nat_lt, nat_le, IsFalse, List, [], ◌∷◌, map, length, codes, Option, Some, None, option_map, Result, Ok, Err, bytes_eq, drop, inl, inr, ◌==◌, refl, sym, subst, arith}
+use Rattle.std.proofs.Common.{◌≡◌, ◌≢◌, ℕ, ◌^◌, ◌<◌, ◌≤◌, ℤ, Bool, true, false, not, cond, ◌&&◌, nat_lt, nat_le, IsFalse, List, [], ◌∷◌, map, length, count_by, codes, Option, Some, None, option_map, Result, Ok, Err, bytes_eq, drop, inl, inr, ◌==◌, refl, sym, subst, arith}
 use Rattle.std.specs.Char.{is_ascii_digit}
 use Rattle.std.specs.List.{list_any, slice_split, onto_first, take_while, AllByRecursion}
 use Rattle.std.specs.List.Sorted.{IsStrictlyIncreasing}
@@ -10,7 +10,7 @@ use Rattle.vcd_model.specs.Bytes.{decimal_value, is_decimal, is_empty}
 use Rattle.vcd_model.specs.Scales.{exponent_of, is_scale_unit}
 use Rattle.vcd_model.specs.Ticks.{Moment}
 use Rattle.vcd_model.specs.Job.{Want, IsJob, IsTime, is_number, is_unit, unit_exponent, moment_of, has_unit, do_rise}
-use Rattle.vcd_model.specs.Words.{Command, Job, UseFault, is_limit, limit_of, time_or, time_of, with_time, times_of, cut_of, sample_of, want_of, job_with, has_words, job_of}
+use Rattle.vcd_model.specs.Words.{Command, Job, UseFault, is_standard_input, is_limit, limit_of, time_or, time_of, with_time, times_of, cut_of, sample_of, want_of, job_with, has_words, job_of}
 use Rattle.vcd_laws.specs.Jobs.{JobsAreValid}
 use Rattle.vcd_model.proofs.JobLemmas.{rises_at}
 
@@ -119,6 +119,12 @@ sample_times at ms e =
     let n = p.1 in
     (λ none. let z : length ms ≡ 0 = rw none refl in absurd (omega arith), p.0)
 
+-- too many files or not, and standard input twice or not
+merge_is : (many twice : Bool) (want : Want) → cond many (Err UseFault.TooManyFiles) (cond twice (Err UseFault.InputTwice) (Ok Want.Merge)) ≡ Ok want → IsJob want
+merge_is true twice want e = cc
+merge_is false true want e = cc
+merge_is false false want e = let same : Want.Merge ≡ want = cc in subst IsJob same tt
+
 want_is : (command : Command) (want : Want) → has_words command ≡ true → want_of command ≡ Ok want → IsJob want
 want_is Command.Check want some e = let same : Want.Check ≡ want = cc in subst IsJob same tt
 want_is Command.Listing want some e = let same : Want.Listing ≡ want = cc in subst IsJob same tt
@@ -127,11 +133,7 @@ want_is (Command.Pick (name ∷ names)) want some e = let same : Want.Pick (name
 want_is (Command.Cut from to) want some e = cut_is (time_of from) (time_of to) want (time_is from) (time_is to) e
 want_is (Command.Sample at names) want some e = sample_is names (times_of (slice_split (λ b. b == byte ",") at)) want (sample_times at) e
 want_is (Command.Edges names) want some e = let same : Want.Edges names ≡ want = cc in subst IsJob same tt
-want_is (Command.Merge files) want some e = decided (nat_le (length files) 64) e
-  where
-    decided : (b : Bool) → cond b (Ok Want.Merge) (Err UseFault.TooManyFiles) ≡ Ok want → IsJob want
-    decided true e = let same : Want.Merge ≡ want = cc in subst IsJob same tt
-    decided false e = cc
+want_is (Command.Merge files) want some e = merge_is (nat_lt 64 (length files)) (nat_lt 1 (count_by is_standard_input files)) want e
 
 -- ---- the limit
 

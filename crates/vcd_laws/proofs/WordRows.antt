@@ -1,8 +1,9 @@
 -- Command lines, computed.
 use Rattle.std.proofs.Common.{◌≡◌, ℕ, List, [], ◌∷◌, map, codes, replicate, negsuc, Option, Some, None, Result, Ok, Err, refl}
+use Prim.Native.String.{String}
 use Rattle.vcd_model.specs.Outcome.{Outcome}
 use Rattle.vcd_model.specs.Job.{Want}
-use Rattle.vcd_model.specs.Words.{Command, Job, UseFault, limit_of, job_of, command_outcome}
+use Rattle.vcd_model.specs.Words.{Command, Job, UseFault, limit_of, want_of, job_of, command_outcome}
 use Rattle.vcd_laws.proofs.Computing.{model}
 use Rattle.vcd_laws.proofs.RowText.{clean, gives, at, asked}
 
@@ -59,6 +60,32 @@ as_many_files_as_can_be : job_of (Some (record { command = Command.Merge (replic
 unfolding model
 as_many_files_as_can_be = refl
 
+-- a merge of files with these names
+abbrev merge_said : List String → Outcome
+merge_said files = said None (Command.Merge (map codes files))
+
+input_twice : merge_said ("-" ∷ "-" ∷ []) ≡ gives "" "vcdkit: standard input twice;" 2
+unfolding model
+input_twice = refl
+
+input_twice_among_files : merge_said ("a.vcd" ∷ "-" ∷ "b.vcd" ∷ "-" ∷ []) ≡ gives "" "vcdkit: standard input twice;" 2
+unfolding model
+input_twice_among_files = refl
+
+-- standard input once, and files whose names only look like it
+input_once : map (λ files. want_of (Command.Merge (map codes files))) (("-" ∷ []) ∷ ("a.vcd" ∷ "-" ∷ []) ∷ ("-" ∷ "./-" ∷ "--" ∷ "" ∷ "-a" ∷ []) ∷ []) ≡ Ok Want.Merge ∷ Ok Want.Merge ∷ Ok Want.Merge ∷ []
+unfolding model
+input_once = refl
+
+-- too many files count before standard input twice
+too_many_inputs : said None (Command.Merge (replicate 65 (codes "-"))) ≡ gives "" "vcdkit: too many files;" 2
+unfolding model
+too_many_inputs = refl
+
+as_many_inputs_as_can_be : said None (Command.Merge (replicate 64 (codes "-"))) ≡ gives "" "vcdkit: standard input twice;" 2
+unfolding model
+as_many_inputs_as_can_be = refl
+
 -- a bad limit counts before a bad time, and the first bad time before the second
 limit_before_time : said (Some (codes "1k")) (Command.Cut (codes "x") (codes "y")) ≡ gives "" "vcdkit: bad token limit: 1k;" 2
 unfolding model
@@ -76,6 +103,10 @@ first_bad_time_of_two = refl
 limit_before_files : said (Some (codes "63")) (Command.Merge (replicate 65 (codes "f.vcd"))) ≡ gives "" "vcdkit: bad token limit: 63;" 2
 unfolding model
 limit_before_files = refl
+
+limit_before_inputs : said (Some (codes "63")) (Command.Merge (codes "-" ∷ codes "-" ∷ [])) ≡ gives "" "vcdkit: bad token limit: 63;" 2
+unfolding model
+limit_before_inputs = refl
 
 limit_before_order : said (Some (codes "63")) (Command.Cut (codes "5") (codes "4")) ≡ gives "" "vcdkit: bad token limit: 63;" 2
 unfolding model

@@ -1,7 +1,7 @@
 -- The words of a command line: what they ask for, or what is wrong with them (profile).
-use Rattle.std.specs.Prelude.{ℕ, Bool, true, not, cond, ◌&&◌, ◌==◌, nat_lt, nat_le, List, [], ◌∷◌, ◌++◌, length, map, codes, Option, Some, None, Result, Ok, Err}
+use Rattle.std.specs.Prelude.{ℕ, Bool, true, not, cond, ◌&&◌, ◌==◌, nat_lt, nat_le, List, [], ◌∷◌, ◌++◌, length, map, count_by, codes, Option, Some, None, Result, Ok, Err}
 use Rattle.std.specs.List.{slice_split}
-use Rattle.std.specs.Str.{byte}
+use Rattle.std.specs.Str.{byte, bytes_eq}
 use Rattle.vcd_model.specs.Bytes.{decimal_value, is_empty}
 use Rattle.vcd_model.specs.Input.{Input}
 use Rattle.vcd_model.specs.Ticks.{Moment}
@@ -36,6 +36,7 @@ pub data UseFault : Type 0 where
   FromAboveTo : UseFault
   NotRising : UseFault
   TooManyFiles : UseFault
+  InputTwice : UseFault
 
 -- the text of such a fault
 abbrev pub use_text : UseFault → List ℕ
@@ -45,6 +46,7 @@ use_text (BadTime word) = codes "bad time: " ++ word
 use_text FromAboveTo = codes "--from is above --to"
 use_text NotRising = codes "times must rise"
 use_text TooManyFiles = codes "too many files"
+use_text InputTwice = codes "standard input twice"
 
 -- no output, and status 2
 abbrev pub use_outcome : UseFault → Outcome
@@ -100,8 +102,15 @@ abbrev pub sample_of : List (List ℕ) → Result (List Moment) UseFault → Res
 sample_of names (Ok times) = cond (not (has_unit times) && not (do_rise (map (λ m. m.number) times))) (Err NotRising) (Ok (Want.Sample times names))
 sample_of names (Err f) = Err f
 
--- what a command asks for; the times of a sample have commas between them, and a merge has at most
--- 64 files
+-- the file of this name is standard input
+abbrev pub is_standard_input : List ℕ → Bool
+is_standard_input file = bytes_eq file (codes "-")
+
+-- a merge; it has at most 64 files, and standard input is at most one of them
+abbrev pub merge_of : List (List ℕ) → Result Want UseFault
+merge_of files = cond (nat_lt 64 (length files)) (Err TooManyFiles) (cond (nat_lt 1 (count_by is_standard_input files)) (Err InputTwice) (Ok Want.Merge))
+
+-- what a command asks for; the times of a sample have commas between them
 abbrev pub want_of : Command → Result Want UseFault
 want_of Check = Ok Want.Check
 want_of Listing = Ok Want.Listing
@@ -109,7 +118,7 @@ want_of (Pick names) = Ok (Want.Pick names)
 want_of (Cut from to) = cut_of (time_of from) (time_of to)
 want_of (Sample at names) = sample_of names (times_of (slice_split (λ b. b == byte ",") at))
 want_of (Edges names) = Ok (Want.Edges names)
-want_of (Merge files) = cond (nat_le (length files) 64) (Ok Want.Merge) (Err TooManyFiles)
+want_of (Merge files) = merge_of files
 
 -- a limit and what is asked for; a bad limit counts first
 abbrev pub job_with : Result ℕ UseFault → Result Want UseFault → Result Job UseFault
