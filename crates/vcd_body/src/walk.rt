@@ -15,8 +15,8 @@ ghost use Rattle.vcd_body.specs.declared.words.PhraseKind.TheVariants as kind;
 
 use crate::ahead::{
     Opening, ScannedItem, VectorTokens, line_timestamp, opening_ahead, real_ahead, scalar_ahead,
-    short_ahead, time_ahead, timestamp_ahead, two_short_lines_come, vector_ahead,
-    vector_bits, vector_tokens_ahead,
+    short_ahead, time_ahead, timestamp_ahead, two_short_lines_come, vector_ahead, vector_bits,
+    vector_tokens_ahead,
 };
 use crate::item::Regs;
 use crate::words::PhraseKind;

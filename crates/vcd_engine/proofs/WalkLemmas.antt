@@ -15,12 +15,12 @@ use Rattle.vcd_body.proofs.WalkLemmas.{walk_passes}
 use Rattle.vcd_engine.specs.Ahead.{RunsOver}
 use Rattle.vcd_engine.specs.Engine.{request_in}
 use Rattle.vcd_engine.specs.Next.{TakesNext, Walk, walk_at}
-use Rattle.vcd_engine.specs.Pieces.{IsLine, IsPart, pending_in}
+use Rattle.vcd_engine.specs.PendingCopy.{IsLine, IsPart, pending_in}
 use Rattle.vcd_engine.specs.Walks.{CanTake, HasWalked, TakesByTask, walk_of}
 use Rattle.vcd_engine.specs.declared.task_state.TaskState.{TaskState}
 use Rattle.vcd_engine.specs.declared.task_state.walk.WalkState.{WalkState}
 use Rattle.vcd_engine.specs.declared.task_state.walk.WalkEnd.{WalkEnd}
-use Rattle.vcd_engine.specs.declared.pieces.Pieces.{Pieces}
+use Rattle.vcd_engine.specs.declared.pending.PendingCopy.{PendingCopy}
 use Rattle.vcd_engine.proofs.AheadLemmas.{ends_before}
 use Rattle.vcd_engine.proofs.NextLemmas.{next, next_fails, next_given, next_grows, next_stands}
 use Rattle.vcd_engine.proofs.PieceLemmas.{but_none}
@@ -30,7 +30,7 @@ abbrev PassesTo : Ahead → ℕ → Type 0
 PassesTo a to = (lines : ℕ) (ts : List Token) → Passed (longest_of a) lines (bytes_of a) (passed_of a) ts → (more : List Token) × Passed (longest_of a) lines (bytes_of a) to (ts ++ more)
 
 -- it begins with no item, and with nothing that is pending
-pub walk_begins : (v : HeadView) (a : Ahead) (r : Regs) (m : TaskState) (out : Device) (line : ℕ × ℕ) (p : Pieces) → passed_of a ≤ length (bytes_of a) → ((bytes : List ℕ) (time : ℕ) → IsLine bytes line time) → IsPart (bytes_of a) p → pending_in (bytes_of a) p ≡ [] → HasWalked v a r m out (walk_at a r line) p out m
+pub walk_begins : (v : HeadView) (a : Ahead) (r : Regs) (m : TaskState) (out : Device) (line : ℕ × ℕ) (p : PendingCopy) → passed_of a ≤ length (bytes_of a) → ((bytes : List ℕ) (time : ℕ) → IsLine bytes line time) → IsPart (bytes_of a) p → pending_in (bytes_of a) p ≡ [] → HasWalked v a r m out (walk_at a r line) p out m
 walk_begins v a r m out line p within unknown part none = record {
   over = (refl, refl);
   within = within;
@@ -41,7 +41,7 @@ walk_begins v a r m out line p within unknown part none = record {
   stands = λ h lines before views few s. ([], s, rw append-nil (but_none out _ _ none));
 }
 
-module _ (v : HeadView) (a : Ahead) (r : Regs) (m : TaskState) (begin : Device) (w : Walk) (p : Pieces) (out : Device) (m' : TaskState) (walked : HasWalked v a r m begin w p out m') where
+module _ (v : HeadView) (a : Ahead) (r : Regs) (m : TaskState) (begin : Device) (w : Walk) (p : PendingCopy) (out : Device) (m' : TaskState) (walked : HasWalked v a r m begin w p out m') where
   -- another look-ahead at the same offset will do
   pub walk_same : (a' : Ahead) → (passed_of a' ≡ passed_of w.ahead) × (bytes_of a' ≡ bytes_of w.ahead) × (longest_of a' ≡ longest_of w.ahead) → HasWalked v a r m begin (walk_at a' w.regs w.line) p out m'
   walk_same a' same = record {
@@ -57,7 +57,7 @@ module _ (v : HeadView) (a : Ahead) (r : Regs) (m : TaskState) (begin : Device) 
   within_all : passed_of w.ahead ≤ length (bytes_of a)
   within_all = subst (λ (bs : List ℕ). passed_of w.ahead ≤ length bs) walked.over.1 walked.within
 
-  module _ {A E : Type 0} (w' : Walk) (p' : Pieces) (out' : Device) (m'' : TaskState) (result : Result A E) (n : TakesNext v w w' p p' out out' m' m'' result) where
+  module _ {A E : Type 0} (w' : Walk) (p' : PendingCopy) (out' : Device) (m'' : TaskState) (result : Result A E) (n : TakesNext v w w' p p' out out' m' m'' result) where
     -- one item more was taken
     pub walk_on : (x : A) → result ≡ Ok x → HasWalked v a r m begin w' p' out' m''
     walk_on x e =
@@ -124,14 +124,14 @@ module _ {L C : Type 0} (line : L → ℕ × ℕ) (is_ready : C → Bool) (task_
   pub passed_to : (z : Stage (WalkState L) C) (ended : Result Bool WriteFailed) → On z ended → PassesTo s.ahead (passed_of z.ahead)
   passed_to z ended on lines ts passed = (walk_passes _ _ _ _ s (longest_of s.ahead) lines (bytes_of s.ahead) ts (refl, refl) passed z ended on).1
 
-  module _ (r : Regs) (m : TaskState) (begin : Device) (walked : HasWalked v s.ahead r m begin (walk_of line s) s.visit.pieces s.out (task_state s.command)) where
-    along : (z : Stage (WalkState L) C) → Trail (TakesByTask line task_state) (CanTake line is_ready) (λ _. false) v s z → HasWalked v s.ahead r m begin (walk_of line z) z.visit.pieces z.out (task_state z.command)
+  module _ (r : Regs) (m : TaskState) (begin : Device) (walked : HasWalked v s.ahead r m begin (walk_of line s) s.visit.pending s.out (task_state s.command)) where
+    along : (z : Stage (WalkState L) C) → Trail (TakesByTask line task_state) (CanTake line is_ready) (λ _. false) v s z → HasWalked v s.ahead r m begin (walk_of line z) z.visit.pending z.out (task_state z.command)
     along z Begins = walked
     along _ (Further b c so_far one on) = walk_on v s.ahead r m begin _ _ _ _ (along b so_far) _ _ _ _ _ one.did tt refl
     along _ (Again b c so_far there same is) = rw is (walk_same v s.ahead r m begin _ _ _ _ (along b so_far) there same)
 
     -- no other item was taken
-    pub walk_over : (z : Stage (WalkState L) C) (b : Bool) → On z (Ok b) → HasWalked v s.ahead r m begin (walk_of line z) z.visit.pieces z.out (task_state z.command)
+    pub walk_over : (z : Stage (WalkState L) C) (b : Bool) → On z (Ok b) → HasWalked v s.ahead r m begin (walk_of line z) z.visit.pending z.out (task_state z.command)
     walk_over z false on = along z on.trail
     walk_over z true on = let e = on.3 in absurd (cc)
 

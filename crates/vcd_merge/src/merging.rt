@@ -9,8 +9,8 @@ ghost use Rattle.vcd_body.specs.Whole.{IsPrompt};
 use crate::order::Turn;
 use crate::seat::Seat;
 use vcd_body::{
-    Extent, Form, Item, Regs, ScannedItem, Stop, Visit, change_text, keyword_comes,
-    next_item, pass_items, pass_on, put_renamed, put_renamed_ahead, put_time, walk_ahead,
+    Extent, Form, Item, Regs, ScannedItem, Stop, Visit, change_text, keyword_comes, next_item,
+    pass_items, pass_on, put_renamed, put_renamed_ahead, put_time, walk_ahead,
 };
 use vcd_head::Head;
 use vcd_text::{Feed, Sink, Source, WriteFailed};
@@ -140,7 +140,7 @@ impl Visit<()> for Merging {
         let Item::Change { code, form } = change.item else {
             return Ok(());
         };
-        if change.most == 0 {
+        if change.size_or_zero == 0 {
             // A copy, so that `written` stays in a register on the other path.
             let mut last = self.written;
             let inside = regs.section.is_some();

@@ -31,13 +31,13 @@ pub returns-in-Scalar-clause-line : goal.returns-in-Scalar-clause-line
 returns-in-Scalar-clause-line c =
     let text = c.args.scanned.text.now in
     let told = c.in_ok-size.ensures.told in
-    let size : c.args.scanned.most ≡ 1 = sym told.0 ∙ c.if-size-eq1.true in
+    let size : c.args.scanned.size_or_zero ≡ 1 = sym told.0 ∙ c.if-size-eq1.true in
     let same = c.in-Change.is ∙ ap (Change c.in-Change.code) c.in-Scalar.is in
     let there = subst (HasSpelled c.requires.0 c.args.bytes.now c.args.from c.args.to c.args.scanned.at c.args.scanned.code_at text) same c.requires.1 in
     let within = bit_within c.args.bytes.now c.args.from c.args.to text there.0 there.1 in
     λ v h x spelled known sized views i.
     let s = subst (HasSpelled v c.args.bytes.now c.args.from c.args.to c.args.scanned.at c.args.scanned.code_at text) same spelled in
-    let k = of_sized v h views c.in-Change.code c.args.scanned.most (subst (λ it. IsSizedItem v.codes.now it c.args.scanned.most) same sized) (λ z. absurd (omega (arith, size, z))) form.Scalar text s.0 c.args.bytes.now c.args.from c.args.to c.args.scanned.at c.args.scanned.code_at s.2 s.3 x (subst (λ it. IsItem h.codes text it x) same i) in
+    let k = of_sized v h views c.in-Change.code c.args.scanned.size_or_zero (subst (λ it. IsSizedItem v.codes.now it c.args.scanned.size_or_zero) same sized) (λ z. absurd (omega (arith, size, z))) form.Scalar text s.0 c.args.bytes.now c.args.from c.args.to c.args.scanned.at c.args.scanned.code_at s.2 s.3 x (subst (λ it. IsItem h.codes text it x) same i) in
     ap (λ l. l ++ 10 ∷ []) (without_none c.args.bytes.now c.args.from (c.args.to - 1) (omega arith)
     ∙ c.is_bit_line.ensures c.if-is_bit_line.true text s.0 s.1 s.3.ends)
     ∙ append_assoc (str_to_ascii_lowercase text) s.0 (10 ∷ [])
@@ -60,16 +60,16 @@ returns-in_default-form-clause-line c =
     let told = c.in_ok-size.ensures.told in
     let is = told.0 in
     let some = told.1 in
-    let size : 0 < c.args.scanned.most = omega (arith, is, some) in
+    let size : 0 < c.args.scanned.size_or_zero = omega (arith, is, some) in
     let same = c.in-Change.is in
     if_some_more c.left_out_of_text.result (λ n p. (
     λ v h x spelled known sized views i.
     let s = subst (HasSpelled v c.args.bytes.now c.args.from c.args.to c.args.scanned.at c.args.scanned.code_at text) same spelled in
-    let k = of_sized v h views c.in-Change.code c.args.scanned.most (subst (λ it. IsSizedItem v.codes.now it c.args.scanned.most) same sized) (λ z. absurd (omega (arith, size, z))) c.in-Change.form text s.0 c.args.bytes.now c.args.from c.args.to c.args.scanned.at c.args.scanned.code_at s.2 s.3 x (subst (λ it. IsItem h.codes text it x) same i) in
+    let k = of_sized v h views c.in-Change.code c.args.scanned.size_or_zero (subst (λ it. IsSizedItem v.codes.now it c.args.scanned.size_or_zero) same sized) (λ z. absurd (omega (arith, size, z))) c.in-Change.form text s.0 c.args.bytes.now c.args.from c.args.to c.args.scanned.at c.args.scanned.code_at s.2 s.3 x (subst (λ it. IsItem h.codes text it x) same i) in
     ap (λ l. l ++ 10 ∷ []) (p.4 s.0 s.1 s.3.ends known)
     ∙ append_assoc p.1 (32 ∷ s.0) (10 ∷ [])
     ∙ sym (p.3 s.0)
-    ∙ line_of k.0 s.0 c.in_ok-size.size c.args.scanned.most c.in-Change.form text k.2 is k.4 k.5
+    ∙ line_of k.0 s.0 c.in_ok-size.size c.args.scanned.size_or_zero c.in-Change.form text k.2 is k.4 k.5
     ∙ sym (ap item_line k.1)
     )) c.left_out_of_text.ensures
   where
