@@ -104,10 +104,13 @@ module _ (a b : ℕ) (le : a ≤ b) where
   given_in phase (inl is) rest chunk p text given h =
       let going : InPhase Going a rest chunk p (whole text) given = subst (λ q. InPhase q a rest chunk p (whole text) given) is h in
       let place = going.1.place in
-      subst (λ q. InPhase q b rest chunk p (whole text) given) (sym is) (going.0, record {
-        place = record { more = place.more; known = place.known; ahead = place.ahead; within = place.within; live = more_room text _ _ given place.live; line_feeds_are = place.line_feeds_are };
-        begun = going.1.begun;
-      })
+      subst (λ q. InPhase q b rest chunk p (whole text) given) (sym is) (
+        going.0,
+        record {
+          place = record { more = place.more; known = place.known; ahead = place.ahead; within = place.within; live = more_room text _ _ given place.live; line_feeds_are = place.line_feeds_are };
+          begun = going.1.begun;
+        },
+      )
   given_in phase (inr is) rest chunk p text given h =
       let ended : InPhase Ended a rest chunk p (whole text) given = subst (λ q. InPhase q a rest chunk p (whole text) given) is h in
       subst (λ q. InPhase q b rest chunk p (whole text) given) (sym is) (ended.0, ends_clean text given _ ended.1, ended.2)

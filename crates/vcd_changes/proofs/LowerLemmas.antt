@@ -84,11 +84,11 @@ module _ (a b : ℕ) (le : a ≤ b) (text : List ℕ) where
   body_more : (codes : List IdCode) (front : List Token) (items : List BodyItem) (fault : Option Fault) → ((f : Fault) → fault ≡ Some f → f.number ≢ 1) → BodyHas codes (whole text) front a items fault → BodyHas codes (whole text) front b items fault
   body_more codes front items fault fits has = elim (are_alike a b le text) [
     | inl same ↦ record {
-        rest = has.rest;
-        tokens = ap (λ (s : Stream). s.tokens) (sym same) ∙ has.tokens;
-        items_are = has.items_are;
-        fault_is = ap (λ (s : Stream). body_fault_of s (read_body codes has.rest)) (sym same) ∙ has.fault_is;
-      }
+      rest = has.rest;
+      tokens = ap (λ (s : Stream). s.tokens) (sym same) ∙ has.tokens;
+      items_are = has.items_are;
+      fault_is = ap (λ (s : Stream). body_fault_of s (read_body codes has.rest)) (sym same) ∙ has.fault_is;
+    }
     | inr halted ↦ by_ending halted.0 halted.1 (read_body codes has.rest).ending refl
   ]
     where
@@ -161,9 +161,11 @@ module _ (a b : ℕ) (le : a ≤ b) (text : List ℕ) where
 -- the first tokens of the dump under this limit too
 first_given : (limit : ℕ) (o : Offset) (text : List ℕ) (front more : List Token) → HasGivenTo 8192 limit o (whole text) (front ++ more) → IsPrefixOf front (stream_of limit (whole text)).tokens
 first_given limit o text front more to =
+    let c : List ℕ = replicate 8192 0 in
     let t : List ℕ = replicate limit 0 in
-    let full : length t ≡ limit = length-replicate limit 0 in
-    let first = subst (λ n. IsPrefixOf (front ++ more) (stream_of n (whole text)).tokens) full (to (replicate 8192 0) t (length-replicate 8192 0) full).given_first in
+    let same : length c ≡ 8192 = length-replicate {A = ℕ} 8192 0 in
+    let full : length t ≡ limit = length-replicate {A = ℕ} limit 0 in
+    let first = subst (λ n. IsPrefixOf (front ++ more) (stream_of n (whole text)).tokens) full (to c t same full).given_first in
     (more ++ first.0, first.1 ∙ append_assoc front more first.0)
 
 -- a reading that has come there under the lower limit

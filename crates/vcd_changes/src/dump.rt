@@ -23,8 +23,9 @@ use vcd_view::find;
 /// The most bytes that a token may have: as many as where the program is given no `--token-limit`.
 const LIMIT: usize = 1_048_576;
 
-/// The limit under which a dump is read until a longer token comes. Each call takes two windows as
-/// long as the limit and fills them with zeros, which takes 0.4 ms under `LIMIT`.
+/// The limit under which a call reads a dump as long as no token is longer. It takes two windows as
+/// long as the limit and fills them with zeros: under `LIMIT` this takes longer than the reading of
+/// some hundred rows.
 const LOWER_LIMIT: usize = 65_536;
 
 /// The most bytes that are read in one call. Few, since each call of `changes` reads so many of the
@@ -195,8 +196,8 @@ fn read_under<B: BuildHasher>(
     }
 }
 
-/// Returns whether a call under the lower limit found what it finds under `LIMIT`: no token was too
-/// long for it.
+/// Returns whether what a call found under the lower limit is what it finds under `LIMIT`: it met no
+/// token that is too long. A feed that was halted may have met one.
 fn is_enough(status: u8, reading: Reading) -> bool
     ensures { result ≡ true → IsEnough reading status }
 {
