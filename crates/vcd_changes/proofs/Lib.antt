@@ -2,6 +2,8 @@ pub mod DigitLemmas
 pub mod DumpLemmas
 pub mod FaultLemmas
 pub mod HeaderLemmas
+pub mod LimitLemmas
+pub mod LowerLemmas
 pub mod PlaceLemmas
 pub mod RowLemmas
 pub mod WalkLemmas

@@ -1,5 +1,5 @@
 -- Where a reading of changes resumes, and what a call of it finds.
-use Rattle.std.specs.Prelude.{◌≡◌, ◌≢◌, ◌⊎◌, ℕ, ◌==◌, not, cond, find, List, [], ◌++◌, length, take, Option, Some, None}
+use Rattle.std.specs.Prelude.{◌≡◌, ◌≢◌, ◌⊎◌, ℕ, ◌≤◌, ◌==◌, not, cond, find, List, [], ◌++◌, length, take, Option, Some, None}
 use Rattle.vcd_model.specs.BodyPhrases.{BodyPhrase, items_of}
 use Rattle.vcd_model.specs.BodyReading.{body_grammar}
 use Rattle.vcd_model.specs.Declarations.{IdCode, has_text}
@@ -43,9 +43,10 @@ section_number (Some All) = 4
 abbrev pub section_at : ℕ → Option Section
 section_at n = cond (n == 1) (Some Vars) (cond (n == 2) (Some Off) (cond (n == 3) (Some On) (cond (n == 4) (Some All) None)))
 
--- the `Place` of a reading that has come this far, with this known of the items
-abbrev pub place_of : Offset → Regs → Place
-place_of offset regs = record { begun = 1; offset = offset; time = regs.time; marked = cond regs.marked 1 0; section = section_number regs.section }
+-- the `Place` of a reading that has come this far under this token limit, with this known of the
+-- items
+abbrev pub place_of : (limit : ℕ) → Offset → Regs → Place
+place_of limit offset regs = record { limit = limit; offset = offset; time = regs.time; marked = cond regs.marked 1 0; section = section_number regs.section }
 
 -- what is known of the items before a `Place`
 abbrev pub regs_of : Place → Regs
@@ -53,29 +54,32 @@ regs_of p = record { time = p.time; marked = not (p.marked == 0); section = sect
 
 -- ---- in a dump
 
--- the body continues at this `Place`, after these tokens of the header, these items and no others
-pub record IsAfter (codes : List IdCode) (i : Input) (front : List Token) (items : List BodyItem) (p : Place) : Type 0 where
+-- Under a token limit the body continues at this `Place`, after these tokens of the header, these
+-- items and no others. Where the `Place` says that they were read under the lower limit, no token
+-- is longer.
+pub record IsAfter (limit : ℕ) (codes : List IdCode) (i : Input) (front : List Token) (items : List BodyItem) (p : Place) : Type 0 where
   pub given : List Token
   pub placed : List (Placed BodyPhrase)
-  pub begun : p.begun ≢ 0
+  pub begun : p.limit ≢ 0
   pub comes : IsOffset p.offset
-  pub stands : HasGivenTo 8192 1048576 p.offset i (front ++ given)
+  pub stands : HasGivenTo 8192 limit p.offset i (front ++ given)
+  pub short : p.limit ≡ 65536 → HasGivenTo 8192 65536 p.offset i (front ++ given)
   pub so_far : IsSoFar (body_grammar codes) given placed []
   pub items_are : items_of (phrases_of placed) ≡ items
   pub known : AreRegsAfter items (regs_of p)
 
 -- the dump begins with these tokens of a whole header with no fault, which has these codes
-pub record HasCodes (dump : List ℕ) (front : List Token) (codes : List IdCode) : Type 0 where
+pub record HasCodes (limit : ℕ) (dump : List ℕ) (front : List Token) (codes : List IdCode) : Type 0 where
   pub placed : List (Placed HeaderPhrase)
-  pub first : IsPrefixOf front (stream_of 1048576 (whole dump)).tokens
+  pub first : IsPrefixOf front (stream_of limit (whole dump)).tokens
   pub header : IsWhole (header_grammar 16777216) front placed
   pub codes_are : codes ≡ (header_of (phrases_of placed)).codes
 
 -- a reading of this dump resumes at this `Place`, after these items: at the begin of the body, or
 -- where a call has left it
-pub data GoesOnAt (dump : List ℕ) (items : List BodyItem) (p : Place) : Type 0 where
-  AtBegin : (new : p.begun ≡ 0) (none : items ≡ []) → GoesOnAt dump items p
-  Behind : (front : List Token) (codes : List IdCode) (has : HasCodes dump front codes) (after : IsAfter codes (whole dump) front items p) → GoesOnAt dump items p
+pub data GoesOnUnder (limit : ℕ) (dump : List ℕ) (items : List BodyItem) (p : Place) : Type 0 where
+  AtBegin : (new : p.limit ≡ 0) (none : items ≡ []) → GoesOnUnder limit dump items p
+  Behind : (front : List Token) (codes : List IdCode) (has : HasCodes limit dump front codes) (after : IsAfter limit codes (whole dump) front items p) → GoesOnUnder limit dump items p
 
 -- the header was refused, and there are no rows: where memory ran out the status says so, else the
 -- fault and its line are noted
@@ -94,22 +98,36 @@ StaysAt old new status = status ≢ 0 → status ≢ 4 → new.place ≡ old.pla
 
 -- how a call ends whose reading has come after these items: the body has no others and no fault; or
 -- it has this fault; or the rows are full, and the next call resumes
-abbrev pub EndsAt : List IdCode → Input → List Token → List BodyItem → Reading → List ChangeRow → ℕ → Type 0
-EndsAt codes i front items r rows status =
-    ((status ≡ 0) × BodyHas codes i front 1048576 items None × IsAfter codes i front items r.place)
-    ⊎ ((status ≡ 1) × BodyHas codes i front 1048576 items (Some (record { number = r.fault; line = r.line })))
-    ⊎ ((status ≡ 4) × (r.count ≡ length rows) × IsAfter codes i front items r.place)
+abbrev pub EndsAt : (limit : ℕ) → List IdCode → Input → List Token → List BodyItem → Reading → List ChangeRow → ℕ → Type 0
+EndsAt limit codes i front items r rows status =
+    ((status ≡ 0) × BodyHas codes i front limit items None × IsAfter limit codes i front items r.place)
+    ⊎ ((status ≡ 1) × BodyHas codes i front limit items (Some (record { number = r.fault; line = r.line })))
+    ⊎ ((status ≡ 4) × (r.count ≡ length rows) × IsAfter limit codes i front items r.place)
 
 -- What a call finds after these items of the body: others, whose changes of this code are in the
 -- rows.
-pub record Finds (codes : List IdCode) (i : Input) (front : List Token) (items : List BodyItem) (code : List ℕ) (r : Reading) (rows : List ChangeRow) (status : ℕ) : Type 0 where
+pub record Finds (limit : ℕ) (codes : List IdCode) (i : Input) (front : List Token) (items : List BodyItem) (code : List ℕ) (r : Reading) (rows : List ChangeRow) (status : ℕ) : Type 0 where
   pub more : List BodyItem
   pub rows_are : rows_of code (items ++ more) ≡ rows_of code items ++ take r.count rows
-  pub ends : EndsAt codes i front (items ++ more) r rows status
+  pub ends : EndsAt limit codes i front (items ++ more) r rows status
 
--- what a call finds in a dump after these items of its body
-pub data FindsIn (dump : List ℕ) (items : List BodyItem) (code : List ℕ) (r : Reading) (rows : List ChangeRow) (status : ℕ) : Type 0 where
-  Found : (front : List Token) (codes : List IdCode) (has : HasCodes dump front codes) (finds : Finds codes (whole dump) front items code r rows status) → FindsIn dump items code r rows status
-  NoCode : (front : List Token) (codes : List IdCode) (has : HasCodes dump front codes) (none : find (has_text code) codes ≡ None) (count_is : r.count ≡ 0) (status_is : status ≡ 2) → FindsIn dump items code r rows status
-  BadHeader : (fault : header_fault_of (stream_of 1048576 (whole dump)) (read_header 16777216 (stream_of 1048576 (whole dump))) ≡ Some (record { number = r.fault; line = r.line })) (none : r.count ≡ 0) (status_is : status ≡ 1) → FindsIn dump items code r rows status
-  NoMemory : (count_is : r.count ≡ 0) (status_is : status ≡ 3) → FindsIn dump items code r rows status
+-- what a call finds in a dump after these items of its body, under a token limit
+pub data FindsUnder (limit : ℕ) (dump : List ℕ) (items : List BodyItem) (code : List ℕ) (r : Reading) (rows : List ChangeRow) (status : ℕ) : Type 0 where
+  Found : (front : List Token) (codes : List IdCode) (has : HasCodes limit dump front codes) (finds : Finds limit codes (whole dump) front items code r rows status) → FindsUnder limit dump items code r rows status
+  NoCode : (front : List Token) (codes : List IdCode) (has : HasCodes limit dump front codes) (none : find (has_text code) codes ≡ None) (count_is : r.count ≡ 0) (status_is : status ≡ 2) → FindsUnder limit dump items code r rows status
+  BadHeader : (fault : header_fault_of (stream_of limit (whole dump)) (read_header 16777216 (stream_of limit (whole dump))) ≡ Some (record { number = r.fault; line = r.line })) (none : r.count ≡ 0) (status_is : status ≡ 1) → FindsUnder limit dump items code r rows status
+  NoMemory : (count_is : r.count ≡ 0) (status_is : status ≡ 3) → FindsUnder limit dump items code r rows status
+
+-- What a call under a lower limit found is what it finds under the limit of callers: its fault is
+-- not that a token is too long, and no halt is noted where the next call resumes.
+pub record IsEnough (r : Reading) (status : ℕ) : Type 0 where
+  pub fits : status ≡ 1 → r.fault ≢ 1
+  pub «open» : r.place.offset.answer ≤ 1
+
+-- ---- for callers: under the token limit of the program
+
+abbrev pub GoesOnAt : (dump : List ℕ) → List BodyItem → Place → Type 0
+GoesOnAt = GoesOnUnder 1048576
+
+abbrev pub FindsIn : (dump : List ℕ) → List BodyItem → (code : List ℕ) → Reading → List ChangeRow → (status : ℕ) → Type 0
+FindsIn = FindsUnder 1048576

@@ -1,5 +1,5 @@
 //! The changes of one variable of a dump in memory.
-ghost use Rattle.std.specs.Prelude.{◌≡◌, ◌≤◌, ℕ, IfErr, IfOk, List, Some, drop, length, slice_get};
+ghost use Rattle.std.specs.Prelude.{◌≡◌, ◌<◌, ◌≤◌, ℕ, IfErr, IfOk, List, Some, drop, length, slice_get, true};
 ghost use Rattle.vcd_body.specs.Reads.{GaveItems};
 ghost use Rattle.vcd_head.specs.Model.Header.{Header};
 ghost use Rattle.vcd_head.specs.Model.Tokens.{Token};
@@ -8,7 +8,7 @@ ghost use Rattle.vcd_model.specs.Declarations.{IdCode};
 ghost use Rattle.vcd_model.specs.Items.{BodyItem};
 ghost use Rattle.vcd_text.specs.Answer.{whole};
 ghost use Rattle.vcd_text.specs.Feed.{chunk_len_of, limit_of};
-ghost use Rattle.vcd_changes.specs.Reading.{Finds, FindsIn, GoesOnAt, Refused, StaysAt, status_of};
+ghost use Rattle.vcd_changes.specs.Reading.{Finds, FindsIn, FindsUnder, GoesOnAt, GoesOnUnder, IsEnough, Refused, StaysAt, status_of};
 
 use crate::reading::{Reading, place_of, regs_of};
 use crate::row::ChangeRow;
@@ -23,12 +23,20 @@ use vcd_view::find;
 /// The most bytes that a token may have: as many as where the program is given no `--token-limit`.
 const LIMIT: usize = 1_048_576;
 
+/// The limit under which a call reads a dump as long as no token is longer. It takes two windows as
+/// long as the limit and fills them with zeros: under `LIMIT` this takes longer than the reading of
+/// some hundred rows.
+const LOWER_LIMIT: usize = 65_536;
+
 /// The most bytes that are read in one call. Few, since each call of `changes` reads so many of the
 /// header and of the body, also where its rows are full long before their end.
 const CHUNK: usize = 8_192;
 
 /// The most scopes, variables and `$upscope` that a header may have.
 const MOST: u64 = 16_777_216;
+
+/// The number of the fault that a token is too long.
+const TOKEN_TOO_LONG: u64 = 1;
 
 /// The status where the dump has no further change of the code, and no fault.
 pub const DONE: u8 = 0;
@@ -59,8 +67,9 @@ fn status_of(filled: Filled) -> u8
 }
 
 /// Fills the rows with the next changes of the code at `index` among the header's, notes them in
-/// the reading, and returns the status.
+/// the reading, and returns the status. The feed has this token limit.
 fn read_on(
+    limit: usize,
     feed: &mut Feed<'_, '_, '_, '_, Bytes<'_>>,
     view: HeadView<'_>,
     index: usize,
@@ -68,12 +77,13 @@ fn read_on(
     reading: &mut Reading,
     rows: &mut [ChangeRow],
 ) -> u8
-    requires { (limit_of feed.old ≡ 1048576) × (chunk_len_of feed.old ≡ 8192) }
+    requires some { 0 < limit }
+    requires lengths { (limit_of feed.old ≡ limit) × (chunk_len_of feed.old ≡ 8192) }
     ensures finds { (h : Header) (dump : List ℕ) (front : List Token) (items : List BodyItem)
         (code : IdCode) → IsViewOf view.entry h
         → GaveItems h.codes (whole dump) front items feed.old regs
         → slice_get h.codes index ≡ Some code
-        → Finds h.codes (whole dump) front items code.text reading.new rows.new result }
+        → Finds limit h.codes (whole dump) front items code.text reading.new rows.new result }
     ensures most { reading.new.count ≤ length rows.new }
     ensures place { StaysAt reading.old reading.new result }
 {
@@ -83,7 +93,7 @@ fn read_on(
     reading.count = count as u64;
     match ended {
         Ok(filled) => {
-            reading.place = place_of(feed.offset(), regs);
+            reading.place = place_of(limit as u64, feed.offset(), regs);
             status_of(filled)
         }
         Err(fault) => {
@@ -118,27 +128,29 @@ fn refused(fault: HeadFault, line: u64, reading: &mut Reading) -> u8
     FAULT
 }
 
-/// Reads the header of a dump, fills the rows from the reading's `Place` on, and returns the
-/// status. Fails where memory runs out.
+/// Reads the header of a dump under this token limit, fills the rows from the reading's `Place` on,
+/// and returns the status. Fails where memory runs out.
 fn read_changes<B: BuildHasher>(
     alloc: Global,
+    limit: usize,
     dump: &[u8],
     code: &[u8],
     hasher: &B,
     reading: &mut Reading,
     rows: &mut [ChangeRow],
 ) -> Result<u8, AllocError>
-    requires { reading.old.count ≡ 0 }
-    ensures finds { (items : List BodyItem) → GoesOnAt dump.now items reading.old.place
-        → IfOk result (FindsIn dump.now items code.now reading.new rows.new) }
+    requires some { 0 < limit }
+    requires none { reading.old.count ≡ 0 }
+    ensures finds { (items : List BodyItem) → GoesOnUnder limit dump.now items reading.old.place
+        → IfOk result (FindsUnder limit dump.now items code.now reading.new rows.new) }
     ensures most { reading.new.count ≤ length rows.new }
     ensures none { IfErr result (λ _. reading.new.count ≡ 0) }
     ensures place { IfOk result (StaysAt reading.old reading.new) }
     ensures stays { IfErr result (λ _. reading.new.place ≡ reading.old.place) }
 {
     let mut chunk = vec![in alloc; 0u8; CHUNK]?;
-    let mut token = vec![in alloc; 0u8; LIMIT]?;
-    let mut value = vec![in alloc; 0u8; LIMIT]?;
+    let mut token = vec![in alloc; 0u8; limit]?;
+    let mut value = vec![in alloc; 0u8; limit]?;
     let mut source = Bytes { rest: dump };
     let mut feed = Feed::new(&mut source, &mut chunk, &mut token, &mut value);
     let head = match read_head_with_hasher(alloc, &mut feed, MOST, hasher) {
@@ -150,14 +162,46 @@ fn read_changes<B: BuildHasher>(
         return Ok(NO_CODE);
     };
     let from = reading.place;
-    if from.begun == 0 {
-        return Ok(read_on(&mut feed, shown, index, Regs::new(), reading, rows));
+    if from.limit == 0 {
+        return Ok(read_on(limit, &mut feed, shown, index, Regs::new(), reading, rows));
     }
     source.rest = after(dump, from.offset.bytes);
     match Feed::at(&mut source, &mut chunk, &mut token, &mut value, from.offset) {
-        Some(mut feed) => Ok(read_on(&mut feed, shown, index, regs_of(from), reading, rows)),
+        Some(mut feed) => Ok(read_on(limit, &mut feed, shown, index, regs_of(from), reading, rows)),
         None => Ok(BAD_PLACE),
     }
+}
+
+/// Fills the rows from the reading's `Place` on under this token limit, and returns the status, as
+/// `changes` does.
+fn read_under<B: BuildHasher>(
+    alloc: Global,
+    limit: usize,
+    dump: &[u8],
+    code: &[u8],
+    hasher: &B,
+    reading: &mut Reading,
+    rows: &mut [ChangeRow],
+) -> u8
+    requires some { 0 < limit }
+    ensures finds { (items : List BodyItem) → GoesOnUnder limit dump.now items reading.old.place
+        → FindsUnder limit dump.now items code.now reading.new rows.new result }
+    ensures most { reading.new.count ≤ length rows.new }
+    ensures place { StaysAt reading.old reading.new result }
+{
+    reading.count = 0;
+    match read_changes(alloc, limit, dump, code, hasher, reading, rows) {
+        Ok(status) => status,
+        Err(_) => NO_MEMORY,
+    }
+}
+
+/// Returns whether what a call found under the lower limit is what it finds under `LIMIT`: it met no
+/// token that is too long. A feed that was halted may have met one.
+fn is_enough(status: u8, reading: Reading) -> bool
+    ensures { result ≡ true → IsEnough reading status }
+{
+    (status != FAULT || reading.fault != TOKEN_TOO_LONG) && reading.place.offset.answer <= 1
 }
 
 /// Fills the rows with the changes of the variables with this identifier code, from `reading.place`
@@ -179,9 +223,14 @@ pub fn changes<B: BuildHasher>(
     ensures most { reading.new.count ≤ length rows.new }
     ensures place { StaysAt reading.old reading.new result }
 {
-    reading.count = 0;
-    match read_changes(alloc, dump, code, hasher, reading, rows) {
-        Ok(status) => status,
-        Err(_) => NO_MEMORY,
+    let before = *reading;
+    if before.place.limit != 0 && before.place.limit != LOWER_LIMIT as u64 {
+        return read_under(alloc, LIMIT, dump, code, hasher, reading, rows);
     }
+    let status = read_under(alloc, LOWER_LIMIT, dump, code, hasher, reading, rows);
+    if is_enough(status, *reading) {
+        return status;
+    }
+    *reading = before;
+    read_under(alloc, LIMIT, dump, code, hasher, reading, rows)
 }

@@ -9,8 +9,8 @@ use vcd_text::Offset;
 #[repr(C)]
 #[derive(Clone, Copy, PartialEq, Eq, Debug)]
 pub struct Place {
-    /// 0 before the first call.
-    pub begun: u64,
+    /// The most bytes that a token before it may have; 0 before the first call.
+    pub limit: u64,
     /// The bytes and lines of the dump that were read.
     pub offset: Offset,
     /// The last timestamp; 0 where there was none.
@@ -62,12 +62,13 @@ fn section_at(number: u64) -> Option<Section>
     }
 }
 
-/// Returns where the next call continues, by the feed's offset and the registers there.
-pub(crate) fn place_of(offset: Offset, regs: Regs) -> Place
-    ensures { result ≡ place_of offset regs }
+/// Returns where the next call continues, by the token limit, the feed's offset and the registers
+/// there.
+pub(crate) fn place_of(limit: u64, offset: Offset, regs: Regs) -> Place
+    ensures { result ≡ place_of limit offset regs }
 {
     Place {
-        begun: 1,
+        limit,
         offset,
         time: regs.time,
         marked: u64::from(regs.marked),

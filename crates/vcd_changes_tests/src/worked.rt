@@ -196,7 +196,7 @@ const WORKED: [Worked; 16] = [
 fn unread() -> Reading {
     Reading {
         place: Place {
-            begun: 0,
+            limit: 0,
             offset: Offset {
                 bytes: 0,
                 line_feeds: 0,
@@ -309,4 +309,52 @@ fn are_found_far(alloc: Global, times: u64, most: usize) -> Result<bool, AllocEr
 fn changes_of_a_long_dump(rt: HostRuntime) {
     assert_eq!(rt; are_found_far(rt.alloc(), 100, 64), Ok(true));
     assert_eq!(rt; are_found_far(rt.alloc(), 20, 7), Ok(true));
+}
+
+// A dump in which a vector has this many digits, all of them 1: after a change of a digit, and
+// before others of both.
+fn wide_dump(alloc: Global, digits: usize) -> Result<Vec<u8>, AllocError> {
+    let mut dump = Vec::new(alloc);
+    dump.extend_from_slice(
+        b"$var wire 1 ! a $end\n$var reg 2000000 \" q $end\n$enddefinitions $end\n#1\n1!\n#2\nb",
+    )?;
+    let all = vec![in alloc; b'1'; digits]?;
+    dump.extend_from_slice(&all)?;
+    dump.extend_from_slice(b" \"\n#3\n0!\n#4\nb10 \"\n")?;
+    Ok(dump)
+}
+
+// Whether both variables of such a dump have these changes, with this status and fault.
+fn are_found_wide(
+    alloc: Global,
+    digits: usize,
+    most: usize,
+    bits: &[(u64, u64, u64)],
+    vectors: &[(u64, u64, u64)],
+    ends: (u8, u64, u64),
+) -> Result<bool, AllocError> {
+    let dump = wide_dump(alloc, digits)?;
+    let (found_bits, status, reading) = found_in(alloc, &dump, b"!", most)?;
+    let (found_vectors, other, again) = found_in(alloc, &dump, b"\"", most)?;
+    Ok(found_bits.as_slice() == bits
+        && found_vectors.as_slice() == vectors
+        && (status, reading.fault, reading.line) == ends
+        && (other, again.fault, again.line) == ends)
+}
+
+// Tokens of one byte less and more than the lower limit, and than the limit, which is 1,048,576.
+#[test]
+fn changes_of_a_wide_vector(rt: HostRuntime) {
+    let bits = [(1, 1, ALL), (3, 0, ALL)];
+    let vectors = [(2, ALL, ALL), (4, 2, ALL)];
+    for digits in [65_535, 65_536, 1_048_575] {
+        for most in [1, 64] {
+            let found = are_found_wide(rt.alloc(), digits, most, &bits, &vectors, (DONE, 0, 0));
+            assert_eq!(rt; found, Ok(true));
+        }
+    }
+    for most in [1, 64] {
+        let found = are_found_wide(rt.alloc(), 1_048_576, most, &bits[..1], &[], (FAULT, 1, 7));
+        assert_eq!(rt; found, Ok(true));
+    }
 }

@@ -13,7 +13,7 @@ use Rattle.vcd_model.specs.Reading.{phrases_of}
 use Rattle.vcd_body.proofs.CallerLemmas.{gave_nothing}
 use Rattle.vcd_body.specs.Reads.{GaveItems}
 use Rattle.vcd_body.specs.declared.item.Regs.{Regs}
-use Rattle.vcd_changes.specs.Reading.{FindsIn}
+use Rattle.vcd_changes.specs.Reading.{FindsUnder}
 use Rattle.vcd_changes.proofs.DumpLemmas.{codes_in, finds_for, goes_behind, has_codes, none_before}
 use Rattle.vcd_changes.proofs.FaultLemmas.{head_fault_is, some_fault}
 use Rattle.vcd_changes.proofs.HeaderLemmas.{found_text}
@@ -31,66 +31,66 @@ returns-in-Err-clause-finds g c = λ items goes.
     let dump = c.args.dump.now in
     let f = c.read_head_with_hasher.new.feed in
     let stands = c.new-feed.ensures.begins.stands in
-    let limit : limit_of f ≡ 1048576 = c.in-Err.ensures.lengths.0 ∙ omega (arith, c.in_ok-token.ensures.len, c.deref_mut-2.ensures.len, c.new-feed.ensures.begins.limit) in
+    let limit : limit_of f ≡ c.args.limit = c.in-Err.ensures.lengths.0 ∙ omega (arith, c.in_ok-token.ensures.len, c.deref_mut-2.ensures.len, c.new-feed.ensures.begins.limit) in
     let not_read : c.in-Err.fault ≡ ReadFailed → ⊥ = λ e. let more = c.in-Err.ensures.failed (has_not_failed c.new-feed.result dump [] stands) (as_err c.in-Err.fault ReadFailed e) in absurd (omega arith) in
     elim c.refused.ensures.refused.1 [
-      | inl h ↦ FindsIn.NoMemory c.refused.ensures.refused.0 h.1
+      | inl h ↦ FindsUnder.NoMemory c.refused.ensures.refused.0 h.1
       | inr h ↦
           let has = subst (λ (n : ℕ). HasFault 16777216 n (whole dump) (fault_number c.in-Err.fault) (token_of f).line) limit (head_fault_is f (whole dump) 16777216 c.in-Err.fault not_read h.0 (c.in-Err.ensures.reads (whole dump) stands)) in
-          FindsIn.BadHeader (has ∙ some_fault (fault_number c.in-Err.fault) _ (token_of f).line _ h.2 (h.3 ∙ c.line.ensures)) c.refused.ensures.refused.0 h.1
+          FindsUnder.BadHeader (has ∙ some_fault (fault_number c.in-Err.fault) _ (token_of f).line _ h.2 (h.3 ∙ c.line.ensures)) c.refused.ensures.refused.0 h.1
     ]
 
 pub returns-in_default-clause-finds : goal.returns-in_default-clause-finds
 returns-in_default-clause-finds g c = λ items goes.
     let dump = c.args.dump.now in
     let stands = c.new-feed.ensures.begins.stands in
-    let limit : limit_of c.read_head_with_hasher.new.feed ≡ 1048576 = c.in-Ok.ensures.lengths.0 ∙ omega (arith, c.in_ok-token.ensures.len, c.deref_mut-2.ensures.len, c.new-feed.ensures.begins.limit) in
+    let limit : limit_of c.read_head_with_hasher.new.feed ≡ c.args.limit = c.in-Ok.ensures.lengths.0 ∙ omega (arith, c.in_ok-token.ensures.len, c.deref_mut-2.ensures.len, c.new-feed.ensures.begins.limit) in
     let head = c.in-Ok.ensures.reads (whole dump) stands in
     let views = subst (λ (s : HeadShown). Views s (header_of (phrases_of head.placed))) (sym c.view-shown.ensures) head.views in
-    FindsIn.NoCode head.given (codes_in head.placed) (has_codes c.read_head_with_hasher.new.feed dump _ head limit) (c.in_default.ensures.found (header_of (phrases_of head.placed)) views) c.requires refl
+    FindsUnder.NoCode head.given (codes_in head.placed) (has_codes c.read_head_with_hasher.new.feed c.args.limit dump _ head limit) (c.in_default.ensures.found (header_of (phrases_of head.placed)) views) c.requires.none refl
 
 pub returns-then-from-eq0-clause-finds : goal.returns-then-from-eq0-clause-finds
 returns-then-from-eq0-clause-finds g c = λ items goes.
     let dump = c.args.dump.now in
     let f = c.read_head_with_hasher.new.feed in
     let stands = c.new-feed.ensures.begins.stands in
-    let limit : limit_of f ≡ 1048576 = c.in-Ok.ensures.lengths.0 ∙ omega (arith, c.in_ok-token.ensures.len, c.deref_mut-2.ensures.len, c.new-feed.ensures.begins.limit) in
+    let limit : limit_of f ≡ c.args.limit = c.in-Ok.ensures.lengths.0 ∙ omega (arith, c.in_ok-token.ensures.len, c.deref_mut-2.ensures.len, c.new-feed.ensures.begins.limit) in
     let head = c.in-Ok.ensures.reads (whole dump) stands in
     let h = header_of (phrases_of head.placed) in
     let views = subst (λ (s : HeadShown). Views s h) (sym c.view-shown.ensures) head.views in
     let at = c.in-Some.ensures.found h views in
-    let none = none_before dump items c.args.reading.now.place goes c.if-from-eq0.true in
+    let none = none_before c.args.limit dump items c.args.reading.now.place goes c.if-from-eq0.true in
     let finds = c.read_on.ensures.finds h dump head.given [] at.0 views (gave_nothing h.codes (whole dump) head.given f c.new.result head.stands c.new.ensures.known) at.1 in
-    FindsIn.Found head.given (codes_in head.placed) (has_codes f dump _ head limit)
-    (finds_for h.codes (whole dump) head.given [] items at.0.text c.args.code.now _ _ _ none (found_text h.codes c.args.code.now at.0 at.2) finds)
+    FindsUnder.Found head.given (codes_in head.placed) (has_codes f c.args.limit dump _ head limit)
+    (finds_for c.args.limit h.codes (whole dump) head.given [] items at.0.text c.args.code.now _ _ _ none (found_text h.codes c.args.code.now at.0 at.2) finds)
 
 pub returns-in-Some-at-clause-finds : goal.returns-in-Some-at-clause-finds
 returns-in-Some-at-clause-finds g c = λ items goes.
     let dump = c.args.dump.now in
     let f = c.read_head_with_hasher.new.feed in
     let stands = c.new-feed.ensures.begins.stands in
-    let limit : limit_of f ≡ 1048576 = c.in-Ok.ensures.lengths.0 ∙ omega (arith, c.in_ok-token.ensures.len, c.deref_mut-2.ensures.len, c.new-feed.ensures.begins.limit) in
+    let limit : limit_of f ≡ c.args.limit = c.in-Ok.ensures.lengths.0 ∙ omega (arith, c.in_ok-token.ensures.len, c.deref_mut-2.ensures.len, c.new-feed.ensures.begins.limit) in
     let head = c.in-Ok.ensures.reads (whole dump) stands in
     let h = header_of (phrases_of head.placed) in
-    let has = has_codes f dump _ head limit in
+    let has = has_codes f c.args.limit dump _ head limit in
     let views = subst (λ (s : HeadShown). Views s h) (sym c.view-shown.ensures) head.views in
     let at = c.in-Some.ensures.found h views in
-    let after = goes_behind dump items c.args.reading.now.place goes c.if-from-eq0.false head.given (codes_in head.placed) has in
+    let after = goes_behind c.args.limit dump items c.args.reading.now.place goes c.if-from-eq0.false head.given (codes_in head.placed) has in
     let o = c.args.reading.now.place.offset in
     let chunk : length c.deref_mut-4.result.now ≡ 8192 = omega (arith, c.in_ok-chunk.ensures.len, c.deref_mut.ensures.len, c.deref_mut-4.ensures.len) in
-    let token : length c.deref_mut-5.result.now ≡ 1048576 = omega (arith, c.in_ok-token.ensures.len, c.deref_mut-2.ensures.len, c.deref_mut-5.ensures.len) in
-    let to = subst (λ (n : ℕ). HasGivenTo n 1048576 o (whole dump) (head.given ++ after.given)) (sym chunk) after.stands in
+    let token : length c.deref_mut-5.result.now ≡ c.args.limit = omega (arith, c.in_ok-token.ensures.len, c.deref_mut-2.ensures.len, c.deref_mut-5.ensures.len) in
+    let to = subst (λ (n : ℕ). HasGivenTo n c.args.limit o (whole dump) (head.given ++ after.given)) (sym chunk) after.stands in
     let given = c.in-Some-at.ensures.given (whole dump) (head.given ++ after.given) (ap (λ (l : List ℕ). Some l) c.after-source.ensures)
     (subst (λ (n : ℕ). HasGivenTo (length c.deref_mut-4.result.now) n o (whole dump) (head.given ++ after.given)) (sym token) to) in
-    let gave = subst (λ (r : Regs). GaveItems h.codes (whole dump) head.given items c.in-Some-at.feed r) (sym c.regs_of.ensures) (goes_on h.codes (whole dump) head.given items c.in-Some-at.feed c.args.reading.now.place after given) in
-    FindsIn.Found head.given (codes_in head.placed) has
-    (finds_for h.codes (whole dump) head.given items items at.0.text c.args.code.now _ _ _ refl (found_text h.codes c.args.code.now at.0 at.2) (c.read_on-in-Some-at.ensures.finds h dump head.given items at.0 views gave at.1))
+    let gave = subst (λ (r : Regs). GaveItems h.codes (whole dump) head.given items c.in-Some-at.feed r) (sym c.regs_of.ensures) (goes_on c.args.limit h.codes (whole dump) head.given items c.in-Some-at.feed c.args.reading.now.place after given) in
+    FindsUnder.Found head.given (codes_in head.placed) has
+    (finds_for c.args.limit h.codes (whole dump) head.given items items at.0.text c.args.code.now _ _ _ refl (found_text h.codes c.args.code.now at.0 at.2) (c.read_on-in-Some-at.ensures.finds h dump head.given items at.0 views gave at.1))
 
 pub returns-clause-finds : goal.returns-clause-finds
 returns-clause-finds g c = λ items goes.
     let dump = c.args.dump.now in
     let f = c.read_head_with_hasher.new.feed in
-    let limit : limit_of f ≡ 1048576 = c.in-Ok.ensures.lengths.0 ∙ omega (arith, c.in_ok-token.ensures.len, c.deref_mut-2.ensures.len, c.new-feed.ensures.begins.limit) in
+    let limit : limit_of f ≡ c.args.limit = c.in-Ok.ensures.lengths.0 ∙ omega (arith, c.in_ok-token.ensures.len, c.deref_mut-2.ensures.len, c.new-feed.ensures.begins.limit) in
     let head = c.in-Ok.ensures.reads (whole dump) c.new-feed.ensures.begins.stands in
-    let after = goes_behind dump items c.args.reading.now.place goes c.if-from-eq0.false head.given (codes_in head.placed) (has_codes f dump _ head limit) in
+    let after = goes_behind c.args.limit dump items c.args.reading.now.place goes c.if-from-eq0.false head.given (codes_in head.placed) (has_codes f c.args.limit dump _ head limit) in
     absurd (apart (c.in-None.ensures.comes after.comes))

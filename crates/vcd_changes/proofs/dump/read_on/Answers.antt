@@ -14,13 +14,13 @@ returns-in-Ok-clause-finds c = λ h dump front items code views gave at.
     let f = c.collect-ended.new.feed in
     let s = c.collect-ended.ensures.reads h (whole dump) front items code views gave at in
     let ends = subst (EndsSo h.codes (whole dump) front (items ++ s.more) f c.collect-ended.new.regs c.collect-ended.new.count c.collect-ended.new.rows) c.in-Ok.is s.ends in
-    let limit : limit_of f ≡ 1048576 = c.collect-ended.ensures.advances.limit ∙ c.requires.0 in
-    let chunk : chunk_len_of f ≡ 8192 = c.collect-ended.ensures.advances.chunk ∙ c.requires.1 in
+    let limit : limit_of f ≡ c.args.limit = c.collect-ended.ensures.advances.limit ∙ c.requires.lengths.0 in
+    let chunk : chunk_len_of f ≡ 8192 = c.collect-ended.ensures.advances.chunk ∙ c.requires.lengths.1 in
     record {
       more = s.more;
       rows_are = s.rows_are;
-      ends = rw (c.status_of.ensures, c.place_of-reading.ensures) (ends_well h.codes (whole dump) front (items ++ s.more) f c.collect-ended.new.regs c.collect-ended.new.count c.collect-ended.new.rows c.in-Ok.filled _ ends limit refl
-          (λ all. is_after h.codes (whole dump) front (items ++ s.more) f c.collect-ended.new.regs c.offset.result all limit chunk c.offset.ensures.given c.offset.ensures.comes));
+      ends = rw (c.status_of.ensures, c.place_of-reading.ensures) (ends_well c.args.limit h.codes (whole dump) front (items ++ s.more) f c.collect-ended.new.regs c.collect-ended.new.count c.collect-ended.new.rows c.in-Ok.filled _ ends limit refl
+          (λ all. is_after c.args.limit h.codes (whole dump) front (items ++ s.more) f c.collect-ended.new.regs c.offset.result c.requires.some all limit chunk c.offset.ensures.given c.offset.ensures.comes));
     }
 
 pub returns-in-Err-clause-finds : goal.returns-in-Err-clause-finds
@@ -28,7 +28,7 @@ returns-in-Err-clause-finds c = λ h dump front items code views gave at.
     let f = c.collect-ended.new.feed in
     let s = c.collect-ended.ensures.reads h (whole dump) front items code views gave at in
     let fails = subst (EndsSo h.codes (whole dump) front (items ++ s.more) f c.collect-ended.new.regs c.collect-ended.new.count c.collect-ended.new.rows) c.in-Err.is s.ends in
-    let limit : limit_of f ≡ 1048576 = c.collect-ended.ensures.advances.limit ∙ c.requires.0 in
+    let limit : limit_of f ≡ c.args.limit = c.collect-ended.ensures.advances.limit ∙ c.requires.lengths.0 in
     let has = body_fault_is f (whole dump) h.codes front (items ++ s.more) c.in-Err.fault
     (λ e. let more = c.collect-ended.ensures.advances.failed (ap call_end (c.in-Err.is ∙ ap (λ (x : BodyFault). Err x) e)) (has_not_failed c.args.feed.now dump (front ++ gave.given) gave.stands) in absurd (omega arith)) fails in
     let number : c.from-reading.result ≡ fault_number c.in-Err.fault = omega arith in
@@ -36,5 +36,5 @@ returns-in-Err-clause-finds c = λ h dump front items code views gave at.
     record {
       more = s.more;
       rows_are = s.rows_are;
-      ends = inr (inl (refl, subst (BodyHas h.codes (whole dump) front 1048576 (items ++ s.more)) told (subst (λ (n : ℕ). BodyHas h.codes (whole dump) front n (items ++ s.more) (Some (record { number = fault_number c.in-Err.fault; line = (token_of f).line }))) limit has)));
+      ends = inr (inl (refl, subst (BodyHas h.codes (whole dump) front c.args.limit (items ++ s.more)) told (subst (λ (n : ℕ). BodyHas h.codes (whole dump) front n (items ++ s.more) (Some (record { number = fault_number c.in-Err.fault; line = (token_of f).line }))) limit has)));
     }
