@@ -8,7 +8,7 @@
 #     crafted or made at random: some minutes
 # make docs-check runs the commands that README, manual and recipes show over ./vcdkit. It compares
 #     what they print, and the must-fail edits that PROOFS lists, and looks for links that lead
-#     nowhere and for pages above their budgets of words: seconds
+#     nowhere: seconds
 # make static  links ./vcdkit-static, the program without any shared library: seconds after make
 # make dist    a tarball, Debian packages and a wheel of it in dist/, with documents, man page,
 #     completions, scripts and the Python package; with ./libvcdkit.so too, where it is
