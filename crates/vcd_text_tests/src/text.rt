@@ -163,75 +163,28 @@ fn report_ahead(feed: &mut Feed<'_, '_, '_, '_, Watch<Pieces<'_>>>, report: &mut
     feed.pass(passed);
 }
 
-// Whether the tokens of a text, most of them taken ahead, give this record.
-fn reports_ahead(bytes: &[u8], most: usize, chunk_len: usize, want: &[u8]) -> bool
-    requires chunk_len { (0 < chunk_len) × (chunk_len ≤ 1300) }
-{
-    let mut source = Watch::new(Pieces::new(bytes, most));
-    let mut chunk = [0; 1300];
-    let mut token = [0; 2];
-    let mut value = [0; 2];
-    let mut feed = Feed::new(&mut source, &mut chunk[..chunk_len], &mut token, &mut value);
-    let mut report = Report::new();
-    'answers: for _ in 0..u64::MAX {
-        report_ahead(&mut feed, &mut report);
-        let answer = feed.next();
-        if answer != Ok(Next::Token) {
-            report_end(answer, feed.line(), &mut report);
-            break;
-        }
-        report.push(feed.token());
-        report.push(b" ");
-    }
-    report.text() == want
-}
+// Texts, the token limit, and the record of all answers.
+const TOKENS: [(&[u8], usize, &[u8]); 4] = [
+    (b"", 4, b"end@1 "),
+    (b"ab\n\r\ncd\x0b$end\t\n\n", 4, b"ab@1 cd@3 $end@3 end@5 "),
+    (b" \n last", 4, b"last@2 end@2 "),
+    (b"ab\nabc\n", 2, b"ab@1 halt 1@2 "),
+];
 
 // Reads of any length, and chunks that end at any offset of a token.
 #[test]
 fn tokens_are_whole_over_any_reads(rt: HostRuntime) {
-    for (bytes, want) in [
-        (b"".as_slice(), b"end@1 ".as_slice()),
-        (b"ab\n\r\ncd\x0b$end\t\n\n", b"ab@1 cd@3 $end@3 end@5 "),
-        (b" \n last", b"last@2 end@2 "),
-    ] {
+    for (bytes, limit, want) in &TOKENS {
+        assert!(rt; 0 < *limit && *limit <= 300);
         for chunk_len in 1..12 {
             for most in 1..8 {
                 let source = Watch::new(Pieces::new(bytes, most));
                 assert!(rt;
-                    reports(source, chunk_len, 4, want),
+                    reports(source, chunk_len, *limit, want),
                     "of {chunk_len} by {most}"
                 );
             }
         }
-    }
-}
-
-// Tokens and white space over the offsets 0, 63, 64 and 65 of the blocks of 64 bytes that are
-// looked over in one look.
-#[test]
-fn tokens_end_at_any_place_of_a_block(rt: HostRuntime) {
-    for end in 60..140 {
-        for white in 1..4 {
-            let mut bytes = [b'x'; 300];
-            bytes[end..end + white].fill(b'\n');
-            let mut want = Report::new();
-            want.push(&bytes[..end]);
-            want.push_line(1);
-            want.push(&bytes[end + white..]);
-            want.push_line(white as u64 + 1);
-            want.push(b"end");
-            want.push_line(white as u64 + 1);
-            let source = Watch::new(Pieces::new(&bytes, 300));
-            assert!(rt; reports(source, 300, 300, want.text()), "at {end}");
-        }
-    }
-}
-
-#[test]
-fn a_long_token_halts_on_its_line(rt: HostRuntime) {
-    for chunk_len in 1..7 {
-        let source = Watch::new(Pieces::new(b"ab\nabc\n", 2));
-        assert!(rt; reports(source, chunk_len, 2, b"ab@1 halt 1@2 "));
     }
 }
 
@@ -301,44 +254,6 @@ fn a_failed_read_halts_after_what_was_read(rt: HostRuntime) {
 }
 
 #[test]
-fn a_halt_is_returned_again_without_a_read(rt: HostRuntime) {
-    let mut source = failing(b"ab", 1, 2);
-    let mut chunk = [0; 1];
-    let mut token = [0; 1];
-    let mut value = [0; 1];
-    let mut feed = Feed::new(&mut source, &mut chunk, &mut token, &mut value);
-    let mut report = Report::new();
-    report_next(&mut feed, &mut report);
-    report_next(&mut feed, &mut report);
-    report.push(feed.token());
-    report.push_number(Source::failures(&source));
-    report.push_number(source.device.calls);
-    assert_eq!(rt; report.text(), b"halt 31@1 halt 31@1 1 2 ".as_slice());
-}
-
-#[test]
-fn a_feed_begins_with_nothing_and_ends_for_good(rt: HostRuntime) {
-    let mut source = Watch::new(Pieces::new(b"\n\nlast\n", 9));
-    let mut chunk = [0; 3];
-    let mut token = [0; 4];
-    let mut value = [0; 4];
-    let mut feed = Feed::new(&mut source, &mut chunk, &mut token, &mut value);
-    let mut report = Report::new();
-    report.push(feed.token());
-    report.push(feed.value());
-    report.push_line(feed.line());
-    let parked = feed.parked();
-    let mut feed = Feed::resume(&mut source, &mut chunk, &mut token, &mut value, parked);
-    report_next(&mut feed, &mut report);
-    feed.keep();
-    report_next(&mut feed, &mut report);
-    report.push(feed.token());
-    report_next(&mut feed, &mut report);
-    report.push(feed.value());
-    assert_eq!(rt; report.text(), b"@1 last@3 end@4 end@4 last".as_slice());
-}
-
-#[test]
 fn a_feed_goes_on_where_it_was_parked(rt: HostRuntime) {
     let mut source = Watch::new(Pieces::new(b"ab\ncd e", 8));
     let mut chunk = [0; 8];
@@ -355,50 +270,6 @@ fn a_feed_goes_on_where_it_was_parked(rt: HostRuntime) {
     report.push(feed.value());
     report_rest(&mut feed, &mut report);
     assert_eq!(rt; report.text(), b"ab@1 cd@2 cdabe@2 end@2 ".as_slice());
-}
-
-#[test]
-fn tokens_ahead_are_those_of_the_feed(rt: HostRuntime) {
-    let mut bytes = [b' '; 300];
-    for at in 0..100 {
-        bytes[3 * at] = b'a';
-        bytes[3 * at + 1] = b'b';
-    }
-    let mut want = Report::new();
-    want.push(&bytes);
-    want.push(b"end@1 ");
-    for chunk_len in 60..140 {
-        for most in [chunk_len, 97] {
-            assert!(rt;
-                reports_ahead(&bytes, most, chunk_len, want.text()),
-                "of {chunk_len}"
-            );
-        }
-    }
-}
-
-// White space of any length between them, over the 64 bytes that are looked over in one look too.
-#[test]
-fn white_space_ahead_is_passed(rt: HostRuntime) {
-    for gap in 1..140 {
-        let mut bytes = [b'\n'; 1300];
-        for at in 1..10 {
-            bytes[at * (gap + 2) - 2..at * (gap + 2)].copy_from_slice(b"ab");
-        }
-        let mut want = Report::new();
-        for _ in 0..9 {
-            want.push(b"ab ");
-        }
-        want.push(b"end");
-        want.push_line(9 * gap as u64 + 1);
-        for chunk_len in [64, 97, 300, 1300] {
-            let bytes = &bytes[..9 * (gap + 2)];
-            assert!(rt;
-                reports_ahead(bytes, chunk_len, chunk_len, want.text()),
-                "at {gap}"
-            );
-        }
-    }
 }
 
 // Indented lines that end with a carriage return and a line feed, two spaces, and a run of white
@@ -471,27 +342,6 @@ fn whole_tokens_are_found_slowly(rt: HostRuntime) {
     assert_eq!(rt; ahead.next_slowly(), Some(b"bc".as_slice()));
     assert_eq!(rt; ahead.next_slowly(), None);
     assert_eq!(rt; ahead.passed(), 4);
-}
-
-#[test]
-fn a_look_ahead_goes_back(rt: HostRuntime) {
-    let mut bytes = [b'x'; 80];
-    bytes[..9].copy_from_slice(b"a bc def ");
-    let mut source = Watch::new(Pieces::new(&bytes, 80));
-    let mut chunk = [0; 80];
-    let mut token = [0; 4];
-    let mut value = [0; 4];
-    let mut feed = Feed::new(&mut source, &mut chunk, &mut token, &mut value);
-    let mut report = Report::new();
-    report_next(&mut feed, &mut report);
-    let mut ahead = feed.ahead();
-    report_one_ahead(&mut ahead, &mut report);
-    let mut before = ahead;
-    report_one_ahead(&mut ahead, &mut report);
-    report.push_number(before.passed() as u64);
-    report_one_ahead(&mut before, &mut report);
-    report_one_ahead(&mut before, &mut report);
-    assert_eq!(rt; report.text(), b"a@1 bc 3 def 7 3 def 7 - ".as_slice());
 }
 
 // A device that works at every other call alone: a signal interrupts its reads, and its writes take
@@ -593,88 +443,85 @@ fn a_watch_counts_a_write_that_takes_nothing(rt: HostRuntime) {
     );
 }
 
-#[test]
-fn writes_stop_where_the_sink_fails(rt: HostRuntime) {
-    let bytes = b"#1234".as_slice();
-    for taken in 0..6 {
-        let mut sink = Watch::new(Narrow::new(taken));
-        let failed = taken < 5;
-        assert_eq!(rt; put(&mut sink, bytes).is_err(), failed);
-        assert_eq!(rt; sink.device.held(), &bytes[..taken]);
-        assert_eq!(rt; Sink::failures(&sink), failed as u64);
+// Writes a text with one of the functions that do.
+fn put_by(by: usize, sink: &mut Watch<Narrow>) -> Result<(), WriteFailed>
+    requires { failed_calls sink.old < 2 ^ 64 - 1 }
+{
+    match by {
+        0 => put(sink, b"#1234"),
+        1 => put_few(sink, *b"#1234\n#5", 5),
+        2 => put_parts(sink, b'b', b"10 x", 2, *b" !\n00000", 3),
+        3 => put_number(sink, 0),
+        _ => put_number(sink, u64::MAX),
     }
 }
 
+// Which function writes a text, and the text.
+const WRITTEN: [(usize, &[u8]); 5] = [
+    (0, b"#1234"),
+    (1, b"#1234"),
+    (2, b"b10 !\n"),
+    (3, b"0"),
+    (4, b"18446744073709551615"),
+];
+
 #[test]
-fn of_few_bytes_no_more_are_written(rt: HostRuntime) {
-    for taken in 0..9 {
-        let mut sink = Watch::new(Narrow::new(taken));
-        let failed = taken < 5;
-        assert_eq!(rt; put_few(&mut sink, *b"#1234\n#5", 5).is_err(), failed);
-        assert_eq!(rt; sink.device.held(), &b"#1234"[..taken.min(5)]);
-        assert_eq!(rt; Sink::failures(&sink), failed as u64);
+fn a_text_is_written_as_far_as_there_is_room(rt: HostRuntime) {
+    for (by, text) in &WRITTEN {
+        for room in 0..24 {
+            let mut sink = Watch::new(Narrow::new(room));
+            let failed = room < text.len();
+            assert_eq!(rt; put_by(*by, &mut sink).is_err(), failed);
+            assert_eq!(rt; sink.device.held(), &text[..room.min(text.len())]);
+            assert_eq!(rt; Sink::failures(&sink), failed as u64);
+        }
     }
 }
 
-#[test]
-fn of_the_parts_of_a_line_no_more_is_written(rt: HostRuntime) {
-    for taken in 0..9 {
-        let mut sink = Watch::new(Narrow::new(taken));
-        let failed = taken < 6;
-        assert_eq!(rt;
-            put_parts(&mut sink, b'b', b"10 x", 2, *b" !\n00000", 3).is_err(),
-            failed
-        );
-        assert_eq!(rt; sink.device.held(), &b"b10 !\n"[..taken.min(6)]);
-        assert_eq!(rt; Sink::failures(&sink), failed as u64);
-    }
-}
+// Digits, and the number that they spell, if they do.
+const DIGITS: [(&[u8], Option<u64>); 17] = [
+    (b"0", Some(0)),
+    (b"007", Some(7)),
+    (b"12345678", Some(12_345_678)),
+    (b"123456789", Some(123_456_789)),
+    (b"9876543210123456", Some(9_876_543_210_123_456)),
+    (b"9999999999999999999", Some(9_999_999_999_999_999_999)),
+    (b"00000000000000000007", Some(7)),
+    (b"18446744073709551615", Some(u64::MAX)),
+    (b"18446744073709551616", None),
+    (b"20000000000000000000", None),
+    (b"", None),
+    (b"+1", None),
+    (b"1 ", None),
+    (b"1x", None),
+    (b"/2345678", None),
+    (b"1234567:", None),
+    (b"123456781234567x", None),
+];
 
-#[test]
-fn numbers_are_written_as_digits(rt: HostRuntime) {
-    for (number, want) in [(0, b"0".as_slice()), (u64::MAX, b"18446744073709551615")] {
-        let mut sink = Watch::new(Narrow::new(20));
-        assert_eq!(rt; put_number(&mut sink, number), Ok(()));
-        assert_eq!(rt; sink.device.held(), want);
-    }
-}
+// Other bytes, between which offsets of them digits are, and the number.
+const AMONG: &[u8] = b"#12345678 #9876543210123456 #12x4 #7\n";
+
+const BETWEEN: [(usize, usize, Option<u64>); 8] = [
+    (1, 9, Some(12_345_678)),
+    (11, 27, Some(9_876_543_210_123_456)),
+    (18, 27, Some(210_123_456)),
+    (19, 27, Some(10_123_456)),
+    (11, 28, None),
+    (29, 33, None),
+    (33, 33, None),
+    (35, 36, Some(7)),
+];
 
 #[test]
 fn digits_spell_numbers(rt: HostRuntime) {
-    for (digits, number) in [
-        ("0", Some(0)),
-        ("007", Some(7)),
-        ("12345678", Some(12_345_678)),
-        ("123456789", Some(123_456_789)),
-        ("9876543210123456", Some(9_876_543_210_123_456)),
-        ("9999999999999999999", Some(9_999_999_999_999_999_999)),
-        ("00000000000000000007", Some(7)),
-        ("18446744073709551615", Some(u64::MAX)),
-        ("18446744073709551616", None),
-        ("20000000000000000000", None),
-        ("", None),
-        ("+1", None),
-        ("1 ", None),
-        ("1x", None),
-        ("/2345678", None),
-        ("1234567:", None),
-        ("123456781234567x", None),
-    ] {
-        assert_eq!(rt; decimal_of(digits.as_bytes()), number);
+    for (digits, number) in &DIGITS {
+        assert_eq!(rt; decimal_of(digits), *number);
     }
-}
-
-#[test]
-fn digits_among_other_bytes_spell_numbers(rt: HostRuntime) {
-    let bytes = b"#12345678 #9876543210123456 #12x4 #7\n".as_slice();
-    assert_eq!(rt; decimal_at(bytes, 1, 9), Some(12_345_678));
-    assert_eq!(rt; decimal_at(bytes, 11, 27), Some(9_876_543_210_123_456));
-    assert_eq!(rt; decimal_at(bytes, 18, 27), Some(210_123_456));
-    assert_eq!(rt; decimal_at(bytes, 19, 27), Some(10_123_456));
-    assert_eq!(rt; decimal_at(bytes, 11, 28), None);
-    assert_eq!(rt; decimal_at(bytes, 29, 33), None);
-    assert_eq!(rt; decimal_at(bytes, 33, 33), None);
-    assert_eq!(rt; decimal_at(bytes, 35, 36), Some(7));
+    for (from, to, number) in &BETWEEN {
+        assert!(rt; *from <= *to && *to <= AMONG.len());
+        assert_eq!(rt; decimal_at(AMONG, *from, *to), *number);
+    }
 }
 
 // The faults and their texts; those between them, and those after the last one, have none.
@@ -710,10 +557,6 @@ fn faults_have_their_texts(rt: HostRuntime) {
     for (fault, text) in TEXTS {
         assert_eq!(rt; text_of(fault), text);
     }
-}
-
-#[test]
-fn other_numbers_have_no_text(rt: HostRuntime) {
     for fault in (0..1).chain(23..31).chain(33..=u8::MAX) {
         assert_eq!(rt; text_of(fault), "", "at {fault}");
     }

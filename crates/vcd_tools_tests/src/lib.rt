@@ -1,15 +1,15 @@
-//! The tests of the commands over one dump, by the paths that callers of `vcd_tools` use. They are
-//! a crate of their own so that the libraries are proved once: a crate with tests in it is proved
-//! again with them.
+//! The tests of the commands over one dump, of a merge in one call and item by item, and of
+//! `vcd_changes`, by the paths that callers use. They are a crate of their own so that the libraries
+//! are proved once: a crate with tests in it is proved again with them.
 #![tactic(auto)]
 
 #[cfg(test)]
-mod cut;
+mod changes;
 #[cfg(test)]
-mod edges;
+mod merge;
 #[cfg(test)]
 mod over;
 #[cfg(test)]
-mod sample;
+mod steps;
 #[cfg(test)]
 mod tools;

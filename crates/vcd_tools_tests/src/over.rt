@@ -7,6 +7,7 @@ ghost use Rattle.vcd_tools.specs.Engine.{request_of};
 ghost use Rattle.vcd_tools.specs.Room.{AreWithinBound, HasRoomFor, room_size};
 
 use std::alloc::{AllocError, Global};
+use std::test::Fail;
 use vcd_body::{Share, Slot};
 use vcd_head::{HeadFault, HeadView, read_head};
 use vcd_text::doubles::Narrow;
@@ -86,53 +87,80 @@ fn run_over<S: Source, W: Sink>(
     Ok(run_behind(alloc, head.view(), &mut feed, task, out)?)
 }
 
-// Whether a task over a dump, with so much room for what it writes, has this result, and this is
-// written.
-fn is_run_in(
+// Whether a task over a dump has this result, and this is written.
+fn is_run(
     alloc: Global,
-    room: usize,
     text: &[u8],
     task: Task<'_>,
     answer: Result<Done, Stop>,
     written: &[u8],
 ) -> Result<bool, HeadFault>
-    requires room { room ≤ 1024 }
-    requires valid { IsValid (request_of task) }
+    requires { IsValid (request_of task) }
 {
     let mut source = Watch::new(text);
-    let mut out = Watch::new(Narrow::new(room));
+    let mut out = Watch::new(Narrow::new(256));
     let given = run_over(alloc, &mut source, task, &mut out)?;
     Ok(given == answer && out.device.held() == written)
 }
 
-// Whether a task over a dump has this result, and this is written.
-pub(crate) fn is_run(
-    alloc: Global,
-    text: &[u8],
-    task: Task<'_>,
-    answer: Result<Done, Stop>,
-    written: &[u8],
-) -> Result<bool, HeadFault>
-    requires { IsValid (request_of task) }
-{
-    is_run_in(alloc, 256, text, task, answer, written)
+// A clock and four bits in a scope, and changes of both whose last digits can be left out.
+const CLOCKED: &[u8] = b"$timescale 1ns $end\n$scope module tb $end\n$var wire 1 ! clk $end\n\
+    $var reg 4 \" q [3:0] $end\n$upscope $end\n$enddefinitions $end\n\
+    #0\nb0010 \"\nb1 !\n";
+
+const CLOCK_PICKED: &[u8] =
+    b"$timescale\n\t1ns\n$end\n$scope module tb $end\n$var wire 1 ! clk $end\n$upscope $end\n\
+        $enddefinitions $end\n\
+        #0\n1!\n";
+
+#[test]
+fn a_pick_has_its_dump(rt: HostRuntime) -> Result<(), Fail> {
+    let names = [String::from_str(rt.alloc(), "tb.clk")?];
+    let task = Task::Pick(&names);
+    assert!(rt; is_run(rt.alloc(), CLOCKED, task, Ok(Done::Whole), CLOCK_PICKED)?);
+    Ok(())
 }
 
-// The least room, too small for what a task over a dump writes, in which it does not end at a
-// failed write with what there is room for.
-pub(crate) fn wrong_room(
-    alloc: Global,
-    text: &[u8],
-    task: Task<'_>,
-    written: &[u8],
-) -> Result<Option<usize>, HeadFault>
-    requires { IsValid (request_of task) }
-{
-    for room in 0..written.len().min(1024) {
-        let left = &written[..room];
-        if !is_run_in(alloc, room, text, task, Err(Stop::Write), left)? {
-            return Ok(Some(room));
-        }
-    }
-    Ok(None)
+// A value of each kind, and one that is never set.
+pub(crate) const KINDS: &[u8] =
+    b"$var wire 1 ! a $end\n$var real 1 \" r $end\n$var event 1 # e $end\n$var wire 2 % u $end\n\
+        $enddefinitions $end\n\
+        #9\n0!\nr1.5 \"\n1#\n#10\n1!\n1#\n#20\nr2 \"\n#21\n0!\n";
+
+pub(crate) const KINDS_CUT: &[u8] =
+    b"$var wire 1 ! a $end\n$var real 1 \" r $end\n$var event 1 # e $end\n$var wire 2 % u $end\n\
+        $enddefinitions $end\n\
+        #10\n$dumpvars\n0!\nr1.5 \"\n$end\n1!\n1#\n#15\n";
+
+// A dump with a word that is no item after its second timestamp.
+pub(crate) const FAULTY: &[u8] =
+    b"$var wire 4 ! v $end\n$var wire 8 \" w $end\n$enddefinitions $end\n#1\nb1 !\n#2\n?\n";
+
+#[test]
+fn a_cut_and_a_sample_end_early(rt: HostRuntime) -> Result<(), Fail> {
+    let early = Ok(Done::Early);
+    let cut = Task::Cut { from: 10, to: 15 };
+    assert!(rt; is_run(rt.alloc(), KINDS, cut, early, KINDS_CUT)?);
+    let sample = Task::Sample {
+        times: &[1],
+        names: &[],
+    };
+    assert!(rt; is_run(rt.alloc(), FAULTY, sample, early, b"1 v 0001\n1 w -\n")?);
+    Ok(())
+}
+
+// A value of each kind, an alias, digits that are written in two ways, and a trigger of an event in
+// a section.
+const ALIASED: &[u8] =
+    b"$var wire 2 ! a $end\n$var wire 2 ! b $end\n$var real 1 \" r $end\n$var event 1 # e $end\n\
+        $var wire 2 % u $end\n$enddefinitions $end\n\
+        #9\n$dumpvars\nb0 !\nr1.5 \"\n1#\n$end\n#10\nb01 !\n1#\n#20\nr2 \"\nb1 !\n#21\nb00 !\n1#\n";
+
+const ALIASED_EDGES: &[u8] = b"a 2 1 1\nb 2 1 1\nr 1 0 0\ne 2 0 0\nu 0 0 0\n";
+
+#[test]
+fn edges_are_counted(rt: HostRuntime) -> Result<(), Fail> {
+    let task = Task::Edges(&[]);
+    assert!(rt; is_run(rt.alloc(), ALIASED, task, Ok(Done::Whole), ALIASED_EDGES)?);
+    Ok(())
 }

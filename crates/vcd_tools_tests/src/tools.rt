@@ -1,5 +1,4 @@
-// Headers that are listed, bodies that are counted and of which some variables are picked, and
-// devices that fail.
+// Headers that are listed, bodies that are counted, and tasks that are taken step by step.
 ghost use Rattle.std.specs.Prelude.{◌≡◌, ◌-◌, ◌^◌, ◌<◌, ◌≤◌, true};
 ghost use Rattle.vcd_tools.specs.Laws.KeptValues.{CutKeeps, MergeKeeps, PickKeeps};
 ghost use Rattle.vcd_tools.specs.Model.Laws.{IsValid, NothingRevised};
@@ -8,13 +7,12 @@ ghost use Rattle.vcd_text.specs.Watch.{failed_calls};
 ghost use Rattle.vcd_tools.specs.Engine.{is_going, request_of};
 ghost use Rattle.vcd_tools.specs.Room.{AreWithinBound, HasRoomFor, room_in, room_size, view_in};
 
-use super::cut::{KINDS, KINDS_CUT};
-use super::over::{is_run, wrong_room};
+use super::over::{FAULTY, KINDS, KINDS_CUT};
 use std::alloc::Global;
 use std::test::Fail;
 use vcd_body::{Share, Slot};
 use vcd_head::{Head, HeadFault, HeadView, read_head};
-use vcd_text::doubles::{Narrow, Pieces};
+use vcd_text::doubles::Narrow;
 use vcd_text::{Feed, Sink, Source, Watch};
 use vcd_tools::{Begun, Done, Engine, More, Room, Stop, Task, check, laws, list, step};
 
@@ -33,38 +31,16 @@ fn read(alloc: Global, text: &[u8]) -> Result<Head, HeadFault> {
     read_head(alloc, &mut feed, 16_777_216)
 }
 
-// Whether a list of a header, with so much room for it, has this result, and this is written.
-fn is_listed(head: &Head, room: usize, answer: Result<Done, Stop>, written: &[u8]) -> bool
-    requires { room ≤ 1024 }
-{
-    let mut out = Watch::new(Narrow::new(room));
+// Whether a list of a header has this result, and this is written.
+fn is_listed(head: &Head, answer: Result<Done, Stop>, written: &[u8]) -> bool {
+    let mut out = Watch::new(Narrow::new(256));
     list(head.view(), &mut out) == answer && out.device.held() == written
 }
 
 #[test]
-fn list_of_nested_scopes_and_kinds(rt: HostRuntime) -> Result<(), Fail> {
+fn a_header_is_listed(rt: HostRuntime) -> Result<(), Fail> {
     let head = read(rt.alloc(), NESTED)?;
-    assert!(rt; is_listed(&head, 256, Ok(Done::Whole), NESTED_LIST));
-    Ok(())
-}
-
-#[test]
-fn list_of_a_code_that_is_end(rt: HostRuntime) -> Result<(), Fail> {
-    let head = read(
-        rt.alloc(),
-        b"$timescale 1 ns $end\n$var wire 1 $end a [0] $end\n$enddefinitions $end\n",
-    )?;
-    assert!(rt; is_listed(&head, 256, Ok(Done::Whole), b"a wire 1 $end\n"));
-    Ok(())
-}
-
-#[test]
-fn a_list_ends_where_a_write_fails(rt: HostRuntime) -> Result<(), Fail> {
-    let head = read(rt.alloc(), NESTED)?;
-    for room in 0..NESTED_LIST.len() {
-        let is = is_listed(&head, room, Err(Stop::Write), &NESTED_LIST[..room]);
-        assert!(rt; is, "in {room}");
-    }
+    assert!(rt; is_listed(&head, Ok(Done::Whole), NESTED_LIST));
     Ok(())
 }
 
@@ -94,22 +70,6 @@ fn check_over<S: Source, W: Sink>(
     Ok(check(head.view(), &mut feed, out))
 }
 
-// Whether a dump, with so much room for what is written, has this result, and this is written.
-fn is_checked_in(
-    alloc: Global,
-    room: usize,
-    text: &[u8],
-    answer: Result<Done, Stop>,
-    written: &[u8],
-) -> Result<bool, HeadFault>
-    requires { room ≤ 1024 }
-{
-    let mut source = Watch::new(text);
-    let mut out = Watch::new(Narrow::new(room));
-    let given = check_over(alloc, &mut source, &mut out)?;
-    Ok(given == answer && out.device.held() == written)
-}
-
 // Whether a dump has this result, and this is written.
 fn is_checked(
     alloc: Global,
@@ -117,88 +77,15 @@ fn is_checked(
     answer: Result<Done, Stop>,
     written: &[u8],
 ) -> Result<bool, HeadFault> {
-    is_checked_in(alloc, 256, text, answer, written)
-}
-
-#[test]
-fn check_of_a_whole_dump(rt: HostRuntime) -> Result<(), Fail> {
-    assert!(rt; is_checked(rt.alloc(), ICARUS, Ok(Done::Whole), ICARUS_COUNTS)?);
-    Ok(())
-}
-
-#[test]
-fn check_of_a_body_without_items(rt: HostRuntime) -> Result<(), Fail> {
-    assert!(rt;
-        is_checked(
-            rt.alloc(),
-            b"$timescale 1ns $end $enddefinitions $end $comment none $end",
-            Ok(Done::Whole),
-            b"scopes 0\nvariables 0\ncodes 0\ntimes 0\nsections 0\nchanges 0\nlast -\n",
-        )?
-    );
-    Ok(())
-}
-
-#[test]
-fn check_stops_at_a_fault(rt: HostRuntime) -> Result<(), Fail> {
-    assert!(rt;
-        is_checked(
-            rt.alloc(),
-            b"$timescale 1ns $end $var wire 1 ! clk $end\n$enddefinitions $end\n#5\n1!\n#4\n",
-            Err(Stop::Dump {
-                input: 0,
-                line: 5,
-                fault: 14,
-            }),
-            b"",
-        )?
-    );
-    Ok(())
-}
-
-#[test]
-fn check_of_an_open_section(rt: HostRuntime) -> Result<(), Fail> {
-    assert!(rt;
-        is_checked(
-            rt.alloc(),
-            b"$timescale 1ns $end $var wire 1 ! clk $end\n$enddefinitions $end\n\
-                #5\n$dumpvars\n1!\n",
-            Err(Stop::Dump {
-                input: 0,
-                line: 6,
-                fault: 2,
-            }),
-            b"",
-        )?
-    );
-    Ok(())
-}
-
-// Whether a check of a dump, whose source fails after it, ends at the one failed read, with nothing
-// written.
-fn stops_at_a_failed_read(alloc: Global) -> Result<bool, HeadFault> {
-    let mut pieces = Pieces::new(ICARUS, 5);
-    pieces.broken = true;
-    let mut source = Watch::new(pieces);
+    let mut source = Watch::new(text);
     let mut out = Watch::new(Narrow::new(256));
     let given = check_over(alloc, &mut source, &mut out)?;
-    let is_read = given == Err(Stop::Read { input: 0 });
-    Ok(is_read && out.device.held().is_empty() && Source::failures(&source) == 1)
+    Ok(given == answer && out.device.held() == written)
 }
 
 #[test]
-fn check_stops_where_a_read_fails(rt: HostRuntime) -> Result<(), Fail> {
-    assert!(rt; stops_at_a_failed_read(rt.alloc())?);
-    Ok(())
-}
-
-#[test]
-fn a_report_ends_where_a_write_fails(rt: HostRuntime) -> Result<(), Fail> {
-    for room in 0..ICARUS_COUNTS.len() {
-        let left = &ICARUS_COUNTS[..room];
-        let is = is_checked_in(rt.alloc(), room, ICARUS, Err(Stop::Write), left)?;
-        assert!(rt; is, "in {room}");
-    }
+fn a_body_is_counted(rt: HostRuntime) -> Result<(), Fail> {
+    assert!(rt; is_checked(rt.alloc(), ICARUS, Ok(Done::Whole), ICARUS_COUNTS)?);
     Ok(())
 }
 
@@ -345,72 +232,6 @@ fn takes_steps_over(
     takes_steps_behind(alloc, head.view(), &mut feed, task, steps)
 }
 
-#[test]
-fn steps_write_at_the_end_alone(rt: HostRuntime) -> Result<(), Fail> {
-    let text = b"$timescale 1ns $end $var wire 1 ! clk $end $enddefinitions $end #5 1!";
-    let steps = Steps {
-        before: b"",
-        after_each: &[b"", b""],
-        last: Ok(More::Ended(Done::Whole)),
-        after_last: b"scopes 0\nvariables 1\ncodes 1\ntimes 1\nsections 0\nchanges 1\nlast 5\n",
-    };
-    assert!(rt; takes_steps_over(rt.alloc(), text, Task::Check, &steps)?);
-    Ok(())
-}
-
-// A clock and four bits in a scope, and changes of both whose last digits can be left out.
-const CLOCKED: &[u8] = b"$timescale 1ns $end\n$scope module tb $end\n$var wire 1 ! clk $end\n\
-    $var reg 4 \" q [3:0] $end\n$upscope $end\n$enddefinitions $end\n\
-    #0\nb0010 \"\nb1 !\n";
-
-const CLOCKED_PICKED: &[u8] =
-    b"$timescale\n\t1ns\n$end\n$scope module tb $end\n$var wire 1 ! clk $end\n\
-        $var reg 4 \" q [3:0] $end\n$upscope $end\n$enddefinitions $end\n\
-        #0\nb10 \"\n1!\n";
-
-const CLOCK_PICKED: &[u8] =
-    b"$timescale\n\t1ns\n$end\n$scope module tb $end\n$var wire 1 ! clk $end\n$upscope $end\n\
-        $enddefinitions $end\n\
-        #0\n1!\n";
-
-// Whether a pick of this name has this result, and this is written.
-fn is_picked(
-    alloc: Global,
-    name: &str,
-    answer: Result<Done, Stop>,
-    written: &[u8],
-) -> Result<bool, HeadFault> {
-    let names = [String::from_str(alloc, name)?];
-    is_run(alloc, CLOCKED, Task::Pick(&names), answer, written)
-}
-
-#[test]
-fn pick_of_a_scope_and_of_a_variable(rt: HostRuntime) -> Result<(), Fail> {
-    let whole = Ok(Done::Whole);
-    assert!(rt; is_picked(rt.alloc(), "tb", whole, CLOCKED_PICKED)?);
-    assert!(rt; is_picked(rt.alloc(), "tb.clk", whole, CLOCK_PICKED)?);
-    Ok(())
-}
-
-#[test]
-fn a_name_that_selects_nothing_is_refused(rt: HostRuntime) -> Result<(), Fail> {
-    let unmatched = Err(Stop::Unmatched { name: 0 });
-    assert!(rt; is_picked(rt.alloc(), "zz", unmatched, b"")?);
-    assert!(rt; is_picked(rt.alloc(), "tb.c", unmatched, b"")?);
-    Ok(())
-}
-
-#[test]
-fn a_pick_ends_where_a_write_fails(rt: HostRuntime) -> Result<(), Fail> {
-    let names = [String::from_str(rt.alloc(), "tb")?];
-    let task = Task::Pick(&names);
-    assert_eq!(rt;
-        wrong_room(rt.alloc(), CLOCKED, task, CLOCKED_PICKED)?,
-        None
-    );
-    Ok(())
-}
-
 // A dump that ends in a vector.
 const CUT_SHORT: &[u8] = b"$timescale 1ns $end\n$scope module tb $end\n$var wire 1 ! clk $end\n\
     $var reg 4 \" q [3:0] $end\n$upscope $end\n$enddefinitions $end\n\
@@ -425,8 +246,9 @@ const CUT_SHORT_PICKED: &[u8] =
         $var reg 4 \" q [3:0] $end\n$upscope $end\n$enddefinitions $end\n\
         #0\n0!\n";
 
+// A task whose name selects nothing does not begin.
 #[test]
-fn steps_of_a_pick_write_what_is_due(rt: HostRuntime) -> Result<(), Fail> {
+fn steps_of_names_write_what_is_due(rt: HostRuntime) -> Result<(), Fail> {
     let names = [String::from_str(rt.alloc(), "tb")?];
     let steps = Steps {
         before: CUT_SHORT_HEAD,
@@ -438,7 +260,15 @@ fn steps_of_a_pick_write_what_is_due(rt: HostRuntime) -> Result<(), Fail> {
         }),
         after_last: CUT_SHORT_PICKED,
     };
-    assert!(rt; takes_steps_over(rt.alloc(), CUT_SHORT, Task::Pick(&names), &steps)?);
+    let task = Task::Pick(&names);
+    assert!(rt; takes_steps_over(rt.alloc(), CUT_SHORT, task, &steps)?);
+    let refused = Steps {
+        before: b"",
+        after_each: &[],
+        last: Err(Stop::Unmatched { name: 0 }),
+        after_last: b"",
+    };
+    assert!(rt; takes_steps_over(rt.alloc(), KINDS, task, &refused)?);
     Ok(())
 }
 
@@ -463,47 +293,39 @@ const CUT_MARKED: &[u8] =
         $enddefinitions $end\n\
         #10\n$dumpvars\n0!\nr1.5 \"\n$end\n1!\n1#\n";
 
-#[test]
-fn steps_of_a_cut_write_what_is_due(rt: HostRuntime) -> Result<(), Fail> {
-    let task = Task::Cut { from: 10, to: 15 };
-    let steps = Steps {
-        before: CUT,
-        after_each: &[CUT, CUT, CUT, CUT, CUT_BEGUN, CUT_CHANGED, CUT_MARKED],
-        last: Ok(More::Ended(Done::Early)),
-        after_last: KINDS_CUT,
-    };
-    assert!(rt; takes_steps_over(rt.alloc(), KINDS, task, &steps)?);
-    Ok(())
-}
+const CUT_STEPS: Steps<'static> = Steps {
+    before: CUT,
+    after_each: &[CUT, CUT, CUT, CUT, CUT_BEGUN, CUT_CHANGED, CUT_MARKED],
+    last: Ok(More::Ended(Done::Early)),
+    after_last: KINDS_CUT,
+};
+
+const CHECKED: &[u8] = b"$timescale 1ns $end $var wire 1 ! clk $end $enddefinitions $end #5 1!";
+
+const CHECK_STEPS: Steps<'static> = Steps {
+    before: b"",
+    after_each: &[b"", b""],
+    last: Ok(More::Ended(Done::Whole)),
+    after_last: b"scopes 0\nvariables 1\ncodes 1\ntimes 1\nsections 0\nchanges 1\nlast 5\n",
+};
+
+const SAMPLE_STEPS: Steps<'static> = Steps {
+    before: b"",
+    after_each: &[b"", b""],
+    last: Ok(More::Ended(Done::Early)),
+    after_last: b"1 v 0001\n1 w -\n",
+};
 
 #[test]
-fn steps_of_a_sample_write_what_is_due(rt: HostRuntime) -> Result<(), Fail> {
-    let text =
-        b"$var wire 4 ! v $end\n$var wire 8 \" w $end\n$enddefinitions $end\n#1\nb1 !\n#2\n?\n";
-    let task = Task::Sample {
+fn steps_write_what_is_due(rt: HostRuntime) -> Result<(), Fail> {
+    assert!(rt; takes_steps_over(rt.alloc(), CHECKED, Task::Check, &CHECK_STEPS)?);
+    let cut = Task::Cut { from: 10, to: 15 };
+    assert!(rt; takes_steps_over(rt.alloc(), KINDS, cut, &CUT_STEPS)?);
+    let sample = Task::Sample {
         times: &[1],
         names: &[],
     };
-    let steps = Steps {
-        before: b"",
-        after_each: &[b"", b""],
-        last: Ok(More::Ended(Done::Early)),
-        after_last: b"1 v 0001\n1 w -\n",
-    };
-    assert!(rt; takes_steps_over(rt.alloc(), text, task, &steps)?);
-    Ok(())
-}
-
-#[test]
-fn a_task_whose_name_selects_nothing_does_not_begin(rt: HostRuntime) -> Result<(), Fail> {
-    let names = [String::from_str(rt.alloc(), "zz")?];
-    let steps = Steps {
-        before: b"",
-        after_each: &[],
-        last: Err(Stop::Unmatched { name: 0 }),
-        after_last: b"",
-    };
-    assert!(rt; takes_steps_over(rt.alloc(), KINDS, Task::Pick(&names), &steps)?);
+    assert!(rt; takes_steps_over(rt.alloc(), FAULTY, sample, &SAMPLE_STEPS)?);
     Ok(())
 }
 

@@ -1,7 +1,4 @@
 // Devices of which every other call is interrupted.
-ghost use Rattle.std.specs.Prelude.{◌-◌, ◌^◌, ◌<◌};
-ghost use Rattle.vcd_text.specs.Watch.{failed_calls};
-
 use super::runs::{DUMP, REPORT};
 use std::alloc::{AllocError, Global};
 use std::io;
@@ -56,43 +53,34 @@ impl<D: Write> Write for Stutter<D> {
     }
 }
 
-// A writer of which every other call is interrupted, each of which is made again.
-type Sink = Watch<Again<Stutter<Narrow>>>;
+// A device of which every other call is interrupted, each of which is made again.
+fn again<D>(device: D) -> Again<Stutter<D>> {
+    Again::new(Stutter::new(device))
+}
 
-// Checks a dump whose reads are interrupted, and returns the status.
-fn check(alloc: Global, out: &mut Sink, err: &mut Sink) -> Result<u8, AllocError>
-    requires out_failures { failed_calls out.old < 2 ^ 64 - 1 }
-    requires err_failures { failed_calls err.old < 2 ^ 64 - 1 }
-{
+// Whether a check and a flush whose calls are interrupted are done.
+fn is_checked(alloc: Global) -> Result<bool, AllocError> {
     let names = [String::from_str(alloc, "a.vcd")?];
     let job = Job {
         task: Want::Check,
         limit: 64,
         chunk: 16,
     };
-    let mut readers = [Watch::new(Again::new(Stutter::new(Pieces::new(DUMP, 7))))];
-    Ok(run(
+    let mut readers = [Watch::new(again(Pieces::new(DUMP, 7)))];
+    let mut out = Watch::new(again(Narrow::new(1024)));
+    let mut err = Watch::new(again(Narrow::new(80)));
+    let status = run(
         alloc,
         job,
         names.as_slice(),
         readers.as_mut_slice(),
-        out,
-        err,
-    ))
-}
-
-// Whether this went through such a writer.
-fn is_held(sink: &Sink, text: &[u8]) -> bool {
-    sink.device.device.device.held() == text
-}
-
-// Whether a check and a flush whose calls are interrupted are done.
-fn is_checked(alloc: Global) -> Result<bool, AllocError> {
-    let mut out = Watch::new(Again::new(Stutter::new(Narrow::new(1024))));
-    let mut err = Watch::new(Again::new(Stutter::new(Narrow::new(80))));
-    let status = check(alloc, &mut out, &mut err)?;
+        &mut out,
+        &mut err,
+    );
     let is_flushed = out.device.flush().is_ok();
-    Ok(status == 0 && is_flushed && is_held(&out, REPORT) && is_held(&err, b""))
+    let report = out.device.device.device.held();
+    let message = err.device.device.device.held();
+    Ok(status == 0 && is_flushed && report == REPORT && message.is_empty())
 }
 
 #[test]

@@ -1,9 +1,7 @@
-// Devices that give or take one to seven bytes a call, and fail at one call alone.
+// Devices that give or take one, three or seven bytes a call, and fail at one call alone.
 ghost use Rattle.std.specs.Prelude.{◌≡◌, ◌<◌, ◌≤◌};
 
-use super::runs::{
-    MIXED, MIXED_HEAD, NESTED, NESTED_LIST, READ_FAILED, TB, TB_WRITTEN, merge_names, wanted,
-};
+use super::runs::{MIXED, MIXED_HEAD, NESTED, NESTED_LIST, READ_FAILED, TB, TB_WRITTEN, wanted};
 use std::alloc::{AllocError, Global};
 use std::io;
 use std::io::{ErrorKind, Write};
@@ -105,22 +103,16 @@ enum Failing {
     ReadLine,
 }
 
-// Which call of the reader, of the output and of the message fails, where the call of this number
-// does; none is 0.
-fn calls_that_fail(failing: Failing, call: u64) -> (u64, u64, u64) {
-    match failing {
-        Failing::Read => (call, 0, 0),
-        Failing::Output => (0, call, 0),
-        Failing::Message => (0, 0, call),
-        Failing::ReadLine => (1, 0, call),
-    }
-}
-
 // The call of this number fails.
 fn plan_of(failing: Failing, most: usize, chunk: usize, call: u64) -> Plan
     ensures { result.chunk ≡ chunk }
 {
-    let (read, out, err) = calls_that_fail(failing, call);
+    let (read, out, err) = match failing {
+        Failing::Read => (call, 0, 0),
+        Failing::Output => (0, call, 0),
+        Failing::Message => (0, 0, call),
+        Failing::ReadLine => (1, 0, call),
+    };
     Plan {
         most,
         chunk,
@@ -191,7 +183,10 @@ fn run_merge(
     requires chunk { (1 ≤ plan.chunk) × (plan.chunk ≤ 65536) }
     requires place { place < 2 }
 {
-    let names = merge_names(alloc)?;
+    let names = [
+        String::from_str(alloc, "a.vcd")?,
+        String::from_str(alloc, "b.vcd")?,
+    ];
     let mut readers = [
         Watch::new(failing_at(first.0, plan.most, first.1)),
         Watch::new(failing_at(second.0, plan.most, second.1)),
@@ -355,9 +350,9 @@ fn wrong_call(
     Ok(Some(MOST_CALLS))
 }
 
-// Each call of what fails does so in turn, for all numbers of bytes.
+// Each call of what fails does so in turn.
 fn fail_each<R: Abort + AllocGlobal>(rt: &R, row: &Row<'_>, whole: &Whole, failing: Failing) {
-    for most in 1..8 {
+    for most in [1, 3, 7] {
         for chunk in 1..8 {
             let wrong = wrong_call(rt.alloc(), row, whole, failing, most, chunk);
             assert_eq!(rt; wrong, Ok(None), "{failing:?} by {most} in {chunk}");
@@ -573,7 +568,7 @@ const MERGE_OF_TWO_SCALES_UNTIL_A_TIME_IS_TOO_LARGE_SECOND: [(&[u8], &[u8]); 4] 
     (b"0!\n", b""),
 ];
 
-const CHECKS: [Row<'static>; 2] = [
+const RUNS: [Row<'static>; 16] = [
     Row {
         words: Words::Check,
         readers: Readers::Alone,
@@ -590,32 +585,14 @@ const CHECKS: [Row<'static>; 2] = [
         message: b"vcdkit: (stdin):10: time goes back\n",
         status: 1,
     },
-];
-
-#[test]
-fn checks_with_failing_devices(rt: HostRuntime) {
-    for row in &CHECKS {
-        fail_in_turn(&rt, row);
-    }
-}
-
-const LISTS: [Row<'static>; 1] = [Row {
-    words: Words::List,
-    readers: Readers::Alone,
-    parts: &LIST_OF_NESTED_SCOPES_AND_KINDS,
-    closing: b"",
-    message: b"",
-    status: 0,
-}];
-
-#[test]
-fn lists_with_failing_devices(rt: HostRuntime) {
-    for row in &LISTS {
-        fail_in_turn(&rt, row);
-    }
-}
-
-const PICKS: [Row<'static>; 4] = [
+    Row {
+        words: Words::List,
+        readers: Readers::Alone,
+        parts: &LIST_OF_NESTED_SCOPES_AND_KINDS,
+        closing: b"",
+        message: b"",
+        status: 0,
+    },
     Row {
         words: Words::Pick(&["tb"]),
         readers: Readers::Alone,
@@ -648,16 +625,6 @@ const PICKS: [Row<'static>; 4] = [
         message: b"vcdkit: tc: selects nothing\n",
         status: 1,
     },
-];
-
-#[test]
-fn picks_with_failing_devices(rt: HostRuntime) {
-    for row in &PICKS {
-        fail_in_turn(&rt, row);
-    }
-}
-
-const CUTS: [Row<'static>; 3] = [
     Row {
         words: Words::Cut("10", "20"),
         readers: Readers::Alone,
@@ -682,16 +649,6 @@ const CUTS: [Row<'static>; 3] = [
         message: b"vcdkit: (stdin):8: unknown command\n",
         status: 1,
     },
-];
-
-#[test]
-fn cuts_with_failing_devices(rt: HostRuntime) {
-    for row in &CUTS {
-        fail_in_turn(&rt, row);
-    }
-}
-
-const SAMPLES: [Row<'static>; 3] = [
     Row {
         words: Words::Sample("0,1,2,3,4", None),
         readers: Readers::Alone,
@@ -716,16 +673,6 @@ const SAMPLES: [Row<'static>; 3] = [
         message: b"vcdkit: (stdin):7: unknown command\n",
         status: 1,
     },
-];
-
-#[test]
-fn samples_with_failing_devices(rt: HostRuntime) {
-    for row in &SAMPLES {
-        fail_in_turn(&rt, row);
-    }
-}
-
-const EDGES: [Row<'static>; 3] = [
     Row {
         words: Words::Edges(None),
         readers: Readers::Alone,
@@ -753,13 +700,13 @@ const EDGES: [Row<'static>; 3] = [
 ];
 
 #[test]
-fn edges_with_failing_devices(rt: HostRuntime) {
-    for row in &EDGES {
+fn runs_with_failing_devices(rt: HostRuntime) {
+    for row in &RUNS {
         fail_in_turn(&rt, row);
     }
 }
 
-const FIRST_MERGES: [Row<'static>; 2] = [
+const MERGES: [Row<'static>; 4] = [
     Row {
         words: Words::Merge(&[]),
         readers: Readers::WithSecond(OTHER_OF_MERGE_OF_ONE_FILE_TWICE_FIRST),
@@ -776,16 +723,6 @@ const FIRST_MERGES: [Row<'static>; 2] = [
         message: b"vcdkit: a.vcd:6: time too large\n",
         status: 1,
     },
-];
-
-#[test]
-fn merges_with_a_first_input_that_fails(rt: HostRuntime) {
-    for row in &FIRST_MERGES {
-        fail_in_turn(&rt, row);
-    }
-}
-
-const SECOND_MERGES: [Row<'static>; 2] = [
     Row {
         words: Words::Merge(&[]),
         readers: Readers::WithFirst(OTHER_OF_MERGE_OF_ONE_FILE_TWICE_SECOND),
@@ -805,8 +742,8 @@ const SECOND_MERGES: [Row<'static>; 2] = [
 ];
 
 #[test]
-fn merges_with_a_second_input_that_fails(rt: HostRuntime) {
-    for row in &SECOND_MERGES {
+fn merges_with_an_input_that_fails(rt: HostRuntime) {
+    for row in &MERGES {
         fail_in_turn(&rt, row);
     }
 }

@@ -14,8 +14,6 @@ mod devices;
 #[cfg(test)]
 mod edges;
 #[cfg(test)]
-mod failures;
-#[cfg(test)]
 mod headers;
 #[cfg(test)]
 mod list;

@@ -1,33 +1,29 @@
 // Headers and their lists.
-use super::runs::{NESTED, NESTED_LIST, failing, give_output, leave};
+use super::runs::{Case, Input, LIMIT, NESTED, NESTED_LIST, give};
 use vcd_words::Words;
 
-// Headers and their lists.
-const LISTS: [(&[u8], &[u8]); 4] = [
-    (NESTED, NESTED_LIST),
+const LISTS: [Case<'static>; 5] = [
+    (Words::List, Input::Whole(NESTED), (NESTED_LIST, b"", 0)),
     (
-        b"$timescale 1 ns $end\n$var wire 1 $end a [0] $end\n$enddefinitions $end\n",
-        b"a wire 1 $end\n",
+        Words::List,
+        Input::Whole(b"$timescale 1 ns $end\n$var wire 1 $end a [0] $end\n$enddefinitions $end\n"),
+        (b"a wire 1 $end\n", b"", 0),
     ),
-    (b"$scope module tb $end\n$enddefinitions $end\n", b""),
     (
-        b"$var wire 1 ! a $end\n$enddefinitions $end\n#5\n#4\n1?\n",
-        b"a wire 1 !\n",
+        Words::List,
+        Input::Whole(b"$scope module tb $end\n$enddefinitions $end\n"),
+        (b"", b"", 0),
     ),
+    (
+        Words::List,
+        Input::Whole(b"$var wire 1 ! a $end\n$enddefinitions $end\n#5\n#4\n1?\n"),
+        (b"a wire 1 !\n", b"", 0),
+    ),
+    // Nothing is read after the header.
+    (Words::List, Input::Broken(NESTED), (NESTED_LIST, b"", 0)),
 ];
 
 #[test]
-fn a_list_has_its_lines(rt: HostRuntime) {
-    for (text, lines) in &LISTS {
-        give_output(&rt, Words::List, text, lines);
-    }
-}
-
-#[test]
-fn a_list_reads_nothing_after_the_header(rt: HostRuntime) {
-    for chunk in [1, NESTED.len(), 65_536] {
-        assert!(rt; 1 <= chunk && chunk <= 65_536);
-        let left = (NESTED_LIST, b"".as_slice(), 0);
-        leave(&rt, Words::List, 64, failing(NESTED), chunk, left);
-    }
+fn a_header_has_its_list(rt: HostRuntime) {
+    give(&rt, LIMIT, &LISTS);
 }

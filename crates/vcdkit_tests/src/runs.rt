@@ -1,5 +1,5 @@
-// Runs over texts, and dumps that several tests have.
-ghost use Rattle.std.specs.Prelude.{◌≡◌, ◌≤◌, IfOk, true};
+// Runs over texts, as tables have them, and dumps that several tables have.
+ghost use Rattle.std.specs.Prelude.{◌≡◌, ◌<◌, ◌≤◌, IfOk, length, true};
 ghost use Rattle.vcdkit.specs.Job.{is_asked};
 
 use std::alloc::{AllocError, Global};
@@ -62,13 +62,29 @@ pub const TENS_HEAD: &[u8] = b"$timescale 10ns $end\n$var wire 1 ! a $end\n$endd
 
 pub const READ_FAILED: &[u8] = b"vcdkit: (stdin): read failed\n";
 
+// The token limit where none is asked for.
+pub const LIMIT: usize = 1_048_576;
+
+// What the readers of a run give: the one reader a text, or a text and then only failures; those of
+// a merge one text each, at most three, as `a.vcd`, `b.vcd` and `c.vcd`.
+#[derive(Clone, Copy)]
+pub(crate) enum Input<'a> {
+    Whole(&'a [u8]),
+    Broken(&'a [u8]),
+    All(&'a [&'a [u8]]),
+}
+
+// The words of a run, what its readers give, and the output, the message and the status that it
+// leaves.
+pub(crate) type Case<'a> = (Words<'a, 'a>, Input<'a>, (&'a [u8], &'a [u8], u8));
+
 // A reader that gives the text, as much in one read as is asked for.
-pub(crate) fn whole(bytes: &[u8]) -> Pieces<'_> {
+fn whole(bytes: &[u8]) -> Pieces<'_> {
     Pieces::new(bytes, usize::MAX)
 }
 
 // A reader that gives the text, and fails at every read after it.
-pub(crate) fn failing(bytes: &[u8]) -> Pieces<'_> {
+fn broken(bytes: &[u8]) -> Pieces<'_> {
     Pieces {
         broken: true,
         ..whole(bytes)
@@ -85,38 +101,38 @@ pub(crate) fn wanted(alloc: Global, words: Words<'_, '_>) -> Result<Want, AllocE
     }
 }
 
-// The names of both inputs of a merge.
-pub(crate) fn merge_names(alloc: Global) -> Result<[String; 2], AllocError> {
-    Ok([
-        String::from_str(alloc, "a.vcd")?,
-        String::from_str(alloc, "b.vcd")?,
-    ])
-}
-
 // What a run leaves: both streams, and the status.
 #[derive(Drop)]
-pub struct Left {
-    pub out: Watch<Narrow>,
-    pub err: Watch<Narrow>,
-    pub status: u8,
+pub(crate) struct Left {
+    out: Watch<Vec<u8>>,
+    err: Watch<Narrow>,
+    status: u8,
 }
 
-// What a job over what a reader with this name gives leaves, with so much room for the output and
-// for the message.
-pub(crate) fn run_named(
+impl Left {
+    // The output, the message and the status.
+    pub(crate) fn parts(&self) -> (&[u8], &[u8], u8) {
+        (&self.out.device, self.err.device.held(), self.status)
+    }
+}
+
+// What a run over one reader leaves.
+fn run_alone(
     alloc: Global,
-    name: &str,
-    job: Job,
+    words: Words<'_, '_>,
     input: Pieces<'_>,
-    room: usize,
-    error_room: usize,
+    limit: usize,
+    chunk: usize,
 ) -> Result<Left, AllocError>
-    requires { (room ≤ 1024) × (error_room ≤ 1024) }
+    requires limit { (64 ≤ limit) × (limit ≤ 16777216) }
+    requires chunk { (1 ≤ chunk) × (chunk ≤ 65536) }
 {
-    let names = [String::from_str(alloc, name)?];
+    let task = wanted(alloc, words)?;
+    let job = Job { task, limit, chunk };
+    let names = [String::from_str(alloc, "(stdin)")?];
     let mut readers = [Watch::new(input)];
-    let mut out = Watch::new(Narrow::new(room));
-    let mut err = Watch::new(Narrow::new(error_room));
+    let mut out = Watch::new(Vec::new(alloc));
+    let mut err = Watch::new(Narrow::new(80));
     let status = run(
         alloc,
         job,
@@ -128,141 +144,76 @@ pub(crate) fn run_named(
     Ok(Left { out, err, status })
 }
 
-// What a run over what a reader gives, this many bytes at a time, leaves.
+// The text of an input, where there are this many.
+fn text_at<'t>(texts: &[&'t [u8]], input: usize) -> &'t [u8] {
+    texts.get(input).copied().unwrap_or(b"")
+}
+
+// What a merge of texts leaves.
+fn run_merge(alloc: Global, texts: &[&[u8]], limit: usize, chunk: usize) -> Result<Left, AllocError>
+    requires texts { (0 < length texts.now) × (length texts.now ≤ 3) }
+    requires limit { (64 ≤ limit) × (limit ≤ 16777216) }
+    requires chunk { (1 ≤ chunk) × (chunk ≤ 65536) }
+{
+    let names = [
+        String::from_str(alloc, "a.vcd")?,
+        String::from_str(alloc, "b.vcd")?,
+        String::from_str(alloc, "c.vcd")?,
+    ];
+    let mut readers = [
+        Watch::new(whole(text_at(texts, 0))),
+        Watch::new(whole(text_at(texts, 1))),
+        Watch::new(whole(text_at(texts, 2))),
+    ];
+    let mut out = Watch::new(Vec::new(alloc));
+    let mut err = Watch::new(Narrow::new(80));
+    let task = Want::Merge;
+    let job = Job { task, limit, chunk };
+    let status = run(
+        alloc,
+        job,
+        &names[..texts.len()],
+        &mut readers[..texts.len()],
+        &mut out,
+        &mut err,
+    );
+    Ok(Left { out, err, status })
+}
+
+// What a run leaves; an error also where a merge has no text or more than three.
 pub(crate) fn run_on(
     alloc: Global,
     words: Words<'_, '_>,
+    input: Input<'_>,
     limit: usize,
-    input: Pieces<'_>,
     chunk: usize,
 ) -> Result<Left, AllocError>
     requires limit { (64 ≤ limit) × (limit ≤ 16777216) }
     requires chunk { (1 ≤ chunk) × (chunk ≤ 65536) }
 {
-    let want = wanted(alloc, words)?;
-    let job = Job {
-        task: want,
-        limit,
-        chunk,
-    };
-    run_named(alloc, "(stdin)", job, input, 1024, 80)
-}
-
-// A run over what a reader gives, this many bytes at a time, leaves this output, this message and
-// this status.
-pub(crate) fn leave<R: Abort + AllocGlobal>(
-    rt: &R,
-    words: Words<'_, '_>,
-    limit: usize,
-    input: Pieces<'_>,
-    chunk: usize,
-    left: (&[u8], &[u8], u8),
-)
-    requires limit { (64 ≤ limit) × (limit ≤ 16777216) }
-    requires chunk { (1 ≤ chunk) × (chunk ≤ 65536) }
-{
-    let Ok(run) = run_on(rt.alloc(), words, limit, input, chunk) else {
-        assert!(rt; false, "out of memory");
-        return;
-    };
-    let (output, message) = (run.out.device.held(), run.err.device.held());
-    assert_eq!(rt; (output, message, run.status), left, "of {words:?}");
-}
-
-// A run under this token limit leaves this output, message and status, whatever a read gives. Where
-// `fails` is set, each read after the text fails.
-pub(crate) fn leave_under<R: Abort + AllocGlobal>(
-    rt: &R,
-    words: Words<'_, '_>,
-    limit: usize,
-    text: &[u8],
-    fails: bool,
-    left: (&[u8], &[u8], u8),
-)
-    requires limit { (64 ≤ limit) × (limit ≤ 16777216) }
-{
-    for chunk in [1, 65_536] {
-        let input = if fails { failing(text) } else { whole(text) };
-        leave(rt, words, limit, input, chunk, left);
+    match input {
+        Input::Whole(text) => run_alone(alloc, words, whole(text), limit, chunk),
+        Input::Broken(text) => run_alone(alloc, words, broken(text), limit, chunk),
+        Input::All(texts) => {
+            if texts.is_empty() || texts.len() > 3 {
+                return Err(AllocError);
+            }
+            run_merge(alloc, texts, limit, chunk)
+        }
     }
 }
 
-// A run over what a text gives, and a failed read after it where that is said, leaves this output,
-// this message and this status.
-pub(crate) fn give_all<R: Abort + AllocGlobal>(
-    rt: &R,
-    words: Words<'_, '_>,
-    (text, fails): (&[u8], bool),
-    left: (&[u8], &[u8], u8),
-) {
-    leave_under(rt, words, 1_048_576, text, fails, left);
-}
-
-// A run over a text leaves this output alone.
-pub(crate) fn give_output<R: Abort + AllocGlobal>(
-    rt: &R,
-    words: Words<'_, '_>,
-    text: &[u8],
-    output: &[u8],
-) {
-    give_all(rt, words, (text, false), (output, b"", 0));
-}
-
-// A run over a text leaves this message alone, as of a fault.
-pub(crate) fn give_message<R: Abort + AllocGlobal>(
-    rt: &R,
-    words: Words<'_, '_>,
-    text: &[u8],
-    message: &[u8],
-) {
-    give_all(rt, words, (text, false), (b"", message, 1));
-}
-
-// Words are refused once the header is read: a run leaves this message and this status, over the
-// dump, and where each read after the header fails.
-pub(crate) fn give_refusal<R: Abort + AllocGlobal>(
-    rt: &R,
-    words: Words<'_, '_>,
-    dump: &[u8],
-    head: &[u8],
-    message: &[u8],
-    status: u8,
-) {
-    give_all(rt, words, (dump, false), (b"", message, status));
-    give_all(rt, words, (head, true), (b"", message, status));
-}
-
-// Whether a run is done without a message.
-pub(crate) fn is_done(left: &Left) -> bool {
-    left.status == 0 && left.err.device.held().is_empty()
-}
-
-// Whether a run over a text is done without a message, and so is a check of what it writes, which
-// writes a report.
-fn is_reported(
-    alloc: Global,
-    words: Words<'_, '_>,
-    text: &[u8],
-    chunk: usize,
-) -> Result<bool, AllocError>
-    requires { (1 ≤ chunk) × (chunk ≤ 65536) }
+// Each run under this token limit leaves what it has to, by any chunk.
+pub(crate) fn give<R: Abort + AllocGlobal>(rt: &R, limit: usize, cases: &[Case<'_>])
+    requires { (64 ≤ limit) × (limit ≤ 16777216) }
 {
-    let left = run_on(alloc, words, 64, whole(text), chunk)?;
-    let dump = left.out.device.held();
-    let report = run_on(alloc, Words::Check, 64, whole(dump), chunk)?;
-    let is_report = report.out.device.held().starts_with(b"scopes ");
-    Ok(is_done(&left) && is_done(&report) && is_report)
-}
-
-// What a run over a text writes has a report.
-pub(crate) fn give_report<R: Abort + AllocGlobal>(
-    rt: &R,
-    words: Words<'_, '_>,
-    text: &[u8],
-    chunk: usize,
-)
-    requires { (1 ≤ chunk) × (chunk ≤ 65536) }
-{
-    let is = is_reported(rt.alloc(), words, text, chunk);
-    assert_eq!(rt; is, Ok(true), "of {words:?}");
+    for (words, input, wanted) in cases {
+        for chunk in [1, 65_536] {
+            let Ok(left) = run_on(rt.alloc(), *words, *input, limit, chunk) else {
+                assert!(rt; false, "out of memory");
+                return;
+            };
+            assert_eq!(rt; left.parts(), *wanted, "of {words:?} by {chunk}");
+        }
+    }
 }

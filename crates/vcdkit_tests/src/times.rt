@@ -1,155 +1,131 @@
 // Words that are times, and words that are none.
 use std::alloc::Global;
-use vcd_head::Moment;
 use vcd_words::{Words, want_of};
 use vcdkit::{UseFault, Want};
 
-// The times of a cut between these words, or their fault.
-fn cut_of<'a>(alloc: Global, from: &'a str, to: &'a str) -> Result<[Moment; 2], UseFault<'a>> {
-    match want_of(alloc, Words::Cut(from, to)) {
-        Ok(Want::Cut(first, last)) => Ok([first, last]),
-        Ok(_) => Err(UseFault::BadWords),
-        Err(fault) => Err(fault),
+// The numbers and the units of times, or the fault of their words.
+type Times<'a> = Result<(&'a [u64], &'a [Option<i8>]), UseFault<'a>>;
+
+// Words, and the times that they ask for.
+const TIMES: [(Words<'static, 'static>, Times<'static>); 47] = [
+    (
+        Words::Cut("15ns", "15ns"),
+        Ok((&[15, 15], &[Some(-9), Some(-9)])),
+    ),
+    (Words::Cut("20", "20"), Ok((&[20, 20], &[None, None]))),
+    (
+        Words::Cut("007ms", "007ms"),
+        Ok((&[7, 7], &[Some(-3), Some(-3)])),
+    ),
+    (Words::Cut("1s", "1s"), Ok((&[1, 1], &[Some(0), Some(0)]))),
+    (
+        Words::Cut("3us", "3us"),
+        Ok((&[3, 3], &[Some(-6), Some(-6)])),
+    ),
+    (
+        Words::Cut("4ps", "4ps"),
+        Ok((&[4, 4], &[Some(-12), Some(-12)])),
+    ),
+    (
+        Words::Cut("18446744073709551615fs", "18446744073709551615fs"),
+        Ok((
+            &[18_446_744_073_709_551_615, 18_446_744_073_709_551_615],
+            &[Some(-15), Some(-15)],
+        )),
+    ),
+    (
+        Words::Cut("18446744073709551615", "18446744073709551615"),
+        Ok((
+            &[18_446_744_073_709_551_615, 18_446_744_073_709_551_615],
+            &[None, None],
+        )),
+    ),
+    (
+        Words::Cut("00000000000000000001", "00000000000000000001"),
+        Ok((&[1, 1], &[None, None])),
+    ),
+    (Words::Cut("", ""), Err(UseFault::BadTime(""))),
+    (Words::Cut("ns", "ns"), Err(UseFault::BadTime("ns"))),
+    (Words::Cut("15NS", "15NS"), Err(UseFault::BadTime("15NS"))),
+    (Words::Cut("15Ns", "15Ns"), Err(UseFault::BadTime("15Ns"))),
+    (Words::Cut("1 ns", "1 ns"), Err(UseFault::BadTime("1 ns"))),
+    (Words::Cut("1ns ", "1ns "), Err(UseFault::BadTime("1ns "))),
+    (
+        Words::Cut("1.5ns", "1.5ns"),
+        Err(UseFault::BadTime("1.5ns")),
+    ),
+    (Words::Cut("-1", "-1"), Err(UseFault::BadTime("-1"))),
+    (Words::Cut("+1", "+1"), Err(UseFault::BadTime("+1"))),
+    (Words::Cut("0x1", "0x1"), Err(UseFault::BadTime("0x1"))),
+    (Words::Cut("1nss", "1nss"), Err(UseFault::BadTime("1nss"))),
+    (Words::Cut("1n", "1n"), Err(UseFault::BadTime("1n"))),
+    (Words::Cut("１", "１"), Err(UseFault::BadTime("１"))),
+    (
+        Words::Cut("18446744073709551616", "18446744073709551616"),
+        Err(UseFault::BadTime("18446744073709551616")),
+    ),
+    (
+        Words::Cut("18446744073709551616s", "18446744073709551616s"),
+        Err(UseFault::BadTime("18446744073709551616s")),
+    ),
+    (
+        Words::Cut("000000000000000000001", "000000000000000000001"),
+        Err(UseFault::BadTime("000000000000000000001")),
+    ),
+    // A cut ends no earlier than it begins.
+    (Words::Cut("4", "5"), Ok((&[4, 5], &[None, None]))),
+    (Words::Cut("5", "5"), Ok((&[5, 5], &[None, None]))),
+    (Words::Cut("9ns", "4"), Ok((&[9, 4], &[Some(-9), None]))),
+    (Words::Cut("9", "4ns"), Ok((&[9, 4], &[None, Some(-9)]))),
+    (Words::Cut("5", "4"), Err(UseFault::FromAboveTo)),
+    (Words::Cut("x", "y"), Err(UseFault::BadTime("x"))),
+    (Words::Cut("5", "4NS"), Err(UseFault::BadTime("4NS"))),
+    // The times of a sample stand between commas, and rise.
+    (Words::Sample("7", None), Ok((&[7], &[None]))),
+    (
+        Words::Sample("0,1,20", None),
+        Ok((&[0, 1, 20], &[None, None, None])),
+    ),
+    (
+        Words::Sample("5ns,15ns", None),
+        Ok((&[5, 15], &[Some(-9), Some(-9)])),
+    ),
+    (
+        Words::Sample("3,2ns,1", None),
+        Ok((&[3, 2, 1], &[None, Some(-9), None])),
+    ),
+    (Words::Sample("5,5", None), Err(UseFault::NotRising)),
+    (Words::Sample("2,1", None), Err(UseFault::NotRising)),
+    (Words::Sample("1,2,3,3", None), Err(UseFault::NotRising)),
+    (Words::Sample("1,3,2,4", None), Err(UseFault::NotRising)),
+    (Words::Sample("", None), Err(UseFault::BadTime(""))),
+    (Words::Sample("5,", None), Err(UseFault::BadTime(""))),
+    (Words::Sample(",5", None), Err(UseFault::BadTime(""))),
+    (Words::Sample("1,,2", None), Err(UseFault::BadTime(""))),
+    (Words::Sample("15NS", None), Err(UseFault::BadTime("15NS"))),
+    (Words::Sample("1, 2", None), Err(UseFault::BadTime(" 2"))),
+    (Words::Sample("2,1,x,y", None), Err(UseFault::BadTime("x"))),
+];
+
+// Whether words ask for these times.
+fn have_times(alloc: Global, words: Words<'_, '_>, times: Times<'_>) -> bool {
+    match want_of(alloc, words) {
+        Ok(Want::Cut(from, to)) => {
+            let numbers = [from.number, to.number];
+            let units = [from.unit, to.unit];
+            times == Ok((numbers.as_slice(), units.as_slice()))
+        }
+        Ok(Want::Sample(numbers, units, _)) => {
+            times == Ok((numbers.as_slice(), units.as_slice()))
+        }
+        Ok(_) => false,
+        Err(fault) => times == Err(fault),
     }
 }
-
-// The time that a word is, or that it is none.
-fn time_of<'a>(alloc: Global, word: &'a str) -> Result<Moment, UseFault<'a>> {
-    let [_, last] = cut_of(alloc, word, word)?;
-    Ok(last)
-}
-
-// Words, and the number and the unit of the time that they are.
-const GOOD: [(&str, u64, Option<i8>); 9] = [
-    ("15ns", 15, Some(-9)),
-    ("20", 20, None),
-    ("007ms", 7, Some(-3)),
-    ("1s", 1, Some(0)),
-    ("3us", 3, Some(-6)),
-    ("4ps", 4, Some(-12)),
-    (
-        "18446744073709551615fs",
-        18_446_744_073_709_551_615,
-        Some(-15),
-    ),
-    ("18446744073709551615", 18_446_744_073_709_551_615, None),
-    ("00000000000000000001", 1, None),
-];
 
 #[test]
 fn a_time_is_a_number_and_perhaps_a_unit(rt: HostRuntime) {
-    for (word, number, unit) in &GOOD {
-        let time = Moment {
-            number: *number,
-            unit: *unit,
-        };
-        assert_eq!(rt; time_of(rt.alloc(), word), Ok(time), "{word}");
-    }
-}
-
-const BAD: [&str; 16] = [
-    "",
-    "ns",
-    "15NS",
-    "15Ns",
-    "1 ns",
-    "1ns ",
-    "1.5ns",
-    "-1",
-    "+1",
-    "0x1",
-    "1nss",
-    "1n",
-    "１",
-    "18446744073709551616",
-    "18446744073709551616s",
-    "000000000000000000001",
-];
-
-#[test]
-fn other_words_are_no_times(rt: HostRuntime) {
-    for word in &BAD {
-        assert_eq!(rt;
-            time_of(rt.alloc(), word),
-            Err(UseFault::BadTime(*word)),
-            "{word}"
-        );
-    }
-}
-
-// The numbers and units of two times, or the fault of their words.
-type Told<'a> = Result<(u64, Option<i8>, u64, Option<i8>), UseFault<'a>>;
-
-// What the words of a cut ask for.
-fn told<'a>(alloc: Global, from: &'a str, to: &'a str) -> Told<'a> {
-    let [first, last] = cut_of(alloc, from, to)?;
-    Ok((first.number, first.unit, last.number, last.unit))
-}
-
-const CUTS: [(&str, &str, Told<'static>); 7] = [
-    ("4", "5", Ok((4, None, 5, None))),
-    ("5", "5", Ok((5, None, 5, None))),
-    ("9ns", "4", Ok((9, Some(-9), 4, None))),
-    ("9", "4ns", Ok((9, None, 4, Some(-9)))),
-    ("5", "4", Err(UseFault::FromAboveTo)),
-    ("x", "y", Err(UseFault::BadTime("x"))),
-    ("5", "4NS", Err(UseFault::BadTime("4NS"))),
-];
-
-#[test]
-fn a_cut_ends_no_earlier_than_it_begins(rt: HostRuntime) {
-    for (from, to, wanted) in &CUTS {
-        assert_eq!(rt; told(rt.alloc(), from, to), *wanted, "from {from} to {to}");
-    }
-}
-
-// Whether the word after `--at` has these numbers and units.
-fn has_times(alloc: Global, at: &str, numbers: &[u64], units: &[Option<i8>]) -> bool {
-    match want_of(alloc, Words::Sample(at, None)) {
-        Ok(Want::Sample(given, of, _)) => given.as_slice() == numbers && of.as_slice() == units,
-        Ok(_) | Err(_) => false,
-    }
-}
-
-const SAMPLES: [(&str, &[u64], &[Option<i8>]); 4] = [
-    ("7", &[7], &[None]),
-    ("0,1,20", &[0, 1, 20], &[None, None, None]),
-    ("5ns,15ns", &[5, 15], &[Some(-9), Some(-9)]),
-    ("3,2ns,1", &[3, 2, 1], &[None, Some(-9), None]),
-];
-
-#[test]
-fn the_times_of_a_sample_stand_between_commas(rt: HostRuntime) {
-    for (at, numbers, units) in &SAMPLES {
-        assert!(rt; has_times(rt.alloc(), at, numbers, units), "{at}");
-    }
-}
-
-// Why the word after `--at` is refused.
-fn fault_of<'a>(alloc: Global, at: &'a str) -> Option<UseFault<'a>> {
-    match want_of(alloc, Words::Sample(at, None)) {
-        Ok(_) => None,
-        Err(fault) => Some(fault),
-    }
-}
-
-const BAD_SAMPLES: [(&str, UseFault<'static>); 11] = [
-    ("5,5", UseFault::NotRising),
-    ("2,1", UseFault::NotRising),
-    ("1,2,3,3", UseFault::NotRising),
-    ("1,3,2,4", UseFault::NotRising),
-    ("", UseFault::BadTime("")),
-    ("5,", UseFault::BadTime("")),
-    (",5", UseFault::BadTime("")),
-    ("1,,2", UseFault::BadTime("")),
-    ("15NS", UseFault::BadTime("15NS")),
-    ("1, 2", UseFault::BadTime(" 2")),
-    ("2,1,x,y", UseFault::BadTime("x")),
-];
-
-#[test]
-fn other_times_of_a_sample_are_refused(rt: HostRuntime) {
-    for (at, fault) in &BAD_SAMPLES {
-        assert_eq!(rt; fault_of(rt.alloc(), at), Some(*fault), "{at}");
+    for (words, times) in &TIMES {
+        assert!(rt; have_times(rt.alloc(), *words, *times), "of {words:?}");
     }
 }

@@ -3,7 +3,7 @@ ghost use Rattle.std.specs.Prelude.{◌≤◌};
 
 use super::runs::wanted;
 use clap::error::ErrorKind;
-use clap::{Arg, ArgMatches, Command, Error};
+use clap::{ArgMatches, Command, Error};
 use std::alloc::{AllocError, Global};
 use std::process::Abort;
 use vcd_words::Words;
@@ -113,27 +113,7 @@ fn words_are_taken_or_answered(rt: HostRuntime) {
     for (words, wanted) in &ANSWERS {
         assert_eq!(rt; answer(rt.alloc(), words), Ok(*wanted), "of {words:?}");
     }
-}
-
-#[test]
-fn a_parse_without_memory_has_its_status(rt: HostRuntime) {
     assert_eq!(rt; parse_status(&Error::from(AllocError)), 3);
-}
-
-// Whether this is said of these words.
-fn is_said(alloc: Global, words: &[&str], text: &str) -> Result<bool, AllocError> {
-    match command_of(alloc)?.try_get_matches_from(words) {
-        Ok(_) => Ok(false),
-        Err(error) => Ok(format!(in alloc; "{error}")?.as_str() == text),
-    }
-}
-
-#[test]
-fn the_version_is_said(rt: HostRuntime) {
-    for word in ["--version", "-V"] {
-        let is = is_said(rt.alloc(), &["vcdkit", word], "vcdkit 0.1.0\n");
-        assert_eq!(rt; is, Ok(true), "of {word}");
-    }
 }
 
 // What these words of a command line match, if they do.
@@ -144,26 +124,16 @@ fn matches_of<'a>(command: Command<'a>, words: &'a [&'a str]) -> Option<ArgMatch
     }
 }
 
-// Whether these words of a command line ask for this job, or are refused for this fault.
-fn is_asked<'a>(
-    alloc: Global,
-    command: Command<'a>,
-    words: &'a [&'a str],
-    wanted: Result<Job, UseFault<'_>>,
-) -> bool {
-    match matches_of(command, words) {
-        Some(matches) => job_of(alloc, &matches) == wanted,
-        None => false,
-    }
-}
-
 // Whether these words ask for this job, or are refused for this fault.
 fn is_answered<'a>(
     alloc: Global,
     words: &'a [&'a str],
     wanted: Result<Job, UseFault<'_>>,
 ) -> Result<bool, AllocError> {
-    Ok(is_asked(alloc, command_of(alloc)?, words, wanted))
+    Ok(match matches_of(command_of(alloc)?, words) {
+        Some(matches) => job_of(alloc, &matches) == wanted,
+        None => false,
+    })
 }
 
 // Whether these words ask for this under this token limit.
@@ -203,50 +173,8 @@ fn refuse<'a, R: Abort + AllocGlobal>(rt: &R, words: &'a [&'a str], fault: UseFa
     );
 }
 
-#[test]
-fn a_merge_has_one_to_64_files(rt: HostRuntime) {
-    let mut words = ["f.vcd"; 67];
-    words[0] = "vcdkit";
-    words[1] = "merge";
-    ask(&rt, &words[..3], Words::Merge(&words[2..3]), LIMIT);
-    ask(&rt, &words[..66], Words::Merge(&words[2..66]), LIMIT);
-    refuse(&rt, &words, UseFault::TooManyFiles);
-}
-
-#[test]
-fn a_command_asks_for_its_job(rt: HostRuntime) {
-    let job = Job {
-        task: Want::Check,
-        limit: LIMIT,
-        chunk: 65_536,
-    };
-    let is = is_answered(rt.alloc(), &["vcdkit", "check"], Ok(job));
-    assert_eq!(rt; is, Ok(true));
-}
-
-#[test]
-fn words_without_a_command_are_bad(rt: HostRuntime) {
-    let bare = Command::new(rt.alloc(), "vcdkit");
-    assert!(rt; is_asked(rt.alloc(), bare, &["vcdkit"], Err(UseFault::BadWords)));
-}
-
-// Whether the words of a command of this name that takes no arguments are bad.
-fn is_bad_alone<'a>(alloc: Global, name: &'a str) -> Result<bool, AllocError> {
-    let program = Command::new(alloc, "vcdkit").subcommand(Command::new(alloc, name))?;
-    let words = ["vcdkit", name];
-    Ok(is_asked(alloc, program, &words, Err(UseFault::BadWords)))
-}
-
-// One of another name, and two that want names or times.
-#[test]
-fn commands_without_their_arguments_are_bad(rt: HostRuntime) {
-    for name in ["checks", "pick", "sample"] {
-        assert_eq!(rt; is_bad_alone(rt.alloc(), name), Ok(true), "of {name}");
-    }
-}
-
 // Words, what they ask for, and the token limit.
-const ASKS: [(&[&str], Words<'static, 'static>, usize); 4] = [
+const ASKS: [(&[&str], Words<'static, 'static>, usize); 25] = [
     (&["vcdkit", "check"], Words::Check, LIMIT),
     (&["vcdkit", "check", "-i", "63"], Words::Check, LIMIT),
     (&["vcdkit", "list", "-i", "f.vcd"], Words::List, LIMIT),
@@ -254,6 +182,125 @@ const ASKS: [(&[&str], Words<'static, 'static>, usize); 4] = [
         &["vcdkit", "list", "--token-limit=100", "-if.vcd"],
         Words::List,
         100,
+    ),
+    // Names, which may be any text after two dashes.
+    (
+        &["vcdkit", "pick", "tb.clk", "u"],
+        Words::Pick(&["tb.clk", "u"]),
+        LIMIT,
+    ),
+    (
+        &[
+            "vcdkit",
+            "pick",
+            "-i",
+            "f.vcd",
+            "b",
+            "--token-limit",
+            "64",
+            "a",
+            "b",
+        ],
+        Words::Pick(&["b", "a", "b"]),
+        64,
+    ),
+    (
+        &["vcdkit", "pick", "--", "-i", ""],
+        Words::Pick(&["-i", ""]),
+        LIMIT,
+    ),
+    // Token limits.
+    (
+        &["vcdkit", "check", "--token-limit", "64"],
+        Words::Check,
+        64,
+    ),
+    (
+        &["vcdkit", "check", "--token-limit", "065"],
+        Words::Check,
+        65,
+    ),
+    (
+        &["vcdkit", "check", "--token-limit", "16777216"],
+        Words::Check,
+        16_777_216,
+    ),
+    (
+        &["vcdkit", "check", "--token-limit", "00000000000000000064"],
+        Words::Check,
+        64,
+    ),
+    // Times of a cut, which has all of the dump without them.
+    (
+        &["vcdkit", "cut", "--from", "4", "--to", "5"],
+        Words::Cut("4", "5"),
+        LIMIT,
+    ),
+    (
+        &["vcdkit", "cut", "--from", "5", "--to", "5"],
+        Words::Cut("5", "5"),
+        LIMIT,
+    ),
+    (
+        &["vcdkit", "cut", "--from", "9ns", "--to", "4"],
+        Words::Cut("9ns", "4"),
+        LIMIT,
+    ),
+    (
+        &["vcdkit", "cut", "--from", "9", "--to", "4ns"],
+        Words::Cut("9", "4ns"),
+        LIMIT,
+    ),
+    (
+        &["vcdkit", "cut", "--from", "0s", "--to", "1fs"],
+        Words::Cut("0s", "1fs"),
+        LIMIT,
+    ),
+    (
+        &["vcdkit", "cut"],
+        Words::Cut("0", "18446744073709551615"),
+        LIMIT,
+    ),
+    (
+        &["vcdkit", "cut", "--from", "5"],
+        Words::Cut("5", "18446744073709551615"),
+        LIMIT,
+    ),
+    (
+        &["vcdkit", "cut", "f.vcd", "--to", "9ns"],
+        Words::Cut("0", "9ns"),
+        LIMIT,
+    ),
+    // Times of a sample, with names and without.
+    (
+        &["vcdkit", "sample", "--at", "5"],
+        Words::Sample("5", None),
+        LIMIT,
+    ),
+    (
+        &["vcdkit", "sample", "--at", "0,1,20"],
+        Words::Sample("0,1,20", None),
+        LIMIT,
+    ),
+    (
+        &["vcdkit", "sample", "--at", "9ns,4"],
+        Words::Sample("9ns,4", None),
+        LIMIT,
+    ),
+    (
+        &["vcdkit", "sample", "--at", "4,9ns"],
+        Words::Sample("4,9ns", None),
+        LIMIT,
+    ),
+    (
+        &["vcdkit", "sample", "--at", "5ns,5ns"],
+        Words::Sample("5ns,5ns", None),
+        LIMIT,
+    ),
+    (
+        &["vcdkit", "sample", "b", "--at", "9ns,4", "a"],
+        Words::Sample("9ns,4", Some(&["b", "a"])),
+        LIMIT,
     ),
 ];
 
@@ -264,62 +311,156 @@ fn words_ask_for_a_want_and_a_limit(rt: HostRuntime) {
     }
 }
 
-// Words that are token limits, and words that are none.
-const GOOD_LIMITS: [(&str, usize); 4] = [
-    ("64", 64),
-    ("065", 65),
-    ("16777216", 16_777_216),
-    ("00000000000000000064", 64),
-];
-
-const BAD_LIMITS: [&str; 14] = [
-    "",
-    "0",
-    "63",
-    "16777217",
-    "000000000000000000064",
-    "18446744073709551680",
-    "99999999999999999999",
-    "+64",
-    "6 4",
-    "64 ",
-    "0x64",
-    "1e3",
-    "1_000",
-    "６４",
+// Words that are refused, and the fault.
+const REFUSED: [(&[&str], UseFault<'static>); 27] = [
+    (
+        &["vcdkit", "check", "--token-limit", ""],
+        UseFault::BadLimit(""),
+    ),
+    (
+        &["vcdkit", "check", "--token-limit", "0"],
+        UseFault::BadLimit("0"),
+    ),
+    (
+        &["vcdkit", "check", "--token-limit", "63"],
+        UseFault::BadLimit("63"),
+    ),
+    (
+        &["vcdkit", "check", "--token-limit", "16777217"],
+        UseFault::BadLimit("16777217"),
+    ),
+    (
+        &["vcdkit", "check", "--token-limit", "000000000000000000064"],
+        UseFault::BadLimit("000000000000000000064"),
+    ),
+    (
+        &["vcdkit", "check", "--token-limit", "18446744073709551680"],
+        UseFault::BadLimit("18446744073709551680"),
+    ),
+    (
+        &["vcdkit", "check", "--token-limit", "99999999999999999999"],
+        UseFault::BadLimit("99999999999999999999"),
+    ),
+    (
+        &["vcdkit", "check", "--token-limit", "+64"],
+        UseFault::BadLimit("+64"),
+    ),
+    (
+        &["vcdkit", "check", "--token-limit", "6 4"],
+        UseFault::BadLimit("6 4"),
+    ),
+    (
+        &["vcdkit", "check", "--token-limit", "64 "],
+        UseFault::BadLimit("64 "),
+    ),
+    (
+        &["vcdkit", "check", "--token-limit", "0x64"],
+        UseFault::BadLimit("0x64"),
+    ),
+    (
+        &["vcdkit", "check", "--token-limit", "1e3"],
+        UseFault::BadLimit("1e3"),
+    ),
+    (
+        &["vcdkit", "check", "--token-limit", "1_000"],
+        UseFault::BadLimit("1_000"),
+    ),
+    (
+        &["vcdkit", "check", "--token-limit", "６４"],
+        UseFault::BadLimit("６４"),
+    ),
+    // A bad limit counts before bad times.
+    (
+        &["vcdkit", "pick", "a", "--token-limit", "63"],
+        UseFault::BadLimit("63"),
+    ),
+    (
+        &[
+            "vcdkit",
+            "cut",
+            "--from",
+            "x",
+            "--to",
+            "5",
+            "--token-limit",
+            "63",
+        ],
+        UseFault::BadLimit("63"),
+    ),
+    (
+        &["vcdkit", "sample", "--at", "x", "--token-limit", "63"],
+        UseFault::BadLimit("63"),
+    ),
+    // Times of a cut, and of a sample.
+    (
+        &["vcdkit", "cut", "--from", "5", "--to", "4"],
+        UseFault::FromAboveTo,
+    ),
+    (
+        &["vcdkit", "cut", "--from", "x", "--to", "y"],
+        UseFault::BadTime("x"),
+    ),
+    (
+        &["vcdkit", "cut", "--from", "5", "--to", "15NS"],
+        UseFault::BadTime("15NS"),
+    ),
+    (
+        &["vcdkit", "cut", "--from", "", "--to", "5"],
+        UseFault::BadTime(""),
+    ),
+    (
+        &["vcdkit", "sample", "--at", "5,5", "a"],
+        UseFault::NotRising,
+    ),
+    (
+        &["vcdkit", "sample", "--at", "1,3,2,4", "a"],
+        UseFault::NotRising,
+    ),
+    (
+        &["vcdkit", "sample", "--at", "5,", "a"],
+        UseFault::BadTime(""),
+    ),
+    (
+        &["vcdkit", "sample", "--at", "", "a"],
+        UseFault::BadTime(""),
+    ),
+    (
+        &["vcdkit", "sample", "--at", "15NS", "a"],
+        UseFault::BadTime("15NS"),
+    ),
+    (
+        &["vcdkit", "sample", "--at", "2,1,x,y", "a"],
+        UseFault::BadTime("x"),
+    ),
 ];
 
 #[test]
-fn a_token_limit_is_a_number_in_its_range(rt: HostRuntime) {
-    for (word, limit) in &GOOD_LIMITS {
-        let words = ["vcdkit", "check", "--token-limit", *word];
-        ask(&rt, &words, Words::Check, *limit);
+fn words_are_refused_for_their_first_fault(rt: HostRuntime) {
+    for (words, fault) in &REFUSED {
+        refuse(&rt, words, *fault);
     }
 }
 
 #[test]
-fn a_word_that_is_no_token_limit_is_refused(rt: HostRuntime) {
-    for word in &BAD_LIMITS {
-        let words = ["vcdkit", "check", "--token-limit", *word];
-        refuse(&rt, &words, UseFault::BadLimit(*word));
-    }
-}
-
-// Whether these words of a command line name this input.
-fn is_input<'a>(command: Command<'a>, words: &'a [&'a str], input: Option<&str>) -> bool {
-    match matches_of(command, words) {
-        Some(matches) => input_of(&matches) == input,
-        None => false,
-    }
+fn a_merge_has_one_to_64_files(rt: HostRuntime) {
+    let mut words = ["f.vcd"; 67];
+    words[0] = "vcdkit";
+    words[1] = "merge";
+    ask(&rt, &words[..3], Words::Merge(&words[2..3]), LIMIT);
+    ask(&rt, &words[..66], Words::Merge(&words[2..66]), LIMIT);
+    refuse(&rt, &words, UseFault::TooManyFiles);
 }
 
 // Whether these words name this input.
-fn is_input_named<'a>(
+fn is_input<'a>(
     alloc: Global,
     words: &'a [&'a str],
     input: Option<&str>,
 ) -> Result<bool, AllocError> {
-    Ok(is_input(command_of(alloc)?, words, input))
+    Ok(match matches_of(command_of(alloc)?, words) {
+        Some(matches) => input_of(&matches) == input,
+        None => false,
+    })
 }
 
 // Words, and the input that they name.
@@ -337,187 +478,7 @@ const INPUTS: [(&[&str], Option<&str>); 8] = [
 #[test]
 fn an_input_is_named_by_its_option_or_alone(rt: HostRuntime) {
     for (words, input) in &INPUTS {
-        let is = is_input_named(rt.alloc(), words, *input);
+        let is = is_input(rt.alloc(), words, *input);
         assert_eq!(rt; is, Ok(true), "of {words:?}");
-    }
-}
-
-#[test]
-fn words_without_a_command_name_no_input(rt: HostRuntime) {
-    let bare = Command::new(rt.alloc(), "vcdkit");
-    assert!(rt; is_input(bare, &["vcdkit"], None));
-}
-
-#[test]
-fn a_pick_has_its_names(rt: HostRuntime) {
-    ask(
-        &rt,
-        &["vcdkit", "pick", "tb.clk", "u"],
-        Words::Pick(&["tb.clk", "u"]),
-        LIMIT,
-    );
-    ask(
-        &rt,
-        &[
-            "vcdkit",
-            "pick",
-            "-i",
-            "f.vcd",
-            "b",
-            "--token-limit",
-            "64",
-            "a",
-            "b",
-        ],
-        Words::Pick(&["b", "a", "b"]),
-        64,
-    );
-}
-
-#[test]
-fn a_name_may_be_any_text_after_two_dashes(rt: HostRuntime) {
-    ask(
-        &rt,
-        &["vcdkit", "pick", "--", "-i", ""],
-        Words::Pick(&["-i", ""]),
-        LIMIT,
-    );
-}
-
-// A bad limit counts before bad times.
-#[test]
-fn a_bad_limit_is_refused_in_each_command(rt: HostRuntime) {
-    let fault = UseFault::BadLimit("63");
-    refuse(&rt, &["vcdkit", "pick", "a", "--token-limit", "63"], fault);
-    refuse(
-        &rt,
-        &[
-            "vcdkit",
-            "cut",
-            "--from",
-            "x",
-            "--to",
-            "5",
-            "--token-limit",
-            "63",
-        ],
-        fault,
-    );
-    refuse(
-        &rt,
-        &["vcdkit", "sample", "--at", "x", "--token-limit", "63"],
-        fault,
-    );
-}
-
-// Two times of a cut, and two that are refused with their fault.
-const GOOD_CUTS: [(&str, &str); 5] = [
-    ("4", "5"),
-    ("5", "5"),
-    ("9ns", "4"),
-    ("9", "4ns"),
-    ("0s", "1fs"),
-];
-
-const BAD_CUTS: [(&str, &str, UseFault<'static>); 4] = [
-    ("5", "4", UseFault::FromAboveTo),
-    ("x", "y", UseFault::BadTime("x")),
-    ("5", "15NS", UseFault::BadTime("15NS")),
-    ("", "5", UseFault::BadTime("")),
-];
-
-#[test]
-fn a_cut_has_its_times(rt: HostRuntime) {
-    for (from, to) in &GOOD_CUTS {
-        let words = ["vcdkit", "cut", "--from", *from, "--to", *to];
-        ask(&rt, &words, Words::Cut(*from, *to), LIMIT);
-    }
-}
-
-// Words of a cut without some of its times, and the times that it has.
-const CUTS: [(&[&str], &str, &str); 3] = [
-    (&["vcdkit", "cut"], "0", "18446744073709551615"),
-    (
-        &["vcdkit", "cut", "--from", "5"],
-        "5",
-        "18446744073709551615",
-    ),
-    (&["vcdkit", "cut", "f.vcd", "--to", "9ns"], "0", "9ns"),
-];
-
-#[test]
-fn a_cut_without_times_has_all_of_the_dump(rt: HostRuntime) {
-    for (words, from, to) in &CUTS {
-        ask(&rt, words, Words::Cut(*from, *to), LIMIT);
-    }
-}
-
-#[test]
-fn bad_times_of_a_cut_are_refused(rt: HostRuntime) {
-    for (from, to, fault) in &BAD_CUTS {
-        let words = ["vcdkit", "cut", "--from", *from, "--to", *to];
-        refuse(&rt, &words, *fault);
-    }
-}
-
-// A command with one more option of this name.
-fn with_option<'a>(
-    alloc: Global,
-    command: Command<'a>,
-    name: &'a str,
-) -> Result<Command<'a>, AllocError> {
-    command.arg(Arg::new(alloc, name).long(name))
-}
-
-// A cut that may be without times.
-fn free_cut<'a>(alloc: Global) -> Result<Command<'a>, AllocError> {
-    let cut = with_option(alloc, Command::new(alloc, "cut"), "from")?;
-    with_option(alloc, cut, "to")
-}
-
-// Whether such a cut is bad without the time that it begins at.
-fn is_bad_without_from(alloc: Global) -> Result<bool, AllocError> {
-    let program = Command::new(alloc, "vcdkit").subcommand(free_cut(alloc)?)?;
-    let words = ["vcdkit", "cut", "--to", "5"];
-    Ok(is_asked(alloc, program, &words, Err(UseFault::BadWords)))
-}
-
-#[test]
-fn a_cut_wants_both_times(rt: HostRuntime) {
-    assert_eq!(rt; is_bad_without_from(rt.alloc()), Ok(true));
-}
-
-// Times of a sample, and some that are refused with their fault.
-const GOOD_SAMPLES: [&str; 5] = ["5", "0,1,20", "9ns,4", "4,9ns", "5ns,5ns"];
-
-const BAD_SAMPLES: [(&str, UseFault<'static>); 6] = [
-    ("5,5", UseFault::NotRising),
-    ("1,3,2,4", UseFault::NotRising),
-    ("5,", UseFault::BadTime("")),
-    ("", UseFault::BadTime("")),
-    ("15NS", UseFault::BadTime("15NS")),
-    ("2,1,x,y", UseFault::BadTime("x")),
-];
-
-#[test]
-fn a_sample_has_its_times(rt: HostRuntime) {
-    for at in &GOOD_SAMPLES {
-        let words = ["vcdkit", "sample", "--at", *at];
-        ask(&rt, &words, Words::Sample(*at, None), LIMIT);
-    }
-}
-
-#[test]
-fn a_sample_has_its_names(rt: HostRuntime) {
-    for at in &GOOD_SAMPLES {
-        let words = ["vcdkit", "sample", "b", "--at", *at, "a"];
-        ask(&rt, &words, Words::Sample(*at, Some(&["b", "a"])), LIMIT);
-    }
-}
-
-#[test]
-fn bad_times_of_a_sample_are_refused(rt: HostRuntime) {
-    for (at, fault) in &BAD_SAMPLES {
-        refuse(&rt, &["vcdkit", "sample", "--at", *at, "a"], *fault);
     }
 }

@@ -3,7 +3,7 @@ use Rattle.std.specs.Prelude.{All}
 use Rattle.vcd_text.specs.Watch.{failed_calls}
 use Rattle.vcd_merge.specs.MergeParts.{SameLengths, part_len}
 use Rattle.vcd_merge.specs.Seat.{IsSeated}
-use Rattle.vcd_merge_tests.proofs.merge.begin_all.Given as goal
+use Rattle.vcd_tools_tests.proofs.merge.begin_all.Given as goal
 
 abbrev pub invariant-loop-input : goal.invariant-loop-input
 invariant-loop-input l =

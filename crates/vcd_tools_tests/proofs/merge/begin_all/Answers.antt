@@ -4,7 +4,7 @@ use Rattle.std.proofs.lemmas.List.Elements.{All-push}
 use Rattle.vcd_text.specs.Watch.{failed_calls}
 use Rattle.vcd_merge.specs.MergeParts.{part_len}
 use Rattle.vcd_merge.specs.Seat.{IsSeated}
-use Rattle.vcd_merge_tests.proofs.merge.begin_all.Goals as goal
+use Rattle.vcd_tools_tests.proofs.merge.begin_all.Goals as goal
 
 pub loop-input-preserved : goal.loop-input-preserved
 loop-input-preserved c =

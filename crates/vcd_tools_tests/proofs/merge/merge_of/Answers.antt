@@ -4,7 +4,7 @@ use Rattle.std.proofs.Math.Nat.{mul-div_cancel_left}
 use Rattle.vcd_merge.specs.MergeParts.{AreParts, part_len}
 use Rattle.vcd_merge.proofs.MergeRoomLemmas.{merge_within}
 use Rattle.vcd_merge.proofs.PartLemmas.{parts_same}
-use Rattle.vcd_merge_tests.proofs.merge.merge_of.Goals as goal
+use Rattle.vcd_tools_tests.proofs.merge.merge_of.Goals as goal
 
 part_is : (n size : ℕ) (xs : List ℕ) → 0 < n → length xs ≡ n * size → part_len n xs ≡ size
 part_is n size xs some e = ap (λ m. m / n) e ∙ mul-div_cancel_left size {n = n} some

@@ -6,7 +6,7 @@ use Rattle.vcd_merge.specs.MergeParts.{SameLengths}
 use Rattle.vcd_merge.specs.declared.windows.Windows.{Windows}
 use Rattle.vcd_merge.proofs.MergeRoomLemmas.{still_within}
 use Rattle.vcd_merge.proofs.MergeRuns.{same_failures, still_low}
-use Rattle.vcd_merge_tests.proofs.steps.take_steps.Goals as goal
+use Rattle.vcd_tools_tests.proofs.steps.take_steps.Goals as goal
 
 same_twice : (a b c : Windows) → SameLengths a b → SameLengths b c → SameLengths a c
 same_twice a b c p q = record { chunks = q.chunks ∙ p.chunks; tokens = q.tokens ∙ p.tokens; values = q.values ∙ p.values }

@@ -3,7 +3,7 @@ use Rattle.vcd_merge.specs.MergeParts.{part_len}
 use Rattle.vcd_merge.specs.MergeRoom.{windows_size}
 use Rattle.vcd_merge.proofs.MergeRoomLemmas.{still_within, without_windows}
 use Rattle.vcd_merge.proofs.MergeStart.{ready_begun}
-use Rattle.vcd_merge_tests.proofs.steps.merge_by_steps.Goals as goal
+use Rattle.vcd_tools_tests.proofs.steps.merge_by_steps.Goals as goal
 
 pub start-requires-clause-bound : goal.start-requires-clause-bound
 start-requires-clause-bound g c =

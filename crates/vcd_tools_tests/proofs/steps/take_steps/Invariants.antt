@@ -1,7 +1,7 @@
 use Rattle.std.proofs.Common.{◌≡◌, true, map, length}
 use Rattle.vcd_merge.specs.MergeParts.{SameLengths}
 use Rattle.vcd_merge.specs.MergeStep.{IsReady, is_going, standing_of, left_of}
-use Rattle.vcd_merge_tests.proofs.steps.take_steps.Given as goal
+use Rattle.vcd_tools_tests.proofs.steps.take_steps.Given as goal
 
 abbrev pub invariant-items : goal.invariant-items
 invariant-items g l = record {

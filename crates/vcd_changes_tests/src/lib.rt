@@ -1,6 +1,0 @@
-//! The tests of `vcd_changes`, by its public path. They are a crate of their own so that the
-//! library is proved once: a crate with tests in it is proved again with them.
-#![tactic(auto)]
-
-#[cfg(test)]
-mod worked;
