@@ -10,7 +10,7 @@ use crate::word::{Keyword, Lead, is_digit, keyword_of, lead_of};
 use std::alloc::{AllocError, Global};
 
 // How many bytes a real text has at most.
-const MOST_REAL: usize = 64;
+const MAX_REAL: usize = 64;
 
 // What is known of the items before a phrase.
 #[derive(Clone, Copy)]
@@ -98,7 +98,7 @@ fn read_real<'t>(
     reader: &mut Reader<'t>,
 ) -> Result<Said<'t>, Fault> {
     token.check(!text.is_empty(), Wrong::BadValue)?;
-    token.check(text.len() <= MOST_REAL, Wrong::RealTooLong)?;
+    token.check(text.len() <= MAX_REAL, Wrong::RealTooLong)?;
     let name = reader.need()?;
     let code = code_at(codes, name, name.text)?;
     Ok(Said::Change(Change {

@@ -10,10 +10,10 @@ use crate::word::{Keyword, Lead, keyword_of, lead_of};
 use std::alloc::Global;
 
 // How many scopes may be open.
-const MOST_OPEN: usize = 1000;
+const MAX_OPEN: usize = 1000;
 
 // The greatest size of a variable.
-const MOST_BITS: u64 = 16_777_215;
+const MAX_BITS: u64 = 16_777_215;
 
 // Reads what follows `$scope`.
 fn read_scope<'t>(reader: &mut Reader<'t>) -> Result<Declaration<'t>, Fault> {
@@ -30,7 +30,7 @@ fn read_scope<'t>(reader: &mut Reader<'t>) -> Result<Declaration<'t>, Fault> {
 fn read_size(reader: &mut Reader<'_>) -> Result<usize, Fault> {
     let token = reader.need()?;
     match number_of(token.text) {
-        Some(size) if 1 <= size && size <= MOST_BITS => Ok(size as usize),
+        Some(size) if 1 <= size && size <= MAX_BITS => Ok(size as usize),
         _ => Err(token.fault(Wrong::BadVariable)),
     }
 }
@@ -86,7 +86,7 @@ fn read_declaration<'t>(
     token.check(header.declarations.len() < most, Wrong::TooMany)?;
     match keyword {
         Keyword::Scope => {
-            token.check(header.open_scopes() < MOST_OPEN, Wrong::TooDeep)?;
+            token.check(header.open_scopes() < MAX_OPEN, Wrong::TooDeep)?;
             let scope = read_scope(reader)?;
             header.declarations.push(scope)?;
         }

@@ -6,7 +6,7 @@ use crate::scale::{Scale, split_digits, unit_of};
 use std::alloc::{AllocError, Global};
 
 // How many digits a time may have.
-const MOST_DIGITS: usize = 20;
+const MAX_DIGITS: usize = 20;
 
 // A number of ticks, or of a unit, which is a power of ten in femtoseconds.
 #[derive(Clone, Copy)]
@@ -18,7 +18,7 @@ pub(crate) struct Moment {
 fn moment_of<'a>(word: &'a [u8]) -> Result<Moment, Refusal<'a>> {
     let (digits, unit) = split_digits(word);
     match (number_of(digits), unit_of(unit)) {
-        _ if digits.len() > MOST_DIGITS => Err(Refusal::BadTime(word)),
+        _ if digits.len() > MAX_DIGITS => Err(Refusal::BadTime(word)),
         (Some(number), None) if unit.is_empty() => Ok(Moment { number, unit: None }),
         (Some(number), Some(exponent)) => Ok(Moment {
             number,

@@ -20,7 +20,7 @@ use crate::variables::{Placed, first_unmatched, selected};
 use std::alloc::{AllocError, Global};
 
 // How many declarations all inputs may have together.
-const MOST_DECLARATIONS: usize = 16_777_216;
+const MAX_DECLARATIONS: usize = 16_777_216;
 
 // An input with a good header, as it was read.
 #[derive(Drop)]
@@ -77,7 +77,7 @@ fn open_all<'t>(
     limit: usize,
 ) -> Result<Vec<Opened<'t>>, Refusal<'t>> {
     let mut all = Vec::new(alloc);
-    let mut most = MOST_DECLARATIONS;
+    let mut most = MAX_DECLARATIONS;
     for input in inputs {
         let opened = open(alloc, input, limit, most)?;
         most = most.saturating_sub(opened.header.declarations.len());

@@ -11,7 +11,7 @@ use std::alloc::Global;
 use vcd_view::Kind;
 
 // How many scopes may be open (profile).
-const MOST_OPEN: usize = 1000;
+const MAX_OPEN: usize = 1000;
 
 // What the phrase of a variable says.
 #[derive(Clone, Copy)]
@@ -53,7 +53,7 @@ pub(crate) fn check_start(draft: &Draft, most: u64, kind: Kind) -> Result<(), He
     }
     match kind {
         Kind::Scope => {
-            if draft.scopes.len() >= MOST_OPEN {
+            if draft.scopes.len() >= MAX_OPEN {
                 return Err(HeadFault::TooDeep);
             }
             Ok(())

@@ -5,7 +5,7 @@ ghost use Rattle.vcd_head.specs.Names.{Code, KeepsRight, are_right, is_right, ke
 
 use std::alloc::{AllocError, Global};
 use vcd_view::{
-    Code, CodeSeed, Entry, MOST_LOOKS, code_number, entry_after, entry_of, key_of, long_key,
+    Code, CodeSeed, Entry, MAX_LOOKS, code_number, entry_after, entry_of, key_of, long_key,
     size_or_zero_of, text_in,
 };
 
@@ -118,7 +118,7 @@ fn put_hashed(entries: &mut [Entry], hash: u64, entry: Entry)
         → KeepsRight text codes entries.old entries.new }
     ensures len { length entries.new ≡ length entries.old }
 {
-    for looks in 0..MOST_LOOKS {
+    for looks in 0..MAX_LOOKS {
         let at = entry_after(hash, looks, entries.len());
         if is_free(entries, at) {
             put(entries, at, entry);

@@ -68,12 +68,12 @@ impl io::Read for Pieces<'_> {
 }
 
 /// The most bytes for which a `Narrow` has room.
-pub const MOST_HELD: usize = 1024;
+pub const MAX_HELD: usize = 1024;
 
 /// A writer that takes at most three bytes a call. Once it is full, writes and flushes fail.
 #[derive(Drop)]
 pub struct Narrow {
-    bytes: [u8; MOST_HELD],
+    bytes: [u8; MAX_HELD],
     len: usize,
     room: usize,
     ghost in_range: { len ≤ room },
@@ -89,7 +89,7 @@ impl Narrow {
         ensures { held_by result ≡ [] }
     {
         Narrow {
-            bytes: [0; MOST_HELD],
+            bytes: [0; MAX_HELD],
             len: 0,
             room,
         }

@@ -12,12 +12,12 @@ use vcd_text::{
 };
 
 // The most bytes of a record of answers.
-const MOST_TOLD: usize = 1024;
+const MAX_TOLD: usize = 1024;
 
 // A record of answers, one after the other. What has no room is left out.
 #[derive(Drop)]
 struct Report {
-    bytes: [u8; MOST_TOLD],
+    bytes: [u8; MAX_TOLD],
     len: usize,
     ghost size: { length bytes ≡ 1024 },
     ghost room: { len ≤ 1024 },
@@ -26,13 +26,13 @@ struct Report {
 impl Report {
     fn new() -> Report {
         Report {
-            bytes: [0; MOST_TOLD],
+            bytes: [0; MAX_TOLD],
             len: 0,
         }
     }
 
     fn push(&mut self, bytes: &[u8]) {
-        let n = bytes.len().min(MOST_TOLD - self.len);
+        let n = bytes.len().min(MAX_TOLD - self.len);
         self.bytes[self.len..self.len + n].copy_from_slice(&bytes[..n]);
         self.len += n;
     }

@@ -107,8 +107,8 @@ pub fn index_beside(entries: &[Entry], own: usize, key: u64) -> Option<usize>
 // The least key of the entry of a code of 8 bytes or more.
 const LONG: u64 = 1 << 63;
 
-/// The most entries that a look-up looks at to which the hash of a code leads.
-pub const MOST_LOOKS: usize = 64;
+/// How many of the entries to which the hash of a code leads a look-up looks at, at most.
+pub const MAX_LOOKS: usize = 64;
 
 /// Returns the index of the entry to which a hash leads after this many looks, in a table of
 /// `entries`, a power of two.
@@ -172,7 +172,7 @@ pub(crate) fn index_by_hash(
 fn index_of_key(entries: &[Entry], hash: u64, key: u64) -> Option<usize>
     ensures { IfSome result (λ position. HasEntry entries.now key position) }
 {
-    for looks in 0..MOST_LOOKS {
+    for looks in 0..MAX_LOOKS {
         let entry = entries.get(entry_after(hash, looks, entries.len()))?;
         if entry.key == key {
             return Some(entry.position as usize);

@@ -2,8 +2,8 @@
 ghost use Rattle.std.specs.Prelude.{◌≡◌, ◌+◌, ◌*◌, ◌^◌, ◌≤◌, ◌<◌, length};
 ghost use Rattle.vcd_view.specs.Keys.{key_in, packed};
 
-// The most bytes that fit into a key with a blank after them.
-const MOST_BYTES: usize = 7;
+// How many bytes fit at most into a key with a blank after them.
+const MAX_BYTES: usize = 7;
 
 // What closes a key.
 const BLANK: u64 = b' ' as u64;
@@ -24,7 +24,7 @@ pub fn key_of(code: &[u8]) -> u64
             prepended(prepended(prepended(BLANK, *fourth), *third), *second),
             *first,
         ),
-        _ if code.len() <= MOST_BYTES => packed_of(code),
+        _ if code.len() <= MAX_BYTES => packed_of(code),
         _ => 0,
     }
 }

@@ -9,13 +9,13 @@ use Rattle.vcd_head.proofs.declarations.check_start.Goals as goal
 pub returns-then-len-most-clause-checks : goal.returns-then-len-most-clause-checks
 returns-then-len-most-clause-checks c = λ ps h. too_many c.args.most c.args.draft.now ps c.args.kind h (omega arith)
 
-pub returns-then-len-ge-MOST_OPEN-clause-checks : goal.returns-then-len-ge-MOST_OPEN-clause-checks
-returns-then-len-ge-MOST_OPEN-clause-checks c = λ ps h.
+pub returns-then-len-ge-MAX_OPEN-clause-checks : goal.returns-then-len-ge-MAX_OPEN-clause-checks
+returns-then-len-ge-MAX_OPEN-clause-checks c = λ ps h.
     let is : c.args.kind ≡ kind.Scope = search rules in
     subst (λ k. IsBarred c.args.most ps k TooDeep) (sym is) (too_deep c.args.most c.args.draft.now ps h (omega arith) (omega arith))
 
-pub returns-else-len-ge-MOST_OPEN-clause-checks : goal.returns-else-len-ge-MOST_OPEN-clause-checks
-returns-else-len-ge-MOST_OPEN-clause-checks c = λ ps h.
+pub returns-else-len-ge-MAX_OPEN-clause-checks : goal.returns-else-len-ge-MAX_OPEN-clause-checks
+returns-else-len-ge-MAX_OPEN-clause-checks c = λ ps h.
     let is : c.args.kind ≡ kind.Scope = search rules in
     subst (MayStart c.args.most ps) (sym is) (scope_may c.args.most c.args.draft.now ps h (omega arith) (omega arith))
 
