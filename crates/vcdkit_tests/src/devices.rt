@@ -7,7 +7,7 @@ use std::io;
 use std::io::{ErrorKind, Write};
 use std::process::Abort;
 use vcd_text::Watch;
-use vcd_text::doubles::{MOST_HELD, Narrow, Pieces};
+use vcd_text::doubles::{MAX_HELD, Narrow, Pieces};
 use vcd_words::Words;
 use vcdkit::{Job, Want, run};
 
@@ -27,7 +27,7 @@ struct Sparing {
 impl Sparing {
     fn new(most: usize, fails_at: u64) -> Self {
         Sparing {
-            taken: Narrow::new(MOST_HELD),
+            taken: Narrow::new(MAX_HELD),
             most,
             calls: 0,
             fails_at,
@@ -247,8 +247,8 @@ fn write_parts(parts: &[(&[u8], &[u8])], dump: &mut Narrow, output: &mut Narrow)
 
 // Both of a row.
 fn whole_of(row: &Row<'_>) -> io::Result<Whole> {
-    let mut dump = Narrow::new(MOST_HELD);
-    let mut output = Narrow::new(MOST_HELD);
+    let mut dump = Narrow::new(MAX_HELD);
+    let mut output = Narrow::new(MAX_HELD);
     write_parts(row.parts, &mut dump, &mut output)?;
     output.write_all(row.closing)?;
     Ok(Whole { dump, output })
