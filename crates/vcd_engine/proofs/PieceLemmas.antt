@@ -1,6 +1,7 @@
 -- What is written and what is pending, where text is due.
-use Rattle.std.proofs.Common.{◌≡◌, ℕ, ◌+◌, ◌-◌, ◌≤◌, length, refl, List, [], ◌++◌, slice_range, Result, Ok, Err, sym, ap, subst, ◌∙◌, append-nil, append_assoc, arith, take, drop, IfOk}
+use Rattle.std.proofs.Common.{◌≡◌, ℕ, ◌+◌, ◌-◌, ◌≤◌, length, refl, List, [], ◌∷◌, ◌++◌, slice_range, Result, Ok, Err, sym, ap, subst, ◌∙◌, append-nil, append_assoc, arith, take, drop, IfOk}
 use Rattle.std.proofs.lemmas.List.{take-take}
+use Rattle.std.specs.Prelude.{slice_index}
 use Rattle.vcd_text.specs.Device.{Device, Puts, Writes, WritesSome}
 use Rattle.vcd_text.proofs.AheadLemmas.{length-ahead, slice_range-append}
 use Rattle.vcd_text.proofs.Writes.{both-written, counts-on, some-behind, some-first}
@@ -10,7 +11,8 @@ use Rattle.std.specs.Io.KnownBytes.{Appends}
 use Rattle.vcd_text.specs.Ahead.{bytes_of, passed_of}
 use Rattle.vcd_text.specs.declared.ahead.Ahead.{Ahead}
 use Rattle.vcd_view.specs.declared.view.HeadView.{HeadView}
-use Rattle.vcd_body.specs.Spelled.{HasSpelled}
+use Rattle.vcd_body.specs.Spelled.{HasSpelled, bytes_without, line_without}
+use Rattle.vcd_body.proofs.LineLemmas.{one_byte}
 use Rattle.vcd_body.specs.Taken.{TakesItem}
 use Rattle.vcd_body.specs.declared.ahead.ScannedItem.{ScannedItem}
 use Rattle.vcd_body.specs.Items.{regs_after}
@@ -28,6 +30,16 @@ pub joined : (bytes : List ℕ) (a b from to : ℕ) → a ≤ b → from ≡ b �
 joined bytes a b from to le e on =
     let all : b + (to - b) ≡ to = omega (arith, e) in
     ap (λ n. slice_range bytes a b ++ slice_range bytes n to) e ∙ subst (λ n. slice_range bytes a b ++ slice_range bytes b n ≡ slice_range bytes a n) all (slice_range-append bytes a b (to - b) le)
+
+-- the bytes before a line feed, and it
+pub line_there : (bytes : List ℕ) (from to k : ℕ) → from + 2 + k ≤ to → to ≤ length bytes → slice_index bytes (to - 1) ≡ 10 → bytes_without bytes from to k ≡ line_without bytes from to k
+line_there bytes from to k few within last =
+    let first = slice_range bytes from (from + 1) in
+    let rest = slice_range bytes (from + 1 + k) (to - 1) in
+    let all : to - 1 + 1 ≡ to = omega arith in
+    let end : slice_range bytes (to - 1) (to - 1 + 1) ≡ 10 ∷ [] = one_byte bytes (to - 1) (omega arith) ∙ ap (λ b. b ∷ []) last in
+    let both : rest ++ 10 ∷ [] ≡ slice_range bytes (from + 1 + k) to = ap (λ l. rest ++ l) (sym end) ∙ slice_range-append bytes (from + 1 + k) (to - 1) 1 (omega arith) ∙ ap (slice_range bytes (from + 1 + k)) all in
+    ap (λ l. first ++ l) (sym both) ∙ sym (append_assoc first rest (10 ∷ []))
 
 -- of which nothing is left
 pub none_between : (bytes : List ℕ) (from to : ℕ) → to ≤ from → slice_range bytes from to ≡ []
