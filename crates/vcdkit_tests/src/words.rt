@@ -213,6 +213,30 @@ fn a_merge_has_one_to_64_files(rt: HostRuntime) {
     refuse(&rt, &words, UseFault::TooManyFiles);
 }
 
+// The words of merges that read standard input once, or a file twice, and of some that read standard
+// input twice.
+const ONCE: [&[&str]; 3] = [
+    &["vcdkit", "merge", "-"],
+    &["vcdkit", "merge", "a.vcd", "-", "a.vcd"],
+    &["vcdkit", "merge", "--", "./-", "-", "--", "", "-a"],
+];
+
+const INPUT_TWICE: [&[&str]; 3] = [
+    &["vcdkit", "merge", "-", "-"],
+    &["vcdkit", "merge", "a.vcd", "-", "b.vcd", "-"],
+    &["vcdkit", "merge", "-", "--", "-", "a.vcd"],
+];
+
+#[test]
+fn a_merge_reads_standard_input_once(rt: HostRuntime) {
+    for words in &ONCE {
+        ask(&rt, words, Words::Merge(&["f.vcd"]), LIMIT);
+    }
+    for words in &INPUT_TWICE {
+        refuse(&rt, words, UseFault::InputTwice);
+    }
+}
+
 #[test]
 fn a_command_asks_for_its_job(rt: HostRuntime) {
     let job = Job {
