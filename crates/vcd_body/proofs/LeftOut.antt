@@ -90,16 +90,6 @@ without_none bytes from to within =
     let none : from + 1 + 0 ≡ from + 1 = omega arith in
     ap₂ (λ (a b : ℕ). slice_range bytes from (from + 1) ++ slice_range bytes a b) none (sym all) ∙ slice_range-append bytes from (from + 1) (to - (from + 1)) (omega arith) ∙ ap (slice_range bytes from) all
 
--- the bytes before a line feed, and it
-pub line_there : (bytes : List ℕ) (from to k : ℕ) → from + 2 + k ≤ to → to ≤ length bytes → slice_index bytes (to - 1) ≡ 10 → bytes_without bytes from to k ≡ line_without bytes from to k
-line_there bytes from to k few within last =
-    let first = slice_range bytes from (from + 1) in
-    let rest = slice_range bytes (from + 1 + k) (to - 1) in
-    let all : to - 1 + 1 ≡ to = omega arith in
-    let end : slice_range bytes (to - 1) (to - 1 + 1) ≡ 10 ∷ [] = one_byte bytes (to - 1) (omega arith) ∙ ap (λ b. b ∷ []) last in
-    let both : rest ++ 10 ∷ [] ≡ slice_range bytes (from + 1 + k) to = ap (λ l. rest ++ l) (sym end) ∙ slice_range-append bytes (from + 1 + k) (to - 1) 1 (omega arith) ∙ ap (slice_range bytes (from + 1 + k)) all in
-    ap (λ l. first ++ l) (sym both) ∙ sym (append_assoc first rest (10 ∷ []))
-
 -- the bytes of a change are one or more, and of digits or a number as many more as these
 pub bit_within : (bytes : List ℕ) (from to : ℕ) (text code : List ℕ) → HasChange bytes from to form.Scalar text code → from + 2 ≤ to
 bit_within bytes from to text code (digit, is, t) = let order = t.before.order in let ends = t.ends in omega arith

@@ -18,7 +18,7 @@ use Rattle.vcd_text.specs.Passed.{AreWhite}
 use Rattle.vcd_text.proofs.AheadLemmas.{slice_range-append}
 use Rattle.vcd_view.specs.declared.view.HeadView.{HeadView}
 use Rattle.vcd_view.specs.Views.{IsViewOf, IsCode}
-use Rattle.vcd_view.specs.Entries.{most_of}
+use Rattle.vcd_view.specs.Entries.{size_or_zero_of}
 use Rattle.vcd_view.specs.Finds.{Finds, IsSized}
 use Rattle.vcd_text.proofs.Places.{length-slice_range}
 use Rattle.vcd_view.specs.declared.view.Code.{Code}
@@ -62,7 +62,7 @@ of_shown v h view position y there f text code named x (k, at, is) =
     (k, is, name, ap length (sym name ∙ sym shown.text_is) ∙ length-slice_range v.text.now y.start (y.start + y.len) shown.within ∙ len, shown.size_is, shown.event_is)
 
 -- the size that was found, where it is one
-sized_is : (y : Code) (most : ℕ) → most ≡ most_of y → most ≢ 0 → (y.event ≡ false) × (y.size ≡ most)
+sized_is : (y : Code) (most : ℕ) → most ≡ size_or_zero_of y → most ≢ 0 → (y.event ≡ false) × (y.size ≡ most)
 sized_is y most is some = by_parts y.event (nat_le (2 ^ 32) y.size) refl refl
   where
     by_parts : (e b : Bool) → y.event ≡ e → nat_le (2 ^ 32) y.size ≡ b → (y.event ≡ false) × (y.size ≡ most)
@@ -71,7 +71,7 @@ sized_is y most is some = by_parts y.event (nat_le (2 ^ 32) y.size) refl refl
     by_parts false false h g = (h, sym (is ∙ rw (h, g) refl))
 
 -- the change of the code whose size was found, at its offsets
-pub of_sized : (v : HeadView) (h : Header) → IsViewOf v h → (position most : ℕ) → IsSized v.codes.now (record { position = position; most = most }) → most ≢ 0 → (f : Form) (text code bytes : List ℕ) (from to at start : ℕ) → Names v position code → HasPlaces bytes from to at start text code → (x : BodyItem) → IsItem h.codes text (item.Change position f) x
+pub of_sized : (v : HeadView) (h : Header) → IsViewOf v h → (position most : ℕ) → IsSized v.codes.now (record { position = position; size_or_zero = most }) → most ≢ 0 → (f : Form) (text code bytes : List ℕ) (from to at start : ℕ) → Names v position code → HasPlaces bytes from to at start text code → (x : BodyItem) → IsItem h.codes text (item.Change position f) x
     → (k : IdCode) × (x ≡ BodyItem.Changes (record { code = k; form = model_form f; text = text })) × (k.text ≡ code) × (length code ≡ to - 1 - start) × (k.size ≡ most) × (k.event ≡ false)
 of_sized v h view position most (y, there, is) some f text code bytes from to at start named positions x i =
     let k = of_shown v h view position y there f text code named x i in

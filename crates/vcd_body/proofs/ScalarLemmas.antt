@@ -21,7 +21,7 @@ use Rattle.vcd_body.proofs.WordLemmas.{scalar_begins}
 -- where its token was taken, it was
 pub scalar_takes : (v : HeadView) (a a' : Ahead) (r : Regs) (o : Opening) (f : Found) (text : Bor (List ℕ)) → Opens a a' o → (o.kind ≡ kind.Bit) ⊎ (o.kind ≡ kind.Scalar)
     → IsFoundScalar v o.token.now f → text.now ≡ take 1 o.token.now
-    → TakesItem v a a' r (record { item = item.Change f.position form.Scalar; text = text; most = f.most; begin = passed_of a' - 1 - length o.token.now; at = passed_of a' - 1 - length o.token.now; code_at = passed_of a' - 1 - length o.token.now + 1; bits = None; binary = false })
+    → TakesItem v a a' r (record { item = item.Change f.position form.Scalar; text = text; size_or_zero = f.size_or_zero; begin = passed_of a' - 1 - length o.token.now; at = passed_of a' - 1 - length o.token.now; code_at = passed_of a' - 1 - length o.token.now + 1; bits = None; binary = false })
 scalar_takes v a a' r o f text opens is found text_is =
     let token = o.token.now in
     let bytes = bytes_of a in

@@ -8,31 +8,31 @@ use Rattle.vcd_text.specs.declared.ahead.Ahead.{Ahead}
 use Rattle.vcd_text.specs.declared.device.WriteFailed.{WriteFailed}
 use Rattle.vcd_view.specs.declared.view.HeadView.{HeadView}
 use Rattle.vcd_body.specs.Ahead.{LooksOver}
-use Rattle.vcd_body.specs.Walk.{Again, Begins, Further, HasCome, IsSamePlace, Stage, TakesShown, Trail, Walks, stage_at}
+use Rattle.vcd_body.specs.Walk.{Again, Begins, Further, HasCome, IsSamePlace, Stage, TakesOne, Trail, Walks, stage_at}
 use Rattle.vcd_body.specs.declared.item.Regs.{Regs}
 
-module _ {V C : Type 0} (takes : HeadView → Stage V C → Stage V C → Result (Unit {0}) WriteFailed → Type 0) (stands : V → C → List ℕ → Regs → Type 0) (over : V → Bool) (shows : HeadView → Type 0) where
+module _ {V C : Type 0} (takes : HeadView → Stage V C → Stage V C → Result (Unit {0}) WriteFailed → Type 0) (stands : V → C → List ℕ → Regs → Type 0) (over : V → Bool) (v : HeadView) where
   -- it begins with no item
-  pub come_begins : (a : Stage V C) → stands a.visit a.command (bytes_of a.ahead) a.regs → passed_of a.ahead ≤ length (bytes_of a.ahead) → HasCome takes stands over shows a a
+  pub come_begins : (a : Stage V C) → stands a.visit a.command (bytes_of a.ahead) a.regs → passed_of a.ahead ≤ length (bytes_of a.ahead) → HasCome takes stands over v a a
   come_begins a s within = record { trail = Begins; on = s; failures = refl; same = refl; further = omega arith; within = within }
 
   -- one item more was taken
-  pub come_on : (a b c : Stage V C) → HasCome takes stands over shows a b → TakesShown takes stands shows b c (Ok tt) → over c.visit ≡ false → HasCome takes stands over shows a c
+  pub come_on : (a b c : Stage V C) → HasCome takes stands over v a b → TakesOne takes stands v b c (Ok tt) → over c.visit ≡ false → HasCome takes stands over v a c
   come_on a b c come one on =
       let p = come.further in
-      let n = one.2.item in
+      let n = one.item in
       let q = n.further in
       record {
         trail = Further b c come.trail one on;
-        on = one.2.on;
-        failures = one.2.counts ∙ come.failures;
+        on = one.on;
+        failures = one.counts ∙ come.failures;
         same = n.same.0 ∙ come.same;
         further = omega (arith, p, q);
         within = n.within;
       }
 
   -- another look-ahead at the same offset will do
-  pub come_again : (a b : Stage V C) (there : Ahead) → HasCome takes stands over shows a b → IsSamePlace b.ahead there → HasCome takes stands over shows a (stage_at there b.regs b.visit b.command b.out)
+  pub come_again : (a b : Stage V C) (there : Ahead) → HasCome takes stands over v a b → IsSamePlace b.ahead there → HasCome takes stands over v a (stage_at there b.regs b.visit b.command b.out)
   come_again a b there come same =
       let p = come.further in
       let q = same.0 in
@@ -45,13 +45,13 @@ module _ {V C : Type 0} (takes : HeadView → Stage V C → Stage V C → Result
         within = rw (same.0, same.1) come.within;
       }
 
-  module _ (a b : Stage V C) (first : Trail takes stands over shows a b) where
-    both : (c : Stage V C) → Trail takes stands over shows b c → Trail takes stands over shows a c
+  module _ (a b : Stage V C) (first : Trail takes stands over v a b) where
+    both : (c : Stage V C) → Trail takes stands over v b c → Trail takes stands over v a c
     both c Begins = first
     both _ (Further m c so_far one on) = Further m c (both m so_far) one on
     both _ (Again m c so_far there same is) = Again m c (both m so_far) there same is
 
-  come_further : (a b c : Stage V C) → HasCome takes stands over shows a b → HasCome takes stands over shows b c → HasCome takes stands over shows a c
+  come_further : (a b c : Stage V C) → HasCome takes stands over v a b → HasCome takes stands over v b c → HasCome takes stands over v a c
   come_further a b c come more =
       let p = come.further in
       let q = more.further in
@@ -65,35 +65,35 @@ module _ {V C : Type 0} (takes : HeadView → Stage V C → Stage V C → Result
       }
 
   -- it continues, and ends as it then does
-  pub walks_further : (a b z : Stage V C) (ended : Result Bool WriteFailed) → HasCome takes stands over shows a b → Walks takes stands over shows b z ended → Walks takes stands over shows a z ended
+  pub walks_further : (a b z : Stage V C) (ended : Result Bool WriteFailed) → HasCome takes stands over v a b → Walks takes stands over v b z ended → Walks takes stands over v a z ended
   walks_further a b z (Ok false) come more = come_further a b z come more
   walks_further a b z (Ok true) come more = (more.0, come_further a b more.0 come more.1, more.2, more.3)
   walks_further a b z (Err e) come more = (more.0, come_further a b more.0 come more.1, more.2)
 
   -- failures of the output are counted
-  pub walk_counts : (a z : Stage V C) (ended : Result Bool WriteFailed) → Walks takes stands over shows a z ended → Counts a.out z.out ended
+  pub walk_counts : (a z : Stage V C) (ended : Result Bool WriteFailed) → Walks takes stands over v a z ended → Counts a.out z.out ended
   walk_counts a z (Ok false) w = w.failures
-  walk_counts a z (Ok true) w = w.2.2.counts ∙ w.1.failures
-  walk_counts a z (Err e) w = w.2.2.counts ∙ ap (λ n. n + 1) w.1.failures
+  walk_counts a z (Ok true) w = w.2.counts ∙ w.1.failures
+  walk_counts a z (Err e) w = w.2.counts ∙ ap (λ n. n + 1) w.1.failures
 
   -- where the visit is over, some bytes were passed
-  pub walk_further : (a z : Stage V C) → Walks takes stands over shows a z (Ok true) → passed_of a.ahead < passed_of z.ahead
+  pub walk_further : (a z : Stage V C) → Walks takes stands over v a z (Ok true) → passed_of a.ahead < passed_of z.ahead
   walk_further a z w =
       let further = w.1.further in
-      let more = w.2.2.item.further in
+      let more = w.2.item.further in
       omega (arith, further, more)
 
   module _ (a : Stage V C) (limit lines : ℕ) (bytes : List ℕ) (ts : List Token) (looks : LooksOver limit bytes a.ahead) (passed : Passed limit lines bytes (passed_of a.ahead) ts) where
     abbrev pub PassesTo : Stage V C → Type 0
     PassesTo z = LooksOver limit bytes z.ahead × ((more : List Token) × Passed limit lines bytes (passed_of z.ahead) (ts ++ more))
 
-    one_more : (b c : Stage V C) (result : Result (Unit {0}) WriteFailed) → TakesShown takes stands shows b c result → PassesTo b → PassesTo c
+    one_more : (b c : Stage V C) (result : Result (Unit {0}) WriteFailed) → TakesOne takes stands v b c result → PassesTo b → PassesTo c
     one_more b c result one so_far =
         let more = so_far.1 in
-        let n = one.2.item.passes limit lines bytes (ts ++ more.0) so_far.0 more.1 in
-        ((one.2.item.same.1 ∙ so_far.0.0, one.2.item.same.0 ∙ so_far.0.1), (more.0 ++ n.0, subst (Passed limit lines bytes (passed_of c.ahead)) (append_assoc ts more.0 n.0) n.1))
+        let n = one.item.passes limit lines bytes (ts ++ more.0) so_far.0 more.1 in
+        ((one.item.same.1 ∙ so_far.0.0, one.item.same.0 ∙ so_far.0.1), (more.0 ++ n.0, subst (Passed limit lines bytes (passed_of c.ahead)) (append_assoc ts more.0 n.0) n.1))
 
-    along : (z : Stage V C) → Trail takes stands over shows a z → PassesTo z
+    along : (z : Stage V C) → Trail takes stands over v a z → PassesTo z
     along z Begins = (looks, ([], rw (append-nil ts) passed))
     along _ (Further b c so_far one on) = one_more b c (Ok tt) one (along b so_far)
     along _ (Again b c so_far there same is) =
@@ -101,7 +101,7 @@ module _ {V C : Type 0} (takes : HeadView → Stage V C → Stage V C → Result
         rw is ((same.2 ∙ o.0.0, same.1 ∙ o.0.1), (o.1.0, rw same.0 o.1.1))
 
     -- whole tokens were passed
-    pub walk_passes : (z : Stage V C) (ended : Result Bool WriteFailed) → Walks takes stands over shows a z ended → PassesTo z
+    pub walk_passes : (z : Stage V C) (ended : Result Bool WriteFailed) → Walks takes stands over v a z ended → PassesTo z
     walk_passes z (Ok false) w = along z w.trail
     walk_passes z (Ok true) w = one_more w.0 z (Ok tt) w.2 (along w.0 w.1.trail)
     walk_passes z (Err e) w = one_more w.0 z (Err e) w.2 (along w.0 w.1.trail)

@@ -35,7 +35,7 @@ IsPlain text item = ⊥
 
 -- a change's code is one of these and has this size, as a look-up tells it; a timestamp has none
 abbrev pub IsSizedItem : List Code → Item → ℕ → Type 0
-IsSizedItem codes (Change position form) most = IsSized codes (record { position = position; most = most })
+IsSizedItem codes (Change position form) most = IsSized codes (record { position = position; size_or_zero = most })
 IsSizedItem codes item most = most ≡ 0
 
 -- where there are bits, the item is a change by a vector, and the text is their digits

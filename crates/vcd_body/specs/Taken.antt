@@ -70,7 +70,7 @@ pub record TakesItem (v : HeadView) (a a' : Ahead) (r : Regs) (p : ScannedItem) 
   pub passes : (limit lines : ℕ) (bytes : List ℕ) (ts : List Token) → LooksOver limit bytes a → Passed limit lines bytes (passed_of a) ts → (more : List Token) × Passed limit lines bytes (passed_of a') (ts ++ more)
   pub sound : HasGoodText v.codes.now p.text.now p.item
   pub scanned : IsPlain p.text.now p.item
-  pub sized : IsSizedItem v.codes.now p.item p.most
+  pub sized : IsSizedItem v.codes.now p.item p.size_or_zero
   pub bits : HasBits p.item p.text.now p.bits
   pub binary : AreBinaryIf p.binary p.text.now
   -- it is spelled by the bytes that were passed with it

@@ -56,15 +56,11 @@ module _ {V C : Type 0} (takes : HeadView → Stage V C → Stage V C → Result
   abbrev pub MayTakeTimestamp : HeadView → (Device → Stage V C) → (Device → Stage V C) → Option (Unit {0}) → Type 0
   MayTakeTimestamp v s s' result = MatchOption result ((out : Device) → s' out ≡ s out) (λ _. (out : Device) → TakesOne v (s out) (s' out) (Ok tt))
 
-  -- one item more was taken, by a view of the header
-  abbrev pub TakesShown : (HeadView → Type 0) → Stage V C → Stage V C → Result (Unit {0}) WriteFailed → Type 0
-  TakesShown shows s s' result = (v : HeadView) × shows v × TakesOne v s s' result
-
-  module _ (over : V → Bool) (shows : HeadView → Type 0) where
+  module _ (over : V → Bool) (v : HeadView) where
     -- items were taken one after the other, and the visit was not over after any of them
     pub data Trail (a : Stage V C) : Stage V C → Type 0 where
       Begins : Trail a a
-      Further : (b c : Stage V C) (so_far : Trail a b) (one : TakesShown shows b c (Ok tt)) (on : over c.visit ≡ false) → Trail a c
+      Further : (b c : Stage V C) (so_far : Trail a b) (one : TakesOne v b c (Ok tt)) (on : over c.visit ≡ false) → Trail a c
       Again : (b c : Stage V C) (so_far : Trail a b) (there : Ahead) (same : IsSamePlace b.ahead there) (is : c ≡ stage_at there b.regs b.visit b.command b.out) → Trail a c
 
     -- how far it has come from where it began; it can continue
@@ -80,5 +76,5 @@ module _ {V C : Type 0} (takes : HeadView → Stage V C → Stage V C → Result
     -- due with one more failed
     abbrev pub Walks : Stage V C → Stage V C → Result Bool WriteFailed → Type 0
     Walks a z (Ok false) = HasCome a z
-    Walks a z (Ok true) = (m : Stage V C) × HasCome a m × TakesShown shows m z (Ok tt) × (over z.visit ≡ true)
-    Walks a z (Err e) = (m : Stage V C) × HasCome a m × TakesShown shows m z (Err e)
+    Walks a z (Ok true) = (m : Stage V C) × HasCome a m × TakesOne v m z (Ok tt) × (over z.visit ≡ true)
+    Walks a z (Err e) = (m : Stage V C) × HasCome a m × TakesOne v m z (Err e)

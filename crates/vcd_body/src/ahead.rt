@@ -7,7 +7,7 @@ ghost use Rattle.vcd_body.specs.declared.words.PhraseKind.TheVariants as kind;
 
 use crate::bits::Bits;
 use crate::item::{Form, Item, Regs};
-use crate::phrases::{real_text, scalar_code, takes, vector_text};
+use crate::phrases::{has_room, real_text, scalar_code, vector_text};
 use crate::words::{
     PhraseKind, after_first, are_binary_or_known, bits_at, first_byte_of, is_comment, kind_by,
     kind_of, rest_of,
@@ -25,7 +25,7 @@ pub struct ScannedItem<'a> {
     pub text: &'a [u8],
     /// The size in bits of a change's code, which `size` returns. It is 0 for an event, for a size
     /// that 32 bits do not hold, and for a timestamp.
-    pub most: usize,
+    pub size_or_zero: usize,
     /// Where the item begins in the bytes that are looked over: at its digit, or at the byte before
     /// its text or before the digits of a timestamp.
     pub begin: usize,
@@ -41,17 +41,17 @@ pub struct ScannedItem<'a> {
 }
 
 impl ScannedItem<'_> {
-    /// Returns the size in bits of a change's code. `None` where `most` is 0: for an event, for a
-    /// timestamp, for a size that 32 bits do not hold, and where the size is not known.
+    /// Returns the size in bits of a change's code. `None` if `size_or_zero` is 0: for an event, for
+    /// a timestamp, for a size that 32 bits do not hold, and if the size is not known.
     #[inline(always)]
     pub fn size(self) -> Option<usize>
-        ensures told { IfSome result (λ size. (size ≡ self.entry.most) × (0 < size)) }
-        ensures none { result ≡ None → self.entry.most ≡ 0 }
+        ensures told { IfSome result (λ size. (size ≡ self.entry.size_or_zero) × (0 < size)) }
+        ensures none { result ≡ None → self.entry.size_or_zero ≡ 0 }
     {
-        if self.most == 0 {
+        if self.size_or_zero == 0 {
             return None;
         }
-        Some(self.most)
+        Some(self.size_or_zero)
     }
 }
 
@@ -68,7 +68,7 @@ fn change_of(
     ensures { result ≡ record {
       item = item.Change found.position form;
       text = text.entry;
-      most = found.most;
+      size_or_zero = found.size_or_zero;
       begin = begin;
       at = at;
       code_at = code_at;
@@ -82,7 +82,7 @@ fn change_of(
             form,
         },
         text,
-        most: found.most,
+        size_or_zero: found.size_or_zero,
         begin,
         at,
         code_at,
@@ -97,7 +97,7 @@ fn timestamp_of<'a>(time: u64, begin: usize) -> ScannedItem<'a>
     requires { begin + 1 < 2 ^ 64 }
     ensures item { result.item ≡ item.Time time }
     ensures text { result.text.now ≡ [] }
-    ensures most { result.most ≡ 0 }
+    ensures size { result.size_or_zero ≡ 0 }
     ensures positions { (result.begin ≡ begin) × (result.at ≡ begin + 1) }
     ensures bits { result.bits ≡ None }
     ensures binary { result.binary ≡ false }
@@ -105,7 +105,7 @@ fn timestamp_of<'a>(time: u64, begin: usize) -> ScannedItem<'a>
     ScannedItem {
         item: Item::Time(time),
         text: &[],
-        most: 0,
+        size_or_zero: 0,
         begin,
         at: begin + 1,
         code_at: begin + 1,
@@ -126,7 +126,7 @@ fn vector_code(token: &[u8], code: &[u8], view: HeadView<'_>, binary: bool) -> O
         return None;
     };
     let found = find_sized(view, code)?;
-    if takes(view.codes, found, digits.len()) {
+    if has_room(view.codes, found, digits.len()) {
         return Some(found);
     }
     None
@@ -287,18 +287,6 @@ pub(crate) fn two_short_lines_come(ahead: Ahead<'_>) -> bool
     let mut next = ahead;
     let _ = next.next_short();
     next.two_byte_line_comes()
-}
-
-/// Returns whether a short line comes, and then another one or a timestamp.
-// Asked at one short line alone, `merge` of scalars takes 3 % more.
-#[inline(always)]
-pub(crate) fn short_lines_come(ahead: Ahead<'_>) -> bool
-    ensures { result ≡ true
-        → IsRun (longest_of ahead.entry) (bytes_of ahead.entry) (passed_of ahead.entry) 2 }
-{
-    let rest = &ahead.bytes()[ahead.passed()..];
-    two_short_lines_come(ahead)
-        || (ahead.two_byte_line_comes() && matches!(rest.get(3), Some(b'#')))
 }
 
 /// Returns whether the next token ahead begins with `$`, as a keyword does. Then only white bytes

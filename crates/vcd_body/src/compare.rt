@@ -7,7 +7,7 @@ use crate::held::{count_of, digit_shown};
 use crate::item::Form;
 use crate::packed::{held_digit, holds_packed};
 use crate::slot::{HeldValue, State, digit_of_state};
-use crate::words::are_any_digits;
+use crate::words::are_all_digits;
 
 // Returns what a text is extended by.
 fn extension_of_text(text: &[u8]) -> u8
@@ -68,7 +68,7 @@ fn are_same_unpacked(bytes: &[u8], text: &[u8]) -> bool
     requires { length bytes.now ≡ length text.now }
     ensures { Decides result (map held_digit bytes.now ≡ str_to_ascii_lowercase text.now) }
 {
-    if bytes == text && are_any_digits(text) {
+    if bytes == text && are_all_digits(text) {
         return true;
     }
     let mut index = text.len();

@@ -6,11 +6,10 @@
 //! timestamps and changes that are whole in the chunk: `walk_ahead` takes these one after the
 //! other, and leaves the feed where it is; `pass_items` takes the feed past all of them. A `Visit`
 //! says what is done with each, which timestamps are left, and when the walk is over. `pass_on` is
-//! for a caller that reads on: before a read may wait, a sink passes on what it keeps back. Where
-//! the bytes of such a change are the line that `put_change` would write, but for digits that it
-//! does not need (`left_out` counts them), the line may be copied from the chunk, and many such
-//! lines in a row together. Where they do not end with a line feed (`left_out_before_last`), one
-//! comes after them. A `Table` keeps of each code its current value, three counters, and
+//! for a caller that reads on: before a read may wait, a sink passes on what it keeps back. If the
+//! bytes of such a change before its last one are those of the line that `put_change` would write,
+//! but for digits that it does not need (`left_out` counts them), they may be copied from the chunk
+//! before a line feed. Lines that end with a line feed in the chunk may be copied together. A `Table` keeps of each code its current value, three counters, and
 //! whether it is chosen. What is done with all items ends with a `Done` or a `Stop`; `put_time`
 //! writes the line of a time. None of them takes memory.
 //!
@@ -42,7 +41,7 @@
 //! # The modules
 //!
 //! - `read`: `next_item`, `change_text`
-//! - `walk`: `walk_ahead`, `Visit`, `Viewed`, `Extent`: the loop over the items ahead
+//! - `walk`: `walk_ahead`, `Visit`, `Extent`: the loop over the items ahead
 //! - `ahead`: an item ahead, by what it begins with; `ScannedItem`, `item_comes`, `pass_on`,
 //!   `pass_items`
 //! - `phrases`, `tokens`, `words`: phrases by what they begin with; the next token; what a token
@@ -52,7 +51,7 @@
 //!   on
 //! - `id`: `put_change`, under an `Id`; `put_line`: the one writer of a change's line; `change`:
 //!   its digits, and a code's own bytes at its end; `renamed`: a new code at its end
-//! - `lines`: `left_out`, `left_out_before_last`; `time_line`: `put_time`
+//! - `lines`: `left_out`; `time_line`: `put_time`
 //! - `value`: `Value`, what a change gives
 //! - `table`, `slot`: `Table`, `Shown`; `Slot`, `Share`; `table_text`: `put_short`, `put_full`;
 //!   `step`: `Step`, what became of a value that was set
@@ -113,7 +112,7 @@ pub use bits::Bits;
 pub use fault::BodyFault;
 pub use id::{Id, put_change};
 pub use item::{Form, Item, Regs, Section};
-pub use lines::{is_timestamp_line, left_out, left_out_before_last};
+pub use lines::{is_timestamp_line, left_out};
 pub use read::{change_text, next_item};
 pub use renamed::{put_renamed, put_renamed_ahead};
 pub use slot::{Share, Shown, Slot};
@@ -122,4 +121,4 @@ pub use table::Table;
 pub use table_text::{put_full, put_short};
 pub use time_line::{put_time, put_time_unless};
 pub use value::Value;
-pub use walk::{Extent, Viewed, Visit, Walked, walk_ahead};
+pub use walk::{Extent, Visit, Walked, walk_ahead};

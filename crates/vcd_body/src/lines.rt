@@ -242,44 +242,18 @@ fn left_out_of_text(
     }
 }
 
-/// Returns how many bytes after the first one to leave out of the bytes of an item that was taken
-/// ahead, so that the others are the line that would be written: the first digits of a vector that
-/// has more than it needs. The item has the bytes from `from` up to `to`. Where the result is none,
-/// its bytes may be the line all the same.
-#[inline(always)]
-pub fn left_out(scanned: ScannedItem<'_>, bytes: &[u8], from: usize, to: usize) -> Option<usize>
-    requires { (v : HeadView) × SpellsScanned v bytes.now from to scanned }
-    ensures { IfSome result (λ k. (from + 1 + k ≤ to) × ((v : HeadView) (h : Header) (x : BodyItem)
-        → SpellsScanned v bytes.now from to scanned.entry
-        → AreBinaryIf scanned.entry.binary scanned.entry.text.now
-        → IsSizedItem v.codes.now scanned.entry.item scanned.entry.most → IsViewOf v h
-        → IsItem h.codes scanned.entry.text.now scanned.entry.item x
-        → bytes_without bytes.now from to k ≡ item_line x)) }
-{
-    let left_out = left_out_before_last(scanned, bytes, from, to)?;
-    if bytes[to - 1] != b'\n' {
-        return None;
-    }
-    Some(left_out)
-}
-
 /// Returns how many bytes of a change that was taken ahead to leave out after its first one, so
 /// that the others but the last, and a line feed, are the line that would be written. The change
 /// has the bytes from `from` up to `to`: the last one is that after its code. None for a timestamp,
 /// and where the size is not known. None for a change does not say that its bytes are not the line.
 #[inline(always)]
-pub fn left_out_before_last(
-    scanned: ScannedItem<'_>,
-    bytes: &[u8],
-    from: usize,
-    to: usize,
-) -> Option<usize>
+pub fn left_out(scanned: ScannedItem<'_>, bytes: &[u8], from: usize, to: usize) -> Option<usize>
     requires { (v : HeadView) × SpellsScanned v bytes.now from to scanned }
     ensures within { IfSome result (λ k. (from + 2 + k ≤ to) × (to ≤ length bytes.now)) }
     ensures line { IfSome result (λ k. (v : HeadView) (h : Header) (x : BodyItem)
         → SpellsScanned v bytes.now from to scanned.entry
         → AreBinaryIf scanned.entry.binary scanned.entry.text.now
-        → IsSizedItem v.codes.now scanned.entry.item scanned.entry.most → IsViewOf v h
+        → IsSizedItem v.codes.now scanned.entry.item scanned.entry.size_or_zero → IsViewOf v h
         → IsItem h.codes scanned.entry.text.now scanned.entry.item x
         → line_without bytes.now from to k ≡ item_line x) }
 {
@@ -307,10 +281,10 @@ pub(crate) fn left_out_of_front(
     requires spelled { (code : List ℕ) × HasChange bytes.now from to form scanned.text.now code
         × HasPlaces bytes.now from to scanned.at scanned.code_at scanned.text.now code }
     requires binary { AreBinaryIf scanned.binary scanned.text.now }
-    ensures { IfSome result (LeavesFront bytes.now from scanned.entry.most form
+    ensures { IfSome result (LeavesFront bytes.now from scanned.entry.size_or_zero form
         scanned.entry.text.now scanned.entry.code_at) }
 {
-    left_out_of_text(scanned, form, scanned.most, bytes, from, to)
+    left_out_of_text(scanned, form, scanned.size_or_zero, bytes, from, to)
 }
 
 /// Returns whether the bytes of a timestamp that was taken ahead are the line of its time: `#`, the

@@ -2,7 +2,7 @@
 ghost use Rattle.std.specs.Prelude.{◌≡◌, ◌≢◌, ◌≤◌, ◌<◌, ◌+◌, ◌-◌, ◌*◌, ◌/◌, ◌==◌, ℕ, Some, get_or, length, map, slice_get, false, true};
 ghost use Rattle.vcd_body.specs.Names.{ArePacked, AreTwo, HasFour, MayPack, chunk, code_among, code_of, code_or, digit_of, digits_in, four_codes, held_digit, quarter_of, str_to_ascii_lowercase};
 
-use crate::words::are_any_digits;
+use crate::words::are_all_digits;
 use std::simd::prelude::*;
 
 /// Returns a digit as two bits. It is written so that it takes no branches.
@@ -241,7 +241,7 @@ pub(crate) fn holds_packed(bytes: &[u8], text: &[u8]) -> bool
     if !are_packed(bytes, text, quarter) {
         return false;
     }
-    are_any_digits(text)
+    are_all_digits(text)
 }
 
 /// Returns 16 digits without the bits that `0` and `1` share: 0 or 1 for these, more than 1 for all

@@ -130,12 +130,14 @@ fn read_code<S: Source>(
 /// Returns whether the code that was found has room for this many digits, or is an event. The size
 /// found with it is mostly enough; the code is read only where it is not.
 #[inline(always)]
-pub(crate) fn takes(codes: &[Code], found: Found, digits: usize) -> bool
+pub(crate) fn has_room(codes: &[Code], found: Found, digits: usize) -> bool
     requires { IsSized codes.now found }
     ensures { (code : Code) → slice_get codes.now found.position ≡ Some code
         → result ≡ (code.event || nat_le digits code.size) }
 {
-    digits <= found.most || codes[found.position].event || digits <= codes[found.position].size
+    digits <= found.size_or_zero
+        || codes[found.position].event
+        || digits <= codes[found.position].size
 }
 
 /// Reads the rest of a vector's change, of which the feed shows the first token, `b` and the
@@ -159,7 +161,7 @@ pub(crate) fn read_vector<S: Source>(
     let token = feed.token();
     vector_text(token, are_binary(rest_of(token)))?;
     let found = read_code(feed, view)?;
-    if !takes(view.codes, found, rest_of(feed.value()).len()) {
+    if !has_room(view.codes, found, rest_of(feed.value()).len()) {
         return Err(BodyFault::TooWide);
     }
     Ok(found.position)

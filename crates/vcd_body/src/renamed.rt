@@ -204,9 +204,9 @@ pub fn put_renamed_ahead<W: Sink>(
     requires digits { form ≢ Form.RealText → 0 < length scanned.text.now }
     requires binary { AreBinaryIf scanned.binary scanned.text.now }
     ensures { Puts (W.device w.old) (W.device w.new)
-        (line_under (new_code number) scanned.entry.most false form scanned.entry.text.now) result }
+        (line_under (new_code number) scanned.entry.size_or_zero false form scanned.entry.text.now) result }
 {
-    let size = scanned.most;
+    let size = scanned.size_or_zero;
     if is_bit(size, false, form) && is_lower(bytes[scanned.at]) {
         return put_code_line(bytes[scanned.at], number, w);
     }

@@ -17,7 +17,7 @@ pub struct Step {
 
 /// Returns whether a last digit was one, and is another.
 #[inline(always)]
-fn goes(from: u8, to: u8, before: Option<u8>, after: Option<u8>) -> bool
+fn is_edge(from: u8, to: u8, before: Option<u8>, after: Option<u8>) -> bool
     ensures { result ≡ goes_from from to before after }
 {
     match (before, after) {
@@ -51,8 +51,8 @@ pub(crate) fn step_to_text(differs: bool, before: Option<u8>, form: Form, text: 
     let after = last_of(form, text);
     Step {
         differs,
-        rises: goes(b'0', b'1', before, after),
-        falls: goes(b'1', b'0', before, after),
+        rises: is_edge(b'0', b'1', before, after),
+        falls: is_edge(b'1', b'0', before, after),
     }
 }
 

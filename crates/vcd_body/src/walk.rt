@@ -15,34 +15,13 @@ ghost use Rattle.vcd_body.specs.declared.words.PhraseKind.TheVariants as kind;
 
 use crate::ahead::{
     Opening, ScannedItem, VectorTokens, line_timestamp, opening_ahead, real_ahead, scalar_ahead,
-    short_ahead, short_lines_come, time_ahead, timestamp_ahead, two_short_lines_come, vector_ahead,
-    vector_bits, vector_tokens_ahead,
+    short_ahead, time_ahead, timestamp_ahead, two_short_lines_come, vector_ahead, vector_bits,
+    vector_tokens_ahead,
 };
 use crate::item::Regs;
 use crate::words::PhraseKind;
 use vcd_text::{Ahead, Sink, WriteFailed};
 use vcd_view::HeadView;
-
-/// The view of a header, or a small value that makes it.
-// A loop over items makes its view once: with one made for each item `merge` of 27,505 codes takes
-// 40 % more. Where `take_lines` is handed a view in place of `head`, scalars take 4 % more.
-pub trait Viewed: Copy {
-    // Whether this is such a view.
-    ghost shows: { Self → HeadView → Type 0 };
-
-    /// Returns the view of the header. A loop over items calls it once, before its first item.
-    fn view(&self) -> HeadView<'_>
-        ensures { shows self.now result };
-}
-
-impl Viewed for HeadView<'_> {
-    ghost shows = { λ own view. view ≡ own };
-
-    #[inline(always)]
-    fn view(&self) -> HeadView<'_> {
-        *self
-    }
-}
 
 /// Where an item lies ahead: after one position, up to another.
 #[derive(Clone, Copy)]
@@ -339,10 +318,10 @@ fn take_short<C, V: Visit<C>, W: Sink>(
 /// the walk where another item or a short chunk ends it, or where a write fails. `take_lines` calls
 /// it for the changes between two timestamps.
 #[inline(always)]
-fn take_shorts<'a, C, V: Visit<C>, H: Viewed, W: Sink>(
+fn take_shorts<'a, C, V: Visit<C>, W: Sink>(
     command: &mut C,
     mut visit: V,
-    head: H,
+    view: HeadView<'_>,
     regs: Regs,
     mut ahead: Ahead<'a>,
     out: &mut W,
@@ -351,11 +330,10 @@ fn take_shorts<'a, C, V: Visit<C>, H: Viewed, W: Sink>(
     requires stands { V.stands visit command.old (bytes_of ahead) regs }
     requires within { passed_of ahead ≤ length (bytes_of ahead) }
     requires on { V.over visit ≡ false }
-    ensures { Walks V.takes V.stands V.over (H.shows head)
+    ensures { Walks V.takes V.stands V.over view.entry
         (stage_at ahead.entry regs visit command.old (W.device out.old))
         (stage_at result.ahead result.regs result.visit command.new (W.device out.new)) result.ended }
 {
-    let view = head.view();
     'items: loop {
         let Some(taken) = take_short(command, &mut visit, view, regs, &mut ahead, out) else {
             return Walked::until(ahead, regs, visit, Ok(false));
@@ -395,10 +373,10 @@ fn take_timestamp_line<C, V: Visit<C>>(
 // Without this loop `check` of scalars takes 55 % more, other dumps 1 to 2 % less. With one loop
 // over changes and timestamps, and a call for each timestamp, it takes 39 % more.
 #[inline(never)]
-fn take_lines<'a, C, V: Visit<C>, H: Viewed, W: Sink>(
+fn take_lines<'a, C, V: Visit<C>, W: Sink>(
     command: &mut C,
     mut visit: V,
-    head: H,
+    view: HeadView<'_>,
     mut regs: Regs,
     mut ahead: Ahead<'a>,
     out: &mut W,
@@ -407,18 +385,17 @@ fn take_lines<'a, C, V: Visit<C>, H: Viewed, W: Sink>(
     requires stands { V.stands visit command.old (bytes_of ahead) regs }
     requires within { passed_of ahead ≤ length (bytes_of ahead) }
     requires on { V.over visit ≡ false }
-    ensures { Walks V.takes V.stands V.over (H.shows head)
+    ensures { Walks V.takes V.stands V.over view.entry
         (stage_at ahead.entry regs visit command.old (W.device out.old))
         (stage_at result.ahead result.regs result.visit command.new (W.device out.new)) result.ended }
 {
-    let view = head.view();
     // What is known from here on is not asked again for each line.
     if view.entries.is_empty() || !ahead.two_byte_line_comes() {
         return Walked::until(ahead, regs, visit, Ok(false));
     }
     ahead.forget();
     'lines: loop {
-        let shorts = take_shorts(command, visit, head, regs, ahead, out);
+        let shorts = take_shorts(command, visit, view, regs, ahead, out);
         if !shorts.can_go_on() {
             return shorts;
         }
@@ -434,15 +411,13 @@ fn take_lines<'a, C, V: Visit<C>, H: Viewed, W: Sink>(
     }
 }
 
-/// Takes the items that come next as `take_lines` does, where a line of two bytes comes with
-/// another one or a timestamp after it, and the visit is not over. Else it takes none. `walk_ahead`
-/// calls it once, before its first item.
-// Without the look at the lines only speed is lost.
+/// Takes the items that come next as `take_lines` does, if two lines of two bytes come and the
+/// visit is not over, else none. `walk_ahead` calls it once, before its first item.
 #[inline(always)]
-fn take_first_lines<'a, C, V: Visit<C>, H: Viewed, W: Sink>(
+fn take_first_lines<'a, C, V: Visit<C>, W: Sink>(
     command: &mut C,
     visit: V,
-    head: H,
+    view: HeadView<'_>,
     regs: Regs,
     ahead: Ahead<'a>,
     out: &mut W,
@@ -450,12 +425,12 @@ fn take_first_lines<'a, C, V: Visit<C>, H: Viewed, W: Sink>(
     requires failures { (W.device out.old).failures < 2 ^ 64 - 1 }
     requires stands { V.stands visit command.old (bytes_of ahead) regs }
     requires within { passed_of ahead ≤ length (bytes_of ahead) }
-    ensures { Walks V.takes V.stands V.over (H.shows head)
+    ensures { Walks V.takes V.stands V.over view.entry
         (stage_at ahead.entry regs visit command.old (W.device out.old))
         (stage_at result.ahead result.regs result.visit command.new (W.device out.new)) result.ended }
 {
-    if !visit.is_over() && short_lines_come(ahead) {
-        return take_lines(command, visit, head, regs, ahead, out);
+    if !visit.is_over() && two_short_lines_come(ahead) {
+        return take_lines(command, visit, view, regs, ahead, out);
     }
     Walked::until(ahead, regs, visit, Ok(false))
 }
@@ -463,14 +438,13 @@ fn take_first_lines<'a, C, V: Visit<C>, H: Viewed, W: Sink>(
 /// Takes the items that lie ahead, one after the other, as long as the visit is not over: the first
 /// one in any case. A timestamp that it leaves ends the walk, and so does a failed write.
 // Registers, offset and visit come and go by value, so that the loop keeps them out of memory: in a
-// struct that is kept there they cost `check` of scalars 11 %. The view is made here and in
-// `take_lines`: its words would be copied for each call. In each arm of an item the compiler knows
-// whether it was a timestamp.
+// struct that is kept there they cost `check` of scalars 11 %. In each arm of an item the compiler
+// knows whether it was a timestamp.
 #[inline(always)]
-pub fn walk_ahead<'a, C, V: Visit<C>, H: Viewed, W: Sink>(
+pub fn walk_ahead<'a, C, V: Visit<C>, W: Sink>(
     command: &mut C,
     visit: V,
-    head: H,
+    view: HeadView<'_>,
     regs: Regs,
     ahead: Ahead<'a>,
     out: &mut W,
@@ -478,15 +452,14 @@ pub fn walk_ahead<'a, C, V: Visit<C>, H: Viewed, W: Sink>(
     requires failures { (W.device out.old).failures < 2 ^ 64 - 1 }
     requires stands { V.stands visit command.old (bytes_of ahead) regs }
     requires within { passed_of ahead ≤ length (bytes_of ahead) }
-    ensures { Walks V.takes V.stands V.over (H.shows head)
+    ensures { Walks V.takes V.stands V.over view.entry
         (stage_at ahead.entry regs visit command.old (W.device out.old))
         (stage_at result.ahead result.regs result.visit command.new (W.device out.new)) result.ended }
 {
-    let lines = take_first_lines(command, visit, head, regs, ahead, out);
+    let lines = take_first_lines(command, visit, view, regs, ahead, out);
     if !lines.can_go_on() {
         return lines;
     }
-    let view = head.view();
     let mut ahead = lines.ahead;
     let mut regs = lines.regs;
     let mut visit = lines.visit;
@@ -502,7 +475,7 @@ pub fn walk_ahead<'a, C, V: Visit<C>, H: Viewed, W: Sink>(
             return Walked::until(ahead, regs, visit, Ok(true));
         }
         if was_timestamp && two_short_lines_come(ahead) {
-            let more = take_lines(command, visit, head, regs, ahead, out);
+            let more = take_lines(command, visit, view, regs, ahead, out);
             if !more.can_go_on() {
                 return more;
             }

@@ -270,7 +270,7 @@ fn are_many_digits(digits: &[u8]) -> bool
 // Not inlined, as `are_binary`. Many x and z are looked at 32 at a time: `check` of wide vectors
 // takes 309 an item, one by one 359.
 #[inline(never)]
-pub(crate) fn are_any_digits(digits: &[u8]) -> bool
+pub(crate) fn are_all_digits(digits: &[u8]) -> bool
     ensures { result ≡ list_all is_digit digits.now }
 {
     are_many_digits(digits) || digits.iter().all(|digit| is_value_digit(*digit))
@@ -296,7 +296,7 @@ pub(crate) fn are_digits_or_binary(digits: &[u8], binary: bool) -> bool
     if digits.is_empty() {
         return false;
     }
-    binary || are_any_digits(digits)
+    binary || are_all_digits(digits)
 }
 
 /// Returns a mask whose bit 31 - k is set where byte `at + k` is `1`: the last byte gives the

@@ -385,7 +385,7 @@ fn standing(alloc: Global, body: &[u8]) -> Result<String, Fail> {
 // vectors with digits that are left out, vectors of more than 30 digits that are left out and that
 // are not, and real numbers.
 const STANDING: [(&[u8], &str); 6] = [
-    (b"1!\nZ!\n 0!\nx! 1!\n1\"\n1%\n#5\n0!\n", "=...=...="),
+    (b"1!\nZ!\n 0!\nx! 1!\n1\"\n1%\n#5\n0!\n", "=..==...="),
     (
         b"b101 \"\nB101 \"\nb0101 \"\nb00 \"\nb0x \"\nbzz1 \"\nbzx0 \"\nb1X \"\nb10  \"\nb10\t\"\n\
             b1 !\nb0 \"\nb1 % b1 \"\n",

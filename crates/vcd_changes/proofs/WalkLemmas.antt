@@ -102,9 +102,9 @@ module _ (v : HeadView) (stands : Collecting → Rows → List ℕ → Regs → 
           };
         }
 
-    along : (z : RowStage) → Trail TakesRow stands (λ _. false) (λ w. w ≡ v) s z → Came v s z
+    along : (z : RowStage) → Trail TakesRow stands (λ _. false) v s z → Came v s z
     along z Begins = begins
-    along _ (Further b c so_far one on) = came_on b c (along b so_far) (subst (λ (w : HeadView). TakesRow w b c (Ok tt)) one.1 one.2.did) (is_full b.visit) refl
+    along _ (Further b c so_far one on) = came_on b c (along b so_far) one.did (is_full b.visit) refl
     along _ (Again b c so_far there same is) =
         let so = along b so_far in
         let here : passed_at b ≡ passed_with there b.visit = ap (λ (k : ℕ). cond (is_full b.visit) b.visit.end k) (sym same.0) in
@@ -125,10 +125,10 @@ module _ (v : HeadView) (stands : Collecting → Rows → List ℕ → Regs → 
         })
 
     -- no write fails, and no walk is over
-    pub walk_came : (z : RowStage) (ended : Result Bool WriteFailed) → Walks TakesRow stands (λ _. false) (λ w. w ≡ v) s z ended → Came v s z
+    pub walk_came : (z : RowStage) (ended : Result Bool WriteFailed) → Walks TakesRow stands (λ _. false) v s z ended → Came v s z
     walk_came z (Ok false) on = along z on.trail
     walk_came z (Ok true) on = let e = on.3 in absurd (cc)
-    walk_came z (Err f) on = let e = on.2.2.did.done in absurd (cc)
+    walk_came z (Err f) on = let e = on.2.did.done in absurd (cc)
 
 -- whatever the output is, which has no part in it
 pub came_by : (v : HeadView) (s z : RowStage) → Came v s z → Came v (rows_at s.ahead s.regs s.visit s.command) (rows_at z.ahead z.regs z.visit z.command)

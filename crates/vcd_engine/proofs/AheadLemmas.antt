@@ -29,8 +29,8 @@ use Rattle.vcd_engine.specs.declared.engine.Engine.{Engine}
 use Rattle.vcd_engine.specs.declared.task_state.TaskState.{TaskState}
 use Rattle.vcd_engine.specs.Ahead.{RunsAhead}
 use Rattle.vcd_engine.specs.Several.{TakesSeveral}
-use Rattle.vcd_engine.specs.Pieces.{GrowsBut, pending_in}
-use Rattle.vcd_engine.specs.declared.pieces.Pieces.{Pieces}
+use Rattle.vcd_engine.specs.PendingCopy.{GrowsBut, pending_in}
+use Rattle.vcd_engine.specs.declared.pending.PendingCopy.{PendingCopy}
 use Rattle.vcd_body.proofs.AskedLemmas.{split_last}
 use Rattle.vcd_engine.proofs.PieceLemmas.{but_some, but_written}
 use Rattle.vcd_text.specs.Device.{Puts, Writes, WritesSome}
@@ -85,7 +85,7 @@ none_first test (y ∷ p) q h = by_first (test y) (none_first test p q) h
 none_behind : (text due : List ℕ) → text ≡ text ++ due → length due ≡ 0
 none_behind text due e = omega (arith, length-append text due, ap length e)
 
-module _ (t : Request) (h : Header) (limit lines : ℕ) (bytes : List ℕ) (before : List BodyItem) (p : Pieces) (out mid out' : Device) {A E : Type 0} (result : Result A E) (some : IfErr result (λ _. 0 < length (pending_in bytes p))) (puts : Puts mid out' (pending_in bytes p) result) where
+module _ (t : Request) (h : Header) (limit lines : ℕ) (bytes : List ℕ) (before : List BodyItem) (p : PendingCopy) (out mid out' : Device) {A E : Type 0} (result : Result A E) (some : IfErr result (λ _. 0 < length (pending_in bytes p))) (puts : Puts mid out' (pending_in bytes p) result) where
   abbrev Stands : ℕ → Regs → List BodyItem → Type 0
   Stands n r l = GaveAhead h.codes limit lines bytes n before l × AreRegsAfter (before ++ l) r × (list_any (ends_early t) (before ++ l) ≡ false) × GrowsBut out mid (pending_in bytes p) (open_text t h before) (open_text t h (before ++ l))
 

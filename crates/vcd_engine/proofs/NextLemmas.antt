@@ -21,10 +21,10 @@ use Rattle.vcd_engine.specs.Ahead.{GaveOneAhead, StandsAhead}
 use Rattle.vcd_engine.specs.Cut.{IsNoTimestamp}
 use Rattle.vcd_engine.specs.Engine.{Keeps, request_in}
 use Rattle.vcd_engine.specs.Next.{TakesMore, TakesNext, Walk}
-use Rattle.vcd_engine.specs.Pieces.{GrowsBut, PutsOn, pending_in}
+use Rattle.vcd_engine.specs.PendingCopy.{GrowsBut, PutsOn, pending_in}
 use Rattle.vcd_engine.specs.Quiet.{TakesQuietly}
 use Rattle.vcd_engine.specs.declared.task_state.TaskState.{TaskState}
-use Rattle.vcd_engine.specs.declared.pieces.Pieces.{Pieces}
+use Rattle.vcd_engine.specs.declared.pending.PendingCopy.{PendingCopy}
 use Rattle.vcd_engine.proofs.AheadLemmas.{few_ahead, stands_on}
 use Rattle.vcd_engine.proofs.PieceLemmas.{but_failed, but_on, none_on}
 use Rattle.vcd_engine.proofs.SampleLemmas.{no_marks}
@@ -49,7 +49,7 @@ other_goes_on Request.Merge x none = refl
 pub goes_on_item : (t : Request) (codes : List IdCode) (text : List ℕ) (item : Item) (x : BodyItem) → IsNoTimestamp item → IsItem codes text item x → ends_early t x ≡ false
 goes_on_item t codes text item x none is = other_goes_on t x (no_marks codes text item x is none)
 
-module _ {A E : Type 0} (t : Request) (h : Header) (limit lines : ℕ) (bytes : List ℕ) (before : List BodyItem) (v : HeadView) (views : IsViewOf v h) (few : length before + length bytes < 2 ^ 63) (w w' : Walk) (p p' : Pieces) (out out' : Device) (m m' : TaskState) (result : Result A E) (n : TakesNext v w w' p p' out out' m m' result)
+module _ {A E : Type 0} (t : Request) (h : Header) (limit lines : ℕ) (bytes : List ℕ) (before : List BodyItem) (v : HeadView) (views : IsViewOf v h) (few : length before + length bytes < 2 ^ 63) (w w' : Walk) (p p' : PendingCopy) (out out' : Device) (m m' : TaskState) (result : Result A E) (n : TakesNext v w w' p p' out out' m m' result)
     (items : List BodyItem) (over : LooksOver limit bytes w.ahead) (same : request_in m ≡ t) (within : passed_of w.ahead ≤ length bytes) (s : StandsAhead t h limit lines bytes before (passed_of w.ahead) items m w.regs) where
   pub one : (x : BodyItem) × IsItem h.codes n.scanned.text.now n.scanned.item x × GaveAhead h.codes limit lines bytes (passed_of w'.ahead) before (items ++ x ∷ []) × AreRegsAfter (before ++ (items ++ x ∷ [])) (regs_after w.regs n.scanned.item)
   one = n.item.gives h limit lines bytes before items views over s.known s.gave

@@ -19,8 +19,8 @@ use Rattle.vcd_body.specs.declared.item.Item.{Item}
 use Rattle.vcd_body.specs.declared.item.Item.TheVariants.{Change}
 use Rattle.vcd_body.specs.declared.item.Regs.{Regs}
 use Rattle.vcd_engine.specs.Cut.{IsNoTimestamp}
-use Rattle.vcd_engine.specs.Pieces.{GrowsBut, IsLine, IsSpanned, PutsAll, PutsBehind, PutsOn, IsPart, pending_in}
-use Rattle.vcd_engine.specs.declared.pieces.Pieces.{Pieces}
+use Rattle.vcd_engine.specs.PendingCopy.{GrowsBut, IsLine, IsSpanned, PutsAll, PutsBehind, PutsOn, IsPart, pending_in}
+use Rattle.vcd_engine.specs.declared.pending.PendingCopy.{PendingCopy}
 use Rattle.vcd_body.proofs.Results.{writes-none}
 
 -- a part that begins where another ends
@@ -36,7 +36,7 @@ none_between bytes from to e = let none : to - from ≡ 0 = omega arith in ap (�
 -- ---- what is pending
 
 -- how long it is
-pub pending_long : (bytes : List ℕ) (p : Pieces) → IsPart bytes p → length (pending_in bytes p) ≡ p.to - p.from
+pub pending_long : (bytes : List ℕ) (p : PendingCopy) → IsPart bytes p → length (pending_in bytes p) ≡ p.to - p.from
 pending_long bytes p part = length-ahead bytes p.from p.to part.1
 
 -- it begins the rest of these bytes
@@ -75,7 +75,7 @@ twice_on pending mid pending' a b out between out' (Ok w) first then =
 twice_on pending mid pending' a b out between out' (Err f) first then =
     subst (WritesSome out out') (sym (append_assoc first.0 mid b) ∙ sym (ap (λ l. l ++ b) first.1) ∙ append_assoc pending a b) (some-behind out between out' first.0 (mid ++ b) first.2 then)
 
-pub twice_behind : {A B E : Type 0} (bytes : List ℕ) (p q p' : Pieces) (a b : List ℕ) (out mid out' : Device) (v : B) (r : Result A E) → PutsBehind {A = B} {E = E} bytes p q out mid a (Ok v) → PutsBehind bytes q p' mid out' b r → PutsBehind bytes p p' out out' (a ++ b) r
+pub twice_behind : {A B E : Type 0} (bytes : List ℕ) (p q p' : PendingCopy) (a b : List ℕ) (out mid out' : Device) (v : B) (r : Result A E) → PutsBehind {A = B} {E = E} bytes p q out mid a (Ok v) → PutsBehind bytes q p' mid out' b r → PutsBehind bytes p p' out out' (a ++ b) r
 twice_behind {A} {B} {E} bytes p q p' a b out mid out' v r first then = record {
   puts = twice_on (pending_in bytes p) (pending_in bytes q) (pending_in bytes p') a b out mid out' r first.puts then.puts;
   counts = counts-on out mid out' r first.counts then.counts;
@@ -114,12 +114,12 @@ pub but_none : (out : Device) (pending text : List ℕ) → pending ≡ [] → G
 but_none out pending text e = ([], sym (ap (λ l. text ++ l) e ∙ append-nil text), writes-none out)
 
 -- of no bytes nothing is pending: what is due was written
-pub none_held : (bytes : List ℕ) (p p' : Pieces) (out out' : Device) (due : List ℕ) → bytes ≡ [] → IsPart bytes p → IsPart bytes p' → PutsAll (pending_in bytes p) (pending_in bytes p') out out' due → Appends out.held out'.held due
+pub none_held : (bytes : List ℕ) (p p' : PendingCopy) (out out' : Device) (due : List ℕ) → bytes ≡ [] → IsPart bytes p → IsPart bytes p' → PutsAll (pending_in bytes p) (pending_in bytes p') out out' due → Appends out.held out'.held due
 none_held bytes p p' out out' due e part part' puts =
     let all : due ≡ puts.0 = sym (ap (λ l. l ++ due) (empty p part)) ∙ puts.1 ∙ ap (λ l. puts.0 ++ l) (empty p' part') ∙ append-nil puts.0 in
     subst (Appends out.held out'.held) (sym all) puts.2.0
   where
-    empty : (q : Pieces) → IsPart bytes q → pending_in bytes q ≡ []
+    empty : (q : PendingCopy) → IsPart bytes q → pending_in bytes q ≡ []
     empty q here = let le = subst (λ (bs : List ℕ). q.to ≤ length bs) e here.1 in none_between bytes q.from q.to (omega (arith, le))
 
 -- ---- the line of a time

@@ -360,7 +360,7 @@ shown_there v h place d c views shown declared =
     (sym m.2.size_is ∙ ap (λ (y : Code). y.size) same, sym m.2.event_is ∙ ap (λ (y : Code). y.event) same)
 
 -- where a look-up gave a size, the code has it, and is no event
-pub sized_there : (v : HeadView) (h : Header) (place most : ℕ) (c : IdCode) → IsViewOf v h → IsSized v.codes.now (record { position = place; most = most }) → slice_get h.codes place ≡ Some c → most ≢ 0 → (c.size ≡ most) × (c.event ≡ false)
+pub sized_there : (v : HeadView) (h : Header) (place most : ℕ) (c : IdCode) → IsViewOf v h → IsSized v.codes.now (record { position = place; size_or_zero = most }) → slice_get h.codes place ≡ Some c → most ≢ 0 → (c.size ≡ most) × (c.event ≡ false)
 sized_there v h place most c views (d, there, is) declared some =
     let shown = shown_there v h place d c views there declared in
     let told = by_tests d.event (nat_le (2 ^ 32) d.size) refl is in

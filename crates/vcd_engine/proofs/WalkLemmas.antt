@@ -9,18 +9,18 @@ use Rattle.vcd_text.proofs.Writes.{counts-on}
 use Rattle.vcd_text.specs.declared.ahead.Ahead.{Ahead}
 use Rattle.vcd_text.specs.declared.device.WriteFailed.{WriteFailed}
 use Rattle.vcd_view.specs.declared.view.HeadView.{HeadView}
-use Rattle.vcd_body.specs.Walk.{Again, Begins, Further, HasCome, Stage, TakesShown, Trail, Walks}
+use Rattle.vcd_body.specs.Walk.{Again, Begins, Further, Stage, Trail, Walks}
 use Rattle.vcd_body.specs.declared.item.Regs.{Regs}
 use Rattle.vcd_body.proofs.WalkLemmas.{walk_passes}
 use Rattle.vcd_engine.specs.Ahead.{RunsOver}
 use Rattle.vcd_engine.specs.Engine.{request_in}
 use Rattle.vcd_engine.specs.Next.{TakesNext, Walk, walk_at}
-use Rattle.vcd_engine.specs.Pieces.{IsLine, IsPart, pending_in}
+use Rattle.vcd_engine.specs.PendingCopy.{IsLine, IsPart, pending_in}
 use Rattle.vcd_engine.specs.Walks.{CanTake, HasWalked, TakesByTask, walk_of}
 use Rattle.vcd_engine.specs.declared.task_state.TaskState.{TaskState}
 use Rattle.vcd_engine.specs.declared.task_state.walk.WalkState.{WalkState}
 use Rattle.vcd_engine.specs.declared.task_state.walk.WalkEnd.{WalkEnd}
-use Rattle.vcd_engine.specs.declared.pieces.Pieces.{Pieces}
+use Rattle.vcd_engine.specs.declared.pending.PendingCopy.{PendingCopy}
 use Rattle.vcd_engine.proofs.AheadLemmas.{ends_before}
 use Rattle.vcd_engine.proofs.NextLemmas.{next, next_fails, next_given, next_grows, next_stands}
 use Rattle.vcd_engine.proofs.PieceLemmas.{but_none}
@@ -30,7 +30,7 @@ abbrev PassesTo : Ahead → ℕ → Type 0
 PassesTo a to = (lines : ℕ) (ts : List Token) → Passed (longest_of a) lines (bytes_of a) (passed_of a) ts → (more : List Token) × Passed (longest_of a) lines (bytes_of a) to (ts ++ more)
 
 -- it begins with no item, and with nothing that is pending
-pub walk_begins : (v : HeadView) (a : Ahead) (r : Regs) (m : TaskState) (out : Device) (line : ℕ × ℕ) (p : Pieces) → passed_of a ≤ length (bytes_of a) → ((bytes : List ℕ) (time : ℕ) → IsLine bytes line time) → IsPart (bytes_of a) p → pending_in (bytes_of a) p ≡ [] → HasWalked v a r m out (walk_at a r line) p out m
+pub walk_begins : (v : HeadView) (a : Ahead) (r : Regs) (m : TaskState) (out : Device) (line : ℕ × ℕ) (p : PendingCopy) → passed_of a ≤ length (bytes_of a) → ((bytes : List ℕ) (time : ℕ) → IsLine bytes line time) → IsPart (bytes_of a) p → pending_in (bytes_of a) p ≡ [] → HasWalked v a r m out (walk_at a r line) p out m
 walk_begins v a r m out line p within unknown part none = record {
   over = (refl, refl);
   within = within;
@@ -41,7 +41,7 @@ walk_begins v a r m out line p within unknown part none = record {
   stands = λ h lines before views few s. ([], s, rw append-nil (but_none out _ _ none));
 }
 
-module _ (v : HeadView) (a : Ahead) (r : Regs) (m : TaskState) (begin : Device) (w : Walk) (p : Pieces) (out : Device) (m' : TaskState) (walked : HasWalked v a r m begin w p out m') where
+module _ (v : HeadView) (a : Ahead) (r : Regs) (m : TaskState) (begin : Device) (w : Walk) (p : PendingCopy) (out : Device) (m' : TaskState) (walked : HasWalked v a r m begin w p out m') where
   -- another look-ahead at the same offset will do
   pub walk_same : (a' : Ahead) → (passed_of a' ≡ passed_of w.ahead) × (bytes_of a' ≡ bytes_of w.ahead) × (longest_of a' ≡ longest_of w.ahead) → HasWalked v a r m begin (walk_at a' w.regs w.line) p out m'
   walk_same a' same = record {
@@ -57,7 +57,7 @@ module _ (v : HeadView) (a : Ahead) (r : Regs) (m : TaskState) (begin : Device) 
   within_all : passed_of w.ahead ≤ length (bytes_of a)
   within_all = subst (λ (bs : List ℕ). passed_of w.ahead ≤ length bs) walked.over.1 walked.within
 
-  module _ {A E : Type 0} (w' : Walk) (p' : Pieces) (out' : Device) (m'' : TaskState) (result : Result A E) (n : TakesNext v w w' p p' out out' m' m'' result) where
+  module _ {A E : Type 0} (w' : Walk) (p' : PendingCopy) (out' : Device) (m'' : TaskState) (result : Result A E) (n : TakesNext v w w' p p' out out' m' m'' result) where
     -- one item more was taken
     pub walk_on : (x : A) → result ≡ Ok x → HasWalked v a r m begin w' p' out' m''
     walk_on x e =
@@ -119,25 +119,22 @@ module _ (v : HeadView) (a : Ahead) (r : Regs) (m : TaskState) (begin : Device) 
 
 module _ {L C : Type 0} (line : L → ℕ × ℕ) (is_ready : C → Bool) (task_state : C → TaskState) (v : HeadView) (s : Stage (WalkState L) C) where
   abbrev On : Stage (WalkState L) C → Result Bool WriteFailed → Type 0
-  On z ended = Walks (TakesByTask line task_state) (CanTake line is_ready) (λ _. false) (λ w. w ≡ v) s z ended
-
-  one_did : (b c : Stage (WalkState L) C) (result : Result (Unit {0}) WriteFailed) → TakesShown (TakesByTask line task_state) (CanTake line is_ready) (λ w. w ≡ v) b c result → TakesByTask line task_state v b c result
-  one_did b c result one = subst (λ (w : HeadView). TakesByTask line task_state w b c result) one.1 one.2.did
+  On z ended = Walks (TakesByTask line task_state) (CanTake line is_ready) (λ _. false) v s z ended
 
   pub passed_to : (z : Stage (WalkState L) C) (ended : Result Bool WriteFailed) → On z ended → PassesTo s.ahead (passed_of z.ahead)
   passed_to z ended on lines ts passed = (walk_passes _ _ _ _ s (longest_of s.ahead) lines (bytes_of s.ahead) ts (refl, refl) passed z ended on).1
 
-  module _ (r : Regs) (m : TaskState) (begin : Device) (walked : HasWalked v s.ahead r m begin (walk_of line s) s.visit.pieces s.out (task_state s.command)) where
-    along : (z : Stage (WalkState L) C) → Trail (TakesByTask line task_state) (CanTake line is_ready) (λ _. false) (λ w. w ≡ v) s z → HasWalked v s.ahead r m begin (walk_of line z) z.visit.pieces z.out (task_state z.command)
+  module _ (r : Regs) (m : TaskState) (begin : Device) (walked : HasWalked v s.ahead r m begin (walk_of line s) s.visit.pending s.out (task_state s.command)) where
+    along : (z : Stage (WalkState L) C) → Trail (TakesByTask line task_state) (CanTake line is_ready) (λ _. false) v s z → HasWalked v s.ahead r m begin (walk_of line z) z.visit.pending z.out (task_state z.command)
     along z Begins = walked
-    along _ (Further b c so_far one on) = walk_on v s.ahead r m begin _ _ _ _ (along b so_far) _ _ _ _ _ (one_did b c (Ok tt) one) tt refl
+    along _ (Further b c so_far one on) = walk_on v s.ahead r m begin _ _ _ _ (along b so_far) _ _ _ _ _ one.did tt refl
     along _ (Again b c so_far there same is) = rw is (walk_same v s.ahead r m begin _ _ _ _ (along b so_far) there same)
 
     -- no other item was taken
-    pub walk_over : (z : Stage (WalkState L) C) (b : Bool) → On z (Ok b) → HasWalked v s.ahead r m begin (walk_of line z) z.visit.pieces z.out (task_state z.command)
+    pub walk_over : (z : Stage (WalkState L) C) (b : Bool) → On z (Ok b) → HasWalked v s.ahead r m begin (walk_of line z) z.visit.pending z.out (task_state z.command)
     walk_over z false on = along z on.trail
     walk_over z true on = let e = on.3 in absurd (cc)
 
     -- or a write of what is due with one more failed
     pub walk_wrong : (z : Stage (WalkState L) C) (e : WriteFailed) → On z (Err e) → (t : WalkEnd) → t.passed ≡ passed_of z.ahead → t.regs ≡ z.regs → t.written ≡ Err e → RunsOver v s.ahead r m (task_state z.command) begin z.out t
-    walk_wrong z e on t passed_is regs_is written_is = walk_fails v s.ahead r m begin _ _ _ _ (along on.0 on.1.trail) _ _ _ _ _ (one_did on.0 z (Err e) on.2) t e refl passed_is regs_is e written_is (passed_to z (Err e) on)
+    walk_wrong z e on t passed_is regs_is written_is = walk_fails v s.ahead r m begin _ _ _ _ (along on.0 on.1.trail) _ _ _ _ _ on.2.did t e refl passed_is regs_is e written_is (passed_to z (Err e) on)

@@ -13,7 +13,7 @@ pub mod Sample
 pub mod Edges
 pub mod Engine
 pub mod Several
-pub mod Pieces
+pub mod PendingCopy
 pub mod Ahead
 pub mod Step
 pub mod Next

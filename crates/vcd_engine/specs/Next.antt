@@ -15,12 +15,12 @@ use Rattle.vcd_body.specs.Taken.{TakesItem}
 use Rattle.vcd_body.specs.declared.ahead.ScannedItem.{ScannedItem}
 use Rattle.vcd_body.specs.declared.item.Regs.{Regs}
 use Rattle.vcd_engine.specs.Engine.{AtItem, Keeps, request_in}
-use Rattle.vcd_engine.specs.Pieces.{IsLine, IsPart, PutsOn, pending_in}
+use Rattle.vcd_engine.specs.PendingCopy.{IsLine, IsPart, PutsOn, pending_in}
 use Rattle.vcd_engine.specs.Quiet.{TakesQuietly}
 use Rattle.vcd_engine.specs.Room.{SameTask}
 use Rattle.vcd_engine.specs.declared.task_state.TaskState.{TaskState}
-use Rattle.vcd_engine.specs.declared.pieces.SpannedItem.{SpannedItem}
-use Rattle.vcd_engine.specs.declared.pieces.Pieces.{Pieces}
+use Rattle.vcd_engine.specs.declared.pending.SpannedItem.{SpannedItem}
+use Rattle.vcd_engine.specs.declared.pending.PendingCopy.{PendingCopy}
 
 -- how far the loop has come: the position, the registers after the items so far, and from where up
 -- to where the line of the last time is
@@ -41,7 +41,7 @@ abbrev pub TakesTimestamp : ℕ → TaskState → TaskState → Type 0
 TakesTimestamp time m m' = (h : Header) (items : List BodyItem) → length items < 2 ^ 63 → Keeps m h items → TakesQuietly (Keeps m' h (items ++ BodyItem.Time time ∷ [])) (request_in m) h items (BodyItem.Time time)
 
 -- an item was taken, and what is due with it put after the text that is pending
-abbrev pub PutsItem : {A E : Type 0} → HeadView → Regs → SpannedItem → Pieces → Pieces → Device → Device → TaskState → TaskState → Result A E → Type 0
+abbrev pub PutsItem : {A E : Type 0} → HeadView → Regs → SpannedItem → PendingCopy → PendingCopy → Device → Device → TaskState → TaskState → Result A E → Type 0
 PutsItem v r c p p' out out' m m' result = AtItem v r c.scanned.item c.scanned.text.now (λ h items x. Keeps m h items
     → DueBy (λ due. PutsOn (pending_in c.bytes.now p) (pending_in c.bytes.now p') out out' due result) (open_text (request_in m) h items) (open_text (request_in m) h (items ++ x ∷ [])) × IfOk result (λ _. Keeps m' h (items ++ x ∷ [])))
 
@@ -52,7 +52,7 @@ pub record TakesMore {A E : Type 0} (takes : List ℕ → Type 0) (holds : Type 
   pub keeps : IfOk result (λ _. holds)
 
 -- one item more was taken ahead, and what is due with it was put after the text that is pending
-pub record TakesNext {A E : Type 0} (v : HeadView) (w w' : Walk) (p p' : Pieces) (out out' : Device) (m m' : TaskState) (result : Result A E) : Type 0 where
+pub record TakesNext {A E : Type 0} (v : HeadView) (w w' : Walk) (p p' : PendingCopy) (out out' : Device) (m m' : TaskState) (result : Result A E) : Type 0 where
   pub scanned : ScannedItem
   pub item : TakesItem v w.ahead w'.ahead w.regs scanned
   pub regs : w'.regs ≡ regs_after w.regs scanned.item

@@ -1,8 +1,8 @@
 //! The text of kept items: the line of each, after the line of its time where that is due.
 ghost use Rattle.std.specs.Prelude.{◌≡◌, ℕ, ◌-◌, ◌^◌, ◌<◌, ◌∷◌, [], List, Some, IfOk};
-ghost use Rattle.vcd_engine.specs.Names.{as_line, BodyItem, closing, Counts, Entry, HasGoodText, HasWritten, Header, IsSpanned, IsItem, IsLine, IsPart, IsViewOf, item_line, keyword_text, LastTells, model_section, PutsBehind, PutsEntry, PutsPieces, PutsWhere, section_keyword, TakenBy, Takes, time_due, times_with};
+ghost use Rattle.vcd_engine.specs.Names.{as_line, BodyItem, closing, Counts, Entry, HasGoodText, HasWritten, Header, IsSpanned, IsItem, IsLine, IsPart, IsViewOf, item_line, keyword_text, LastTells, model_section, PutsBehind, PutsEntry, PutsCopy, PutsWhere, section_keyword, TakenBy, Takes, time_due, times_with};
 
-use crate::pieces::{Pieces, SpannedItem};
+use crate::pending::{PendingCopy, SpannedItem};
 use crate::task_state::walk::KnownLine;
 use vcd_body::{Id, Item, Section, put_change, put_time_unless};
 use vcd_text::{Sink, WriteFailed, put};
@@ -103,25 +103,25 @@ impl ItemText {
         time: u64,
         item: SpannedItem<'_>,
         line: &KnownLine,
-        pieces: &mut Pieces,
+        pending: &mut PendingCopy,
         out: &mut W,
     ) -> Result<(), WriteFailed>
         requires failures { (W.device out.old).failures < 2 ^ 64 - 1 }
         requires span { IsSpanned view item }
         requires line { IsLine item.bytes.now (line.now.from, line.now.to) time }
-        requires part { IsPart item.bytes.now pieces.old }
-        ensures text { PutsEntry (λ due. PutsPieces item.entry.bytes.now pieces.old pieces.new
+        requires part { IsPart item.bytes.now pending.old }
+        ensures text { PutsEntry (λ due. PutsCopy item.entry.bytes.now pending.old pending.new
             (W.device out.old) (W.device out.new) due result) view.entry time
             item.entry.scanned.item item.entry.scanned.text.now self.old self.new result }
         ensures counts { Counts (W.device out.old) (W.device out.new) result }
-        ensures part { IfOk result (λ _. IsPart item.entry.bytes.now pieces.new) }
+        ensures part { IfOk result (λ _. IsPart item.entry.bytes.now pending.new) }
     {
         let Some(n) = item.left_out() else {
-            pieces.flush(item.bytes, out)?;
+            pending.flush(item.bytes, out)?;
             return self.put(view, time, item.scanned.item, item.scanned.text, out);
         };
-        self.add_time(time, item.bytes, line, pieces, out)?;
-        pieces.append_line(item.bytes, item.from, item.to, n, out)
+        self.add_time(time, item.bytes, line, pending, out)?;
+        pending.append_line(item.bytes, item.from, item.to, n, out)
     }
 
     /// Adds the line of `time`, unless it was the last such line, after the pending text. Fails
@@ -132,13 +132,13 @@ impl ItemText {
         time: u64,
         bytes: &[u8],
         line: &KnownLine,
-        pieces: &mut Pieces,
+        pending: &mut PendingCopy,
         out: &mut W,
     ) -> Result<(), WriteFailed>
         requires failures { (W.device out.old).failures < 2 ^ 64 - 1 }
         requires line { IsLine bytes.now (line.now.from, line.now.to) time }
-        requires part { IsPart bytes.now pieces.old }
-        ensures puts { PutsBehind bytes.now pieces.old pieces.new
+        requires part { IsPart bytes.now pending.old }
+        ensures puts { PutsBehind bytes.now pending.old pending.new
             (W.device out.old) (W.device out.new) (time_due self.old.written time) result }
         ensures written { IfOk result (λ _. self.new.written ≡ Some time) }
     {
@@ -146,7 +146,7 @@ impl ItemText {
             return Ok(());
         }
         self.written = Some(time);
-        pieces.append_time(time, bytes, line.from, line.to, out)
+        pending.append_time(time, bytes, line.from, line.to, out)
     }
 
     /// Writes the line of the last timestamp, where there is one and it is due. Fails where a write

@@ -27,7 +27,7 @@
 //! - `commands`: `check`, `pick`, `cut`, `sample`, `edges`
 //! - `choice`: which codes are chosen, a byte a code
 //! - `item_text`: kept items as lines, each after the line of its time
-//! - `pieces`: pending text, due and in the chunk already, which is written piece by piece
+//! - `pending`: pending text, due and in the chunk already, which is written piece by piece
 //! - `selection`: the variables that names select, as flags and as chosen codes
 //! - `report`, `rows`, `tally`: the seven lines of `check`; `list`; the counters of `edges`, and
 //!   its rows
@@ -53,7 +53,7 @@ mod commands;
 mod engine;
 mod item_text;
 mod leads;
-mod pieces;
+mod pending;
 mod report;
 mod rows;
 mod sample_lines;

@@ -6,14 +6,14 @@ ghost use Rattle.vcd_head.specs.Names.{Code, KeepsRight, are_right, is_right, ke
 use std::alloc::{AllocError, Global};
 use vcd_view::{
     Code, CodeSeed, Entry, MOST_LOOKS, code_number, entry_after, entry_of, key_of, long_key,
-    most_of, text_in,
+    size_or_zero_of, text_in,
 };
 
 // The entry of no code.
 const EMPTY: Entry = Entry {
     key: 0,
     position: 0,
-    most: 0,
+    size_or_zero: 0,
 };
 
 /// Returns the entries of these codes, whose bytes lie in the text: a power of two of them, at most
@@ -153,7 +153,7 @@ fn entry_with(position: usize, code: Code, key: u64) -> Entry
     Entry {
         key,
         position,
-        most: most_of(code),
+        size_or_zero: size_or_zero_of(code),
     }
 }
 

@@ -186,7 +186,7 @@ fn innermost(view: HeadView<'_>) -> Option<usize>
 }
 
 /// Writes the lines that close the marked scopes still open after the last row, innermost first.
-fn put_open<W: Sink>(view: HeadView<'_>, marks: &[u8], w: &mut W) -> Result<(), WriteFailed>
+fn put_closing<W: Sink>(view: HeadView<'_>, marks: &[u8], w: &mut W) -> Result<(), WriteFailed>
     requires failures { (W.device w.old).failures < 2 ^ 64 - 1 }
     ensures { PutsWhere W.device w.old w.new result (λ takes. AnyHeader view.entry (λ h.
         takes (up_lines_at (is_marked marks.now) (enclosing h.declarations)))) }
@@ -207,7 +207,7 @@ fn put_declarations<W: Sink>(view: HeadView<'_>, marks: &[u8], w: &mut W) -> Res
         takes (rows_text (λ code. code) (is_marked marks.now) h.declarations))) }
 {
     put_rows(view, marks, w)?;
-    put_open(view, marks, w)
+    put_closing(view, marks, w)
 }
 
 /// Writes the header of the marked declarations: date, version and time scale where there are some,

@@ -75,7 +75,7 @@ pub(crate) fn copy_short(to: &mut [u8], position: usize, from: &[u8])
 
 /// Returns these bytes, brought together in a number, so that one write copies them.
 #[inline(always)]
-fn together(bytes: [u8; 8]) -> [u8; 8]
+fn as_word(bytes: [u8; 8]) -> [u8; 8]
     ensures { result ≡ bytes }
 {
     u64::from_le_bytes(bytes).to_le_bytes()
@@ -88,7 +88,7 @@ pub(crate) fn copy_few(to: &mut [u8], position: usize, from: [u8; 8])
     ensures long { length to.new ≡ length to.old }
     ensures copied { take (position + 8) to.new ≡ take position to.old ++ from }
 {
-    to[position..position + 8].copy_from_slice(&together(from));
+    to[position..position + 8].copy_from_slice(&as_word(from));
 }
 
 /// Copies a byte, the first n of `from` and the eight of `end` to an offset.

@@ -1,4 +1,4 @@
--- Where sources fail earlier, the output is a front.
+-- If sources fail earlier, the output is a prefix of what it would have been.
 use Rattle.std.proofs.Common.{◌≡◌, ◌≢◌, ℕ, List, [], ◌∷◌, ◌++◌, None, inl, inr, refl, sym, ap, subst}
 use Rattle.vcd_model.specs.Input.{Input, Mark}
 use Rattle.vcd_model.specs.Tokens.{stream_of}
@@ -7,12 +7,12 @@ use Rattle.vcd_model.specs.SettledMerge.{Seen}
 use Rattle.vcd_model.specs.Laws.{IsPrefixOf}
 use Rattle.vcd_laws.specs.Checked.{run_of}
 use Rattle.vcd_laws.specs.Final.{AreSeen}
-use Rattle.vcd_laws.specs.Due.{IsCutOff, AreCutOff, AreLeft, CutOffIsFirst, CutOffMergeIsFirst, CutOffIsAllThatIsKnown, CutOffMergeIsAllThatIsKnown}
+use Rattle.vcd_laws.specs.Due.{IsCutOff, AreCutOff, GiveNoMore, CutOffIsAPrefix, CutOffMergeIsAPrefix, CutOffIsAllThatIsKnown, CutOffMergeIsAllThatIsKnown}
 use Rattle.vcd_laws.proofs.FrontTokens.{front_tokens, front_halts}
 use Rattle.vcd_laws.proofs.DueText.{same_text, longer_text, due_is_left_at_a_halt, due_is_never_revised}
 use Rattle.vcd_laws.proofs.MergeDue.{merge_due_is_left_at_halts, merge_due_is_never_revised}
 
--- the source is halted, and what it gives comes first
+-- reading is halted there, and the tokens before are the first ones of the longer input
 cut_tokens : (limit : ℕ) (cut input : Input) → IsCutOff cut input
     → ((stream_of limit cut).halt ≢ None) × IsPrefixOf (stream_of limit cut).tokens (stream_of limit input).tokens
 cut_tokens limit cut input (mark, (more, bytes)) =
@@ -24,15 +24,15 @@ cut_tokens limit cut input (mark, (more, bytes)) =
           (front_tokens limit cut.bytes more input.mark)),
     )
 
-pub cut_off_is_first : CutOffIsFirst
-cut_off_is_first want limit name cut input is off =
+pub cut_off_is_a_prefix : CutOffIsAPrefix
+cut_off_is_a_prefix want limit name cut input is off =
     let t = cut_tokens limit cut input off in
     subst (λ (l : List ℕ). IsPrefixOf l (run_of want limit name input).output) (sym (due_is_left_at_a_halt want limit name cut is t.0))
     (due_is_never_revised want limit name (stream_of limit cut).tokens input is t.1)
 
 -- what is known of inputs that may have failed earlier
 known_of : (limit : ℕ) (cuts inputs : List Input) → AreCutOff cuts inputs
-    → (seen : List Seen) × AreLeft limit seen cuts × AreSeen limit seen inputs
+    → (seen : List Seen) × GiveNoMore limit seen cuts × AreSeen limit seen inputs
 known_of limit [] [] all = ([], tt, tt)
 known_of limit [] (input ∷ inputs) all = absurd all
 known_of limit (cut ∷ cuts) [] all = absurd all
@@ -44,8 +44,8 @@ known_of limit (cut ∷ cuts) (input ∷ inputs) (inr same, all) =
     let more = known_of limit cuts inputs all in
     (Seen.All (stream_of limit cut) ∷ more.0, (refl, more.1), (ap (stream_of limit) (sym same), more.2))
 
-pub cut_off_merge_is_first : CutOffMergeIsFirst
-cut_off_merge_is_first limit names cuts inputs all =
+pub cut_off_merge_is_a_prefix : CutOffMergeIsAPrefix
+cut_off_merge_is_a_prefix limit names cuts inputs all =
     let known = known_of limit cuts inputs all in
     subst (λ (l : List ℕ). IsPrefixOf l (outcome Want.Merge limit names inputs).output)
     (sym (merge_due_is_left_at_halts limit names known.0 cuts known.1))
@@ -54,7 +54,7 @@ cut_off_merge_is_first limit names cuts inputs all =
 pub cut_off_is_all_that_is_known : CutOffIsAllThatIsKnown
 cut_off_is_all_that_is_known want limit name text cut is failed = (
   λ known. known cut (same_text cut.bytes cut.bytes refl),
-  λ begins input front. longer_text _ _ _ begins (cut_off_is_first want limit name cut input is (failed, front)),
+  λ begins input front. longer_text _ _ _ begins (cut_off_is_a_prefix want limit name cut input is (failed, front)),
 )
 
 no_more : (cuts : List Input) → AreCutOff cuts cuts
@@ -64,5 +64,5 @@ no_more (cut ∷ cuts) = (inr refl, no_more cuts)
 pub cut_off_merge_is_all_that_is_known : CutOffMergeIsAllThatIsKnown
 cut_off_merge_is_all_that_is_known limit names text cuts = (
   λ known. known cuts (no_more cuts),
-  λ begins inputs all. longer_text _ _ _ begins (cut_off_merge_is_first limit names cuts inputs all),
+  λ begins inputs all. longer_text _ _ _ begins (cut_off_merge_is_a_prefix limit names cuts inputs all),
 )

@@ -11,7 +11,7 @@ use Rattle.vcd_model.specs.SettledMerge.{Seen}
 use Rattle.vcd_model.specs.Tokens.{stream_of, tokens_of}
 use Rattle.vcd_laws.specs.Checked.{run_of}
 use Rattle.vcd_laws.specs.Due.{due, due_of_merge}
-use Rattle.vcd_laws.proofs.CutOff.{cut_off_is_first}
+use Rattle.vcd_laws.proofs.CutOff.{cut_off_is_a_prefix}
 use Rattle.vcd_laws.proofs.DueText.{due_is_never_revised, due_is_left_at_a_halt}
 
 -- what is due with so many tokens of a text
@@ -145,4 +145,4 @@ first_of_a_pick = due_is_never_revised pick limit (codes "x.vcd") (take 11 (toke
 
 -- where the source fails there, the output begins the one over the whole
 cut_off_pick : IsPrefixOf (run_of pick limit (codes "x.vcd") failing).output (run_of pick limit (codes "x.vcd") (clean dump)).output
-cut_off_pick = cut_off_is_first pick limit (codes "x.vcd") failing (clean dump) (λ e. cc, λ e. cc) (refl, (written "0 0!", refl))
+cut_off_pick = cut_off_is_a_prefix pick limit (codes "x.vcd") failing (clean dump) (λ e. cc, λ e. cc) (refl, (written "0 0!", refl))

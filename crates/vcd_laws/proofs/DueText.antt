@@ -1,4 +1,4 @@
--- What is due with the first tokens of an input, and its output.
+-- What is due with the first tokens of an input, and the output over it.
 use Rattle.std.proofs.Common.{◌≡◌, ◌≢◌, ℕ, ℤ, Bool, true, false, cond, not, ◌&&◌, ◌||◌, ◌==◌, nat_lt, is_some, is_none, is_ok, List, [], ◌∷◌, ◌++◌, map, filter_map, Option, Some, None, Result, Ok, Err, inl, inr, refl, sym, ap, ◌∙◌, subst, append-nil, append_assoc}
 use Rattle.std.specs.List.{list_any, list_all}
 use Rattle.vcd_model.specs.Backward.{up_to_first}
@@ -21,7 +21,7 @@ use Rattle.vcd_model.specs.Settled.{is_faulty, body_settles, is_settled_behind, 
 use Rattle.vcd_model.specs.Laws.{IsPrefixOf, IsValid}
 use Rattle.vcd_laws.specs.Checked.{run_of}
 use Rattle.vcd_laws.specs.Final.{BeginsWith, first_tokens}
-use Rattle.vcd_laws.specs.Due.{due_over, due_behind, due_by, due_at, due, DueGrows, DueIsNeverRevised, DueIsLeftAtAHalt, DueIsAllThatIsKnown, SettledDueIsAll}
+use Rattle.vcd_laws.specs.Due.{due_of_body, due_after, due_of_request, due_at, due, DueGrows, DueIsNeverRevised, DueIsLeftAtAHalt, DueIsAllThatIsKnown, SettledDueIsAll}
 use Rattle.vcd_model.proofs.CutGrows.{goes_on}
 use Rattle.vcd_model.proofs.JobLemmas.{requests_are_valid}
 use Rattle.vcd_model.proofs.Revised.{nothing_revised}
@@ -56,15 +56,15 @@ open_first task h p q v = by_early (list_any (ends_early task) p) refl
 -- ---- more tokens
 
 over_grows : (place : Option ℕ) (task : Request) (h : Header) (ts more : List Token) → IsValid task
-    → IsPrefixOf (due_over place task h ts) (due_over place task h (ts ++ more))
+    → IsPrefixOf (due_of_body place task h ts) (due_of_body place task h (ts ++ more))
 over_grows (Some i) task h ts more v = same_text [] [] refl
 over_grows None task h ts more v =
     let k = items_first h.codes ts more in
-    subst (λ (l : List BodyItem). IsPrefixOf (due_over None task h ts) (open_text task h (up_to_first (ends_early task) l)))
+    subst (λ (l : List BodyItem). IsPrefixOf (due_of_body None task h ts) (open_text task h (up_to_first (ends_early task) l)))
     (sym k.1) (open_first task h (body_items (read_body h.codes ts)) k.0 v)
 
 behind_grows : (task : Request) (h : Header) (ts more : List Token) → IsValid task
-    → IsPrefixOf (due_behind task h ts) (due_behind task h (ts ++ more))
+    → IsPrefixOf (due_after task h ts) (due_after task h (ts ++ more))
 behind_grows Request.Check h ts more v = over_grows None Request.Check h ts more v
 behind_grows Request.Listing h ts more v = same_text _ _ refl
 behind_grows (Request.Pick names) h ts more v = over_grows (first_unmatched names h.declarations) (Request.Pick names) h ts more v
@@ -75,7 +75,7 @@ behind_grows Request.Merge h ts more v = over_grows None Request.Merge h ts more
 
 by_grows : (request : Result Request Refusal) (h : Header) (ts more : List Token)
     → ((task : Request) → request ≡ Ok task → IsValid task)
-    → IsPrefixOf (due_by request h ts) (due_by request h (ts ++ more))
+    → IsPrefixOf (due_of_request request h ts) (due_of_request request h (ts ++ more))
 by_grows (Ok task) h ts more v = behind_grows task h ts more (v task refl)
 by_grows (Err refusal) h ts more v = same_text [] [] refl
 
@@ -164,7 +164,7 @@ faulty_fault s r h none = by_ending r.ending refl h
     by_ending AtLast e h = cc
 
 body_written : (task : Request) (h : Header) (name : List ℕ) (s : Stream) (ts : List Token)
-    → Written s (body_settles task h ts) (due_over None task h ts)
+    → Written s (body_settles task h ts) (due_of_body None task h ts)
     (over_body task h (items_in (opened_at h s ts)) name (fault_in (opened_at h s ts))).output
 unfolding body_of
 body_written task h name s ts = by_early (list_any (ends_early task) items) refl (body_fault_of s r) refl
@@ -177,7 +177,7 @@ body_written task h name s ts = by_early (list_any (ends_early task) items) refl
 
     by_early : (b : Bool) → list_any (ends_early task) (body_items (read_body h.codes ts)) ≡ b
         → (fault : Option Fault) → body_fault_of s (read_body h.codes ts) ≡ fault
-        → Written s (body_settles task h ts) (due_over None task h ts) (over_body task h (body_items (read_body h.codes ts)) name fault).output
+        → Written s (body_settles task h ts) (due_of_body None task h ts) (over_body task h (body_items (read_body h.codes ts)) name fault).output
     by_early true e fault f =
         all_written s _ _ _ (ap (λ (o : Outcome). o.output) (ended_early task h (body_items (read_body h.codes ts)) name fault e))
     by_early false e (Some x) f =
@@ -201,7 +201,7 @@ body_written task h name s ts = by_early (list_any (ends_early task) items) refl
 -- ---- the output of a run
 
 over_written : (task : Request) (h : Header) (name : List ℕ) (s : Stream) (ts : List Token) (place : Option ℕ)
-    → Written s (is_some place || body_settles task h ts) (due_over place task h ts)
+    → Written s (is_some place || body_settles task h ts) (due_of_body place task h ts)
     (elim place as (λ _. Outcome) [
       | Some i ↦ unmatched_outcome (name_at (names_of task) i)
       | None ↦ over_body task h (items_in (opened_at h s ts)) name (fault_in (opened_at h s ts))
@@ -250,7 +250,7 @@ refused name Refusal.NotRising = refl
 
 request_written : (request : Result Request Refusal) → request ≢ Ok Request.Merge → (h : Header) (name : List ℕ)
     (s : Stream) (ts : List Token)
-    → Written s (is_settled_by request h ts) (due_by request h ts) (asked (name ∷ []) (opened_at h s ts ∷ []) request).output
+    → Written s (is_settled_by request h ts) (due_of_request request h ts) (asked (name ∷ []) (opened_at h s ts ∷ []) request).output
 unfolding over_dump
 request_written (Err why) one h name s ts = all_written s _ _ _ (refused name why)
 request_written (Ok Request.Check) one h name s ts = over_written Request.Check h name s ts None
@@ -304,12 +304,12 @@ run_written want limit name input one = by_ending (reading_of (header_grammar de
 -- ---- tokens that settle a run
 
 items_settled : (task : Request) (h : Header) (ts more : List Token) → body_settles task h ts ≡ true
-    → (body_settles task h (ts ++ more) ≡ true) × (due_over None task h (ts ++ more) ≡ due_over None task h ts)
+    → (body_settles task h (ts ++ more) ≡ true) × (due_of_body None task h (ts ++ more) ≡ due_of_body None task h ts)
 items_settled task h ts more e = by_fault (is_faulty (read_body h.codes ts).ending) refl e
   where
     by_fault : (b : Bool) → is_faulty (read_body h.codes ts).ending ≡ b
         → (b || list_any (ends_early task) (body_items (read_body h.codes ts))) ≡ true
-        → (body_settles task h (ts ++ more) ≡ true) × (due_over None task h (ts ++ more) ≡ due_over None task h ts)
+        → (body_settles task h (ts ++ more) ≡ true) × (due_of_body None task h (ts ++ more) ≡ due_of_body None task h ts)
     by_fault true f e =
         let same = faulty_body h.codes ts more f in (
           ap (λ (r : Reading BodyPhrase). is_faulty r.ending || list_any (ends_early task) (body_items r)) same ∙ ap (λ b. b || list_any (ends_early task) (body_items (read_body h.codes ts))) f,
@@ -329,12 +329,12 @@ items_settled task h ts more e = by_fault (is_faulty (read_body h.codes ts).endi
 
 place_settled : (place : Option ℕ) (task : Request) (h : Header) (ts more : List Token)
     → (is_some place || body_settles task h ts) ≡ true
-    → ((is_some place || body_settles task h (ts ++ more)) ≡ true) × (due_over place task h (ts ++ more) ≡ due_over place task h ts)
+    → ((is_some place || body_settles task h (ts ++ more)) ≡ true) × (due_of_body place task h (ts ++ more) ≡ due_of_body place task h ts)
 place_settled (Some i) task h ts more e = (refl, refl)
 place_settled None task h ts more e = items_settled task h ts more e
 
 behind_settled : (task : Request) (h : Header) (ts more : List Token) → is_settled_behind task h ts ≡ true
-    → (is_settled_behind task h (ts ++ more) ≡ true) × (due_behind task h (ts ++ more) ≡ due_behind task h ts)
+    → (is_settled_behind task h (ts ++ more) ≡ true) × (due_after task h (ts ++ more) ≡ due_after task h ts)
 behind_settled Request.Check h ts more e = place_settled None Request.Check h ts more e
 behind_settled Request.Listing h ts more e = (refl, refl)
 behind_settled (Request.Pick names) h ts more e = place_settled (first_unmatched names h.declarations) (Request.Pick names) h ts more e
@@ -345,7 +345,7 @@ behind_settled Request.Merge h ts more e = place_settled None Request.Merge h ts
 
 by_settled : (request : Result Request Refusal) (h : Header) (ts more : List Token)
     → is_settled_by request h ts ≡ true
-    → (is_settled_by request h (ts ++ more) ≡ true) × (due_by request h (ts ++ more) ≡ due_by request h ts)
+    → (is_settled_by request h (ts ++ more) ≡ true) × (due_of_request request h (ts ++ more) ≡ due_of_request request h ts)
 by_settled (Ok task) h ts more e = behind_settled task h ts more e
 by_settled (Err refusal) h ts more e = (refl, refl)
 

@@ -1,4 +1,4 @@
--- What is due with what is known of the inputs of a merge, and its output.
+-- What is due once something is known of the inputs of a merge, and the output of that merge.
 use Rattle.std.proofs.Common.{◌≡◌, ◌≢◌, ℕ, ◌+◌, Bool, true, false, cond, ◌||◌, is_some, List, [], ◌∷◌, ◌++◌, map, filter, find, Option, Some, None, option_map, Result, Ok, Err, ◌⊎◌, inl, inr, refl, sym, ap, ◌∙◌, subst, append-nil, append_assoc}
 use Rattle.std.specs.List.{AllByRecursion, cons_option}
 use Rattle.std.proofs.lemmas.Bool.{and_parts}
@@ -22,7 +22,7 @@ use Rattle.vcd_model.specs.SettledMerge.SeenHeaders.{Faulty, NotWhole, Whole}
 use Rattle.vcd_model.specs.SettledMerge.{Seen, SeenBody, SeenHeaders, seen_before, tokens_seen, whole_of, header_ends, seen_at, headers_seen, fault_seen, dump_seen, is_at_its_end, is_past, are_past, bodies_settle, settles_merge, is_settled_merge}
 use Rattle.vcd_model.specs.Laws.{IsPrefixOf}
 use Rattle.vcd_laws.specs.Final.{IsSeen, AreSeen}
-use Rattle.vcd_laws.specs.Due.{dump_left, due_known, due_of_merge, IsLeft, AreLeft, CanBeKnown, IsMore, AreMore, MergeDueGrows, MergeDueIsNeverRevised, MergeDueIsLeftAtHalts, MergeDueIsAllThatIsKnown, SettledMergeDueIsAll}
+use Rattle.vcd_laws.specs.Due.{dump_cut_off, due_by_headers, due_of_merge, GivesNoMore, GiveNoMore, CanBeKnown, IsMore, AreMore, MergeDueGrows, MergeDueIsNeverRevised, MergeDueIsLeftAtHalts, MergeDueIsAllThatIsKnown, SettledMergeDueIsAll}
 use Rattle.vcd_model.proofs.DumpItems.{mark_or}
 use Rattle.vcd_model.proofs.Growing.{each_after-append, merge_grows}
 use Rattle.vcd_model.proofs.MergeOrder.{IsSorted, sorted_by_key, filter-by_key, key_trans}
@@ -257,7 +257,7 @@ abbrev failed_there : Dump → Dump
 failed_there d = record { header = d.header; items = d.items; fault = Some (record { number = 31; line = 1 }) }
 
 -- the dump of an input of which this is known
-left_grows : (hs : List Header) (s : SeenBody) (o : Opened) → IsSoFar s o → Grows (dump_left hs s) (dump_in hs o)
+left_grows : (hs : List Header) (s : SeenBody) (o : Opened) → IsSoFar s o → Grows (dump_cut_off hs s) (dump_in hs o)
 left_grows hs s o is = by_end (is_at_its_end s (dump_seen hs s)) refl (dump_in hs o) (dump_seen_of hs s o is)
   where
     by_end : (b : Bool) → is_at_its_end s (dump_seen hs s) ≡ b → (d' : Dump) → DumpOf hs s d'
@@ -278,7 +278,7 @@ left_grows hs s o is = by_end (is_at_its_end s (dump_seen hs s)) refl (dump_in h
     by_end false e d' (inr h) = record { header = h.1; more = h.3.0; items = h.3.1; ended = λ none. cc }
 
 all_left_grow : (hs : List Header) (ss : List SeenBody) (os : List Opened) → AllSoFar ss os
-    → AllGrow (map (dump_left hs) ss) (map (dump_in hs) os)
+    → AllGrow (map (dump_cut_off hs) ss) (map (dump_in hs) os)
 all_left_grow hs [] [] all = tt
 all_left_grow hs [] (o ∷ os) all = absurd all
 all_left_grow hs (s ∷ ss) [] all = absurd all
@@ -299,14 +299,14 @@ merge_due_is_never_revised limit names seen inputs are =
     (by_headers (headers_seen [] seen) (both_open limit [] seen inputs inputs are are))
   where
     by_headers : (k : SeenHeaders) → BothOpen limit [] inputs inputs k
-        → IsPrefixOf (due_known k) (run_over Want.Merge names (open_from limit [] inputs)).output
+        → IsPrefixOf (due_by_headers k) (run_over Want.Merge names (open_from limit [] inputs)).output
     by_headers Faulty both = nothing_due _
     by_headers NotWhole both = nothing_due _
     by_headers (Whole ss) (os, ps, p, q, ao, bo) =
         let hs = map (λ (s : SeenBody). s.header) ss in
-        subst (λ (r : Result (List Opened) (ℕ × Fault)). IsPrefixOf (due_known (Whole ss)) (run_over Want.Merge names r).output) (sym p)
-        (subst (λ (ds : List Dump). IsPrefixOf (due_known (Whole ss)) (merge_outcome names ds).output) (sym (known_dumps ss os ao))
-        (text_grows [] names (map (dump_left hs) ss) (map (dump_in hs) os) (all_left_grow hs ss os ao)))
+        subst (λ (r : Result (List Opened) (ℕ × Fault)). IsPrefixOf (due_by_headers (Whole ss)) (run_over Want.Merge names r).output) (sym p)
+        (subst (λ (ds : List Dump). IsPrefixOf (due_by_headers (Whole ss)) (merge_outcome names ds).output) (sym (known_dumps ss os ao))
+        (text_grows [] names (map (dump_cut_off hs) ss) (map (dump_in hs) os) (all_left_grow hs ss os ao)))
 
 -- ---- inputs that are halted
 
@@ -331,7 +331,7 @@ marked_fault : (own : Option Fault) (o : Option (Placed BodyPhrase)) → own ≢
 marked_fault own None h e = h e
 marked_fault own (Some p) h e = cc
 
-grows_left : (hs : List Header) (s : SeenBody) (o : Opened) → IsLeftBody s o → Grows (dump_in hs o) (dump_left hs s)
+grows_left : (hs : List Header) (s : SeenBody) (o : Opened) → IsLeftBody s o → Grows (dump_in hs o) (dump_cut_off hs s)
 unfolding body_of
 grows_left hs s o is = by_whole s.whole refl is.halt
   where
@@ -353,7 +353,7 @@ grows_left hs s o is = by_whole s.whole refl is.halt
         ap (λ (x : Option Stream). dump_of (factor hs s.header) s.header (fault_seen x r) r) e
         ∙ dump_is (factor hs s.header) s.header (fault_seen w r) r
 
-    by_whole : (w : Option Stream) → s.whole ≡ w → Halts w o → Grows (dump_in hs o) (dump_left hs s)
+    by_whole : (w : Option Stream) → s.whole ≡ w → Halts w o → Grows (dump_in hs o) (dump_cut_off hs s)
     by_whole None e halted =
         let r = read_body s.header.codes s.rest in
         let p = parts (is_at_its_end s (dump_seen hs s)) (dump_seen hs s) in record {
@@ -367,7 +367,7 @@ grows_left hs s o is = by_whole s.whole refl is.halt
         let r = read_body s.header.codes s.rest in
         let known : dump_seen hs s ≡ dump_in hs o =
         here (Some stream) e ∙ ap (λ (u : Stream). dump_with (factor hs s.header) s.header (body_fault_of u r) r.placed) (sym same) ∙ sym there in
-        let left : dump_left hs s ≡ dump_seen hs s =
+        let left : dump_cut_off hs s ≡ dump_seen hs s =
         ap (λ (w : Option Stream). cond (is_some w || is_some (dump_seen hs s).fault) (dump_seen hs s) (failed_there (dump_seen hs s))) e in
         let all = left ∙ known in record {
           header = ap (λ (d : Dump). d.header) all;
@@ -383,7 +383,7 @@ AllLeft (s ∷ ss) [] = ⊥
 AllLeft (s ∷ ss) (o ∷ os) = IsLeftBody s o × AllLeft ss os
 
 all_grow_left : (hs : List Header) (ss : List SeenBody) (os : List Opened) → AllLeft ss os
-    → AllGrow (map (dump_in hs) os) (map (dump_left hs) ss)
+    → AllGrow (map (dump_in hs) os) (map (dump_cut_off hs) ss)
 all_grow_left hs [] [] all = tt
 all_grow_left hs [] (o ∷ os) all = absurd all
 all_grow_left hs (s ∷ ss) [] all = absurd all
@@ -403,23 +403,23 @@ OpenLeft limit hs is Faulty = (e : ℕ × Fault) × (open_from limit hs is ≡ E
 OpenLeft limit hs is NotWhole = (e : ℕ × Fault) × (open_from limit hs is ≡ Err e)
 OpenLeft limit hs is (Whole ss) = (os : List Opened) × (open_from limit hs is ≡ Ok os) × AllLeft ss os
 
-left_seen : (limit : ℕ) (s : Seen) (i : Input) → IsLeft limit s i → IsSeen limit s i
+left_seen : (limit : ℕ) (s : Seen) (i : Input) → GivesNoMore limit s i → IsSeen limit s i
 left_seen limit (Seen.First ts) i (e, halted) = same_text ts (stream_of limit i).tokens e
 left_seen limit (Seen.All stream) i e = e
 
-all_left_seen : (limit : ℕ) (ss : List Seen) (is : List Input) → AreLeft limit ss is → AreSeen limit ss is
+all_left_seen : (limit : ℕ) (ss : List Seen) (is : List Input) → GiveNoMore limit ss is → AreSeen limit ss is
 all_left_seen limit [] [] all = tt
 all_left_seen limit [] (i ∷ is) all = absurd all
 all_left_seen limit (s ∷ ss) [] all = absurd all
 all_left_seen limit (s ∷ ss) (i ∷ is) all = (left_seen limit s i all.0, all_left_seen limit ss is all.1)
 
 -- all that its source gives is known of such an input
-left_stream : (limit : ℕ) (s : Seen) (i : Input) → IsLeft limit s i → (stream_of limit i).tokens ≡ tokens_seen s
+left_stream : (limit : ℕ) (s : Seen) (i : Input) → GivesNoMore limit s i → (stream_of limit i).tokens ≡ tokens_seen s
 left_stream limit (Seen.First ts) i (e, halted) = e
 left_stream limit (Seen.All stream) i e = ap (λ (u : Stream). u.tokens) e
 
 -- one input whose header is whole
-one_left : (limit : ℕ) (hs : List Header) (s : Seen) (i : Input) (is : List Input) → IsLeft limit s i
+one_left : (limit : ℕ) (hs : List Header) (s : Seen) (i : Input) (is : List Input) → GivesNoMore limit s i
     → (reading_of (header_grammar (allowed_after hs)) (tokens_seen s)).ending ≡ AtLast
     → (o : Opened) × IsLeftBody (record {
       header = header_of (phrases_of (reading_of (header_grammar (allowed_after hs)) (tokens_seen s)).placed);
@@ -446,7 +446,7 @@ one_left limit hs (Seen.All stream) i is e ending =
     let rest = known.rest in
     (o.0, record { header = known.header; rest = rest.0; halt = rest.1 }, o.2)
 
-opens_left : (limit : ℕ) (hs : List Header) (ss : List Seen) (is : List Input) → AreLeft limit ss is
+opens_left : (limit : ℕ) (hs : List Header) (ss : List Seen) (is : List Input) → GiveNoMore limit ss is
     → OpenLeft limit hs is (headers_seen hs ss)
 unfolding open_from
 opens_left limit hs [] [] all = ([], refl, tt)
@@ -518,17 +518,17 @@ merge_due_is_left_at_halts limit names seen inputs left =
         (nothing_due text)
 
     by_headers : (k : SeenHeaders) → OpenLeft limit [] inputs k
-        → IsPrefixOf (run_over Want.Merge names (open_from limit [] inputs)).output (due_known k)
+        → IsPrefixOf (run_over Want.Merge names (open_from limit [] inputs)).output (due_by_headers k)
     by_headers Faulty (e, same) = no_output e _ same
     by_headers NotWhole (e, same) = no_output e _ same
     by_headers (Whole ss) (os, p, all) =
         let hs = map (λ (s : SeenBody). s.header) ss in
-        subst (λ (r : Result (List Opened) (ℕ × Fault)). IsPrefixOf (run_over Want.Merge names r).output (due_known (Whole ss))) (sym p)
-        (subst (λ (ds : List Dump). IsPrefixOf (merge_outcome names ds).output (due_known (Whole ss))) (sym (known_dumps ss os (all_so_far ss os all)))
-        (text_grows names [] (map (dump_in hs) os) (map (dump_left hs) ss) (all_grow_left hs ss os all)))
+        subst (λ (r : Result (List Opened) (ℕ × Fault)). IsPrefixOf (run_over Want.Merge names r).output (due_by_headers (Whole ss))) (sym p)
+        (subst (λ (ds : List Dump). IsPrefixOf (merge_outcome names ds).output (due_by_headers (Whole ss))) (sym (known_dumps ss os (all_so_far ss os all)))
+        (text_grows names [] (map (dump_in hs) os) (map (dump_cut_off hs) ss) (all_grow_left hs ss os all)))
 
 -- inputs of which no more than this comes
-some_left : (limit : ℕ) (ss : List Seen) → AllByRecursion (CanBeKnown limit) ss → (is : List Input) × AreLeft limit ss is
+some_left : (limit : ℕ) (ss : List Seen) → AllByRecursion (CanBeKnown limit) ss → (is : List Input) × GiveNoMore limit ss is
 some_left limit [] can = ([], tt)
 some_left limit (Seen.First ts ∷ ss) ((f, short, e), can) =
     let two = two_ends limit f short in
@@ -582,15 +582,15 @@ merge_due_grows limit seen more can are =
 
 -- ---- a merge that is settled
 
-left_at_end : (hs : List Header) (s : SeenBody) → is_at_its_end s (dump_seen hs s) ≡ true → dump_left hs s ≡ dump_seen hs s
+left_at_end : (hs : List Header) (s : SeenBody) → is_at_its_end s (dump_seen hs s) ≡ true → dump_cut_off hs s ≡ dump_seen hs s
 left_at_end hs s e = ap (λ b. cond b (dump_seen hs s) (failed_there (dump_seen hs s))) e
 
 all_at_end : (hs : List Header) (n : ℕ) (ss : List SeenBody) → are_past None hs n ss ≡ true
-    → map (dump_left hs) ss ≡ map (dump_seen hs) ss
+    → map (dump_cut_off hs) ss ≡ map (dump_seen hs) ss
 all_at_end hs n [] e = refl
 all_at_end hs n (s ∷ ss) e =
     let parts = and_parts (is_at_its_end s (dump_seen hs s) || false) (are_past None hs (n + 1) ss) e in
-    ap (λ (d : Dump). d ∷ map (dump_left hs) ss) (left_at_end hs s (or_never (is_at_its_end s (dump_seen hs s)) parts.0))
+    ap (λ (d : Dump). d ∷ map (dump_cut_off hs) ss) (left_at_end hs s (or_never (is_at_its_end s (dump_seen hs s)) parts.0))
     ∙ ap (λ (l : List Dump). dump_seen hs s ∷ l) (all_at_end hs (n + 1) ss parts.1)
   where
     or_never : (b : Bool) → (b || false) ≡ true → b ≡ true
@@ -598,7 +598,7 @@ all_at_end hs n (s ∷ ss) e =
     or_never false e = cc
 
 left_past : (f : KeyedFault) (hs : List Header) (n : ℕ) (ss : List SeenBody) → are_past (Some f) hs n ss ≡ true
-    → GoOn f hs n (map (dump_seen hs) ss) (map (dump_left hs) ss)
+    → GoOn f hs n (map (dump_seen hs) ss) (map (dump_cut_off hs) ss)
 left_past f hs n [] e = tt
 left_past f hs n (s ∷ ss) e =
     let parts = and_parts (is_at_its_end s (dump_seen hs s) || is_past (Some f) hs n (dump_seen hs s)) (are_past (Some f) hs (n + 1) ss) e in
@@ -625,16 +625,16 @@ left_past f hs n (s ∷ ss) e =
 
 -- what may come makes no difference
 left_settled : (names : List (List ℕ)) (ss : List SeenBody) → bodies_settle ss ≡ true
-    → merge_outcome names (map (dump_left (map (λ s. s.header) ss)) ss) ≡ merge_outcome names (map (dump_seen (map (λ s. s.header) ss)) ss)
+    → merge_outcome names (map (dump_cut_off (map (λ s. s.header) ss)) ss) ≡ merge_outcome names (map (dump_seen (map (λ s. s.header) ss)) ss)
 left_settled names ss e = by_first (first_fault (map (dump_seen (map (λ s. s.header) ss)) ss)) refl e
   where
     by_first : (f : Option KeyedFault) → first_fault (map (dump_seen (map (λ s. s.header) ss)) ss) ≡ f
         → are_past f (map (λ s. s.header) ss) 0 ss ≡ true
-        → merge_outcome names (map (dump_left (map (λ s. s.header) ss)) ss) ≡ merge_outcome names (map (dump_seen (map (λ s. s.header) ss)) ss)
+        → merge_outcome names (map (dump_cut_off (map (λ s. s.header) ss)) ss) ≡ merge_outcome names (map (dump_seen (map (λ s. s.header) ss)) ss)
     by_first None first e = ap (merge_outcome names) (all_at_end (map (λ s. s.header) ss) 0 ss e)
     by_first (Some f) first e =
         let hs = map (λ (s : SeenBody). s.header) ss in
-        outcome_stays names hs (map (dump_seen hs) ss) (map (dump_left hs) ss) f (seen_headers hs ss) first (left_past f hs 0 ss e)
+        outcome_stays names hs (map (dump_seen hs) ss) (map (dump_cut_off hs) ss) f (seen_headers hs ss) first (left_past f hs 0 ss e)
 
 pub settled_merge_due_is_all : SettledMergeDueIsAll
 unfolding is_settled_merge due_of_merge request_of
@@ -643,12 +643,12 @@ settled_merge_due_is_all limit names seen inputs e are =
     ∙ by_headers (headers_seen [] seen) (both_open limit [] seen inputs inputs are are) e
   where
     by_headers : (k : SeenHeaders) → BothOpen limit [] inputs inputs k → settles_merge k ≡ true
-        → (run_over Want.Merge names (open_from limit [] inputs)).output ≡ due_known k
+        → (run_over Want.Merge names (open_from limit [] inputs)).output ≡ due_by_headers k
     by_headers Faulty (x, p, q) e =
         ap (λ (r : Result (List Opened) (ℕ × Fault)). (run_over Want.Merge names r).output) p ∙ fault_output [] (name_at names x.0) x.1
     by_headers NotWhole both e = cc
     by_headers (Whole ss) (os, ps, p, q, ao, bo) e =
-        let ds = map (dump_left (map (λ (s : SeenBody). s.header) ss)) ss in
+        let ds = map (dump_cut_off (map (λ (s : SeenBody). s.header) ss)) ss in
         ap (λ (r : Result (List Opened) (ℕ × Fault)). (run_over Want.Merge names r).output) p
         ∙ ap (λ (d : Outcome). d.output) (merge_known names ss os ao e ∙ sym (left_settled names ss e))
         ∙ name_free names [] ds

@@ -1,5 +1,6 @@
--- What is due once first tokens are known: the longest text with which the output begins, whatever
--- follows them.
+-- What is due once the first tokens of an input are known: the longest text with which the output
+-- begins, whatever follows them. A program that wrote more would be wrong for some input that begins
+-- so. One that writes less withholds what is known.
 use Rattle.std.specs.Prelude.{◌≡◌, ◌≢◌, ◌↔◌, ◌⊎◌, ℕ, IsTrue, cond, List, [], ◌∷◌, ◌++◌, map, Option, Some, None, Result, Ok, Err}
 use Rattle.std.specs.List.{AllByRecursion}
 use Rattle.vcd_model.specs.Backward.{up_to_first}
@@ -25,36 +26,36 @@ use Rattle.vcd_laws.specs.Final.{BeginsWith, AreSeen, Prefix, first_tokens, IsSh
 
 -- ---- one input
 
--- the first tokens of a body: the text of the items that are whole with them, up to a timestamp
--- that ends the run; nothing where a name selects nothing
-abbrev pub due_over : Option ℕ → Request → Header → List Token → List ℕ
-due_over (Some unmatched) task h ts = []
-due_over None task h ts = open_text task h (up_to_first (ends_early task) (body_items (read_body h.codes ts)))
+-- What is due with the first tokens of a body: the text of the items that are whole with them, up to
+-- a timestamp that ends the run. It is nothing if a name selects nothing.
+abbrev pub due_of_body : Option ℕ → Request → Header → List Token → List ℕ
+due_of_body (Some unmatched) task h ts = []
+due_of_body None task h ts = open_text task h (up_to_first (ends_early task) (body_items (read_body h.codes ts)))
 
--- a whole header, and these tokens after it: `list` is due at once
-abbrev pub due_behind : Request → Header → List Token → List ℕ
-due_behind Request.Listing h ts = list_text h
-due_behind task h ts = due_over (first_unmatched (names_of task) h.declarations) task h ts
+-- what is due with a whole header and these tokens after it: all of a `list` is due with the header
+abbrev pub due_after : Request → Header → List Token → List ℕ
+due_after Request.Listing h ts = list_text h
+due_after task h ts = due_of_body (first_unmatched (names_of task) h.declarations) task h ts
 
--- nothing where the times are refused
-abbrev pub due_by : Result Request Refusal → Header → List Token → List ℕ
-due_by (Ok task) h ts = due_behind task h ts
-due_by (Err refusal) h ts = []
+-- what is due of a request, or of times that are refused: then it is nothing
+abbrev pub due_of_request : Result Request Refusal → Header → List Token → List ℕ
+due_of_request (Ok task) h ts = due_after task h ts
+due_of_request (Err refusal) h ts = []
 
--- by what a reading of the header met: nothing before it is whole
+-- by how a reading of the header ended: nothing is due if it has a fault, or before it is whole
 abbrev pub due_at : Want → Reading HeaderPhrase → Ending → List ℕ
 due_at want r (AtFault fault) = []
 due_at want r AtEnd = []
-due_at want r AtLast = let h = header_of (phrases_of r.placed) in due_by (request_of h.scale want) h r.rest
+due_at want r AtLast = let h = header_of (phrases_of r.placed) in due_of_request (request_of h.scale want) h r.rest
 
--- what is due once these first tokens of an input are known, with this many declarations allowed; of
--- a merge see below
+-- What is due once these first tokens of an input are known, which may have this many declarations.
+-- `due_of_merge` below is for a merge.
 unfoldable pub due : Want → ℕ → List Token → List ℕ
 due want most ts = let r = reading_of (header_grammar most) ts in due_at want r r.ending
 
 -- ---- the laws of one input
 
--- a job over one input
+-- a job that has one input: any but a merge
 abbrev pub IsOverOne : Want → Type 0
 IsOverOne want = IsJob want × (want ≢ Want.Merge)
 
@@ -63,22 +64,23 @@ abbrev pub DueGrows : Type 0
 DueGrows = (want : Want) (most : ℕ) (ts more : List Token) → IsJob want
     → IsPrefixOf (due want most ts) (due want most (ts ++ more))
 
--- whatever follows these tokens, the output begins with what is due with them
+-- the output over every input that begins with these tokens begins with what is due with them
 abbrev pub DueIsNeverRevised : Type 0
 DueIsNeverRevised = (want : Want) (limit : ℕ) (name : List ℕ) (ts : List Token) (input : Input)
     → IsOverOne want → BeginsWith limit input ts
     → IsPrefixOf (due want declarations_allowed ts) (run_of want limit name input).output
 
--- where the tokens of an input end with a halt, as with a failed read, what is due with them is the
--- whole output
+-- if reading is halted after the tokens of an input, as by a failed read, the output is what is due
+-- with them
 abbrev pub DueIsLeftAtAHalt : Type 0
 DueIsLeftAtAHalt = (want : Want) (limit : ℕ) (name : List ℕ) (input : Input)
     → IsOverOne want → (stream_of limit input).halt ≢ None
     → (run_of want limit name input).output
     ≡ due want declarations_allowed (stream_of limit input).tokens
 
--- a text begins every output that these tokens leave possible where it begins what is due with
--- them, and nowhere else: nothing that is known is withheld, nothing else is written
+-- A text begins the output over every input that begins with these tokens if and only if it begins
+-- what is due with them: so what is due is the longest such text. The inputs may end, go on or fail
+-- after these tokens.
 abbrev pub DueIsAllThatIsKnown : Type 0
 DueIsAllThatIsKnown = (want : Want) (limit : ℕ) (name : List ℕ) (f : Prefix) (text : List ℕ)
     → IsOverOne want → IsShort limit f
@@ -86,7 +88,8 @@ DueIsAllThatIsKnown = (want : Want) (limit : ℕ) (name : List ℕ) (f : Prefix)
     → IsPrefixOf text (run_of want limit name input).output)
     ↔ IsPrefixOf text (due want declarations_allowed (first_tokens f))
 
--- where these tokens settle the run, what is due with them is the whole output
+-- if these tokens settle the run, the output over every input that begins with them is what is due
+-- with them
 abbrev pub SettledDueIsAll : Type 0
 SettledDueIsAll = (want : Want) (limit : ℕ) (name : List ℕ) (ts : List Token) (input : Input)
     → IsOverOne want → IsTrue (is_settled want declarations_allowed ts) → BeginsWith limit input ts
@@ -94,57 +97,58 @@ SettledDueIsAll = (want : Want) (limit : ℕ) (name : List ℕ) (ts : List Token
 
 -- ---- the inputs of a merge
 
--- an input as far as it is known, and where more of it may come, as if its source failed there
-abbrev pub dump_left : List Header → SeenBody → Dump
-dump_left hs s =
+-- an input as far as it is known: if more of it may come, its source fails there
+abbrev pub dump_cut_off : List Header → SeenBody → Dump
+dump_cut_off hs s =
     let d = dump_seen hs s in
     cond (is_at_its_end s d) d (record { header = d.header; items = d.items; fault = Some (record { number = 31; line = 1 }) })
 
--- nothing before all headers are whole; then what a merge writes of such inputs
-abbrev pub due_known : SeenHeaders → List ℕ
-due_known Faulty = []
-due_known NotWhole = []
-due_known (Whole ss) = (merge_outcome [] (map (dump_left (map (λ s. s.header) ss)) ss)).output
+-- by what is known of the headers: nothing is due if one has a fault, or before all are whole, and
+-- then what a merge of these inputs writes
+abbrev pub due_by_headers : SeenHeaders → List ℕ
+due_by_headers Faulty = []
+due_by_headers NotWhole = []
+due_by_headers (Whole ss) = (merge_outcome [] (map (dump_cut_off (map (λ s. s.header) ss)) ss)).output
 
--- what is due once this is known of the inputs of a merge
+-- What is due once this is known of the inputs of a merge.
 unfoldable pub due_of_merge : List Seen → List ℕ
-due_of_merge seen = due_known (headers_seen [] seen)
+due_of_merge seen = due_by_headers (headers_seen [] seen)
 
 -- ---- the laws of a merge
 
--- whatever else comes of the inputs, the output begins with what is due
+-- the output over all inputs of which this is true begins with what is due
 abbrev pub MergeDueIsNeverRevised : Type 0
 MergeDueIsNeverRevised = (limit : ℕ) (names : List (List ℕ)) (seen : List Seen) (inputs : List Input)
     → AreSeen limit seen inputs
     → IsPrefixOf (due_of_merge seen) (outcome Want.Merge limit names inputs).output
 
--- what is known of an input is all that its source gives: after the known tokens it is halted
-abbrev pub IsLeft : ℕ → Seen → Input → Type 0
-IsLeft limit (Seen.First ts) input =
+-- the source gives no more than is known of its input: reading is halted after the known tokens, or
+-- all that it gives is known
+abbrev pub GivesNoMore : ℕ → Seen → Input → Type 0
+GivesNoMore limit (Seen.First ts) input =
     ((stream_of limit input).tokens ≡ ts) × ((stream_of limit input).halt ≢ None)
-IsLeft limit (Seen.All stream) input = stream_of limit input ≡ stream
+GivesNoMore limit (Seen.All stream) input = stream_of limit input ≡ stream
 
--- so it is of each input, in order
-abbrev pub AreLeft : ℕ → List Seen → List Input → Type 0
-AreLeft limit [] [] = Unit {0}
-AreLeft limit [] (input ∷ inputs) = ⊥
-AreLeft limit (s ∷ ss) [] = ⊥
-AreLeft limit (s ∷ ss) (input ∷ inputs) = IsLeft limit s input × AreLeft limit ss inputs
+-- so it is for each input, in order
+abbrev pub GiveNoMore : ℕ → List Seen → List Input → Type 0
+GiveNoMore limit [] [] = Unit {0}
+GiveNoMore limit [] (input ∷ inputs) = ⊥
+GiveNoMore limit (s ∷ ss) [] = ⊥
+GiveNoMore limit (s ∷ ss) (input ∷ inputs) = GivesNoMore limit s input × GiveNoMore limit ss inputs
 
--- where no more comes of any input, and those that may go on are halted, what is due is the whole
--- output
+-- if no source gives more than is known of its input, the output is what is due
 abbrev pub MergeDueIsLeftAtHalts : Type 0
 MergeDueIsLeftAtHalts = (limit : ℕ) (names : List (List ℕ)) (seen : List Seen) (inputs : List Input)
-    → AreLeft limit seen inputs
+    → GiveNoMore limit seen inputs
     → (outcome Want.Merge limit names inputs).output ≡ due_of_merge seen
 
--- what can be known of an input: first tokens of a text, or all that some source gives
+-- what can be known of an input: first tokens of a text, or all that a source gives, which may fail
 abbrev pub CanBeKnown : ℕ → Seen → Type 0
 CanBeKnown limit (Seen.First ts) = (f : Prefix) × IsShort limit f × (ts ≡ first_tokens f)
 CanBeKnown limit (Seen.All stream) = (input : Input) × (stream_of limit input ≡ stream)
 
--- a text begins every output that what is known leaves possible where it begins what is due, and
--- nowhere else
+-- a text begins the output over all inputs of which this is true if and only if it begins what is
+-- due: so what is due is the longest such text
 abbrev pub MergeDueIsAllThatIsKnown : Type 0
 MergeDueIsAllThatIsKnown = (limit : ℕ) (names : List (List ℕ)) (seen : List Seen) (text : List ℕ)
     → AllByRecursion (CanBeKnown limit) seen
@@ -152,26 +156,26 @@ MergeDueIsAllThatIsKnown = (limit : ℕ) (names : List (List ℕ)) (seen : List 
     → IsPrefixOf text (outcome Want.Merge limit names inputs).output)
     ↔ IsPrefixOf text (due_of_merge seen)
 
--- at least as much is known of an input
+-- the second says at least as much of an input as the first
 abbrev pub IsMore : Seen → Seen → Type 0
 IsMore (Seen.First ts) (Seen.First us) = IsPrefixOf ts us
 IsMore (Seen.First ts) (Seen.All stream) = IsPrefixOf ts stream.tokens
 IsMore (Seen.All stream) (Seen.First us) = ⊥
 IsMore (Seen.All stream) (Seen.All other) = other ≡ stream
 
--- so it is of each input, in order
+-- so it is for each input, in order
 abbrev pub AreMore : List Seen → List Seen → Type 0
 AreMore [] [] = Unit {0}
 AreMore [] (m ∷ more) = ⊥
 AreMore (s ∷ seen) [] = ⊥
 AreMore (s ∷ seen) (m ∷ more) = IsMore s m × AreMore seen more
 
--- what is due where more is known begins with what is due where less is
+-- what is due if more is known begins with what is due if less is
 abbrev pub MergeDueGrows : Type 0
 MergeDueGrows = (limit : ℕ) (seen more : List Seen) → AllByRecursion (CanBeKnown limit) more
     → AreMore seen more → IsPrefixOf (due_of_merge seen) (due_of_merge more)
 
--- where what is known settles the merge, what is due is the whole output
+-- if what is known settles the merge, the output over all inputs of which it is true is what is due
 abbrev pub SettledMergeDueIsAll : Type 0
 SettledMergeDueIsAll = (limit : ℕ) (names : List (List ℕ)) (seen : List Seen) (inputs : List Input)
     → IsTrue (is_settled_merge seen) → AreSeen limit seen inputs
@@ -179,14 +183,13 @@ SettledMergeDueIsAll = (limit : ℕ) (names : List (List ℕ)) (seen : List Seen
 
 -- ---- sources that fail
 
--- a source gave a front of the bytes of this input, and then failed
+-- the first source gives a prefix of the bytes of the second, and then fails
 abbrev pub IsCutOff : Input → Input → Type 0
 IsCutOff cut input = (cut.mark ≡ Mark.Failed) × IsPrefixOf cut.bytes input.bytes
 
--- where the source fails earlier, the output is a front of what it would have been: what is due with
--- the bytes that were read
-abbrev pub CutOffIsFirst : Type 0
-CutOffIsFirst = (want : Want) (limit : ℕ) (name : List ℕ) (cut input : Input)
+-- if a source fails earlier, the output is a prefix of what it would have been
+abbrev pub CutOffIsAPrefix : Type 0
+CutOffIsAPrefix = (want : Want) (limit : ℕ) (name : List ℕ) (cut input : Input)
     → IsOverOne want → IsCutOff cut input
     → IsPrefixOf (run_of want limit name cut).output (run_of want limit name input).output
 
@@ -198,16 +201,16 @@ AreCutOff (cut ∷ cuts) [] = ⊥
 AreCutOff (cut ∷ cuts) (input ∷ inputs) =
     (IsCutOff cut input ⊎ (cut ≡ input)) × AreCutOff cuts inputs
 
--- so it is of a merge where some of the sources fail earlier
-abbrev pub CutOffMergeIsFirst : Type 0
-CutOffMergeIsFirst = (limit : ℕ) (names : List (List ℕ)) (cuts inputs : List Input)
+-- so it is for a merge, of whose sources some fail earlier
+abbrev pub CutOffMergeIsAPrefix : Type 0
+CutOffMergeIsAPrefix = (limit : ℕ) (names : List (List ℕ)) (cuts inputs : List Input)
     → AreCutOff cuts inputs
     → IsPrefixOf (outcome Want.Merge limit names cuts).output
     (outcome Want.Merge limit names inputs).output
 
--- Once bytes were read, what is known of the output is what a run leaves whose source fails right
--- after them: a text begins the output over every input that begins with these bytes where it
--- begins that one, and nowhere else.
+-- A text begins the output over every input that begins with these bytes if and only if it begins
+-- the output of a run whose source gives only them and then fails. So such a run leaves all that was
+-- known of the output once they were read, and no more.
 abbrev pub CutOffIsAllThatIsKnown : Type 0
 CutOffIsAllThatIsKnown = (want : Want) (limit : ℕ) (name text : List ℕ) (cut : Input)
     → IsOverOne want → cut.mark ≡ Mark.Failed
@@ -215,7 +218,7 @@ CutOffIsAllThatIsKnown = (want : Want) (limit : ℕ) (name text : List ℕ) (cut
     → IsPrefixOf text (run_of want limit name input).output)
     ↔ IsPrefixOf text (run_of want limit name cut).output
 
--- so it is of a merge, where some inputs were read to their end
+-- so it is for a merge, of whose inputs some may have been read to their end
 abbrev pub CutOffMergeIsAllThatIsKnown : Type 0
 CutOffMergeIsAllThatIsKnown = (limit : ℕ) (names : List (List ℕ)) (text : List ℕ)
     (cuts : List Input)

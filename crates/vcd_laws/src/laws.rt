@@ -12,7 +12,7 @@ ghost use Rattle.vcd_laws.specs.OverMerge.{ListOfMerge, SampleOfMerge, EdgesOfMe
 ghost use Rattle.vcd_laws.specs.Counted.{CheckOfPick, CheckOfCut, CheckOfMerge};
 ghost use Rattle.vcd_laws.specs.Checked.{CheckedIsSafe, CheckNamesTheFault, CleanIsChecked, CheckedMergeIsSafe, MergeNamesTheFault};
 ghost use Rattle.vcd_laws.specs.Final.{SettledIsFinal, SettledIsFinalInMerge, SettledMergeIsFinal, SettledAloneSettlesMerge, UnsettledIsOpen, UnsettledMergeIsOpen};
-ghost use Rattle.vcd_laws.specs.Due.{DueGrows, DueIsNeverRevised, DueIsLeftAtAHalt, DueIsAllThatIsKnown, SettledDueIsAll, MergeDueGrows, MergeDueIsNeverRevised, MergeDueIsLeftAtHalts, MergeDueIsAllThatIsKnown, SettledMergeDueIsAll, CutOffIsFirst, CutOffMergeIsFirst, CutOffIsAllThatIsKnown, CutOffMergeIsAllThatIsKnown};
+ghost use Rattle.vcd_laws.specs.Due.{DueGrows, DueIsNeverRevised, DueIsLeftAtAHalt, DueIsAllThatIsKnown, SettledDueIsAll, MergeDueGrows, MergeDueIsNeverRevised, MergeDueIsLeftAtHalts, MergeDueIsAllThatIsKnown, SettledMergeDueIsAll, CutOffIsAPrefix, CutOffMergeIsAPrefix, CutOffIsAllThatIsKnown, CutOffMergeIsAllThatIsKnown};
 
 pub use vcd_model::laws::{
     body_reading, codes_differ, header_reading, merge_fits, nothing_revised,
@@ -318,75 +318,76 @@ pub fn unsettled_merge_is_open()
     ensures { UnsettledMergeIsOpen }
 {}
 
-/// What is due with the first tokens of an input begins what is due with more of them.
+/// What is due with more tokens of an input begins with what is due with fewer.
 pub fn due_grows()
     ensures { DueGrows }
 {}
 
-/// Whatever follows first tokens, the output begins with what is due with them.
+/// The output over every input that begins with some tokens begins with what is due with them.
 pub fn due_is_never_revised()
     ensures { DueIsNeverRevised }
 {}
 
-/// Where reading is halted, what is due with the tokens before is the whole output.
+/// If reading is halted after some tokens, the output is what is due with them.
 pub fn due_is_left_at_a_halt()
     ensures { DueIsLeftAtAHalt }
 {}
 
-/// What begins the output whatever follows first tokens is what begins the text that is due with
-/// them.
+/// A text begins the output over every input that begins with some tokens if and only if it begins
+/// what is due with them.
 pub fn due_is_all_that_is_known()
     ensures { DueIsAllThatIsKnown }
 {}
 
-/// Where first tokens settle a run, what is due with them is its whole output.
+/// If some tokens settle a run, its output is what is due with them.
 pub fn settled_due_is_all()
     ensures { SettledDueIsAll }
 {}
 
-/// What is due in a merge where less is known of its inputs begins what is due where more is.
+/// What is due in a merge if more is known of its inputs begins with what is due if less is.
 pub fn merge_due_grows()
     ensures { MergeDueGrows }
 {}
 
-/// Whatever else comes of the inputs of a merge, the output begins with what is due.
+/// The output of a merge begins with what is due once something is known of its inputs.
 pub fn merge_due_is_never_revised()
     ensures { MergeDueIsNeverRevised }
 {}
 
-/// Where all inputs of a merge that may go on are halted, what is due is the whole output.
+/// If no source of a merge gives more than is known of its input, the output is what is due.
 pub fn merge_due_is_left_at_halts()
     ensures { MergeDueIsLeftAtHalts }
 {}
 
-/// What begins the output whatever else comes of the inputs of a merge is what begins the text that
-/// is due.
+/// A text begins the output of every merge of inputs of which the same is known if and only if it
+/// begins what is due.
 pub fn merge_due_is_all_that_is_known()
     ensures { MergeDueIsAllThatIsKnown }
 {}
 
-/// Where what is known of the inputs settles a merge, what is due is its whole output.
+/// If what is known of the inputs settles a merge, its output is what is due.
 pub fn settled_merge_due_is_all()
     ensures { SettledMergeDueIsAll }
 {}
 
-/// Where a source fails earlier, the output begins what it would have been.
-pub fn cut_off_is_first()
-    ensures { CutOffIsFirst }
+/// If a source fails earlier, the output is a prefix of what it would have been.
+pub fn cut_off_is_a_prefix()
+    ensures { CutOffIsAPrefix }
 {}
 
-/// Where some sources of a merge fail earlier, the output begins what it would have been.
-pub fn cut_off_merge_is_first()
-    ensures { CutOffMergeIsFirst }
+/// If some sources of a merge fail earlier, the output is a prefix of what it would have been.
+pub fn cut_off_merge_is_a_prefix()
+    ensures { CutOffMergeIsAPrefix }
 {}
 
-/// What is known of the output once bytes were read is what is left where the source fails after
-/// them.
+/// A text begins the output over every input that begins with some bytes if and only if it begins
+/// the output over a source that gives only them and then fails.
 pub fn cut_off_is_all_that_is_known()
     ensures { CutOffIsAllThatIsKnown }
 {}
 
-/// What is known of a merge's output is what is left where all sources fail that may go on.
+/// A text begins the output of every merge that these sources may turn out to be if and only if it
+/// begins the output over these, of which those fail that may go on.
 pub fn cut_off_merge_is_all_that_is_known()
     ensures { CutOffMergeIsAllThatIsKnown }
 {}

@@ -3,8 +3,8 @@
 //!
 //! Values are kept by what the commands write; what they write is a dump, and other commands read
 //! it as they read the input; `check` is the word on a dump for every other command; what settles a
-//! run is final, and what is due with first tokens is what is known of the output. The few laws that
-//! proofs of code rest on are in `vcd_model::laws`.
+//! run is final; what is due with first tokens is the longest text with which the output begins. The
+//! few laws that proofs of code rest on are in `vcd_model::laws`.
 //!
 //! The program is not built from this crate, so a change of a law starts no other proof again.
 //!

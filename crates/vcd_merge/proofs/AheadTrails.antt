@@ -11,8 +11,7 @@ use Rattle.vcd_text.specs.Ahead.{bytes_of, longest_of, passed_of}
 use Rattle.vcd_text.specs.Device.{Counts, Takes, Writes, WritesSome}
 use Rattle.vcd_text.specs.declared.device.WriteFailed.{WriteFailed}
 use Rattle.vcd_text.proofs.Writes.{appends-none}
-use Rattle.vcd_view.specs.Shown.{HeadShown, parts}
-use Rattle.vcd_view.specs.Views.{IsViewOf, Views}
+use Rattle.vcd_view.specs.Views.{IsViewOf}
 use Rattle.vcd_view.specs.declared.view.HeadView.{HeadView}
 use Rattle.vcd_body.specs.Ahead.{GaveAhead, LooksOver}
 use Rattle.vcd_body.specs.Given.{IsItem}
@@ -135,16 +134,13 @@ module _ (scale first : ℕ) (h : Header) (limit lines : ℕ) (bytes : List ℕ)
 
 -- ---- a walk
 
-module _ (shown : HeadShown) (stands : Merging → Unit {0} → List ℕ → Regs → Type 0) (s : MergeStage) where
+module _ (v : HeadView) (stands : Merging → Unit {0} → List ℕ → Regs → Type 0) (s : MergeStage) where
   abbrev pub is_out : Merging → Bool
   is_out m = nat_le m.before m.time
 
-  abbrev pub Shows : HeadView → Type 0
-  Shows v = parts v ≡ shown
-
   -- where a run continues, the walk takes more items, and it continues after them or ends
   abbrev pub Runs : MergeStage → Result Bool WriteFailed → Type 0
-  Runs z ended = (scale first lines : ℕ) (h : Header) (behind : List BodyItem) (start : StageAhead) → Views shown h → s.visit.factor ≡ scale → s.visit.first ≡ first → first + length h.codes < 2 ^ 64
+  Runs z ended = (scale first lines : ℕ) (h : Header) (behind : List BodyItem) (start : StageAhead) → IsViewOf v h → s.visit.factor ≡ scale → s.visit.first ≡ first → first + length h.codes < 2 ^ 64
       → RunsAhead scale first h (longest_of s.ahead) lines (bytes_of s.ahead) behind {E = WriteFailed} s.visit.before start (passed_of s.ahead) s.regs s.visit.time s.visit.written s.out (Ok false)
       → RunsAhead scale first h (longest_of s.ahead) lines (bytes_of s.ahead) behind {E = WriteFailed} s.visit.before start (passed_of z.ahead) z.regs z.visit.time z.visit.written z.out ended
 
@@ -154,38 +150,35 @@ module _ (shown : HeadShown) (stands : Merging → Unit {0} → List ℕ → Reg
     same : SameMerging s.visit z.visit
     runs : Runs z (Ok false)
 
-  views_of : (v : HeadView) → Shows v → (h : Header) → Views shown h → IsViewOf v h
-  views_of v is h views = subst (λ (y : HeadShown). Views y h) (sym is) views
-
   early : (z : MergeStage) → z.visit.before ≡ s.visit.before → is_out z.visit ≡ false → z.visit.time < s.visit.before
   early z e on = let less = leb-false z.visit.before z.visit.time on in omega (arith, e, less)
 
-  along : (z : MergeStage) → Trail TakesNext stands is_out Shows s z → Comes z
+  along : (z : MergeStage) → Trail TakesNext stands is_out v s z → Comes z
   along z Begins = record { over = (refl, refl); same = record { factor = refl; first = refl; before = refl }; runs = λ scale first lines h behind start views factor first_is few r. r }
   along _ (Goes_further b c so_far one on) =
       let so = along b so_far in
-      let n = one.2.did in
+      let n = one.did in
       let before = n.same.before ∙ so.same.before in
       record {
         over = (n.item.same.1 ∙ so.over.0, n.item.same.0 ∙ so.over.1);
         same = record { factor = n.same.factor ∙ so.same.factor; first = n.same.first ∙ so.same.first; before = before };
         runs = λ scale first lines h behind start views factor first_is few r.
-            runs_on scale first h (longest_of s.ahead) lines (bytes_of s.ahead) behind few one.0 (views_of one.0 one.1 h views) b c (Ok tt) n one.2.counts so.over (so.same.factor ∙ factor) (so.same.first ∙ first_is) s.visit.before start (so.runs scale first lines h behind start views factor first_is few r) refl (early c before on);
+            runs_on scale first h (longest_of s.ahead) lines (bytes_of s.ahead) behind few v views b c (Ok tt) n one.counts so.over (so.same.factor ∙ factor) (so.same.first ∙ first_is) s.visit.before start (so.runs scale first lines h behind start views factor first_is few r) refl (early c before on);
       }
   along _ (Again b c so_far there same is) =
       let so = along b so_far in
       rw is (record { over = (same.2 ∙ so.over.0, same.1 ∙ so.over.1); same = so.same; runs = rw same.0 so.runs })
 
   -- it ends so
-  pub walk_runs : (z : MergeStage) (ended : Result Bool WriteFailed) → Walks TakesNext stands is_out Shows s z ended → Runs z ended
+  pub walk_runs : (z : MergeStage) (ended : Result Bool WriteFailed) → Walks TakesNext stands is_out v s z ended → Runs z ended
   walk_runs z (Ok false) w = (along z w.trail).runs
   walk_runs z (Ok true) w = λ scale first lines h behind start views factor first_is few r.
       let m = w.0 in
       let so = along m w.1.trail in
       let one = w.2 in
-      runs_out scale first h (longest_of s.ahead) lines (bytes_of s.ahead) behind few one.0 (views_of one.0 one.1 h views) m z (Ok tt) one.2.did one.2.counts so.over (so.same.factor ∙ factor) (so.same.first ∙ first_is) s.visit.before start (so.runs scale first lines h behind start views factor first_is few r) refl
+      runs_out scale first h (longest_of s.ahead) lines (bytes_of s.ahead) behind few v views m z (Ok tt) one.did one.counts so.over (so.same.factor ∙ factor) (so.same.first ∙ first_is) s.visit.before start (so.runs scale first lines h behind start views factor first_is few r) refl
   walk_runs z (Err f) w = λ scale first lines h behind start views factor first_is few r.
       let m = w.0 in
       let so = along m w.1.trail in
       let one = w.2 in
-      runs_failed scale first h (longest_of s.ahead) lines (bytes_of s.ahead) behind few one.0 (views_of one.0 one.1 h views) m z (Err f) one.2.did one.2.counts so.over (so.same.factor ∙ factor) (so.same.first ∙ first_is) s.visit.before start (so.runs scale first lines h behind start views factor first_is few r) f refl
+      runs_failed scale first h (longest_of s.ahead) lines (bytes_of s.ahead) behind few v views m z (Err f) one.did one.counts so.over (so.same.factor ∙ factor) (so.same.first ∙ first_is) s.visit.before start (so.runs scale first lines h behind start views factor first_is few r) f refl

@@ -8,7 +8,7 @@ use Rattle.vcd_model.specs.HeadText.{new_code, code_place}
 use Rattle.vcd_model.specs.Items.{BodyItem, ChangeForm, leaves_open, time_after}
 use Rattle.vcd_model.specs.Values.{change_line}
 use Rattle.vcd_model.proofs.ItemStates.{leaves_open_is}
-use Rattle.vcd_view.specs.Entries.{most_of}
+use Rattle.vcd_view.specs.Entries.{size_or_zero_of}
 use Rattle.vcd_view.specs.Finds.{IsSized}
 use Rattle.vcd_view.specs.Shown.{HeadShown}
 use Rattle.vcd_view.specs.declared.view.Code.{Code}
@@ -57,7 +57,7 @@ some_digits codes place Vector text good other = good.2.0
 some_digits codes place RealText text good other = absurd (other refl)
 
 -- the size that a look-up gave, where it is one
-sized_is : (y : Code) (most : ℕ) → most ≡ most_of y → most ≢ 0 → (y.event ≡ false) × (y.size ≡ most)
+sized_is : (y : Code) (most : ℕ) → most ≡ size_or_zero_of y → most ≢ 0 → (y.event ≡ false) × (y.size ≡ most)
 sized_is y most is some = by_parts y.event (nat_le (2 ^ 32) y.size) refl refl
   where
     by_parts : (e b : Bool) → y.event ≡ e → nat_le (2 ^ 32) y.size ≡ b → (y.event ≡ false) × (y.size ≡ most)
@@ -66,7 +66,7 @@ sized_is y most is some = by_parts y.event (nat_le (2 ^ 32) y.size) refl refl
     by_parts false false h g = (h, sym (is ∙ rw (h, g) refl))
 
 -- the line under its new code, and that it is no event, where the look-up gave its size
-module _ (place most : ℕ) (s : HeadShown) (h : Header) (c : IdCode) (v : Views s h) (at : slice_get h.codes place ≡ Some c) (sized : IsSized s.codes (record { position = place; most = most })) (some : most ≢ 0) where
+module _ (place most : ℕ) (s : HeadShown) (h : Header) (c : IdCode) (v : Views s h) (at : slice_get h.codes place ≡ Some c) (sized : IsSized s.codes (record { position = place; size_or_zero = most })) (some : most ≢ 0) where
   pub sized_line : (first number : ℕ) (form : ChangeForm) (text : List ℕ) → number ≡ first + place
       → change_line (record { code = record { text = new_code number; size = most; event = false }; form = form; text = text }) ≡ change_line (record { code = record { text = new_code (first + code_place h c.text); size = c.size; event = c.event }; form = form; text = text })
   sized_line first number form text n =

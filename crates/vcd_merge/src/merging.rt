@@ -9,8 +9,8 @@ ghost use Rattle.vcd_body.specs.Whole.{IsPrompt};
 use crate::order::Turn;
 use crate::seat::Seat;
 use vcd_body::{
-    Extent, Form, Item, Regs, ScannedItem, Stop, Viewed, Visit, change_text, keyword_comes,
-    next_item, pass_items, pass_on, put_renamed, put_renamed_ahead, put_time, walk_ahead,
+    Extent, Form, Item, Regs, ScannedItem, Stop, Visit, change_text, keyword_comes, next_item,
+    pass_items, pass_on, put_renamed, put_renamed_ahead, put_time, walk_ahead,
 };
 use vcd_head::Head;
 use vcd_text::{Feed, Sink, Source, WriteFailed};
@@ -91,21 +91,6 @@ struct Merging {
     before: u64,
 }
 
-/// The header of an input. A walk makes the view where it uses it.
-#[derive(Clone, Copy)]
-struct Headed<'h> {
-    head: &'h Head,
-}
-
-impl<'h> Viewed for Headed<'h> {
-    ghost shows = { λ headed view. parts view ≡ shown headed.head.now };
-
-    #[inline(always)]
-    fn view(&self) -> HeadView<'_> {
-        self.head.view()
-    }
-}
-
 impl Visit<()> for Merging {
     ghost use Rattle.std.specs.Prelude.{◌*◌, ◌^◌, nat_le};
     ghost use Rattle.vcd_merge.specs.MergeAhead.{TakesNext};
@@ -155,7 +140,7 @@ impl Visit<()> for Merging {
         let Item::Change { code, form } = change.item else {
             return Ok(());
         };
-        if change.most == 0 {
+        if change.size_or_zero == 0 {
             // A copy, so that `written` stays in a register on the other path.
             let mut last = self.written;
             let inside = regs.section.is_some();
@@ -217,7 +202,8 @@ fn take_ahead<S: Source, W: Sink>(
         written: *written,
         before,
     };
-    let walked = walk_ahead(&mut (), merging, Headed { head }, seat.regs, ahead, out);
+    let view = head.view();
+    let walked = walk_ahead(&mut (), merging, view, seat.regs, ahead, out);
     let passed = walked.ahead.passed();
     let ended = walked.ended;
     seat.regs = walked.regs;

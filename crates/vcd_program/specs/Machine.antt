@@ -1,5 +1,6 @@
 -- A machine as a host: what is read of its files and of its standard input, and what is opened.
-use Rattle.std.specs.Prelude.{◌≡◌, ◌≢◌, ℕ, Bool, true, false, List, Option, Some, None, Result, Ok, Err}
+use Rattle.std.specs.Prelude.{◌≡◌, ◌≢◌, ◌≤◌, ℕ, Bool, true, false, IfSome, List, length, Option, Some, None, Result, Ok, Err}
+use Rattle.std.specs.Io.Take.{take_remaining}
 use Rattle.std.specs.IoError.{error_kind}
 pub use Rattle.std.specs.declared.io.Error.{Error}
 use Rattle.std.specs.declared.io.ErrorKind.TheVariants as kind
@@ -11,8 +12,19 @@ use Rattle.vcd_host.specs.declared.host.OpenFault.{OpenFault}
 use Rattle.vcd_host.specs.declared.host.OpenFault.TheVariants.{Unopened, OutOfMemory}
 use Rattle.vcd_program.specs.Runs.{Finishes, RunsOn}
 use Rattle.vcd_program.specs.declared.machine.MachineHost.{MachineHost}
+use Rattle.vcd_program.specs.declared.machine.Measured.{Measured}
+use Rattle.vcd_program.specs.declared.machine.Measured.TheVariants.{AtMost, Unknown}
 use Rattle.vcd_program.specs.declared.machine.Stream.{Stream}
 use Rattle.vcd_program.specs.declared.machine.Stream.TheVariants.{File, Input, Refused}
+
+-- the bytes, where they are known, are at most so many, where this number is known
+abbrev pub GivesAtMost : Option (List ℕ) → Option ℕ → Type 0
+GivesAtMost bytes most = IfSome bytes (λ text. IfSome most (λ n. length text ≤ n))
+
+-- the bytes that reads give from here on: those of the reader, or the first of these
+abbrev pub measured_left : {R : Type 0} → (R → Option (List ℕ)) → Measured R → Option (List ℕ)
+measured_left of_reader (AtMost reader) = take_remaining of_reader reader
+measured_left of_reader (Unknown reader) = of_reader reader
 
 -- the bytes that reads of an input give from here on, where those of its file or of standard input
 -- are known

@@ -1,23 +1,84 @@
 //! The machine that a process runs on, as a host.
 ghost use Rattle.std.specs.Prelude.{◌≡◌, ◌-◌, ◌^◌, ◌<◌, ◌≤◌, ℕ, ⊤, List, map, Result, string_bytes};
-ghost use Rattle.vcd_program.specs.Machine.{bytes_left, Error, OpensOn, read_as, RunsOver};
+ghost use Rattle.vcd_program.specs.Machine.{bytes_left, Error, GivesAtMost, measured_left, OpensOn, read_as, RunsOver};
 ghost use Rattle.vcd_program.specs.Names.{failed_calls};
 
 use crate::command_line::run_program;
 use std::alloc::Global;
 use std::env::Env;
-use std::fs::File;
+use std::fs::{File, Metadata};
 use std::hash::{BuildHasher, BuildHasherDefault, FoldHasher, RandomState};
-use std::io::{ErrorKind, Read, Stdin};
-use std::{env, io};
+use std::io::{ErrorKind, Read, Stdin, Take};
+use std::os::fd::AsRawFd;
+use std::{env, fs, io};
 use vcd_host::{Buffered, Host, OpenFault, Output};
-use vcd_text::{Sink, Watch};
+use vcd_text::{Sink, Source, Watch};
 use vcd_words::UseFault;
 use vcdkit::{Again, use_fault};
 
+/// Bytes that are read up to their end, or up to a number that is known.
+#[derive(Drop)]
+pub enum Measured<R> {
+    /// At most so many bytes of the reader.
+    AtMost(Take<R>),
+    /// All bytes of the reader, of which there may be any number.
+    Unknown(R),
+}
+
+impl<R: Read> Measured<R> {
+    /// Returns the first `len` bytes of the reader, or all of them if `len` is `None`.
+    fn new(reader: R, len: Option<u64>) -> Self {
+        match len {
+            Some(len) => Measured::AtMost(reader.take(len)),
+            None => Measured::Unknown(reader),
+        }
+    }
+
+    /// Returns a number of bytes that reads do not exceed, `None` if none is known.
+    fn most(&self) -> Option<usize>
+        ensures { GivesAtMost (measured_left R.remaining self.now) result }
+    {
+        match self {
+            Measured::AtMost(reader) => usize::try_from(reader.limit()).ok(),
+            Measured::Unknown(_) => None,
+        }
+    }
+}
+
+impl<R: Read> Read for Measured<R> {
+    ghost remaining = { λ bytes. measured_left R.remaining bytes };
+
+    fn read(&mut self, into: &mut [u8]) -> io::Result<usize> {
+        match self {
+            Measured::AtMost(reader) => reader.read(into),
+            Measured::Unknown(reader) => reader.read(into),
+        }
+    }
+}
+
+/// The length up to which a file is read only to the length that it had when it was opened: that of
+/// the windows of a job without a token limit of its own. A longer file needs windows of this
+/// length anyway.
+const MAX_SHORT_FILE: u64 = 1_048_576;
+
+/// Returns the length of a short file, `None` if this is no regular file, if it is longer than
+/// `MAX_SHORT_FILE`, or if its length is unknown. A file of length 0 may give bytes, as those do
+/// that the machine makes while they are read.
+fn short_len(about: io::Result<Metadata>) -> Option<u64> {
+    let about = about.ok()?;
+    let len = about.len();
+    if about.is_file() && 0 < len && len <= MAX_SHORT_FILE {
+        return Some(len);
+    }
+    None
+}
+
+/// Where the machine shows what standard input is.
+const STANDARD_INPUT: &str = "/proc/self/fd/0";
+
 /// Where a process opens its files and finds its standard input. The host is proved over any such
-/// machine, so of the process's own all that is not proved is that each of its two calls is what it
-/// says.
+/// machine, so of the process's own all that is not proved is that `open` and `input` are what they
+/// say.
 trait Machine {
     /// A file that is open.
     type File: Read + Drop;
@@ -38,24 +99,45 @@ trait Machine {
     /// Returns standard input.
     fn input(&self) -> Self::Input
         ensures { gives self.now result };
+
+    /// Returns a number of bytes that reads of a file do not exceed, `None` if none is known.
+    fn most_of_file(file: &Self::File) -> Option<usize>
+        ensures { GivesAtMost (Self.File.remaining file.now) result };
+
+    /// Returns a number of bytes that reads of standard input do not exceed, `None` if none is
+    /// known.
+    fn most_of_input(input: &Self::Input) -> Option<usize>
+        ensures { GivesAtMost (Self.Input.remaining input.now) result };
 }
 
-/// The machine that the process runs on. No clause says which file or stream a call gives.
+/// The machine that the process runs on. A short file is read up to the length that it has when it
+/// is opened, so its windows need not be longer. No clause says which file or stream a call gives.
 impl Machine for HostRuntime {
-    type File = File;
+    type File = Measured<File>;
 
-    type Input = Stdin;
+    type Input = Measured<Stdin>;
 
     ghost opens = { λ _ _ _. ⊤ };
 
     ghost gives = { λ _ _. ⊤ };
 
-    fn open(&self, name: &str) -> io::Result<File> {
-        File::open(self, name)
+    fn open(&self, name: &str) -> io::Result<Measured<File>> {
+        let file = File::open(self, name)?;
+        let len = short_len(file.metadata());
+        Ok(Measured::new(file, len))
     }
 
-    fn input(&self) -> Stdin {
-        self.stdin()
+    fn input(&self) -> Measured<Stdin> {
+        let len = short_len(fs::metadata(self, STANDARD_INPUT));
+        Measured::new(self.stdin(), len)
+    }
+
+    fn most_of_file(file: &Measured<File>) -> Option<usize> {
+        file.most()
+    }
+
+    fn most_of_input(input: &Measured<Stdin>) -> Option<usize> {
+        input.most()
     }
 }
 
@@ -117,6 +199,17 @@ impl<M: Machine> Host for MachineHost<'_, M> {
             Ok(file) => Ok(self.input(Stream::File(Again::new(file)))),
             Err(error) if error.kind() == ErrorKind::OutOfMemory => Err(OpenFault::OutOfMemory),
             Err(_) => Err(OpenFault::Unopened),
+        }
+    }
+
+    fn most_of(input: &Watch<Stream<M::File, M::Input>>) -> Option<usize>
+        ensures { GivesAtMost
+            (⟦<Watch<Stream<M::File, M::Input>> as Source>⟧.rest input.now) result }
+    {
+        match &input.device {
+            Stream::File(file) => M::most_of_file(&file.device),
+            Stream::Input(input) => M::most_of_input(&input.device),
+            Stream::Refused => None,
         }
     }
 }
@@ -189,12 +282,29 @@ pub fn run_words_on_machine<E: Sink>(rt: &HostRuntime, words: &[String], err: &m
     }
 }
 
-/// Runs the program on the words, the files and the streams of the process, and returns the exit
-/// status: as `run_words_on_machine`, that of `run_program`. Where a word is no text it is 2, and 3
-/// where there is no memory for the words; standard error says so.
+/// The highest descriptor of a standard stream.
+const MAX_STANDARD: i32 = 2;
+
+/// Opens a folder on the first standard stream that is closed, and returns it, `None` if all are
+/// open. Reads and writes of a folder fail, as they do on a closed stream.
+fn stand_in(rt: &HostRuntime) -> Option<File> {
+    let folder = File::open(rt, "/").ok()?;
+    if folder.as_raw_fd() <= MAX_STANDARD {
+        return Some(folder);
+    }
+    None
+}
+
+/// Runs the program on the arguments, the files and the streams of the process, and returns the
+/// exit status: as `run_words_on_machine`, that of `run_program`. It is 2 if an argument is not
+/// UTF-8, and 3 if there is no memory for the arguments; standard error says so.
+///
+/// The system gives a file that is opened the lowest free descriptor, which is that of a standard
+/// stream if this is closed. So until the end something else is open there.
 pub fn run_on_machine(rt: &HostRuntime) -> u8
     ensures { result ≤ 3 }
 {
+    let _stand_ins = [stand_in(rt), stand_in(rt), stand_in(rt)];
     let mut err = Watch::new(Again::new(rt.stderr()));
     match words_of(rt) {
         Ok(words) => run_words_on_machine(rt, words.as_slice(), &mut err),

@@ -11,7 +11,7 @@ use Rattle.vcd_view.specs.Finds.{Finds}
 use Rattle.vcd_view.specs.Keys.{AreBytes, key_in}
 use Rattle.vcd_model.specs.Declarations.{IdCode}
 use Rattle.vcd_view.specs.Views.{AreHeld, IsCode}
-use Rattle.vcd_view.specs.Entries.{HasEntry, IsAt, are_right, is_right, is_entry_of, most_of, index_in_entry, text_in, index_in_some}
+use Rattle.vcd_view.specs.Entries.{HasEntry, IsAt, are_right, is_right, is_entry_of, size_or_zero_of, index_in_entry, text_in, index_in_some}
 use Rattle.vcd_view.proofs.KeyLemmas.{bytes_at_place, key_below, same_key}
 use Rattle.vcd_view.proofs.LookUpLemmas.{first_with}
 use Rattle.vcd_view.proofs.RowLemmas.{text_within}
@@ -52,23 +52,23 @@ says text e o = unwrap_or (option_map (is_entry_of text e) o) false
 
 -- what an entry with the key of a short code says of the code at its index
 pub entry_tells : (text : List ℕ) (codes : List Code) (e : Entry) → is_right text codes e ≡ true → e.key ≢ 0 → e.key < 2 ^ 63
-    → (c : Code) × (slice_get codes e.position ≡ Some c) × (e.key ≡ key_in (text_in text c.start c.len)) × (e.most ≡ most_of c)
+    → (c : Code) × (slice_get codes e.position ≡ Some c) × (e.key ≡ key_in (text_in text c.start c.len)) × (e.size_or_zero ≡ size_or_zero_of c)
 entry_tells text codes e h n l = by_code (slice_get codes e.position) refl
   where
     right : says text e (slice_get codes e.position) ≡ true
     right = sym (ap (λ b. b || (nat_le (2 ^ 63) e.key || says text e (slice_get codes e.position))) (ne_eqb e.key 0 n) ∙ ap (λ b. b || says text e (slice_get codes e.position)) (lt-leb (2 ^ 63) e.key l)) ∙ h
 
-    by_code : (o : Option Code) → slice_get codes e.position ≡ o → (c : Code) × (slice_get codes e.position ≡ Some c) × (e.key ≡ key_in (text_in text c.start c.len)) × (e.most ≡ most_of c)
+    by_code : (o : Option Code) → slice_get codes e.position ≡ o → (c : Code) × (slice_get codes e.position ≡ Some c) × (e.key ≡ key_in (text_in text c.start c.len)) × (e.size_or_zero ≡ size_or_zero_of c)
     by_code None s = absurd (false≢true (sym (ap (says text e) s) ∙ right))
     by_code (Some c) s =
-        let b = and_parts (e.key == key_in (text_in text c.start c.len)) (e.most == most_of c) (sym (ap (says text e) s) ∙ right) in
+        let b = and_parts (e.key == key_in (text_in text c.start c.len)) (e.size_or_zero == size_or_zero_of c) (sym (ap (says text e) s) ∙ right) in
         (c, s, eqb-true _ _ b.0, eqb-true _ _ b.1)
 
 -- an entry with the key and the size of the code at its index
-pub entry_stands : (text : List ℕ) (codes : List Code) (e : Entry) (c : Code) → slice_get codes e.position ≡ Some c → e.key ≡ key_in (text_in text c.start c.len) → e.most ≡ most_of c → is_right text codes e ≡ true
+pub entry_stands : (text : List ℕ) (codes : List Code) (e : Entry) (c : Code) → slice_get codes e.position ≡ Some c → e.key ≡ key_in (text_in text c.start c.len) → e.size_or_zero ≡ size_or_zero_of c → is_right text codes e ≡ true
 entry_stands text codes e c s k m =
     ap (λ (o : Option Code). (e.key == 0) || (nat_le (2 ^ 63) e.key || unwrap_or (option_map (is_entry_of text e) o) false)) s
-    ∙ ap (λ b. (e.key == 0) || (nat_le (2 ^ 63) e.key || b)) (both (e.key == key_in (text_in text c.start c.len)) (e.most == most_of c) (eq-eqb _ _ k) (eq-eqb _ _ m))
+    ∙ ap (λ b. (e.key == 0) || (nat_le (2 ^ 63) e.key || b)) (both (e.key == key_in (text_in text c.start c.len)) (e.size_or_zero == size_or_zero_of c) (eq-eqb _ _ k) (eq-eqb _ _ m))
     ∙ ap (λ b. (e.key == 0) || b) (or_true (nat_le (2 ^ 63) e.key)) ∙ or_true (e.key == 0)
 
 -- an entry with the key of a long code
@@ -77,7 +77,7 @@ entry_of_long text codes e l = ap (λ b. (e.key == 0) || (b || unwrap_or (option
 
 -- what the entry with a key says, which is among those that are right
 pub entry_found : (text : List ℕ) (codes : List Code) (es : List Entry) (i : ℕ) (e : Entry) (key : ℕ) → are_right text codes es ≡ true → slice_get es i ≡ Some e → (key ≡ 0 → ⊥) → key < 2 ^ 63 → e.key ≡ key
-    → (c : Code) × (slice_get codes e.position ≡ Some c) × (key ≡ key_in (text_in text c.start c.len)) × (e.most ≡ most_of c)
+    → (c : Code) × (slice_get codes e.position ≡ Some c) × (key ≡ key_in (text_in text c.start c.len)) × (e.size_or_zero ≡ size_or_zero_of c)
 entry_found text codes es i e key h s n l k =
     let told = entry_tells text codes e (one_of_all (is_right text codes) es i e h s) (λ z. n (sym k ∙ z)) (omega (arith, k, l)) in
     (told.0, told.1, sym k ∙ told.2, told.3)

@@ -12,12 +12,12 @@ text_in text start len = cond (nat_le (start + len) (length text)) (slice_range 
 
 -- the size of a code, 0 for an event and where 32 bits do not hold it: this many digits a change of
 -- the code may have in any case
-abbrev pub most_of : Code → ℕ
-most_of c = cond (c.event || nat_le (2 ^ 32) c.size) 0 c.size
+abbrev pub size_or_zero_of : Code → ℕ
+size_or_zero_of c = cond (c.event || nat_le (2 ^ 32) c.size) 0 c.size
 
 -- the entry is that of the code, whose bytes lie in the text
 abbrev pub is_entry_of : List ℕ → Entry → Code → Bool
-is_entry_of text e c = (e.key == key_in (text_in text c.start c.len)) && (e.most == most_of c)
+is_entry_of text e c = (e.key == key_in (text_in text c.start c.len)) && (e.size_or_zero == size_or_zero_of c)
 
 -- the entry is empty, or one that says nothing of the code at its index, as those of long codes do,
 -- or that of the code at its index

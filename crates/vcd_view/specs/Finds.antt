@@ -4,7 +4,7 @@ use Rattle.std.specs.Int.Digits.{digits_of}
 use Rattle.vcd_model.specs.Declarations.{IdCode, has_text}
 use Rattle.vcd_view.specs.declared.view.Code.{Code}
 use Rattle.vcd_view.specs.declared.look_up.Found.{Found}
-use Rattle.vcd_view.specs.Entries.{most_of}
+use Rattle.vcd_view.specs.Entries.{size_or_zero_of}
 
 -- the index of the code with this text among these; there is none where none has it
 abbrev pub Finds : List IdCode → List ℕ → Option ℕ → Type 0
@@ -13,7 +13,7 @@ Finds codes text None = find (has_text text) codes ≡ None
 
 -- the code that was found is one of these, and its size is given
 abbrev pub IsSized : List Code → Found → Type 0
-IsSized codes f = (c : Code) × (slice_get codes f.position ≡ Some c) × (f.most ≡ most_of c)
+IsSized codes f = (c : Code) × (slice_get codes f.position ≡ Some c) × (f.size_or_zero ≡ size_or_zero_of c)
 
 -- the binary digits of a number
 abbrev pub bits_of : ℕ → List ℕ

@@ -2,7 +2,7 @@
 // may have any entry, and two codes may share one: where an entry is decides only how fast a
 // look-up is.
 ghost use Rattle.std.specs.Prelude.{◌≡◌, ◌+◌, ◌-◌, ◌%◌, ◌^◌, ◌<◌, ◌≤◌, ℕ, List, true, bit_and, length, slice_get, Some, IfSome};
-ghost use Rattle.vcd_view.specs.Names.{AnyHeld, Finds, HasEntry, IsAt, above, are_right, beside, entry_after, entry_in, key_in, most_of, number_in, index_in_entry, index_in_some};
+ghost use Rattle.vcd_view.specs.Names.{AnyHeld, Finds, HasEntry, IsAt, above, are_right, beside, entry_after, entry_in, key_in, size_or_zero_of, number_in, index_in_entry, index_in_some};
 
 use crate::code_hash::CodeSeed;
 use crate::key::key_of;
@@ -209,8 +209,8 @@ fn index_of_long(
 
 /// Returns the most digits that a change of the code may have: its size. It is 0 where any number
 /// is allowed, and where 32 bits do not hold the size.
-pub fn most_of(code: Code) -> u32
-    ensures { result ≡ most_of code }
+pub fn size_or_zero_of(code: Code) -> u32
+    ensures { result ≡ size_or_zero_of code }
 {
     if code.event {
         return 0;

@@ -45,7 +45,7 @@ mod view;
 pub use code_hash::{CodeHasher, CodeSeed};
 pub use entries::{
     MOST_LOOKS, code_number, entry_after, entry_for, entry_of, index_beside, index_in_entry,
-    long_key, most_of,
+    long_key, size_or_zero_of,
 };
 pub use key::key_of;
 pub use keyword::{Keyword, is, keyword_of, pass_words};

@@ -3,7 +3,7 @@ ghost use Rattle.std.specs.Prelude.{List, true, ◌≡◌, ◌+◌, ◌≤◌, �
 ghost use Rattle.vcd_view.specs.Names.{AllByRecursion, AnyCodes, AnyHeader, AreBytes, AreFew, Finds, Header, IdCode, IsIndex, IsSized, IsViewOf, are_right, bits_of, code_text, key_in};
 
 use crate::code_hash::CodeSeed;
-use crate::entries::{entry_of, index_by_hash, most_of};
+use crate::entries::{entry_of, index_by_hash, size_or_zero_of};
 use crate::key::key_of;
 use crate::probes::Probes;
 use crate::view::{Code, Entry, HeadView, code_in, text_in};
@@ -16,7 +16,7 @@ pub struct Found {
     pub position: usize,
     /// The size of the code: the most digits that a change of it may have. It is 0 where its
     /// variables are events, and where 32 bits do not hold the size; then the view's code has it.
-    pub most: usize,
+    pub size_or_zero: usize,
 }
 
 /// Returns the index of a code among the distinct codes; `None` where it is not among them.
@@ -92,7 +92,7 @@ fn find_sized_counted(view: HeadView<'_>, code: &[u8], probes: &mut Probes) -> O
             let code = code_in(view.codes, position)?;
             Some(Found {
                 position,
-                most: most_of(code) as usize,
+                size_or_zero: size_or_zero_of(code) as usize,
             })
         }
     }
@@ -115,7 +115,7 @@ pub fn find_in_own_entry(view: HeadView<'_>, code: &[u8]) -> Option<Found>
     if entry.key == key {
         Some(Found {
             position: entry.position as usize,
-            most: entry.most as usize,
+            size_or_zero: entry.size_or_zero as usize,
         })
     } else {
         None

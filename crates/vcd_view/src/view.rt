@@ -57,7 +57,7 @@ pub struct Entry {
     /// The index of the code in `codes`.
     pub position: u32,
     /// The size of the code; 0 where its variables are events, or where 32 bits do not hold it.
-    pub most: u32,
+    pub size_or_zero: u32,
 }
 
 /// A time scale (clause 18, $timescale).

@@ -2,7 +2,7 @@
 ghost use Rattle.std.specs.Prelude.{◌≡◌, ◌-◌, ◌^◌, ◌<◌, [], List, true, false};
 ghost use Rattle.vcd_engine.specs.Names.{AreCounted, BodyItem, check_close, Counts, Header, IsViewOf, last_mark, last_of, Takes};
 
-use crate::pieces::{Pieces, SpannedItem};
+use crate::pending::{PendingCopy, SpannedItem};
 use crate::report::{declared_in, put_report};
 use crate::task_state::last_of;
 use crate::task_state::walk::{AheadTask, NoLine};
@@ -83,7 +83,7 @@ impl AheadTask<NoLine> for Check {
         _regs: Regs,
         item: SpannedItem<'_>,
         _line: &NoLine,
-        _pieces: &mut Pieces,
+        _pieces: &mut PendingCopy,
         _out: &mut W,
     ) -> Result<(), WriteFailed> {
         match item.scanned.item {

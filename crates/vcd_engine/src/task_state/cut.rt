@@ -4,7 +4,7 @@ ghost use Rattle.vcd_engine.specs.Names.{AreCut, AtClose, BeginsAs, BeginsBy, Bo
 ghost use Rattle.vcd_engine.specs.declared.task.Task.TheVariants as task;
 
 use crate::item_text::ItemText;
-use crate::pieces::{Pieces, SpannedItem};
+use crate::pending::{PendingCopy, SpannedItem};
 use crate::task::Room;
 use crate::task_state::last_of;
 use crate::task_state::walk::{AheadTask, KnownLine, NoLine, take_given};
@@ -223,7 +223,7 @@ impl<'r> AheadTask<NoLine> for Cut<'r> {
         _regs: Regs,
         item: SpannedItem<'_>,
         _line: &NoLine,
-        _pieces: &mut Pieces,
+        _pieces: &mut PendingCopy,
         _out: &mut W,
     ) -> Result<(), WriteFailed> {
         let scanned = item.scanned;
@@ -257,13 +257,13 @@ impl<'r> AheadTask<KnownLine> for Cut<'r> {
         regs: Regs,
         item: SpannedItem<'_>,
         line: &KnownLine,
-        pieces: &mut Pieces,
+        pending: &mut PendingCopy,
         out: &mut W,
     ) -> Result<(), WriteFailed> {
         if !may_keep(view, regs, item.scanned.item) {
             return Ok(());
         }
         self.text
-            .put_spanned(view, regs.time, item, line, pieces, out)
+            .put_spanned(view, regs.time, item, line, pending, out)
     }
 }

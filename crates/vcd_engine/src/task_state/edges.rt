@@ -3,7 +3,7 @@ ghost use Rattle.std.specs.Prelude.{◌≡◌, ◌-◌, ◌^◌, ◌<◌, ◌∷
 ghost use Rattle.vcd_engine.specs.Names.{AreEdges, BodyItem, change_to, ClosesOver, Counts, Device, edges_close, HasRoomFor, Header, HeadView, IdCode, IsGoodText, IsUnmatched, IsViewOf, IsWithin, leaves_open, names_counted, Request, room_in_edges, room_size, SameEdges, Starts};
 ghost use Rattle.vcd_engine.specs.declared.task.Task.TheVariants as task;
 
-use crate::pieces::{Pieces, SpannedItem};
+use crate::pending::{PendingCopy, SpannedItem};
 use crate::tally::{count_trigger, put_rows, take_value};
 use crate::task::Room;
 use crate::task_state::walk::{AheadTask, NoLine};
@@ -109,21 +109,21 @@ impl<'n, 'r> AheadTask<NoLine> for Edges<'n, 'r> {
         regs: Regs,
         item: SpannedItem<'_>,
         _line: &NoLine,
-        _pieces: &mut Pieces,
+        _pieces: &mut PendingCopy,
         _out: &mut W,
     ) -> Result<(), WriteFailed> {
         let scanned = item.scanned;
         let Item::Change { code, form } = scanned.item else {
             return Ok(());
         };
-        if scanned.most == 0 {
+        if scanned.size_or_zero == 0 {
             self.take_at(view.codes, regs.section.is_some(), code, form, scanned.text);
             return Ok(());
         }
         take_value(
             &mut self.table,
             code,
-            scanned.most,
+            scanned.size_or_zero,
             form,
             scanned.text,
             scanned.bits,

@@ -5,7 +5,7 @@ ghost use Rattle.vcd_engine.specs.declared.task.Task.TheVariants as task;
 
 use crate::choice::is_chosen;
 use crate::item_text::ItemText;
-use crate::pieces::{Pieces, SpannedItem};
+use crate::pending::{PendingCopy, SpannedItem};
 use crate::selection::select_codes;
 use crate::task::Room;
 use crate::task_state::last_of;
@@ -108,13 +108,13 @@ impl<'n, 'r> AheadTask<KnownLine> for Pick<'n, 'r> {
         regs: Regs,
         item: SpannedItem<'_>,
         line: &KnownLine,
-        pieces: &mut Pieces,
+        pending: &mut PendingCopy,
         out: &mut W,
     ) -> Result<(), WriteFailed> {
         if !self.keeps(view, regs, item.scanned.item) {
             return Ok(());
         }
         self.text
-            .put_spanned(view, regs.time, item, line, pieces, out)
+            .put_spanned(view, regs.time, item, line, pending, out)
     }
 }

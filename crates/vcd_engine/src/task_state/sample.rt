@@ -4,7 +4,7 @@ ghost use Rattle.vcd_engine.specs.Names.{AreSampled, asked_in, close_text, Close
 ghost use Rattle.vcd_engine.specs.declared.task.Task.TheVariants as task;
 
 use crate::leads::lead_on;
-use crate::pieces::{Pieces, SpannedItem};
+use crate::pending::{PendingCopy, SpannedItem};
 use crate::sample_lines::put_samples;
 use crate::task::Room;
 use crate::task_state::walk::{AheadTask, NoLine, take_given};
@@ -154,7 +154,7 @@ impl<'n, 'r> AheadTask<NoLine> for Sample<'n, 'r> {
         _regs: Regs,
         item: SpannedItem<'_>,
         _line: &NoLine,
-        _pieces: &mut Pieces,
+        _pieces: &mut PendingCopy,
         _out: &mut W,
     ) -> Result<(), WriteFailed> {
         let scanned = item.scanned;

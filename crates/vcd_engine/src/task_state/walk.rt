@@ -8,12 +8,12 @@ ghost use Rattle.vcd_body.specs.declared.item.Regs.{Regs};
 ghost use Rattle.vcd_engine.specs.Ahead.{RunsOver};
 ghost use Rattle.vcd_engine.specs.Engine.{Keeps, TakesEach, request_in};
 ghost use Rattle.vcd_engine.specs.Next.{PutsItem, TakesTimestamp};
-ghost use Rattle.vcd_engine.specs.Pieces.{IsSpanned, IsLine, IsPart};
+ghost use Rattle.vcd_engine.specs.PendingCopy.{IsSpanned, IsLine, IsPart};
 ghost use Rattle.vcd_engine.specs.Room.{SameTask};
 ghost use Rattle.vcd_engine.specs.declared.task_state.TaskState.{TaskState};
-ghost use Rattle.vcd_engine.specs.declared.pieces.Pieces.{Pieces};
+ghost use Rattle.vcd_engine.specs.declared.pending.PendingCopy.{PendingCopy};
 
-use crate::pieces::{Pieces, SpannedItem};
+use crate::pending::{PendingCopy, SpannedItem};
 use vcd_body::{Extent, Item, Regs, ScannedItem, Visit, is_timestamp_line, walk_ahead};
 use vcd_text::{Ahead, Sink, WriteFailed};
 use vcd_view::HeadView;
@@ -136,7 +136,7 @@ pub(crate) trait AheadTask<L: LineMemory> {
         ensures ready { is_ready self.new ≡ true }
         ensures same { SameTask (task_state self.old) (task_state self.new) };
 
-    /// Takes an item that is no timestamp. What is due with it is added to `pieces`, or written to
+    /// Takes an item that is no timestamp. What is due with it is added to `pending`, or written to
     /// `out` after them. `regs` are the registers after the item; `line` tells where the last
     /// timestamp's line is. Fails where a write does.
     fn take_item<W: Sink>(
@@ -145,18 +145,18 @@ pub(crate) trait AheadTask<L: LineMemory> {
         regs: Regs,
         item: SpannedItem<'_>,
         line: &L,
-        pieces: &mut Pieces,
+        pending: &mut PendingCopy,
         out: &mut W,
     ) -> Result<(), WriteFailed>
         requires failures { (W.device out.old).failures < 2 ^ 64 - 1 }
         requires ready { is_ready self.old ≡ true }
         requires span { IsSpanned view item }
         requires line { IsLine item.bytes.now (L.line line.now) regs.time }
-        requires part { IsPart item.bytes.now pieces.old }
-        ensures takes { PutsItem view.entry regs item.entry pieces.old pieces.new
+        requires part { IsPart item.bytes.now pending.old }
+        ensures takes { PutsItem view.entry regs item.entry pending.old pending.new
             (W.device out.old) (W.device out.new) (task_state self.old) (task_state self.new) result }
         ensures counts { Counts (W.device out.old) (W.device out.new) result }
-        ensures part { IfOk result (λ _. IsPart item.entry.bytes.now pieces.new) }
+        ensures part { IfOk result (λ _. IsPart item.entry.bytes.now pending.new) }
         ensures ready { is_ready self.new ≡ true }
         ensures same { SameTask (task_state self.old) (task_state self.new) };
 }
@@ -164,7 +164,7 @@ pub(crate) trait AheadTask<L: LineMemory> {
 /// What a walk keeps beside its task: the pending text, and where the last timestamp's line is.
 #[derive(Drop)]
 struct WalkState<L> {
-    pieces: Pieces,
+    pending: PendingCopy,
     line: L,
 }
 
@@ -216,7 +216,7 @@ impl<L: LineMemory, C: AheadTask<L>> Visit<C> for WalkState<L> {
         out: &mut W,
     ) -> Result<(), WriteFailed> {
         let change = SpannedItem::of(change, extent);
-        command.take_item(view, regs, change, &self.line, &mut self.pieces, out)
+        command.take_item(view, regs, change, &self.line, &mut self.pending, out)
     }
 }
 
@@ -236,21 +236,21 @@ pub(crate) fn take_each<L: LineMemory, C: AheadTask<L>, W: Sink>(
     ensures { RunsOver view.entry ahead.entry regs (C.task_state command.old) (C.task_state command.new)
         (W.device out.old) (W.device out.new) result }
 {
-    let pieces = Pieces::new();
+    let pending = PendingCopy::new();
     let line = L::new();
-    let walked = walk_ahead(command, WalkState { pieces, line }, view, regs, ahead, out);
+    let walked = walk_ahead(command, WalkState { pending, line }, view, regs, ahead, out);
     let ahead = walked.ahead;
     let regs = walked.regs;
     let mut state = walked.visit;
     match walked.ended {
-        Ok(_) => WalkEnd::until(ahead, regs, state.pieces.flush(ahead.bytes(), out)),
+        Ok(_) => WalkEnd::until(ahead, regs, state.pending.flush(ahead.bytes(), out)),
         Err(failed) => WalkEnd::until(ahead, regs, Err(failed)),
     }
 }
 
 /// Takes an item that the feed gave, and writes what is due with it. Returns false: the item does
 /// not end the run. `regs` are the registers after it. Fails where a write does.
-// The item has no bytes in the chunk, so nothing of it stays pending: `pieces` need no flush.
+// The item has no bytes in the chunk, so nothing of it stays pending: `pending` need no flush.
 #[inline(always)]
 pub(crate) fn take_given<L: LineMemory, C: AheadTask<L>, W: Sink>(
     command: &mut C,
@@ -276,8 +276,8 @@ pub(crate) fn take_given<L: LineMemory, C: AheadTask<L>, W: Sink>(
         return Ok(false);
     }
     let line = L::new();
-    let mut pieces = Pieces::new();
+    let mut pending = PendingCopy::new();
     let item = SpannedItem::given(item, text);
-    command.take_item(view, regs, item, &line, &mut pieces, out)?;
+    command.take_item(view, regs, item, &line, &mut pending, out)?;
     Ok(false)
 }

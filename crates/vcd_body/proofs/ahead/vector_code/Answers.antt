@@ -7,15 +7,15 @@ use Rattle.vcd_body.proofs.RegsLemmas.{same_room, vector_sound}
 use Rattle.vcd_body.proofs.LineLemmas.{found_named}
 use Rattle.vcd_body.proofs.ahead.vector_code.Goals as goal
 
-pub returns-then-takes : goal.returns-then-takes
-returns-then-takes c =
+pub returns-then-has_room : goal.returns-then-has_room
+returns-then-has_room c =
     let t = c.args.token.now in
     let position = c.in_ok-found.found.position in
     let x = c.in_ok-found.ensures.sized in
     let text = c.in-Ok.ensures.text in
     let long = ap length text in
     let some = c.in-Ok.ensures.digits.0 in
-    let takes = sym (c.takes.ensures x.0 x.1) ∙ c.if-takes.true in
+    let takes = sym (c.has_room.ensures x.0 x.1) ∙ c.if-has_room.true in
     let room = ap (λ m. x.0.event || nat_le m x.0.size) (sym long) ∙ takes in
     record {
       code = λ h v.

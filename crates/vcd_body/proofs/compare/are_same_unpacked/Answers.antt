@@ -41,9 +41,9 @@ returns c = (
   λ e. refl,
 )
 
-pub returns-then-are_any_digits : goal.returns-then-are_any_digits
-returns-then-are_any_digits c =
+pub returns-then-are_all_digits : goal.returns-then-are_all_digits
+returns-then-are_all_digits c =
     let same = (bytes_eq-Decides c.args.bytes.now c.args.text.now).0 (sym c.eq.ensures ∙ c.if-eq.true) in (
-      λ yes. ap (map held_digit) same ∙ lower_digits c.args.text.now (sym c.are_any_digits.ensures ∙ c.if-are_any_digits.true),
+      λ yes. ap (map held_digit) same ∙ lower_digits c.args.text.now (sym c.are_all_digits.ensures ∙ c.if-are_all_digits.true),
       λ e. refl,
     )

@@ -8,4 +8,4 @@ are_packed-requires c = record { room = omega arith; many = omega arith; quarter
 pub returns : goal.returns
 returns c = λ yes.
     packs_by c.args.text.now c.args.bytes.now c.div_ceil-quarter.result (omega (arith, c.div_ceil-quarter.ensures)) (c.are_packed.ensures c.if-not-are_packed.false)
-    ∙ lower_digits c.args.text.now (sym c.are_any_digits.ensures ∙ yes)
+    ∙ lower_digits c.args.text.now (sym c.are_all_digits.ensures ∙ yes)

@@ -24,7 +24,7 @@ returns-then-is_lower g c =
     let digit = (digit_there bytes c.args.from c.args.to p.at p.code_at p.text.now s.0 there s.2).1 in
     let long = ap (λ (l : List ℕ). length l) digit in
     let id = new_code c.args.number in
-    let line = bit_line p.text.now id p.most false c.args.form size refl form (omega arith) (omega arith) in
+    let line = bit_line p.text.now id p.size_or_zero false c.args.form size refl form (omega arith) (omega arith) in
     let lower = ap (λ (l : List ℕ). to_ascii_lowercase (get_or l 0 0)) digit ∙ c.is_lower.ensures c.if-is_lower.true in
     subst (λ l. Puts (g.W.Sink.device c.args.w.now) (g.W.Sink.device c.put_code_line.new.w) l c.put_code_line.result) (ap (λ d. d ∷ id ++ 10 ∷ []) (sym lower) ∙ sym line) c.put_code_line.ensures
 

@@ -20,13 +20,13 @@ returns-in_default g c =
 pub returns-then-is_over : goal.returns-then-is_over
 returns-then-is_over g c =
     let ended : c.take_shorts-shorts.result.ended ≡ Ok false = search rules in
-    rw c.until-then-is_over.ensures (_, walks_further _ _ _ _ _ _ _ (Ok false) c.lines.invariant.come (rw ended at c.take_shorts-shorts.ensures), (_, c.view-view.ensures, c.in-Some.ensures _), sym c.is_over.ensures ∙ c.if-is_over.true)
+    rw c.until-then-is_over.ensures (_, walks_further _ _ _ _ _ _ _ (Ok false) c.lines.invariant.come (rw ended at c.take_shorts-shorts.ensures), (c.in-Some.ensures _), sym c.is_over.ensures ∙ c.if-is_over.true)
 
 pub lines-preserved : goal.lines-preserved
 lines-preserved g c =
     let ended : c.take_shorts-shorts.result.ended ≡ Ok false = search rules in
     let on = sym c.is_over.ensures ∙ c.if-is_over.false in
-    record { come = come_on _ _ _ _ _ _ _ (walks_further _ _ _ _ _ _ _ (Ok false) c.lines.invariant.come (rw ended at c.take_shorts-shorts.ensures)) (_, c.view-view.ensures, c.in-Some.ensures _) on; on = on }
+    record { come = come_on _ _ _ _ _ _ _ (walks_further _ _ _ _ _ _ _ (Ok false) c.lines.invariant.come (rw ended at c.take_shorts-shorts.ensures)) (c.in-Some.ensures _) on; on = on }
 
 pub lines-smaller : goal.lines-smaller
 lines-smaller g c =

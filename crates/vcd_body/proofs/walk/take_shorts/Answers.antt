@@ -10,7 +10,7 @@ items-preserved g c =
     let inv = c.items.invariant in
     let n = c.in-Some.ensures in
     let on = n.over ∙ inv.on in
-    record { come = come_on _ _ _ _ _ _ _ inv.come (_, c.view-view.ensures, rw c.in-Ok.is at n.next) on; on = on }
+    record { come = come_on _ _ _ _ _ _ _ inv.come (rw c.in-Ok.is at n.next) on; on = on }
 
 pub returns-in-Err : goal.returns-in-Err
-returns-in-Err g c = rw c.until-in-Err.ensures (_, c.items.invariant.come, (_, c.view-view.ensures, rw c.in-Err.is at c.in-Some.ensures.next))
+returns-in-Err g c = rw c.until-in-Err.ensures (_, c.items.invariant.come, rw c.in-Err.is at c.in-Some.ensures.next)

@@ -8,21 +8,21 @@ items-init g c =
     record { come = rw ended at c.take_first_lines-lines.ensures }
 
 pub returns-in-Err : goal.returns-in-Err
-returns-in-Err g c = rw c.until-in-Err.ensures (_, c.items.invariant.come, (_, c.view-view.ensures, rw c.in-Err.is at c.in-Some.ensures.next))
+returns-in-Err g c = rw c.until-in-Err.ensures (_, c.items.invariant.come, rw c.in-Err.is at c.in-Some.ensures.next)
 
 pub returns-then-is_over : goal.returns-then-is_over
-returns-then-is_over g c = rw c.until-then-is_over.ensures (_, c.items.invariant.come, (_, c.view-view.ensures, rw c.in-Ok.is at c.in-Some.ensures.next), sym c.is_over.ensures ∙ c.if-is_over.true)
+returns-then-is_over g c = rw c.until-then-is_over.ensures (_, c.items.invariant.come, (rw c.in-Ok.is at c.in-Some.ensures.next), sym c.is_over.ensures ∙ c.if-is_over.true)
 
 pub items-preserved : goal.items-preserved
-items-preserved g c = record { come = come_on _ _ _ _ _ _ _ c.items.invariant.come (_, c.view-view.ensures, rw c.in-Ok.is at c.in-Some.ensures.next) (sym c.is_over.ensures ∙ c.if-is_over.false) }
+items-preserved g c = record { come = come_on _ _ _ _ _ _ _ c.items.invariant.come (rw c.in-Ok.is at c.in-Some.ensures.next) (sym c.is_over.ensures ∙ c.if-is_over.false) }
 
 pub returns-then-not-can_go_on-2 : goal.returns-then-not-can_go_on-2
 returns-then-not-can_go_on-2 g c =
-    let w = come_on _ _ _ _ _ _ _ c.items.invariant.come (_, c.view-view.ensures, rw c.in-Ok.is at c.in-Some.ensures.next) (sym c.is_over.ensures ∙ c.if-is_over.false) in
+    let w = come_on _ _ _ _ _ _ _ c.items.invariant.come (rw c.in-Ok.is at c.in-Some.ensures.next) (sym c.is_over.ensures ∙ c.if-is_over.false) in
     walks_further _ _ _ _ _ _ _ _ w c.take_lines-more.ensures
 
 pub items-preserved-then-two_short_lines_come : goal.items-preserved-then-two_short_lines_come
 items-preserved-then-two_short_lines_come g c =
-    let w = come_on _ _ _ _ _ _ _ c.items.invariant.come (_, c.view-view.ensures, rw c.in-Ok.is at c.in-Some.ensures.next) (sym c.is_over.ensures ∙ c.if-is_over.false) in
+    let w = come_on _ _ _ _ _ _ _ c.items.invariant.come (rw c.in-Ok.is at c.in-Some.ensures.next) (sym c.is_over.ensures ∙ c.if-is_over.false) in
     let ended : c.take_lines-more.result.ended ≡ Ok false = search rules in
     record { come = walks_further _ _ _ _ _ _ _ (Ok false) w (rw ended at c.take_lines-more.ensures) }

@@ -16,4 +16,4 @@ returns-in_err-put_rows g c = counted (search rules) (λ h v.
 pub returns : goal.returns
 unfolding rows_text
 returns g c = counted (search rules) (λ h v.
-    takes-twice _ _ _ (concat (each (row_line (λ code. code) (is_marked c.args.marks.now)) h.declarations)) (up_lines_at (is_marked c.args.marks.now) (enclosing h.declarations)) c.put_open.result (c.in_ok-put_rows.ensures.0 h v) (c.put_open.ensures.0 h v))
+    takes-twice _ _ _ (concat (each (row_line (λ code. code) (is_marked c.args.marks.now)) h.declarations)) (up_lines_at (is_marked c.args.marks.now) (enclosing h.declarations)) c.put_closing.result (c.in_ok-put_rows.ensures.0 h v) (c.put_closing.ensures.0 h v))

@@ -1,6 +1,8 @@
-use Rattle.std.proofs.Common.{[], refl, arith}
+use Rattle.std.proofs.Common.{[], refl, subst, sym, arith}
 use Rattle.vcd_text.specs.Ahead.{lines_of}
 use Rattle.vcd_text.specs.Device.{Device}
+use Rattle.vcd_view.specs.Shown.{HeadShown}
+use Rattle.vcd_view.specs.Views.{Views}
 use Rattle.vcd_merge.specs.MergeAhead.{Stands, StageAhead}
 use Rattle.vcd_body.proofs.WalkLemmas.{walk_counts, walk_further, walk_passes}
 use Rattle.vcd_merge.proofs.AheadTrails.{walk_runs}
@@ -31,8 +33,9 @@ returns-clause-turns g c = λ k scale first l items views at.
     let out : Device = g.W.Sink.device c.walk_ahead-walked.new.out in
     let begins = lies_first scale first l items s f at c.requires.unfinished in
     let gives = rw (a.limit, a.bytes, a.passed) at w in
+    let view = subst (λ (y : HeadShown). Views y l.header) (sym c.view-view.ensures) views in
     let stage : StageAhead = record { at = 0; items = []; regs = s.regs; time = s.time; written = c.args.written.now; out = out0 } in
-    let runs = gives scale first (lines_of f) l.header items stage views at.factor_is at.first_is at.few (record { mid = stage; trail = Stands; ends = (begins, refl, refl) }) in
+    let runs = gives scale first (lines_of f) l.header items stage view at.factor_is at.first_is at.few (record { mid = stage; trail = Stands; ends = (begins, refl, refl) }) in
     ahead_turns scale first l items s f at c.requires.unfinished g.S.Source.failures k c.args.before c.args.written.now out0 c.requires.open new _ t.regs t.visit.time t.visit.written out c.pass_items.ensures.source c.pass_items.ensures.advances.limit c.pass_items.ensures.advances.chunk
     (λ more lies known. c.pass_items.ensures.gives l.header.codes l.input l.front items more s.regs t.regs gave lies known)
     (λ more x lies known. c.pass_items.ensures.ends l.header.codes l.input l.front items more x s.regs t.regs gave lies known) t.ended (rw c.passed-passed.ensures.passed runs)

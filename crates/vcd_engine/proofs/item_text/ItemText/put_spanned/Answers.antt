@@ -2,7 +2,7 @@ use Rattle.std.proofs.Common.{◌≡◌, ◌++◌, ◌∷◌, [], Err, rules, sy
 use Rattle.vcd_model.specs.ItemText.{item_line, time_due}
 use Rattle.vcd_text.proofs.Writes.{some-first}
 use Rattle.vcd_engine.specs.ItemText.{HasWritten}
-use Rattle.vcd_engine.specs.Pieces.{PutsOn, pending_in}
+use Rattle.vcd_engine.specs.PendingCopy.{PutsOn, pending_in}
 use Rattle.vcd_engine.proofs.ItemTextLemmas.{text_with, written_with}
 use Rattle.vcd_engine.proofs.PieceLemmas.{first_on, put_on, twice_behind}
 use Rattle.vcd_body.specs.Spelled.{line_without}
@@ -19,7 +19,7 @@ returns-in_err-add_time g c =
     rw e (record {
       text = λ h before kept e views is at has tells.
           let t = c.args.self.now in
-          ((time_due t.written c.args.time ++ item_line e.item, text_with before kept e c.args.time t at has tells, first_on (pending_in c.args.item.bytes.now c.args.pieces.now) (time_due t.written c.args.time) (item_line e.item) (g.W.Sink.device _) (g.W.Sink.device _) time.puts), tt);
+          ((time_due t.written c.args.time ++ item_line e.item, text_with before kept e c.args.time t at has tells, first_on (pending_in c.args.item.bytes.now c.args.pending.now) (time_due t.written c.args.time) (item_line e.item) (g.W.Sink.device _) (g.W.Sink.device _) time.puts), tt);
       counts = time.counts;
       part = tt;
     })
@@ -28,12 +28,12 @@ pub returns : goal.returns
 returns g c =
     let l = c.args.item in
     let bytes = l.bytes.now in
-    let both = twice_behind bytes c.args.pieces.now c.add_time.new.pieces c.append_line.new.self _ (line_without bytes l.from l.to c.in-Some.n) _ _ _ _ c.append_line.result c.in_ok-add_time.ensures.puts c.append_line.ensures in
+    let both = twice_behind bytes c.args.pending.now c.add_time.new.pending c.append_line.new.self _ (line_without bytes l.from l.to c.in-Some.n) _ _ _ _ c.append_line.result c.in_ok-add_time.ensures.puts c.append_line.ensures in
     record {
       text = λ h before kept e views is at has tells.
           let t = c.args.self.now in
           let line = c.in-Some.ensures.line c.args.view h e.item c.requires.span views is in
-          let puts = subst (λ k. PutsOn (pending_in bytes c.args.pieces.now) (pending_in bytes c.append_line.new.self) (g.W.Sink.device c.args.out.now) (g.W.Sink.device c.append_line.new.out) (time_due t.written c.args.time ++ k) c.append_line.result) line both.puts in (
+          let puts = subst (λ k. PutsOn (pending_in bytes c.args.pending.now) (pending_in bytes c.append_line.new.self) (g.W.Sink.device c.args.out.now) (g.W.Sink.device c.append_line.new.out) (time_due t.written c.args.time ++ k) c.append_line.result) line both.puts in (
             (time_due t.written c.args.time ++ item_line e.item, text_with before kept e c.args.time t at has tells, puts),
             if_ok c.append_line.result _ (subst (λ o. HasWritten before (kept ++ e ∷ []) (record { written = o })) (sym c.in_ok-add_time.ensures.written) (written_with before kept e c.args.time at)),
           );

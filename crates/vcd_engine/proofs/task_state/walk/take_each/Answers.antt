@@ -1,25 +1,25 @@
 use Rattle.std.proofs.Common.{◌<◌, length, refl, subst}
 use Rattle.std.specs.Prelude.{IfErr}
 use Rattle.vcd_text.specs.Device.{Puts}
-use Rattle.vcd_engine.specs.Pieces.{pending_in}
+use Rattle.vcd_engine.specs.PendingCopy.{pending_in}
 use Rattle.vcd_engine.proofs.WalkLemmas.{passed_to, walk_begins, walk_ends, walk_over, walk_wrong}
 use Rattle.vcd_engine.proofs.task_state.walk.take_each.Goals as goal
 
 pub walk_ahead-walked-requires-clause-stands : goal.walk_ahead-walked-requires-clause-stands
-walk_ahead-walked-requires-clause-stands g c = record { ready = c.requires.ready; part = c.new-pieces.ensures.part _; line = c.new-line.ensures _ _ }
+walk_ahead-walked-requires-clause-stands g c = record { ready = c.requires.ready; part = c.new-pending.ensures.part _; line = c.new-line.ensures _ _ }
 
 pub flush-requires-clause-part : goal.flush-requires-clause-part
 flush-requires-clause-part g c =
-    let walked = walk_begins _ _ _ _ _ _ _ c.requires.within c.new-line.ensures (c.new-pieces.ensures.part _) (c.new-pieces.ensures.pending _) in
+    let walked = walk_begins _ _ _ _ _ _ _ c.requires.within c.new-line.ensures (c.new-pending.ensures.part _) (c.new-pending.ensures.pending _) in
     let w = walk_over _ _ _ _ _ _ _ _ walked _ _ (rw c.in-Ok.is at c.walk_ahead-walked.ensures) in
     rw c.bytes.ensures w.part
 
 pub returns-in-Ok : goal.returns-in-Ok
 returns-in-Ok g c =
-    let walked = walk_begins _ _ _ _ _ _ _ c.requires.within c.new-line.ensures (c.new-pieces.ensures.part _) (c.new-pieces.ensures.pending _) in
+    let walked = walk_begins _ _ _ _ _ _ _ c.requires.within c.new-line.ensures (c.new-pending.ensures.part _) (c.new-pending.ensures.pending _) in
     let w = walk_over _ _ _ _ _ _ _ _ walked _ _ (rw c.in-Ok.is at c.walk_ahead-walked.ensures) in
     let u = c.until.ensures in
-    let p = c.walk_ahead-walked.result.visit.pieces in
+    let p = c.walk_ahead-walked.result.visit.pending in
     let mid = g.W.Sink.device c.walk_ahead-walked.new.out in
     let new = g.W.Sink.device c.flush.new.out in
     let puts = subst (λ bs. Puts mid new (pending_in bs p) c.flush.result) c.bytes.ensures c.flush.ensures.puts in
@@ -29,6 +29,6 @@ returns-in-Ok g c =
 
 pub returns-in-Err : goal.returns-in-Err
 returns-in-Err g c =
-    let walked = walk_begins _ _ _ _ _ _ _ c.requires.within c.new-line.ensures (c.new-pieces.ensures.part _) (c.new-pieces.ensures.pending _) in
+    let walked = walk_begins _ _ _ _ _ _ _ c.requires.within c.new-line.ensures (c.new-pending.ensures.part _) (c.new-pending.ensures.pending _) in
     let u = c.until-in-Err.ensures in
     walk_wrong _ _ _ _ _ _ _ _ walked _ _ (rw c.in-Err.is at c.walk_ahead-walked.ensures) _ u.passed u.regs u.written

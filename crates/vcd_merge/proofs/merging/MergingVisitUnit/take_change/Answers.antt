@@ -38,9 +38,9 @@ pub returns-in_err-put_due_time-clause-takes : goal.returns-in_err-put_due_time-
 returns-in_err-put_due_time-clause-takes g c = change_taken _ _ _ c.args.change c.requires.item (record { factor = refl; first = refl; before = refl }) c.in-Change.code c.in-Change.form _ c.in-Change.is refl refl (λ v scale first h items x same views known time number few at.
     let is = rw c.in-Change.is at at in
     let y : Change = record { code = is.0; form = model_form c.in-Change.form; text = c.args.change.text.now } in
-    let told = subst (λ (i : Item). IsSizedItem c.args.view.codes.now i c.args.change.most) c.in-Change.is c.requires.item.sized in
-    let sized = subst (λ (l : List Code). IsSized l (record { position = c.in-Change.code; most = c.args.change.most })) (sym same) told in
-    let out : (is.0.event && leaves_open items) ≡ false = rw (no_event c.in-Change.code c.args.change.most (parts v) h is.0 views is.1 sized c.if-change-eq0.false) refl in
+    let told = subst (λ (i : Item). IsSizedItem c.args.view.codes.now i c.args.change.size_or_zero) c.in-Change.is c.requires.item.sized in
+    let sized = subst (λ (l : List Code). IsSized l (record { position = c.in-Change.code; size_or_zero = c.args.change.size_or_zero })) (sym same) told in
+    let out : (is.0.event && leaves_open items) ≡ false = rw (no_event c.in-Change.code c.args.change.size_or_zero (parts v) h is.0 views is.1 sized c.if-change-eq0.false) refl in
     let e : c.from_residual.result ≡ Err c.in_err-put_due_time.field-0.0 = search rules in
     let t = rw time at c.in_err-put_due_time.ensures.puts.0 in
     rw (is.2, e, line_due scale first h items y c.args.self.now.written out) (appends-first _ _ (time_due c.args.self.now.written (scale * time_after items)) _ t, tt))
@@ -49,12 +49,12 @@ pub returns-clause-takes : goal.returns-clause-takes
 returns-clause-takes g c = change_taken _ _ _ c.args.change c.requires.item (record { factor = refl; first = refl; before = refl }) c.in-Change.code c.in-Change.form _ c.in-Change.is refl refl (λ v scale first h items x same views known time number few at.
     let is = rw c.in-Change.is at at in
     let y : Change = record { code = is.0; form = model_form c.in-Change.form; text = c.args.change.text.now } in
-    let told = subst (λ (i : Item). IsSizedItem c.args.view.codes.now i c.args.change.most) c.in-Change.is c.requires.item.sized in
-    let sized = subst (λ (l : List Code). IsSized l (record { position = c.in-Change.code; most = c.args.change.most })) (sym same) told in
-    let out : (is.0.event && leaves_open items) ≡ false = rw (no_event c.in-Change.code c.args.change.most (parts v) h is.0 views is.1 sized c.if-change-eq0.false) refl in
+    let told = subst (λ (i : Item). IsSizedItem c.args.view.codes.now i c.args.change.size_or_zero) c.in-Change.is c.requires.item.sized in
+    let sized = subst (λ (l : List Code). IsSized l (record { position = c.in-Change.code; size_or_zero = c.args.change.size_or_zero })) (sym same) told in
+    let out : (is.0.event && leaves_open items) ≡ false = rw (no_event c.in-Change.code c.args.change.size_or_zero (parts v) h is.0 views is.1 sized c.if-change-eq0.false) refl in
     let fits = number_fits h c.in-Change.code is.0 is.1 first few in
     let sum : c.saturating_add-number.result ≡ first + c.in-Change.code = omega (arith, c.saturating_add-number.ensures) in
-    let line = sized_line c.in-Change.code c.args.change.most (parts v) h is.0 views is.1 sized c.if-change-eq0.false first c.saturating_add-number.result (model_form c.in-Change.form) c.args.change.text.now sum in
+    let line = sized_line c.in-Change.code c.args.change.size_or_zero (parts v) h is.0 views is.1 sized c.if-change-eq0.false first c.saturating_add-number.result (model_form c.in-Change.form) c.args.change.text.now sum in
     let t = rw time at c.in_ok-put_due_time.ensures.puts.0 in
     let l = rw line at c.put_renamed_ahead.ensures.0 in
     rw (is.2, line_due scale first h items y c.args.self.now.written out) (

@@ -39,9 +39,9 @@ returns-clause-takes g c = λ h items before x views known re read few is.
     let codes = c.args.view.codes.now in
     let change = subst (λ (i : Item). IsItem h.codes text i x) c.in-Change.is read in
     let sound = subst (λ (i : Item). HasGoodText codes text i) c.in-Change.is c.requires.span.good in
-    let sized = subst (λ (i : Item). IsSizedItem codes i p.most) c.in-Change.is (c.requires.span.sized c.if-scanned-eq0.false) in
+    let sized = subst (λ (i : Item). IsSizedItem codes i p.size_or_zero) c.in-Change.is (c.requires.span.sized c.if-scanned-eq0.false) in
     let good : (d : Code) → slice_get codes place ≡ Some d → IsText form d text = λ d there. good_text codes text place form d sound there in
-    let told = sized_there c.args.view h place p.most change.0 views sized change.1 c.if-scanned-eq0.false in
+    let told = sized_there c.args.view h place p.size_or_zero change.0 views sized change.1 c.if-scanned-eq0.false in
     let tallied = c.take_value.ensures.takes c.args.view h items change.0 views change.1 told.1 told.0 good few is.tallied in (
       ([], refl, none_on _ (g.W.Sink.device c.args._out.now)),
       record { marks_are = is.marks_are; tallied = subst (λ (y : BodyItem). AreTallied c.take_value.new.table h (items ++ y ∷ [])) (sym change.2) tallied },

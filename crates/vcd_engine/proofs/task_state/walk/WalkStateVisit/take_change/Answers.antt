@@ -8,7 +8,7 @@ use Rattle.vcd_body.specs.Taken.{TakesItem}
 use Rattle.vcd_body.specs.declared.ahead.ScannedItem.{ScannedItem}
 use Rattle.vcd_body.proofs.Results.{if_ok_more}
 use Rattle.vcd_engine.specs.Engine.{request_in}
-use Rattle.vcd_engine.specs.Pieces.{IsPart, PutsOn, pending_in}
+use Rattle.vcd_engine.specs.PendingCopy.{IsPart, PutsOn, pending_in}
 use Rattle.vcd_engine.proofs.NextLemmas.{goes_on_item}
 use Rattle.vcd_engine.proofs.PieceLemmas.{next_line_is, no_timestamp_here, placed_there, same_regs}
 use Rattle.vcd_engine.proofs.task_state.walk.WalkStateVisit.take_change.Goals as goal
@@ -28,7 +28,7 @@ take_item-requires-clause-line g c =
 
 pub take_item-requires-clause-part : goal.take_item-requires-clause-part
 take_item-requires-clause-part g c =
-    subst (λ (bs : List ℕ). IsPart bs c.args.self.now.pieces) (sym (c.of-change.ensures.span.bytes ∙ c.requires.item.same.0)) c.requires.stands.part
+    subst (λ (bs : List ℕ). IsPart bs c.args.self.now.pending) (sym (c.of-change.ensures.span.bytes ∙ c.requires.item.same.0)) c.requires.stands.part
 
 pub returns-clause-takes : goal.returns-clause-takes
 returns-clause-takes g c =
@@ -49,12 +49,12 @@ returns-clause-takes g c =
       one = λ h items x views known read few keeps.
           let one = c.take_item.ensures.takes h items c.args.regs x views known (subst (λ (q : ScannedItem). c.args.regs ≡ regs_after c.args.regs q.item) (sym is) (same_regs c.args.regs p.item f.1.0 f.0 f.1.1)) (subst (λ (q : ScannedItem). IsItem h.codes q.text.now q.item x) (sym is) read) few keeps in
           record {
-            due = subst (λ (bs : List ℕ). DueBy (λ due. PutsOn (pending_in bs c.args.self.now.pieces) (pending_in bs c.take_item.new.pieces) old new due result) (open_text t h items) (open_text t h (items ++ x ∷ []))) same one.0;
+            due = subst (λ (bs : List ℕ). DueBy (λ due. PutsOn (pending_in bs c.args.self.now.pending) (pending_in bs c.take_item.new.pending) old new due result) (open_text t h items) (open_text t h (items ++ x ∷ []))) same one.0;
             on = goes_on_item t h.codes p.text.now p.item x (no_timestamp_here p.item f.1.0 f.0 f.1.1) read;
             keeps = one.1;
           };
       counts = c.take_item.ensures.counts;
-      part = subst (λ (bs : List ℕ). IfOk result (λ _. IsPart bs c.take_item.new.pieces)) same c.take_item.ensures.part;
+      part = subst (λ (bs : List ℕ). IfOk result (λ _. IsPart bs c.take_item.new.pending)) same c.take_item.ensures.part;
       same = c.take_item.ensures.same;
     }
 
@@ -63,6 +63,6 @@ returns-clause-stands g c =
     let there = c.of-change.ensures.span in
     if_ok_more c.take_item.result _ _ (λ part. record {
       ready = c.take_item.ensures.ready;
-      part = subst (λ (bs : List ℕ). IsPart bs c.take_item.new.pieces) there.bytes part;
+      part = subst (λ (bs : List ℕ). IsPart bs c.take_item.new.pending) there.bytes part;
       line = next_line_is _ _ _ _ _ _ (sym c.requires.item.same.0) refl refl c.requires.stands.line;
     }) c.take_item.ensures.part

@@ -5,7 +5,7 @@ use Rattle.vcd_body.specs.Given.{IsItem}
 use Rattle.vcd_body.specs.Items.{regs_after}
 use Rattle.vcd_body.specs.Spelled.{HasTimestamp, HasSpelled}
 use Rattle.vcd_body.specs.declared.item.Item.{Item}
-use Rattle.vcd_engine.specs.Pieces.{IsLine, IsPart}
+use Rattle.vcd_engine.specs.PendingCopy.{IsLine, IsPart}
 use Rattle.vcd_engine.proofs.NextLemmas.{more_quietly}
 use Rattle.vcd_engine.proofs.PieceLemmas.{next_line_is}
 use Rattle.vcd_engine.proofs.task_state.walk.WalkStateVisit.take_timestamp.Goals as goal
@@ -42,6 +42,6 @@ returns-clause-stands g c =
     let marked : HasTimestamp c.bytes.result.now c.passed-from.result c.passed.result timestamp.at c.args.time = rw (c.passed-from.ensures.passed, c.passed.ensures.passed, c.bytes.ensures, n.same.0) (subst (λ (i : Item). HasSpelled c.args._view (bytes_of c.args.extent.from) (passed_of c.args.extent.from) (passed_of c.args.extent.to) timestamp.at timestamp.code_at timestamp.text.now i) c.requires.time n.spelled) in
     record {
       ready = c.note_time.ensures.ready;
-      part = subst (λ (bs : List ℕ). IsPart bs c.args.self.now.pieces) (sym n.same.0) c.requires.stands.part;
+      part = subst (λ (bs : List ℕ). IsPart bs c.args.self.now.pending) (sym n.same.0) c.requires.stands.part;
       line = next_line_is _ _ _ _ _ _ c.bytes.ensures refl (sym (ap (λ (i : Item). (regs_after r i).time) c.requires.time)) (c.after_timestamp-self.ensures c.args.time marked);
     }

@@ -10,18 +10,18 @@ use Rattle.vcd_body.specs.Ahead.{HasBits, IsSizedItem}
 use Rattle.vcd_body.specs.Changes.{AreBinaryIf}
 use Rattle.vcd_body.specs.Spelled.{HasSpelled}
 use Rattle.vcd_engine.specs.Cut.{IsNoTimestamp}
-use Rattle.vcd_engine.specs.declared.pieces.SpannedItem.{SpannedItem}
-use Rattle.vcd_engine.specs.declared.pieces.Pieces.{Pieces}
+use Rattle.vcd_engine.specs.declared.pending.SpannedItem.{SpannedItem}
+use Rattle.vcd_engine.specs.declared.pending.PendingCopy.{PendingCopy}
 
 -- an item that is no timestamp; where its size is known, it lies at an offset of these bytes
 pub record IsSpanned (v : HeadView) (l : SpannedItem) : Type 0 where
   pub none : IsNoTimestamp l.scanned.item
   pub within : (l.from ≤ l.to) × (l.to ≤ length l.bytes.now)
   pub good : HasGoodText v.codes.now l.scanned.text.now l.scanned.item
-  pub sized : l.scanned.most ≢ 0 → IsSizedItem v.codes.now l.scanned.item l.scanned.most
+  pub sized : l.scanned.size_or_zero ≢ 0 → IsSizedItem v.codes.now l.scanned.item l.scanned.size_or_zero
   pub bits : HasBits l.scanned.item l.scanned.text.now l.scanned.bits
   pub binary : AreBinaryIf l.scanned.binary l.scanned.text.now
-  pub spelled : l.scanned.most ≢ 0 → HasSpelled v l.bytes.now l.from l.to l.scanned.at l.scanned.code_at l.scanned.text.now l.scanned.item
+  pub spelled : l.scanned.size_or_zero ≢ 0 → HasSpelled v l.bytes.now l.from l.to l.scanned.at l.scanned.code_at l.scanned.text.now l.scanned.item
 
 -- a change lies from its first byte up to this offset ahead
 pub record LiesUpTo (a : Ahead) (l : SpannedItem) : Type 0 where
@@ -34,11 +34,11 @@ abbrev pub IsLine : List ℕ → ℕ × ℕ → ℕ → Type 0
 IsLine bytes line time = line.0 < line.1 → (line.1 ≤ length bytes) × (slice_range bytes line.0 line.1 ≡ time_line time)
 
 -- the last piece is a part of these bytes
-abbrev pub IsPart : List ℕ → Pieces → Type 0
+abbrev pub IsPart : List ℕ → PendingCopy → Type 0
 IsPart bytes p = (p.from ≤ p.to) × (p.to ≤ length bytes)
 
 -- the text that is pending: the last piece
-abbrev pub pending_in : List ℕ → Pieces → List ℕ
+abbrev pub pending_in : List ℕ → PendingCopy → List ℕ
 pending_in bytes p = slice_range bytes p.from p.to
 
 -- what was written and what is pending make the text that was pending and then what is due
@@ -50,12 +50,12 @@ abbrev pub PutsOn : {A E : Type 0} → List ℕ → List ℕ → Device → Devi
 PutsOn pending pending' out out' due (Ok v) = PutsAll pending pending' out out' due
 PutsOn pending pending' out out' due (Err e) = WritesSome out out' (pending ++ due)
 
--- so, where what is pending are the pieces of these bytes
-abbrev pub PutsPieces : {A E : Type 0} → List ℕ → Pieces → Pieces → Device → Device → List ℕ → Result A E → Type 0
-PutsPieces bytes p p' out out' due result = PutsOn (pending_in bytes p) (pending_in bytes p') out out' due result
+-- so, where what is pending are the pending of these bytes
+abbrev pub PutsCopy : {A E : Type 0} → List ℕ → PendingCopy → PendingCopy → Device → Device → List ℕ → Result A E → Type 0
+PutsCopy bytes p p' out out' due result = PutsOn (pending_in bytes p) (pending_in bytes p') out out' due result
 
 -- this text was put after what is pending
-pub record PutsBehind {A E : Type 0} (bytes : List ℕ) (p p' : Pieces) (out out' : Device) (due : List ℕ) (result : Result A E) : Type 0 where
+pub record PutsBehind {A E : Type 0} (bytes : List ℕ) (p p' : PendingCopy) (out out' : Device) (due : List ℕ) (result : Result A E) : Type 0 where
   pub puts : PutsOn (pending_in bytes p) (pending_in bytes p') out out' due result
   pub counts : Counts out out' result
   pub part : IfOk result (λ _. IsPart bytes p')

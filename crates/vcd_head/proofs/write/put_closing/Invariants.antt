@@ -4,7 +4,7 @@ use Rattle.vcd_head.specs.Marks.{is_marked}
 use Rattle.vcd_view.specs.Shown.{parts}
 use Rattle.vcd_view.specs.Views.{Views, counted_from_one}
 use Rattle.vcd_head.proofs.OpenScopes.{Closes}
-use Rattle.vcd_head.proofs.write.put_open.Given as goal
+use Rattle.vcd_head.proofs.write.put_closing.Given as goal
 
 abbrev pub invariant-loop-next : goal.invariant-loop-next
 invariant-loop-next g l = record {

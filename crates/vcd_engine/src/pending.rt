@@ -1,12 +1,12 @@
-//! Pending text: due, not written yet, and in the chunk already. Adjoining pieces are one write.
+//! Pending text: due, not written yet, and in the chunk already. Adjoining pending are one write.
 ghost use Rattle.std.specs.Prelude.{◌≡◌, ℕ, ◌+◌, ◌-◌, ◌^◌, ◌<◌, ◌≤◌, ◌++◌, ◌∷◌, List, [], length, slice_range, IfErr, IfOk, IfSome};
 ghost use Rattle.vcd_engine.specs.Names.{BodyItem, bytes_without, HasGoodText, Header, HeadView, pending_in, IsSpanned, IsItem, IsLine, IsNoTimestamp, IsPart, IsViewOf, item_line, LiesUpTo, line_without, Puts, PutsBehind, time_line};
 
-use vcd_body::{Extent, Item, ScannedItem, left_out_before_last, put_time};
+use vcd_body::{Extent, Item, ScannedItem, left_out, put_time};
 use vcd_text::{Sink, WriteFailed, put_front, put_parts};
 
 /// An item that is no timestamp, with its span: a change in the chunk begins at `from`, and was
-/// passed up to `to`. An item that the feed gave has an empty span, and no size (`most` is 0).
+/// passed up to `to`. An item that the feed gave has an empty span, and no size (`size_or_zero` is 0).
 #[derive(Clone, Copy)]
 pub(crate) struct SpannedItem<'a> {
     pub(crate) scanned: ScannedItem<'a>,
@@ -42,7 +42,7 @@ impl<'a> SpannedItem<'a> {
         let scanned = ScannedItem {
             item,
             text,
-            most: 0,
+            size_or_zero: 0,
             begin: 0,
             at: 0,
             code_at: 0,
@@ -69,10 +69,10 @@ impl<'a> SpannedItem<'a> {
             → IsItem h.codes self.entry.scanned.text.now self.entry.scanned.item x
             → line_without self.entry.bytes.now self.entry.from self.entry.to k ≡ item_line x) }
     {
-        if self.scanned.most == 0 {
+        if self.scanned.size_or_zero == 0 {
             return None;
         }
-        left_out_before_last(self.scanned, self.bytes, self.from, self.to)
+        left_out(self.scanned, self.bytes, self.from, self.to)
     }
 }
 
@@ -112,19 +112,19 @@ fn put_line<W: Sink>(
 /// The pending text: the bytes of the chunk from `from` up to `to`.
 // Numbers alone, so that a loop keeps them in registers.
 #[derive(Clone, Copy)]
-pub(crate) struct Pieces {
+pub(crate) struct PendingCopy {
     from: usize,
     to: usize,
 }
 
-impl Pieces {
-    /// Returns pieces with nothing pending.
+impl PendingCopy {
+    /// Returns pending with nothing pending.
     #[inline(always)]
-    pub(crate) fn new() -> Pieces
+    pub(crate) fn new() -> PendingCopy
         ensures part { (bytes : List ℕ) → IsPart bytes result }
         ensures pending { (bytes : List ℕ) → pending_in bytes result ≡ [] }
     {
-        Pieces { from: 0, to: 0 }
+        PendingCopy { from: 0, to: 0 }
     }
 
     /// Writes the pending text. Fails where a write does.

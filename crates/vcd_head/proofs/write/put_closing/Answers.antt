@@ -2,7 +2,7 @@ use Rattle.std.proofs.Common.{◌≡◌, Option, Err, ℕ, refl, subst, ◌∙�
 use Rattle.vcd_head.specs.Marks.{is_marked}
 use Rattle.vcd_head.proofs.OpenScopes.{Closes, closes_none, closes_next, closes_some}
 use Rattle.vcd_text.proofs.Writes.{counted}
-use Rattle.vcd_head.proofs.write.put_open.Goals as goal
+use Rattle.vcd_head.proofs.write.put_closing.Goals as goal
 
 pub loop-next-init : goal.loop-next-init
 loop-next-init g c = record {

@@ -3,7 +3,7 @@ use Rattle.std.specs.Prelude.{slice_index, slice_range}
 use Rattle.vcd_text.specs.Device.{Puts}
 use Rattle.vcd_body.proofs.LeftOut.{end_is}
 use Rattle.vcd_body.proofs.LineLemmas.{one_byte}
-use Rattle.vcd_engine.proofs.pieces.put_line.Goals as goal
+use Rattle.vcd_engine.proofs.pending.put_line.Goals as goal
 
 pub returns : goal.returns
 returns g c =

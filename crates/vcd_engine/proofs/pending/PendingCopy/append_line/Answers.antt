@@ -2,9 +2,9 @@ use Rattle.std.proofs.Common.{◌≡◌, Err, rules, subst}
 use Rattle.vcd_text.proofs.Writes.{counts-on, some-first}
 use Rattle.vcd_body.proofs.LeftOut.{line_there}
 use Rattle.vcd_body.proofs.Results.{if_ok}
-use Rattle.vcd_engine.specs.Pieces.{PutsBehind}
+use Rattle.vcd_engine.specs.PendingCopy.{PutsBehind}
 use Rattle.vcd_engine.proofs.PieceLemmas.{put_on}
-use Rattle.vcd_engine.proofs.pieces.Pieces.append_line.Goals as goal
+use Rattle.vcd_engine.proofs.pending.PendingCopy.append_line.Goals as goal
 
 pub returns-then-bytes-last-eq10 : goal.returns-then-bytes-last-eq10
 returns-then-bytes-last-eq10 g c =

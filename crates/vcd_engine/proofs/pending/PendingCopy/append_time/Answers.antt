@@ -2,7 +2,7 @@ use Rattle.std.proofs.Common.{◌≡◌, Err, rules}
 use Rattle.vcd_text.proofs.Writes.{counts-on, some-first}
 use Rattle.vcd_body.proofs.Results.{if_ok}
 use Rattle.vcd_engine.proofs.PieceLemmas.{put_on}
-use Rattle.vcd_engine.proofs.pieces.Pieces.append_time.Goals as goal
+use Rattle.vcd_engine.proofs.pending.PendingCopy.append_time.Goals as goal
 
 pub returns-in_err-flush : goal.returns-in_err-flush
 returns-in_err-flush g c =

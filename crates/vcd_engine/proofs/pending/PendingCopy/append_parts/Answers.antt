@@ -1,7 +1,7 @@
 use Rattle.std.proofs.Common.{◌≡◌, ◌+◌, slice_range, Err, arith, rules, sym, subst}
-use Rattle.vcd_engine.specs.Pieces.{PutsBehind, pending_in}
+use Rattle.vcd_engine.specs.PendingCopy.{PutsBehind, pending_in}
 use Rattle.vcd_engine.proofs.PieceLemmas.{first_on, joined, twice_behind}
-use Rattle.vcd_engine.proofs.pieces.Pieces.append_parts.Goals as goal
+use Rattle.vcd_engine.proofs.pending.PendingCopy.append_parts.Goals as goal
 
 pub returns-then-n-eq0 : goal.returns-then-n-eq0
 returns-then-n-eq0 g c =

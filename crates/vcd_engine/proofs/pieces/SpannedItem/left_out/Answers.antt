@@ -1,4 +1,0 @@
-use Rattle.vcd_engine.proofs.pieces.SpannedItem.left_out.Goals as goal
-
-pub left_out_before_last-requires : goal.left_out_before_last-requires
-left_out_before_last-requires c = (c.requires.0, c.requires.1.spelled c.if-self-eq0.false)
