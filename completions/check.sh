@@ -85,6 +85,14 @@ for command in $help_commands; do
     done
 done
 
+# The help names each script, and so does the fault of a command that is the end of its name.
+for script in extras/vcdkit-*; do
+    name=${script#extras/vcdkit-}
+    same "$name in the help" 1 "$("$program" --help | grep -cE -- "-$name([ ,;]|\$)")"
+    same "$name as a command" 1 \
+        "$("$program" "$name" 2>&1 | grep -cF "tip: see 'vcdkit-$name --help'")"
+done
+
 # The faults of the manual's table, each with its cause in the man page; and the words for the
 # statuses in both, and in the help.
 manual_faults=$(sed -n '/^## Faults/,/^Other lines/s/^| `\([a-z ]*\)`.*/\1/p' docs/MANUAL.md)

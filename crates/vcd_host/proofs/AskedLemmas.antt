@@ -1,17 +1,17 @@
 -- How many inputs a job has, and which they are.
 use Rattle.std.proofs.Common.{◌≡◌, ◌<◌, ◌≤◌, ◌&&◌, ◌==◌, ℕ, Bool, true, false, not, List, [], ◌∷◌, length, map, take, take_all, refl, ap, subst, sym, ◌∙◌, arith, cond, lit<, lit≤}
-use Rattle.std.specs.Prelude.{Option, Some, None, Result, Ok, Err, nat_le, nat_lt, option_map, option_and_then, unwrap_or, codes}
+use Rattle.std.specs.Prelude.{Option, Some, None, Result, Ok, Err, count_by, nat_lt, option_map, option_and_then, unwrap_or, codes}
 use Rattle.std.specs.Borrow.{Bor}
 use Rattle.std.specs.List.{slice_split}
 use Rattle.std.specs.Str.{byte, bytes_eq}
-use Rattle.std.proofs.lemmas.Grind.{common_steps}
+use Rattle.std.proofs.lemmas.Bool.{ltb-false}
 use Rattle.std.proofs.lemmas.List.{length-map}
 use Rattle.clap.specs.Words.{Text, subcommand_name_of}
 use Rattle.clap.specs.declared.parser.matches.ArgMatches.{ArgMatches}
 use Rattle.vcd_model.specs.Bytes.{is_empty}
 use Rattle.vcd_model.specs.Job.{Want, has_unit, do_rise}
 use Rattle.vcd_model.specs.Ticks.{Moment}
-use Rattle.vcd_model.specs.Words.{Command, Job, UseFault, Words, cut_of, has_words, job_of, job_with, limit_of, sample_of, time_of, times_of, want_of}
+use Rattle.vcd_model.specs.Words.{Command, Job, UseFault, Words, cut_of, has_words, is_standard_input, job_of, job_with, limit_of, sample_of, time_of, times_of, want_of}
 use Rattle.vcd_words.specs.Words.{command_named, command_used, cut_between, files_asked, input_asked, job_asked, some_of, values_after, word_after}
 use Rattle.vcd_host.specs.Asked.{input_named, inputs_asked, inputs_for, inputs_of}
 
@@ -73,18 +73,19 @@ merges-is (Command.Pick names) want e = let same : Want.Pick names ≡ want = cc
 merges-is (Command.Cut from to) want e = cut-merges (time_of from) (time_of to) want e
 merges-is (Command.Sample at names) want e = sample-merges names (times_of (slice_split (λ b. b == byte ",") at)) want e
 merges-is (Command.Edges names) want e = let same : Want.Edges names ≡ want = cc in subst (λ w. wants_merge w ≡ false) same refl
-merges-is (Command.Merge files) want e = by_test (nat_le (length files) 64) e
+merges-is (Command.Merge files) want e = by_test (nat_lt 64 (length files)) (nat_lt 1 (count_by is_standard_input files)) e
   where
-    by_test : (t : Bool) → cond t (Ok Want.Merge) (Err UseFault.TooManyFiles) ≡ Ok want → wants_merge want ≡ true
-    by_test true h = let same : Want.Merge ≡ want = cc in subst (λ w. wants_merge w ≡ true) same refl
-    by_test false h = cc
+    by_test : (many twice : Bool) → cond many (Err UseFault.TooManyFiles) (cond twice (Err UseFault.InputTwice) (Ok Want.Merge)) ≡ Ok want → wants_merge want ≡ true
+    by_test true twice h = cc
+    by_test false true h = cc
+    by_test false false h = let same : Want.Merge ≡ want = cc in subst (λ w. wants_merge w ≡ true) same refl
 
 few-files : (files : List (List ℕ)) (want : Want) → want_of (Command.Merge files) ≡ Ok want → length files ≤ 64
-few-files files want e = by_test (nat_le (length files) 64) refl e
+few-files files want e = by_test (nat_lt 64 (length files)) refl e
   where
-    by_test : (t : Bool) → nat_le (length files) 64 ≡ t → cond t (Ok Want.Merge) (Err UseFault.TooManyFiles) ≡ Ok want → length files ≤ 64
-    by_test true is h = grind (arith, common_steps)
-    by_test false is h = cc
+    by_test : (many : Bool) → nat_lt 64 (length files) ≡ many → cond many (Err UseFault.TooManyFiles) (cond (nat_lt 1 (count_by is_standard_input files)) (Err UseFault.InputTwice) (Ok Want.Merge)) ≡ Ok want → length files ≤ 64
+    by_test true is h = cc
+    by_test false is h = ltb-false 64 (length files) is
 
 some-files : (files : List (List ℕ)) → not (is_empty files) ≡ true → 0 < length files
 some-files [] e = cc

@@ -1,14 +1,13 @@
 -- Which inputs words ask for.
-use Rattle.std.specs.Prelude.{Bool, codes, cond, List, [], ◌∷◌, map, Option, Some, None, option_and_then, option_map, unwrap_or}
-use Rattle.std.specs.Str.{bytes_eq}
+use Rattle.std.specs.Prelude.{Bool, cond, List, [], ◌∷◌, map, Option, Some, None, option_and_then, option_map, unwrap_or}
 use Rattle.clap.specs.Words.{Text}
 use Rattle.clap.specs.declared.parser.matches.ArgMatches.{ArgMatches}
-use Rattle.vcd_model.specs.Words.{Command}
+use Rattle.vcd_model.specs.Words.{Command, is_standard_input}
 use Rattle.vcd_words.specs.Words.{command_used, files_asked, input_asked}
 
--- the input that a word for a file names: `-` is standard input, which has no name
+-- the input that a word for a file names; standard input has no name
 abbrev pub input_named : Text → Option Text
-input_named word = cond (bytes_eq word (codes "-")) None (Some word)
+input_named word = cond (is_standard_input word) None (Some word)
 
 -- the inputs of a command: of a merge those of its words, in their order; of any other that of its
 -- word, or standard input where there is none

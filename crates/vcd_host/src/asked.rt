@@ -4,13 +4,13 @@ ghost use Rattle.vcd_host.specs.Names.{input_asked, input_named, inputs_for, tex
 
 use clap::ArgMatches;
 use std::alloc::{AllocError, Global};
-use vcd_words::{files_of, input_of};
+use vcd_words::{files_of, input_of, is_standard_input};
 
-/// Returns the input that a word for a file names. It is none for `-`, which is standard input.
+/// Returns the input that a word for a file names. It is none for standard input.
 fn input_named(word: &str) -> Option<&str>
     ensures { text_of result ≡ input_named word.now }
 {
-    if word == "-" {
+    if is_standard_input(word) {
         return None;
     }
     Some(word)

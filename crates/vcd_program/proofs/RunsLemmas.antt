@@ -125,6 +125,7 @@ refused {H} {I} opens rest failures last_failed words names host out err err' st
     by_fault use_fault.FromAboveTo e shown is = said model.UseFault.FromAboveTo e shown is
     by_fault use_fault.NotRising e shown is = said model.UseFault.NotRising e shown is
     by_fault use_fault.TooManyFiles e shown is = said model.UseFault.TooManyFiles e shown is
+    by_fault use_fault.InputTwice e shown is = said model.UseFault.InputTwice e shown is
     by_fault use_fault.OutOfMemory e shown is = no-memory opens rest failures last_failed words names host out err err' status e.0 e.1 (memory-shown err err' shown) is
 
 -- an input that cannot be opened

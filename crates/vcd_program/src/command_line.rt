@@ -3,11 +3,11 @@ ghost use Rattle.std.specs.Prelude.{◌≡◌, ◌-◌, ◌^◌, ◌<◌, ◌≤
 ghost use Rattle.vcd_program.specs.Names.{Answers, AsksFor, Finishes, kind_of, MayFailOnce, RunsMatches, RunsOn, RunsWords};
 
 use clap::{ArgMatches, Error};
-use std::alloc::{AllocError, Global};
+use std::alloc::Global;
 use std::hash::BuildHasher;
 use vcd_host::{Host, OpenStop, Output, called, inputs_of, most_of_all, open_inputs};
 use vcd_text::{Sink, put};
-use vcd_words::{Job, UseFault, command_of, job_of, parse_status};
+use vcd_words::{Job, UseFault, answer_text, command_of, job_of, parse_status};
 use vcdkit::{open_fault, run_within, use_fault, write_fault};
 
 /// Opens the inputs that the matches of this job name, runs it over them, and returns the exit
@@ -70,22 +70,6 @@ fn run_matches<H: Host, W: Sink, E: Sink, B: BuildHasher>(
         Ok(job) => run_job(alloc, job, matches, host, out, err, hasher),
         Err(fault) => use_fault(fault, err),
     }
-}
-
-/// What `clap` advises for a word that is no option, where the word asks for a file for the output,
-/// and what is said instead: such a word is nothing to pass as a value.
-const O_AS_A_VALUE: &str = "tip: to pass '-o' as a value, use '-- -o'";
-
-const OUTPUT_AS_A_VALUE: &str = "tip: to pass '--output' as a value, use '-- --output'";
-
-const TO_A_FILE: &str = "tip: output goes to standard output; use '> FILE'";
-
-/// Returns the text of what a parse answered that gave no matches.
-fn answer_text(alloc: Global, error: &Error) -> Result<String, AllocError> {
-    error
-        .to_string(alloc)?
-        .replace(alloc, O_AS_A_VALUE, TO_A_FILE)?
-        .replace(alloc, OUTPUT_AS_A_VALUE, TO_A_FILE)
 }
 
 /// Says what a parse answered that gave no matches, help and the version on the output and all else

@@ -49,7 +49,7 @@ struct Row {
 
 const NOTHING: Said = Said::Just(b"");
 
-const ROWS: [Row; 23] = [
+const ROWS: [Row; 29] = [
     Row {
         words: &["list"],
         opened: &[None],
@@ -143,7 +143,8 @@ const ROWS: [Row; 23] = [
         opened: &[],
         out: NOTHING,
         err: Said::Just(
-            b"error: the argument '-i <FILE>' cannot be used multiple times\n\n\
+            b"error: the argument '-i <FILE>' cannot be used multiple times\n\n  \
+                tip: FILE and '-i FILE' are the same argument of check, list and cut\n\n\
                 Usage: vcdkit check [--token-limit N] FILE\n       \
                 vcdkit check [--token-limit N] < FILE\n\n\
                 For more information, try '--help'.\n",
@@ -160,6 +161,77 @@ const ROWS: [Row; 23] = [
                 Usage: vcdkit merge [--token-limit N] FILE.. > OUT\n\n\
                 For more information, try '--help'.\n",
         ),
+        status: 2,
+    },
+    Row {
+        words: &["pick", "-a"],
+        opened: &[],
+        out: NOTHING,
+        err: Said::Just(
+            b"error: unexpected argument '-a' found\n\n  \
+                tip: to pass '-a' as a file or a name, use '-- -a'\n\n\
+                Usage: vcdkit pick -i FILE [--token-limit N] NAME.. > OUT\n       \
+                vcdkit pick [--token-limit N] NAME.. < FILE > OUT\n\n\
+                For more information, try '--help'.\n",
+        ),
+        status: 2,
+    },
+    Row {
+        words: &["sample", "--at", "-15ns", "a"],
+        opened: &[],
+        out: NOTHING,
+        err: Said::Just(
+            b"error: unexpected argument '-1' found\n\n  \
+                tip: times and limits are not negative\n  \
+                tip: to pass '-1' as a file or a name, use '-- -1'\n\n\
+                Usage: vcdkit sample -i FILE --at N,N,.. [--token-limit N] [NAME..]\n       \
+                vcdkit sample --at N,N,.. [--token-limit N] [NAME..] < FILE\n\n\
+                For more information, try '--help'.\n",
+        ),
+        status: 2,
+    },
+    Row {
+        words: &["help", "check"],
+        opened: &[],
+        out: NOTHING,
+        err: Said::Just(
+            b"error: unrecognized subcommand 'help'\n\n  \
+                tip: use 'vcdkit --help' or 'vcdkit COMMAND --help'\n\n\
+                Usage: vcdkit COMMAND ..\n\n\
+                For more information, try '--help'.\n",
+        ),
+        status: 2,
+    },
+    // Names of scripts; a command has a similar name to the second.
+    Row {
+        words: &["diff", "a.vcd", "b.vcd"],
+        opened: &[],
+        out: NOTHING,
+        err: Said::Just(
+            b"error: unrecognized subcommand 'diff'\n\n  \
+                tip: see 'vcdkit-diff --help'\n\n\
+                Usage: vcdkit COMMAND ..\n\n\
+                For more information, try '--help'.\n",
+        ),
+        status: 2,
+    },
+    Row {
+        words: &["table"],
+        opened: &[],
+        out: NOTHING,
+        err: Said::Just(
+            b"error: unrecognized subcommand 'table'\n\n  \
+                tip: see 'vcdkit-table --help'\n\n\
+                Usage: vcdkit COMMAND ..\n\n\
+                For more information, try '--help'.\n",
+        ),
+        status: 2,
+    },
+    Row {
+        words: &["merge", "a.vcd", "-", "-"],
+        opened: &[],
+        out: NOTHING,
+        err: Said::Just(b"vcdkit: standard input twice\n"),
         status: 2,
     },
     Row {

@@ -14,11 +14,11 @@ use Rattle.vcd_model.specs.Words as model
 use Rattle.vcd_head.specs.declared.moment.Moment as head
 use Rattle.vcd_head.specs.Moments.{asked, with_unit}
 use Rattle.vcd_words.specs.declared.job.UseFault.{UseFault}
-use Rattle.vcd_words.specs.declared.job.UseFault.TheVariants.{BadWords, BadLimit, BadTime, FromAboveTo, NotRising, TooManyFiles, OutOfMemory}
 use Rattle.vcd_words.specs.declared.moment_word.TimesOrder.{TimesOrder}
 use Rattle.vcd_words.specs.Ticks.{has_units, times_with}
 use Rattle.vcd_words.specs.Times.{last_of, parts, IsOrderOf}
-use Rattle.vcd_words.specs.Words.{IsFaultIn, IsFaultOf}
+use Rattle.vcd_words.specs.Words.{IsFaultIn}
+use Rattle.vcd_words.proofs.WordsLemmas.{fault-moves}
 
 -- ---- a word
 
@@ -143,27 +143,6 @@ some_times at ms numbers e n =
     let kept : length numbers.items ≡ length ms = ap length n ∙ simp length-map in
     omega (arith, words, times, kept, numbers.ok.0)
 
--- ---- faults
-
--- a fault of these is one of those, where theirs are the same
-pub fault_moves : {X Y : Type 0} (fault : UseFault) (a : Result X model.UseFault) (b : Result Y model.UseFault) → ((f : model.UseFault) → a ≡ Err f → b ≡ Err f) → IsFaultIn fault a → IsFaultIn fault b
-fault_moves BadWords a b moves h = moves _ h
-fault_moves (BadLimit word) a b moves h = moves _ h
-fault_moves (BadTime word) a b moves h = moves _ h
-fault_moves FromAboveTo a b moves h = moves _ h
-fault_moves NotRising a b moves h = moves _ h
-fault_moves TooManyFiles a b moves h = moves _ h
-fault_moves OutOfMemory a b moves h = absurd h
-
-pub fault_of_words : {X : Type 0} (fault : UseFault) (a : Result X model.UseFault) → IsFaultIn fault a → IsFaultOf fault a
-fault_of_words BadWords a h = h
-fault_of_words (BadLimit word) a h = h
-fault_of_words (BadTime word) a h = h
-fault_of_words FromAboveTo a h = h
-fault_of_words NotRising a h = h
-fault_of_words TooManyFiles a h = h
-fault_of_words OutOfMemory a h = absurd h
-
 -- ---- a sample
 
 -- a list at one of its indexes
@@ -173,7 +152,7 @@ at_place all n word l e = sym (take-append-drop n all) ∙ ap (λ rest. take n a
 -- a word that is no time, after some that are times
 pub word_fails : (names all : List (List ℕ)) (n : ℕ) (word : List ℕ) (ms : List Moment) (fault : UseFault) → n < length all → word ≡ get_or all n word → model.times_of (take n all) ≡ Ok ms → IsFaultIn fault (model.time_of word) → IsFaultIn fault (model.sample_of names (model.times_of all))
 word_fails names all n word ms fault l here before h =
-    fault_moves fault (model.time_of word) (model.sample_of names (model.times_of all))
+    fault-moves fault (model.time_of word) (model.sample_of names (model.times_of all))
     (λ f e. ap (λ words. model.sample_of names (model.times_of words)) (at_place all n word l here) ∙ ap (model.sample_of names) (times_of-fails (take n all) word (drop (suc n) all) ms f before e)) h
 
 pub sample_good : (names : List (List ℕ)) (ms : List Moment) (o : TimesOrder) → IsOrderOf ms o → (not o.has_unit && not o.rises) ≡ false → model.sample_of names (Ok ms) ≡ Ok (Want.Sample ms names)

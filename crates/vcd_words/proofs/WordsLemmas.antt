@@ -11,7 +11,7 @@ use Rattle.vcd_model.specs.Job as model_job
 use Rattle.vcd_model.specs.Words as model
 use Rattle.vcd_words.specs.declared.words.Words.{Words}
 use Rattle.vcd_words.specs.declared.job.UseFault.{UseFault}
-use Rattle.vcd_words.specs.declared.job.UseFault.TheVariants.{BadWords, BadLimit, BadTime, FromAboveTo, NotRising, TooManyFiles, OutOfMemory}
+use Rattle.vcd_words.specs.declared.job.UseFault.TheVariants.{BadWords, BadLimit, BadTime, FromAboveTo, NotRising, TooManyFiles, InputTwice, OutOfMemory}
 use Rattle.vcd_words.specs.Words.{complete, some_of, words_command, IsFaultIn, IsFaultOf}
 
 -- ---- words as clap takes them
@@ -64,15 +64,33 @@ unfolding model.job_of
 no-job None limit e = refl
 no-job (Some command) limit e = let h = complete-none command (sym e) in rw h refl
 
+-- a fault that is none of memory
+pub fault-in : {X : Type 0} (fault : UseFault) (asked : Result X model.UseFault) → IsFaultIn fault asked → IsFaultOf fault asked
+fault-in BadWords asked e = e
+fault-in (BadLimit word) asked e = e
+fault-in (BadTime word) asked e = e
+fault-in FromAboveTo asked e = e
+fault-in NotRising asked e = e
+fault-in TooManyFiles asked e = e
+fault-in InputTwice asked e = e
+fault-in OutOfMemory asked e = absurd e
+
+-- a fault of some words is one of others, where theirs are the same
+pub fault-moves : {X Y : Type 0} (fault : UseFault) (a : Result X model.UseFault) (b : Result Y model.UseFault) → ((f : model.UseFault) → a ≡ Err f → b ≡ Err f) → IsFaultIn fault a → IsFaultIn fault b
+fault-moves BadWords a b moves e = moves _ e
+fault-moves (BadLimit word) a b moves e = moves _ e
+fault-moves (BadTime word) a b moves e = moves _ e
+fault-moves FromAboveTo a b moves e = moves _ e
+fault-moves NotRising a b moves e = moves _ e
+fault-moves TooManyFiles a b moves e = moves _ e
+fault-moves InputTwice a b moves e = moves _ e
+fault-moves OutOfMemory a b moves e = absurd e
+
 -- a fault of the limit is the job's
 pub limit-fault : (named : Option model.Command) (limit : Option Text) (w : Words) (fault : UseFault) → Some (words_command w) ≡ complete named → IsFaultIn fault (model.limit_of limit) → IsFaultOf fault (model.job_of (with_limit named limit))
-limit-fault named limit w BadWords e l = with-complete named _ limit (sym e) ∙ ap (λ x. model.job_with x (model.want_of (words_command w))) l
-limit-fault named limit w (BadLimit word) e l = with-complete named _ limit (sym e) ∙ ap (λ x. model.job_with x (model.want_of (words_command w))) l
-limit-fault named limit w (BadTime word) e l = with-complete named _ limit (sym e) ∙ ap (λ x. model.job_with x (model.want_of (words_command w))) l
-limit-fault named limit w FromAboveTo e l = with-complete named _ limit (sym e) ∙ ap (λ x. model.job_with x (model.want_of (words_command w))) l
-limit-fault named limit w NotRising e l = with-complete named _ limit (sym e) ∙ ap (λ x. model.job_with x (model.want_of (words_command w))) l
-limit-fault named limit w TooManyFiles e l = with-complete named _ limit (sym e) ∙ ap (λ x. model.job_with x (model.want_of (words_command w))) l
-limit-fault named limit w OutOfMemory e l = absurd l
+limit-fault named limit w fault e l =
+    fault-in fault (model.job_of (with_limit named limit)) (fault-moves fault (model.limit_of limit) (model.job_of (with_limit named limit))
+    (λ f bad. with-complete named _ limit (sym e) ∙ ap (λ x. model.job_with x (model.want_of (words_command w))) bad) l)
 
 -- a fault of what is asked for is the job's, where the limit has none
 pub want-fault : (named : Option model.Command) (limit : Option Text) (w : Words) (n : ℕ) (fault : UseFault) → Some (words_command w) ≡ complete named → model.limit_of limit ≡ Ok n → IsFaultOf fault (model.want_of (words_command w)) → IsFaultOf fault (model.job_of (with_limit named limit))
@@ -82,17 +100,8 @@ want-fault named limit w n (BadTime word) e l t = with-complete named _ limit (s
 want-fault named limit w n FromAboveTo e l t = with-complete named _ limit (sym e) ∙ ap₂ model.job_with l t
 want-fault named limit w n NotRising e l t = with-complete named _ limit (sym e) ∙ ap₂ model.job_with l t
 want-fault named limit w n TooManyFiles e l t = with-complete named _ limit (sym e) ∙ ap₂ model.job_with l t
+want-fault named limit w n InputTwice e l t = with-complete named _ limit (sym e) ∙ ap₂ model.job_with l t
 want-fault named limit w n OutOfMemory e l (wanted, t) = (record { want = wanted; limit = n }, with-complete named _ limit (sym e) ∙ ap₂ model.job_with l t)
-
--- a fault that is none of memory
-pub fault-in : {X : Type 0} (fault : UseFault) (asked : Result X model.UseFault) → IsFaultIn fault asked → IsFaultOf fault asked
-fault-in BadWords asked e = e
-fault-in (BadLimit word) asked e = e
-fault-in (BadTime word) asked e = e
-fault-in FromAboveTo asked e = e
-fault-in NotRising asked e = e
-fault-in TooManyFiles asked e = e
-fault-in OutOfMemory asked e = absurd e
 
 -- ---- what comes after the command that was used
 

@@ -5,7 +5,7 @@ pub use Rattle.vcd_model.specs.Bytes.{decimal_value}
 pub use Rattle.vcd_model.specs.Header.{Header}
 pub use Rattle.vcd_model.specs.Job.{do_rise, is_number, moment_of, request_of, Want}
 pub use Rattle.vcd_model.specs.Ticks.{Moment as ModelMoment}
-pub use Rattle.vcd_model.specs.Words.{is_limit, limit_of, sample_of, time_of, times_of, want_of}
+pub use Rattle.vcd_model.specs.Words.{is_limit, is_standard_input, limit_of, sample_of, time_of, times_of, want_of}
 pub use Rattle.vcd_view.specs.Views.{IsViewOf}
 pub use Rattle.vcd_head.specs.Moments.{asked}
 pub use Rattle.vcd_words.specs.Job.{HasTicks, is_asked, is_merge, model_want, names_asked}

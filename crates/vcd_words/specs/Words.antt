@@ -17,7 +17,7 @@ use Rattle.vcd_words.specs.declared.job.Want.{Want}
 use Rattle.vcd_words.specs.declared.words.Words.{Words}
 use Rattle.vcd_words.specs.declared.words.Words.TheVariants as words
 use Rattle.vcd_words.specs.declared.job.UseFault.{UseFault}
-use Rattle.vcd_words.specs.declared.job.UseFault.TheVariants.{BadWords, BadLimit, BadTime, FromAboveTo, NotRising, TooManyFiles, OutOfMemory}
+use Rattle.vcd_words.specs.declared.job.UseFault.TheVariants.{BadWords, BadLimit, BadTime, FromAboveTo, NotRising, TooManyFiles, InputTwice, OutOfMemory}
 
 -- ---- how words are read
 
@@ -193,6 +193,7 @@ IsFaultIn {X} (BadTime word) asked = asked ≡ Err (model.UseFault.BadTime word.
 IsFaultIn {X} FromAboveTo asked = asked ≡ Err model.UseFault.FromAboveTo
 IsFaultIn {X} NotRising asked = asked ≡ Err model.UseFault.NotRising
 IsFaultIn {X} TooManyFiles asked = asked ≡ Err model.UseFault.TooManyFiles
+IsFaultIn {X} InputTwice asked = asked ≡ Err model.UseFault.InputTwice
 IsFaultIn {X} OutOfMemory asked = ⊥
 
 -- that is the fault, or memory ran out, which it does only where the words have no fault

@@ -103,6 +103,8 @@ pub enum UseFault<'a> {
     NotRising,
     /// A merge has more than 64 files.
     TooManyFiles,
+    /// A merge has standard input more than once among its files.
+    InputTwice,
     /// Memory ran out.
     OutOfMemory,
 }

@@ -9,6 +9,7 @@
 //!
 //! - `command`: the words that the command line takes, and the status where it takes none
 //! - `help`: what `--help` says of each command
+//! - `answers`: what is said of words that it does not take
 //! - `words`: what the words ask for, borrowed from their matches
 //! - `job`: `Job`, `Want` with its names, `UseFault`; `job_of`
 //! - `moment_word`: the times that words are, and the fault of those that are none; a cut and a
@@ -20,6 +21,7 @@
 //! `Job`; `Refusal`.
 #![tactic(auto)]
 
+mod answers;
 mod command;
 mod help;
 mod job;
@@ -28,7 +30,8 @@ mod refusal;
 mod sample_ticks;
 mod words;
 
+pub use answers::answer_text;
 pub use command::{command_of, parse_status};
 pub use job::{Job, UseFault, Want, job_of};
 pub use refusal::Refusal;
-pub use words::{MOST_FILES, Words, files_of, input_of, want_of};
+pub use words::{MOST_FILES, Words, files_of, input_of, is_standard_input, want_of};

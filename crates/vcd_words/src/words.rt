@@ -1,6 +1,6 @@
 //! What the words of the command line ask for, borrowed from their matches.
-ghost use Rattle.std.specs.Prelude.{◌≡◌, IfOk, codes, map, option_map, string_bytes};
-ghost use Rattle.vcd_words.specs.Names.{command_named, command_used, complete, files_asked, GivesWant, input_asked, merge_command, some_names, some_of, texts_of, values_after, want_of, word_after, words_command};
+ghost use Rattle.std.specs.Prelude.{◌≡◌, IfOk, codes, count_by, map, option_map, string_bytes};
+ghost use Rattle.vcd_words.specs.Names.{command_named, command_used, complete, files_asked, GivesWant, input_asked, is_standard_input, merge_command, some_names, some_of, texts_of, values_after, want_of, word_after, words_command};
 
 use crate::job::{UseFault, Want};
 use crate::moment_word::{cut_of, sample_of};
@@ -112,12 +112,29 @@ pub(crate) fn copied_some(alloc: Global, names: Option<&[&str]>) -> Result<Vec<S
     }
 }
 
-/// Returns a merge of these files, where they are not too many.
+/// Returns whether the file of this name is standard input.
+pub fn is_standard_input(file: &str) -> bool
+    ensures { result ≡ is_standard_input file.now }
+{
+    file == "-"
+}
+
+/// Returns how many of these files are standard input.
+fn count_standard_inputs(files: &[&str]) -> usize
+    ensures { result ≡ count_by is_standard_input (map (λ file. file.now) files.now) }
+{
+    files.iter().filter(|file| is_standard_input(file)).count()
+}
+
+/// Returns a merge of these files. Fails if they are too many, or more than one is standard input.
 fn merge_of<'a>(files: &[&str]) -> Result<Want, UseFault<'a>>
     ensures { GivesWant (want_of (merge_command files.now)) result }
 {
     if files.len() > MOST_FILES {
         return Err(UseFault::TooManyFiles);
+    }
+    if count_standard_inputs(files) > 1 {
+        return Err(UseFault::InputTwice);
     }
     Ok(Want::Merge)
 }

@@ -16,6 +16,7 @@ fault-low (use_fault.BadTime word) = omega arith
 fault-low use_fault.FromAboveTo = omega arith
 fault-low use_fault.NotRising = omega arith
 fault-low use_fault.TooManyFiles = omega arith
+fault-low use_fault.InputTwice = omega arith
 fault-low use_fault.OutOfMemory = omega arith
 
 pub end-low : (why : Option Failure) → end_status why ≤ 3

@@ -149,6 +149,7 @@ pub fn use_fault<E: Sink>(fault: UseFault<'_>, err: &mut E) -> u8
         UseFault::FromAboveTo => say(err, "--from is above --to", 2),
         UseFault::NotRising => say(err, "times must rise", 2),
         UseFault::TooManyFiles => say(err, "too many files", 2),
+        UseFault::InputTwice => say(err, "standard input twice", 2),
         UseFault::OutOfMemory => report(Failure::OutOfMemory, &[], &[], err),
     }
 }

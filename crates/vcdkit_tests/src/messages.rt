@@ -11,7 +11,7 @@ fn is_held(err: &Watch<Narrow>, text: &[u8], failures: u64) -> bool {
 }
 
 // Faults of words, their lines and their statuses.
-const USE_FAULTS: [(UseFault<'static>, &[u8], u8); 6] = [
+const USE_FAULTS: [(UseFault<'static>, &[u8], u8); 8] = [
     (UseFault::BadWords, b"vcdkit: bad words\n", 2),
     (
         UseFault::BadLimit("6 4"),
@@ -21,6 +21,8 @@ const USE_FAULTS: [(UseFault<'static>, &[u8], u8); 6] = [
     (UseFault::BadTime("15NS"), b"vcdkit: bad time: 15NS\n", 2),
     (UseFault::FromAboveTo, b"vcdkit: --from is above --to\n", 2),
     (UseFault::NotRising, b"vcdkit: times must rise\n", 2),
+    (UseFault::TooManyFiles, b"vcdkit: too many files\n", 2),
+    (UseFault::InputTwice, b"vcdkit: standard input twice\n", 2),
     (UseFault::OutOfMemory, b"vcdkit: out of memory\n", 3),
 ];
 

@@ -174,7 +174,7 @@ fn refuse<'a, R: Abort + AllocGlobal>(rt: &R, words: &'a [&'a str], fault: UseFa
 }
 
 // Words, what they ask for, and the token limit.
-const ASKS: [(&[&str], Words<'static, 'static>, usize); 25] = [
+const ASKS: [(&[&str], Words<'static, 'static>, usize); 28] = [
     (&["vcdkit", "check"], Words::Check, LIMIT),
     (&["vcdkit", "check", "-i", "63"], Words::Check, LIMIT),
     (&["vcdkit", "list", "-i", "f.vcd"], Words::List, LIMIT),
@@ -302,6 +302,18 @@ const ASKS: [(&[&str], Words<'static, 'static>, usize); 25] = [
         Words::Sample("9ns,4", Some(&["b", "a"])),
         LIMIT,
     ),
+    // Merges that read standard input once, and a file twice.
+    (&["vcdkit", "merge", "-"], Words::Merge(&["f.vcd"]), LIMIT),
+    (
+        &["vcdkit", "merge", "a.vcd", "-", "a.vcd"],
+        Words::Merge(&["f.vcd"]),
+        LIMIT,
+    ),
+    (
+        &["vcdkit", "merge", "--", "./-", "-", "--", "", "-a"],
+        Words::Merge(&["f.vcd"]),
+        LIMIT,
+    ),
 ];
 
 #[test]
@@ -312,7 +324,16 @@ fn words_ask_for_a_want_and_a_limit(rt: HostRuntime) {
 }
 
 // Words that are refused, and the fault.
-const REFUSED: [(&[&str], UseFault<'static>); 27] = [
+const REFUSED: [(&[&str], UseFault<'static>); 30] = [
+    (&["vcdkit", "merge", "-", "-"], UseFault::InputTwice),
+    (
+        &["vcdkit", "merge", "a.vcd", "-", "b.vcd", "-"],
+        UseFault::InputTwice,
+    ),
+    (
+        &["vcdkit", "merge", "-", "--", "-", "a.vcd"],
+        UseFault::InputTwice,
+    ),
     (
         &["vcdkit", "check", "--token-limit", ""],
         UseFault::BadLimit(""),

@@ -19,6 +19,9 @@ returns-in-NotRising g c = rw c.in-NotRising.is c.say-in-NotRising.ensures
 pub returns-in-TooManyFiles : goal.returns-in-TooManyFiles
 returns-in-TooManyFiles g c = rw c.in-TooManyFiles.is c.say-in-TooManyFiles.ensures
 
+pub returns-in-InputTwice : goal.returns-in-InputTwice
+returns-in-InputTwice g c = rw c.in-InputTwice.is c.say-in-InputTwice.ensures
+
 pub returns-in-OutOfMemory : goal.returns-in-OutOfMemory
 unfolding fault_text
 returns-in-OutOfMemory g c = rw c.in-OutOfMemory.is c.report.ensures

@@ -1,0 +1,88 @@
+//! What is said of words that give no matches: the text of `clap`, with tips that fit here.
+
+use clap::Error;
+use std::alloc::{AllocError, Global};
+
+/// Texts of `clap` that mislead here, and what is said instead.
+const INSTEAD: [(&str, &str); 6] = [
+    // These words ask for a file for the output, and are nothing to pass as a value.
+    (
+        "tip: to pass '-o' as a value, use '-- -o'",
+        "tip: output goes to standard output; use '> FILE'",
+    ),
+    (
+        "tip: to pass '--output' as a value, use '-- --output'",
+        "tip: output goes to standard output; use '> FILE'",
+    ),
+    // A word after `--` is never the value of an option.
+    ("' as a value, use '-- ", "' as a file or a name, use '-- "),
+    // One input of each form is two of one argument, which `clap` calls by its first form.
+    (
+        "'-i <FILE>' cannot be used multiple times\n",
+        "'-i <FILE>' cannot be used multiple times\n\n  \
+            tip: FILE and '-i FILE' are the same argument of check, list and cut\n",
+    ),
+    (
+        "subcommand 'help'\n",
+        "subcommand 'help'\n\n  tip: use 'vcdkit --help' or 'vcdkit COMMAND --help'\n",
+    ),
+    // This is the name of a script.
+    (
+        "'table'\n\n  tip: a similar subcommand exists: 'sample'",
+        "'table'",
+    ),
+];
+
+/// The scripts that are installed beside the program, without the `vcdkit-` of their names.
+const SCRIPTS: [&str; 11] = [
+    "diff",
+    "endmend",
+    "explain",
+    "find",
+    "four-state",
+    "info",
+    "join-bits",
+    "table",
+    "wave",
+    "when",
+    "x",
+];
+
+/// Returns the text with what is said instead of what misleads.
+fn instead_of(alloc: Global, mut text: String) -> Result<String, AllocError> {
+    for (said, instead) in &INSTEAD {
+        text = text.replace(alloc, *said, *instead)?;
+    }
+    Ok(text)
+}
+
+/// Returns the text with the name of a script, if an unknown command is the end of one.
+fn with_script(alloc: Global, mut text: String) -> Result<String, AllocError> {
+    for script in &SCRIPTS {
+        let said = format!(in alloc; "subcommand '{script}'\n")?;
+        let instead = format!(in alloc; "{said}\n  tip: see 'vcdkit-{script} --help'\n")?;
+        text = text.replace(alloc, said.as_str(), instead.as_str())?;
+    }
+    Ok(text)
+}
+
+/// Returns whether the text is of a negative number, which `clap` takes for options.
+fn is_of_negative(text: &str) -> bool {
+    match text.strip_prefix("error: unexpected argument '-") {
+        Some(word) => matches!(word.as_bytes(), [b'0'..=b'9', ..]),
+        None => false,
+    }
+}
+
+/// Returns the text that is said of words that give no matches.
+pub fn answer_text(alloc: Global, error: &Error) -> Result<String, AllocError> {
+    let text = instead_of(alloc, error.to_string(alloc)?)?;
+    if is_of_negative(text.as_str()) {
+        return text.replace(
+            alloc,
+            "\n  tip: ",
+            "\n  tip: times and limits are not negative\n  tip: ",
+        );
+    }
+    with_script(alloc, text)
+}
