@@ -14,10 +14,11 @@ memory   refuses each request of a run in turn: no output, the line `vcdkit: out
          for the command line and the buffer of the output.
 large    the whole outcome, and the same bound.
 devices  Reads and writes give or take 1, 2, 3, 5 or 7 bytes a call: the whole outcome. Read number
-         1, 2, 3, .. of an input fails: the outcome of the bytes given until then. Write number
-         1, 2, 3, .. to standard output fails: a prefix of the output, and the write line; to the
-         error stream: a prefix of the message, and the same status. A signal interrupts call number
-         1 to 5 of each: the whole outcome, since the call is made again.
+         1, 2, 3, .. of an input fails, of a file and of standard input: the outcome of the bytes
+         given until then. Write number 1, 2, 3, .. to standard output fails: a prefix of the
+         output, and the write line; to the error stream: a prefix of the message, and the same
+         status. A signal interrupts call number 1 to 5 of each: the whole outcome, since the call
+         is made again.
 cut_off  reads each dump by whole chunks and byte by byte.
 pipes    `pick`, `cut`, `sample` and `merge` read pipes that get one line at a time: what is due by
          the lines so far has come before the next line is given, and no more has."""
@@ -44,12 +45,12 @@ class Place:
                 f.write(text)
         return files
 
-    def run(self, case, files, **how):
+    def run(self, case, files, given=b"", **how):
         environment = {name.upper(): str(value) for name, value in how.items()}
         if environment:
             environment["LD_PRELOAD"] = self.devices
-        p = subprocess.run([self.program] + case.words(files), capture_output=True, cwd=self.folder,
-                           env=environment, timeout=60)
+        p = subprocess.run([self.program] + case.words(files), input=given, capture_output=True,
+                           cwd=self.folder, env=environment, timeout=60)
         return p.stdout, p.stderr, p.returncode
 
     def counts(self, case, files):
@@ -139,13 +140,21 @@ def memory(place, case):
 
 # ---- devices
 
-def failed_read(case, files, most, call):
-    """What is wanted of a case with one input where this read fails and each before gave so much.
-    The last read gives nothing."""
-    text = case.inputs[0]
-    if call > -(-len(text) // most) + 1:
-        return wanted(case, files, [text])
-    return wanted(case, files, [evaluator.Failed(text[:(call - 1) * most])])
+def failed_reads(place, case, file, most):
+    """Each read of the one input fails in turn, of its file and of a pipe as standard input. A
+    small file is read up to its length; of a pipe the last read gives nothing."""
+    text, runs = case.inputs[0], 0
+    filled = -(-len(text) // most)
+    for word, name, given, reads in ((file, file, b"", filled), ("-", "(stdin)", text, filled + 1)):
+        for call in range(1, reads + 2):
+            runs += 1
+            read = text if call > reads else evaluator.Failed(text[:(call - 1) * most])
+            want = wanted(case, [name], [read])
+            got = place.run(case, [word], given, read_most=most, read_fails=call)
+            if got != want:
+                yield say(case, "read %d of %d bytes each fails, of %s" % (call, most, name),
+                          want, got)
+    yield runs
 
 
 def devices(place, case):
@@ -157,12 +166,10 @@ def devices(place, case):
         got = place.run(case, files, read_most=most, write_most=most, error_most=most)
         if got != want:
             yield say(case, "%d bytes a call" % most, want, got)
-        for call in range(1, len(case.inputs[0]) // most + 3) if len(case.inputs) == 1 else []:
-            runs += 1
-            one = failed_read(case, files, most, call)
-            got = place.run(case, files, read_most=most, read_fails=call)
-            if got != one:
-                yield say(case, "read %d of %d bytes each fails" % (call, most), one, got)
+        if len(case.inputs) == 1:
+            *wrong, count = failed_reads(place, case, files[0], most)
+            yield from wrong
+            runs += count
         for call in range(1, len(want[0]) + 3):
             runs += 1
             out, message, status = place.run(case, files, write_most=most, write_fails=call)

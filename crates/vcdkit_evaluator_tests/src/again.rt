@@ -97,25 +97,79 @@ pub(crate) fn is_read_again(
     }
 }
 
-// What a merge has written has the variables and the changes of a text, under the scope that is
-// opened so.
+// A row of `list` without its last word, the code, which a merge gives anew.
+fn without_code(row: &[u8]) -> &[u8] {
+    let end = row.iter().rposition(|byte| *byte == b' ').unwrap_or(0);
+    &row[..end]
+}
+
+// A row of `sample` without its first word, the time, which a merge gives in ticks of its own.
+fn without_time(row: &[u8]) -> &[u8] {
+    let begin = row.iter().position(|byte| *byte == b' ').unwrap_or(0);
+    &row[begin..]
+}
+
+// The rows of two lists have the same paths, types and sizes, in order.
+fn have_same_variables(rows: &[u8], others: &[u8]) -> bool {
+    let variables = rows.split(|byte| *byte == b'\n').map(without_code);
+    variables.eq(others.split(|byte| *byte == b'\n').map(without_code))
+}
+
+// The rows of two samples have the same paths and values, in order.
+fn have_same_values(rows: &[u8], others: &[u8]) -> bool {
+    let values = rows.split(|byte| *byte == b'\n').map(without_time);
+    values.eq(others.split(|byte| *byte == b'\n').map(without_time))
+}
+
+// A text inside a scope of its own, as a merge has it.
+fn inside(alloc: Global, scope: &str, text: &[u8]) -> Result<Vec<u8>, AllocError> {
+    let mut inside = Vec::new(alloc);
+    inside.extend_from_slice(b"$scope module ")?;
+    inside.extend_from_slice(scope.as_bytes())?;
+    inside.extend_from_slice(b" $end\n")?;
+    inside.extend_from_slice(text)?;
+    Ok(inside)
+}
+
+// What a merge has written has the variables of both texts, those of the first before those of the
+// second.
+fn has_variables(
+    alloc: Global,
+    first: &[u8],
+    second: &[u8],
+    written: &[u8],
+) -> Result<bool, AllocError> {
+    let mut rows = say(alloc, Command::List, first)?.output;
+    rows.extend_from_slice(say(alloc, Command::List, second)?.output.as_slice())?;
+    let listed = say(alloc, Command::List, written)?;
+    Ok(have_same_variables(rows.as_slice(), listed.output.as_slice()))
+}
+
+// What a merge has written has the changes of a text inside this scope, and its values.
 fn has_input(
     alloc: Global,
-    (opening, name): (&[u8], &str),
+    scope: &str,
     text: &[u8],
     written: &[u8],
 ) -> Result<bool, AllocError> {
-    let mut inside = Vec::new(alloc);
-    inside.extend_from_slice(opening)?;
-    inside.extend_from_slice(text)?;
-    let all = Command::Edges(&[]);
-    let names = [name];
-    let selected = Command::Edges(names.as_slice());
-    agree(alloc, (all, inside.as_slice()), (selected, written))
+    let names = [scope];
+    let names = names.as_slice();
+    let times = "0ns,1ns,2ns,4ns,5ns,6ns";
+    let before = say(alloc, Command::Sample { times, names: &[] }, text)?;
+    let after = say(alloc, Command::Sample { times, names }, written)?;
+    Ok(
+        agree(
+            alloc,
+            (Command::Edges(&[]), text),
+            (Command::Edges(names), written),
+        )? && before.status == 0
+            && after.status == 0
+            && have_same_values(before.output.as_slice(), after.output.as_slice()),
+    )
 }
 
-// What a merge of two texts has written is a dump with the variables and the changes of both, where
-// it has written one.
+// What a merge of two texts has written is a dump with the variables, the changes and the values of
+// both, where it has written one.
 pub(crate) fn is_merge_read_again(
     alloc: Global,
     first: &[u8],
@@ -126,9 +180,13 @@ pub(crate) fn is_merge_read_again(
     if left.status != 0 {
         return Ok(true);
     }
+    let first = inside(alloc, "in1", first)?;
+    let second = inside(alloc, "in2", second)?;
+    let (first, second) = (first.as_slice(), second.as_slice());
     Ok(
         is_dump(alloc, written)?
-            && has_input(alloc, (b"$scope module in1 $end\n", "in1"), first, written)?
-            && has_input(alloc, (b"$scope module in2 $end\n", "in2"), second, written)?,
+            && has_variables(alloc, first, second, written)?
+            && has_input(alloc, "in1", first, written)?
+            && has_input(alloc, "in2", second, written)?,
     )
 }
