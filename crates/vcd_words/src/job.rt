@@ -123,7 +123,7 @@ const DEFAULT_LIMIT: usize = 1_048_576;
 // The least and the greatest token limit.
 const LEAST_LIMIT: u64 = 64;
 
-const MOST_LIMIT: u64 = 16_777_216;
+const MAX_LIMIT: u64 = 16_777_216;
 
 /// How much is read in one call, in bytes.
 const CHUNK: usize = 65_536;
@@ -133,7 +133,7 @@ fn limit_in(word: &str) -> Option<usize>
     ensures { result ≡ cond (is_limit word.now) (Some (decimal_value word.now)) None }
 {
     let limit = number_of(word.as_bytes())?;
-    if limit < LEAST_LIMIT || MOST_LIMIT < limit {
+    if limit < LEAST_LIMIT || MAX_LIMIT < limit {
         return None;
     }
     Some(limit as usize)

@@ -34,4 +34,4 @@ pub use answers::answer_text;
 pub use command::{command_of, parse_status};
 pub use job::{Job, UseFault, Want, job_of};
 pub use refusal::Refusal;
-pub use words::{MOST_FILES, Words, files_of, input_of, is_standard_input, want_of};
+pub use words::{MAX_FILES, Words, files_of, input_of, is_standard_input, want_of};

@@ -10,13 +10,13 @@ use vcd_head::Moment;
 use vcd_text::decimal_of;
 
 /// How many digits a number may have.
-const MOST_DIGITS: usize = 20;
+const MAX_DIGITS: usize = 20;
 
 /// Returns the number that 1 to 20 digits are, if it is below 2^64.
 pub(crate) fn number_of(digits: &[u8]) -> Option<u64>
     ensures { result ≡ cond (is_number digits.now) (Some (decimal_value digits.now)) None }
 {
-    if digits.len() > MOST_DIGITS {
+    if digits.len() > MAX_DIGITS {
         return None;
     }
     decimal_of(digits)

@@ -8,7 +8,7 @@ use clap::ArgMatches;
 use std::alloc::{AllocError, Global};
 
 /// How many files a merge may have.
-pub const MOST_FILES: usize = 64;
+pub const MAX_FILES: usize = 64;
 
 /// A command with its words.
 #[derive(Clone, Copy, PartialEq, Eq, Debug)]
@@ -130,7 +130,7 @@ fn count_standard_inputs(files: &[&str]) -> usize
 fn merge_of<'a>(files: &[&str]) -> Result<Want, UseFault<'a>>
     ensures { GivesWant (want_of (merge_command files.now)) result }
 {
-    if files.len() > MOST_FILES {
+    if files.len() > MAX_FILES {
         return Err(UseFault::TooManyFiles);
     }
     if count_standard_inputs(files) > 1 {

@@ -11,7 +11,7 @@ use vcd_text::{Feed, Source};
 use vcd_words::Job;
 
 /// How many declarations all inputs of a run may have.
-pub(crate) const MOST_DECLARATIONS: u64 = 16_777_216;
+pub(crate) const MAX_DECLARATIONS: u64 = 16_777_216;
 
 /// What the windows of all inputs are made of, each in as many equal parts as there are inputs.
 #[derive(Drop)]
@@ -186,7 +186,7 @@ pub(crate) fn open_inputs<S: Source, B: BuildHasher>(
         heads: Vec::new(alloc),
         seats: Vec::with_capacity(alloc, readers.len())?,
     };
-    let mut most = MOST_DECLARATIONS;
+    let mut most = MAX_DECLARATIONS;
     for input in 0..readers.len() {
         let reading = Reading {
             alloc,

@@ -39,6 +39,6 @@ mod whole_run;
 pub use again::Again;
 pub use message::{open_fault, use_fault, write_fault};
 pub use vcd_words::{
-    Job, MOST_FILES, UseFault, Want, command_of, files_of, input_of, job_of, parse_status,
+    Job, MAX_FILES, UseFault, Want, command_of, files_of, input_of, job_of, parse_status,
 };
 pub use whole_run::{run, run_with_hasher, run_within};

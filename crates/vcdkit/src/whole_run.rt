@@ -3,7 +3,7 @@ ghost use Rattle.std.specs.Prelude.{◌≡◌, ◌+◌, ◌-◌, ◌^◌, ◌<�
 ghost use Rattle.vcdkit.specs.Names.{AreReaders, AreWithin, AreWithinBound, chunk_len_of, CountsAt, CountsReadsOf, CountsWrites, Does, end_of, EndsAtRead, EndsAtReadOf, EndsAtStop, EndsSo, FailOnce, failure_of, HasNotFailed, InputEnds, is_asked, is_merge, IsEnough, IsValid, JobEnds, limit_of, MayFailOnce, merge_end, Merges, names_asked, Narrows, reads_failed, request_for, request_of_task, room_size, RunsJob, SameLoans, source_of, stop_writes, WantEnds, writes_failed};
 
 use crate::failure::Failure;
-use crate::inputs::{MOST_DECLARATIONS, Reading, open_input, open_inputs, windows_for};
+use crate::inputs::{MAX_DECLARATIONS, Reading, open_input, open_inputs, windows_for};
 use crate::message::report;
 use crate::tasks::{need_of, room_for, task_of};
 use std::alloc::Global;
@@ -128,7 +128,7 @@ fn run_input<S: Source, W: Sink, B: BuildHasher>(
     let reading = Reading {
         alloc,
         hasher,
-        most: MOST_DECLARATIONS,
+        most: MAX_DECLARATIONS,
     };
     let head = open_input(&reading, 0, &mut feed)?;
     run_want(alloc, &mut job.task, head.view(), &mut feed, out)

@@ -12,7 +12,7 @@ use vcd_words::Words;
 use vcdkit::{Job, Want, run};
 
 // No device is called more often in a run.
-const MOST_CALLS: u64 = 1000;
+const MAX_CALLS: u64 = 1000;
 
 // Takes this many bytes a call at most, and fails at one call alone, counted from 1; at none where
 // it is 0.
@@ -336,7 +336,7 @@ fn wrong_call(
 ) -> Result<Option<u64>, AllocError>
     requires { (1 ≤ chunk) × (chunk ≤ 65536) }
 {
-    for call in 1..MOST_CALLS {
+    for call in 1..MAX_CALLS {
         let plan = plan_of(failing, most, chunk, call);
         let left = run_row(alloc, row, whole.dump.held(), plan)?;
         if calls_of(failing, &left) < call {
@@ -347,7 +347,7 @@ fn wrong_call(
             return Ok(Some(call));
         }
     }
-    Ok(Some(MOST_CALLS))
+    Ok(Some(MAX_CALLS))
 }
 
 // Each call of what fails does so in turn.
