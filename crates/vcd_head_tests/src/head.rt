@@ -36,20 +36,13 @@ fn read(alloc: Global, text: &[u8], most: u64) -> Result<Head, (HeadFault, u64)>
     }
 }
 
-// The head of a text that is a header with this many declarations at most.
-fn read_under(alloc: Global, text: &[u8], most: u64) -> Result<Head, HeadFault>
-    requires { most ≤ 16777216 }
-{
+fn read_good(alloc: Global, text: &[u8]) -> Result<Head, HeadFault> {
     let mut source = Watch::new(text);
     let mut chunk = [0u8; 7];
     let mut token = [0u8; 64];
     let mut value = [0u8; 64];
     let mut feed = Feed::new(&mut source, &mut chunk, &mut token, &mut value);
-    read_head(alloc, &mut feed, most)
-}
-
-fn read_good(alloc: Global, text: &[u8]) -> Result<Head, HeadFault> {
-    read_under(alloc, text, 16_777_216)
+    read_head(alloc, &mut feed, 16_777_216)
 }
 
 // Rows of the header with nested scopes, by their indexes. The bytes of a new code lie before the
@@ -144,12 +137,6 @@ fn scopes_and_aliases(rt: HostRuntime) -> Result<(), Fail> {
         );
     }
     assert!(rt; has_nested_codes(head.view()));
-    Ok(())
-}
-
-#[test]
-fn date_and_scale_of_a_header(rt: HostRuntime) -> Result<(), Fail> {
-    let head = read_good(rt.alloc(), NESTED)?;
     assert_eq!(rt; head.view().date, b"Tue Mar 5".as_slice());
     assert_eq!(rt; head.view().scale, Some(Scale { exponent: -8 }));
     Ok(())
@@ -206,85 +193,6 @@ fn faults_and_lines(rt: HostRuntime) {
     }
 }
 
-#[test]
-fn scopes_too_deep(rt: HostRuntime) -> Result<(), Fail> {
-    let mut text = Vec::new(rt.alloc());
-    for _ in 0..1001 {
-        text.extend_from_slice(b"$scope module s $end\n")?;
-    }
-    assert!(rt;
-        matches!(
-            read(rt.alloc(), &text, 16_777_216),
-            Err((HeadFault::TooDeep, 1001))
-        )
-    );
-    Ok(())
-}
-
-#[test]
-fn token_after_a_fault(rt: HostRuntime) {
-    let mut source = Watch::new(TWO);
-    let mut chunk = [0u8; 7];
-    let mut token = [0u8; 64];
-    let mut value = [0u8; 64];
-    let mut feed = Feed::new(&mut source, &mut chunk, &mut token, &mut value);
-    assert!(rt; matches!(read_head(rt.alloc(), &mut feed, 1), Err(HeadFault::TooMany)));
-    assert_eq!(rt; feed.token(), b"$var".as_slice());
-    assert_eq!(rt; feed.line(), 2);
-}
-
-#[test]
-fn token_after_the_end(rt: HostRuntime) {
-    let mut source = Watch::new(b"$foo $en".as_slice());
-    let mut chunk = [0u8; 7];
-    let mut token = [0u8; 64];
-    let mut value = [0u8; 64];
-    let mut feed = Feed::new(&mut source, &mut chunk, &mut token, &mut value);
-    assert!(rt;
-        matches!(
-            read_head(rt.alloc(), &mut feed, 1),
-            Err(HeadFault::EndOfInput)
-        )
-    );
-    assert!(rt; feed.token().is_empty());
-}
-
-// A scope with two thousand variables.
-fn larger(alloc: Global) -> Result<Vec<u8>, AllocError> {
-    let mut text = Vec::new(alloc);
-    text.extend_from_slice(b"$scope module top $end\n")?;
-    for code in 1000..3000u32 {
-        let line = format!(in alloc; "$var reg 8 {code} bus [7:0] $end\n")?;
-        text.extend_from_slice(line.as_bytes())?;
-    }
-    text.extend_from_slice(b"$upscope $end\n$enddefinitions $end\n")?;
-    Ok(text)
-}
-
-const LARGER_LAST: Row = Row {
-    kind: Kind::Up,
-    parent: 1,
-    start: 0,
-    word: 0,
-    name: 0,
-    all: 0,
-    code: 0,
-};
-
-// Whether the rows of that scope are as they are to be.
-fn has_larger_rows(rows: &[Row]) -> bool {
-    rows.len() == 2002 && rows[2000].code == 1999 && rows[2001] == LARGER_LAST
-}
-
-#[test]
-fn larger_header(rt: HostRuntime) -> Result<(), Fail> {
-    let head = read_under(rt.alloc(), &larger(rt.alloc())?, 2002)?;
-    let view = head.view();
-    assert!(rt; has_larger_rows(view.rows));
-    assert!(rt; view.codes.len() == 2000 && view.index.last().copied() == Some(1999));
-    Ok(())
-}
-
 // Look-ups and room.
 
 const FOUR: &[u8] =
@@ -293,8 +201,6 @@ const FOUR: &[u8] =
 
 const SIZES: &[u8] = b"$var wire 256 ! a $end $var wire 257 \" b $end $var wire 1000 # c $end \
     $enddefinitions $end\n";
-
-const NONE: &[u8] = b"$enddefinitions $end\n";
 
 // What both look-ups answer.
 fn found(head: &Head, code: &[u8]) -> [Option<usize>; 2] {
@@ -363,13 +269,6 @@ fn crowded_codes_are_found(rt: HostRuntime) -> Result<(), Fail> {
     for (code, position) in FOUND_CROWDED {
         assert_eq!(rt; found(&head, code), [position; 2], "of {code:?}");
     }
-    Ok(())
-}
-
-#[test]
-fn nothing_is_found_without_codes(rt: HostRuntime) -> Result<(), Fail> {
-    let head = read_good(rt.alloc(), NONE)?;
-    assert_eq!(rt; found(&head, b"!"), [None; 2]);
     Ok(())
 }
 

@@ -31,7 +31,10 @@ fn both(scale: i8, number: u64, unit: i8) -> [Result<u64, TickFault>; 2] {
 // first.
 type Rounded = (i8, u64, i8, [Result<u64, TickFault>; 2]);
 
-const PARTS: [Rounded; 8] = [
+const OUT: [Result<u64, TickFault>; 2] = [Err(TickFault::OutOfRange); 2];
+
+const ROUNDED: [Rounded; 22] = [
+    // Parts of a tick.
     (-8, 0, -9, [Ok(0), Ok(0)]),
     (-8, 5, -9, [Ok(0), Ok(1)]),
     (-8, 10, -9, [Ok(1), Ok(1)]),
@@ -40,12 +43,44 @@ const PARTS: [Rounded; 8] = [
     (-8, 15, -9, [Ok(1), Ok(2)]),
     (-8, 25, -9, [Ok(2), Ok(3)]),
     (-8, 29, -9, [Ok(2), Ok(3)]),
+    // Coarse scales.
+    (0, 1_500, -3, [Ok(1), Ok(2)]),
+    (1, 1_500, -3, [Ok(0), Ok(1)]),
+    (
+        2,
+        18_446_744_073_709_551_615,
+        0,
+        [Ok(184_467_440_737_095_516), Ok(184_467_440_737_095_517)],
+    ),
+    (2, 18_446_744_073_709_551_615, -15, [Ok(184), Ok(185)]),
+    // The last times that are in range, and the first ones that are not.
+    (-8, 18_446_744_073_709_551_615, 0, OUT),
+    (-15, 18_446, 0, [Ok(18_446_000_000_000_000_000); 2]),
+    (-15, 18_447, 0, OUT),
+    (
+        -10,
+        1_844_674_407_370_955_161,
+        -9,
+        [Ok(18_446_744_073_709_551_610); 2],
+    ),
+    (-10, 1_844_674_407_370_955_162, -9, OUT),
+    (
+        -9,
+        18_446_744_073_709_551_615,
+        -9,
+        [Ok(18_446_744_073_709_551_615); 2],
+    ),
+    // Powers beyond the units.
+    (127, 18_446_744_073_709_551_615, -15, [Ok(0), Ok(1)]),
+    (127, 0, -15, [Ok(0), Ok(0)]),
+    (-15, 0, 127, [Ok(0), Ok(0)]),
+    (-15, 1, 127, OUT),
 ];
 
 #[test]
-fn parts_of_a_tick_are_rounded(rt: HostRuntime) {
-    for (scale, number, unit, rounded) in PARTS {
-        assert_eq!(rt; both(scale, number, unit), rounded, "{number}");
+fn times_are_rounded(rt: HostRuntime) {
+    for (scale, number, unit, rounded) in ROUNDED {
+        assert_eq!(rt; both(scale, number, unit), rounded, "{number} in {scale}");
     }
 }
 
@@ -88,54 +123,6 @@ fn each_unit_has_ticks(rt: HostRuntime) {
     }
 }
 
-const COARSE: [Rounded; 4] = [
-    (0, 1_500, -3, [Ok(1), Ok(2)]),
-    (1, 1_500, -3, [Ok(0), Ok(1)]),
-    (
-        2,
-        18_446_744_073_709_551_615,
-        0,
-        [Ok(184_467_440_737_095_516), Ok(184_467_440_737_095_517)],
-    ),
-    (2, 18_446_744_073_709_551_615, -15, [Ok(184), Ok(185)]),
-];
-
-#[test]
-fn coarse_scales_have_few_ticks(rt: HostRuntime) {
-    for (scale, number, unit, rounded) in COARSE {
-        assert_eq!(rt; both(scale, number, unit), rounded, "{number} in {scale}");
-    }
-}
-
-const OUT: [Result<u64, TickFault>; 2] = [Err(TickFault::OutOfRange); 2];
-
-// The last times that are in range, and the first ones that are not.
-const LAST: [Rounded; 6] = [
-    (-8, 18_446_744_073_709_551_615, 0, OUT),
-    (-15, 18_446, 0, [Ok(18_446_000_000_000_000_000); 2]),
-    (-15, 18_447, 0, OUT),
-    (
-        -10,
-        1_844_674_407_370_955_161,
-        -9,
-        [Ok(18_446_744_073_709_551_610); 2],
-    ),
-    (-10, 1_844_674_407_370_955_162, -9, OUT),
-    (
-        -9,
-        18_446_744_073_709_551_615,
-        -9,
-        [Ok(18_446_744_073_709_551_615); 2],
-    ),
-];
-
-#[test]
-fn times_out_of_range(rt: HostRuntime) {
-    for (scale, number, unit, rounded) in LAST {
-        assert_eq!(rt; both(scale, number, unit), rounded, "{number} in {scale}");
-    }
-}
-
 // A scale, this many of a unit, whether they are rounded up, and their ticks.
 const WITHOUT: [(Option<i8>, u64, Option<i8>, bool, Result<u64, TickFault>); 4] = [
     (None, 10, Some(-9), true, Err(TickFault::NoTimescale)),
@@ -157,20 +144,6 @@ fn a_unit_needs_a_scale(rt: HostRuntime) {
     }
     assert_eq!(rt; TickFault::NoTimescale.number(), 12);
     assert_eq!(rt; TickFault::OutOfRange.number(), 22);
-}
-
-const BEYOND: [Rounded; 4] = [
-    (127, 18_446_744_073_709_551_615, -15, [Ok(0), Ok(1)]),
-    (127, 0, -15, [Ok(0), Ok(0)]),
-    (-15, 0, 127, [Ok(0), Ok(0)]),
-    (-15, 1, 127, OUT),
-];
-
-#[test]
-fn powers_beyond_the_units(rt: HostRuntime) {
-    for (scale, number, unit, rounded) in BEYOND {
-        assert_eq!(rt; both(scale, number, unit), rounded, "{number} in {scale}");
-    }
 }
 
 // Names of units, no name, and names of none, and what seven of them are.
