@@ -6,6 +6,7 @@ ghost use Rattle.vcd_body.specs.Names.{HeadView, TakesItem};
 ghost use Rattle.vcd_body.specs.declared.item.Regs.{Regs};
 
 use std::alloc::{AllocError, Global};
+use std::process::Abort;
 use std::test::Fail;
 use vcd_body::{
     Bits, Extent, Form, Id, Item, Regs, ScannedItem, Visit, change_text, left_out, next_item,
@@ -121,7 +122,7 @@ fn gives(alloc: Global, body: &[u8], items: &str) -> Result<bool, Fail> {
     Ok(transcript(alloc, HEAD, body, false)?.as_str() == items)
 }
 
-// Bodies and their items.
+// Bodies and their items, up to the end.
 const ITEMS: [(&[u8], &str); 4] = [
     (b"", "Finish"),
     (
@@ -135,14 +136,6 @@ const ITEMS: [(&[u8], &str); 4] = [
     ),
     (b"#18446744073709551615", "#18446744073709551615 Finish"),
 ];
-
-#[test]
-fn items_of_each_form(rt: HostRuntime) -> Result<(), Fail> {
-    for (body, items) in ITEMS {
-        assert!(rt; gives(rt.alloc(), body, items)?, "{items}");
-    }
-    Ok(())
-}
 
 // Bodies with a value or a time that is refused, and their items up to the fault.
 const REFUSED_VALUES: [(&[u8], &str); 11] = [
@@ -162,14 +155,6 @@ const REFUSED_VALUES: [(&[u8], &str); 11] = [
     ),
 ];
 
-#[test]
-fn values_and_times_that_are_refused(rt: HostRuntime) -> Result<(), Fail> {
-    for (body, items) in REFUSED_VALUES {
-        assert!(rt; gives(rt.alloc(), body, items)?, "{items}");
-    }
-    Ok(())
-}
-
 // Bodies with a command or an end that is refused, and their items up to the fault.
 const REFUSED_COMMANDS: [(&[u8], &str); 9] = [
     (b"$end\n", "fault 4 at 7"),
@@ -186,12 +171,19 @@ const REFUSED_COMMANDS: [(&[u8], &str); 9] = [
     ),
 ];
 
-#[test]
-fn commands_and_ends_that_are_refused(rt: HostRuntime) -> Result<(), Fail> {
-    for (body, items) in REFUSED_COMMANDS {
+// Each of these bodies has these items.
+fn give<R: Abort + AllocGlobal>(rt: &R, bodies: &[(&[u8], &str)]) -> Result<(), Fail> {
+    for (body, items) in bodies {
         assert!(rt; gives(rt.alloc(), body, items)?, "{items}");
     }
     Ok(())
+}
+
+#[test]
+fn bodies_have_their_items(rt: HostRuntime) -> Result<(), Fail> {
+    give(&rt, &ITEMS)?;
+    give(&rt, &REFUSED_VALUES)?;
+    give(&rt, &REFUSED_COMMANDS)
 }
 
 #[test]
@@ -490,17 +482,6 @@ fn numbers_and_events_are_written(rt: HostRuntime) {
     assert!(rt; put_change(2, true, Form::Vector, b"b101", Id::Own(b"#"), &mut page).is_ok());
     assert!(rt; put_change(1, true, Form::Scalar, b"x", Id::Number(2), &mut page).is_ok());
     assert_eq!(rt; page.device.held(), b"r-1.5E3 \"\n1#\n1#\n".as_slice());
-}
-
-#[test]
-fn sink_that_fails(rt: HostRuntime) {
-    let mut page = Watch::new(Narrow::new(5));
-    assert_eq!(rt;
-        put_change(1, false, Form::RealText, b"1.5", Id::Own(b"!!"), &mut page),
-        Err(WriteFailed)
-    );
-    assert_eq!(rt; page.device.held(), b"r1.5 ".as_slice());
-    assert_eq!(rt; Sink::failures(&page), 1);
 }
 
 // The number that is given for the digits of the body's first change.

@@ -7,8 +7,8 @@ use std::alloc::{AllocError, Global};
 use std::test::Fail;
 use vcd_body::{Bits, Form, Share, Shown, Slot, Table, Value, laws, put_full, put_short};
 use vcd_head::{Code, CodeSeed, HeadView, need};
+use vcd_text::Watch;
 use vcd_text::doubles::Narrow;
-use vcd_text::{Sink, Watch, WriteFailed};
 
 // The code `!` of this size.
 fn code_of(size: usize) -> Code {
@@ -241,30 +241,6 @@ fn real_number_at_each_size(rt: HostRuntime) -> Result<(), Fail> {
     Ok(())
 }
 
-// A share of 75 bytes: of up to 75 digits it holds a byte each, and of 76 a byte for four.
-#[test]
-fn digits_that_have_a_byte_each_and_more(rt: HostRuntime) -> Result<(), Fail> {
-    let alloc = rt.alloc();
-    for count in 64..77 {
-        let text = mixed(alloc, count)?;
-        let full = padded(alloc, b'z', 300 - count, &text)?;
-        let other = padded(alloc, b'x', count - 1, b"0")?;
-        assert!(rt;
-            are_shown(alloc, 300, &text, &text, &full)?,
-            "{count} digits"
-        );
-        assert!(rt;
-            are_one(alloc, 300, &text, &full)?,
-            "{count} digits and 300"
-        );
-        assert!(rt;
-            are_two(alloc, 300, &text, &other)?,
-            "{count} digits and others"
-        );
-    }
-    Ok(())
-}
-
 // A size, digits that set a code of it, the shortest for them, and those in full.
 const SHORT_DIGITS: [(usize, &[u8], &[u8], &[u8]); 10] = [
     (4, b"10", b"10", b"0010"),
@@ -284,15 +260,6 @@ fn short_digits_are_extended(rt: HostRuntime) -> Result<(), Fail> {
     for (size, text, shortest, full) in SHORT_DIGITS {
         assert!(rt; are_shown(rt.alloc(), size, text, shortest, full)?);
     }
-    Ok(())
-}
-
-#[test]
-fn short_digits_are_extended_past_a_word(rt: HostRuntime) -> Result<(), Fail> {
-    let alloc = rt.alloc();
-    let wide = padded(alloc, b'x', 63, b"10")?;
-    assert!(rt; are_shown(alloc, 65, b"x10", b"x10", &wide)?);
-    assert!(rt; are_shown(alloc, 65, &wide, b"x10", &wide)?);
     Ok(())
 }
 
@@ -403,103 +370,13 @@ fn is_changed(
     Ok(follow(&mut table, 0, size, second.0, second.1)[0] == 1)
 }
 
-// Whether two texts of digits are different values, whichever is set first.
-fn are_two(alloc: Global, size: usize, one: &[u8], other: &[u8]) -> Result<bool, AllocError> {
-    let there = is_changed(alloc, size, (Form::Vector, one), (Form::Vector, other))?;
-    let back = is_changed(alloc, size, (Form::Vector, other), (Form::Vector, one))?;
-    Ok(there && back)
-}
-
-fn are_one(alloc: Global, size: usize, one: &[u8], other: &[u8]) -> Result<bool, AllocError> {
-    let there = is_changed(alloc, size, (Form::Vector, one), (Form::Vector, other))?;
-    let back = is_changed(alloc, size, (Form::Vector, other), (Form::Vector, one))?;
-    Ok(!there && !back)
-}
-
-// Digits that are one value of a code.
-const ONE_VALUE: [(&str, Digits, Digits); 5] = [
-    ("0", Digits::Alone(b'0'), Digits::Each(b'0')),
-    ("1", Digits::Alone(b'1'), Digits::LastOne),
-    ("x", Digits::Alone(b'x'), Digits::Each(b'X')),
-    ("Z", Digits::Alone(b'Z'), Digits::Each(b'z')),
-    ("all", Digits::Mixed, Digits::Mixed),
-];
-
-#[test]
-fn digits_of_one_value_at_each_size(rt: HostRuntime) -> Result<(), Fail> {
-    let alloc = rt.alloc();
-    for size in [1, 2, 4, 5, 63, 64, 65] {
-        for (name, one, other) in ONE_VALUE {
-            let one = text_of(alloc, size, one)?;
-            let other = text_of(alloc, size, other)?;
-            assert!(rt; are_one(alloc, size, &one, &other)?, "{name} at {size}");
-        }
-    }
-    Ok(())
-}
-
-// Digits that are two values of a code.
-const TWO_VALUES: [(&str, Digits, Digits); 4] = [
-    ("0 and 1", Digits::Alone(b'0'), Digits::Alone(b'1')),
-    ("x and z", Digits::Alone(b'x'), Digits::Alone(b'z')),
-    ("0s and xs", Digits::Each(b'0'), Digits::Each(b'X')),
-    ("0 and 1s", Digits::Alone(b'0'), Digits::Each(b'1')),
-];
-
-#[test]
-fn digits_of_two_values_at_each_size(rt: HostRuntime) -> Result<(), Fail> {
-    let alloc = rt.alloc();
-    for size in [1, 2, 4, 5, 63, 64, 65] {
-        for (name, one, other) in TWO_VALUES {
-            let one = text_of(alloc, size, one)?;
-            let other = text_of(alloc, size, other)?;
-            assert!(rt; are_two(alloc, size, &one, &other)?, "{name} at {size}");
-        }
-    }
-    Ok(())
-}
-
-#[test]
-fn one_digit_and_each_digit_a_one(rt: HostRuntime) -> Result<(), Fail> {
-    let alloc = rt.alloc();
-    for size in [1, 2, 4, 5, 63, 64, 65] {
-        let ones = padded(alloc, b'1', size, b"")?;
-        assert_eq!(rt;
-            are_one(alloc, size, b"1", &ones)?,
-            size == 1,
-            "1 and 1s at {size}"
-        );
-    }
-    Ok(())
-}
-
-// Digits that are one value of a code of 4 bits, and digits that are two.
-const ONE_OF_FOUR: [(&[u8], &[u8]); 2] = [(b"10", b"010"), (b"x10", b"XX10")];
-
-const TWO_OF_FOUR: [(&[u8], &[u8]); 3] = [(b"10", b"x10"), (b"x10", b"0x10"), (b"110", b"10")];
-
-#[test]
-fn short_digits_that_differ(rt: HostRuntime) -> Result<(), Fail> {
-    for (one, other) in ONE_OF_FOUR {
-        assert!(rt; are_one(rt.alloc(), 4, one, other)?);
-    }
-    for (one, other) in TWO_OF_FOUR {
-        assert!(rt; are_two(rt.alloc(), 4, one, other)?);
-    }
-    Ok(())
-}
-
-#[test]
-fn short_digits_that_differ_past_a_word(rt: HostRuntime) -> Result<(), Fail> {
-    let alloc = rt.alloc();
-    let wide = padded(alloc, b'x', 63, b"10")?;
-    assert!(rt; are_one(alloc, 65, b"x10", &wide)?);
-    assert!(rt; are_two(alloc, 66, b"10", &wide)?);
-    Ok(())
-}
-
 // A size, two texts that set a code of it, and whether they are two values.
-const REAL_NUMBERS: [(usize, (Form, &[u8]), (Form, &[u8]), bool); 4] = [
+const PAIRS: [(usize, (Form, &[u8]), (Form, &[u8]), bool); 9] = [
+    (4, (Form::Vector, b"10"), (Form::Vector, b"010"), false),
+    (4, (Form::Vector, b"x10"), (Form::Vector, b"XX10"), false),
+    (4, (Form::Vector, b"10"), (Form::Vector, b"x10"), true),
+    (4, (Form::Vector, b"x10"), (Form::Vector, b"0x10"), true),
+    (4, (Form::Vector, b"110"), (Form::Vector, b"10"), true),
     (
         64,
         (Form::RealText, b"0.5"),
@@ -517,25 +394,11 @@ const REAL_NUMBERS: [(usize, (Form, &[u8]), (Form, &[u8]), bool); 4] = [
 ];
 
 #[test]
-fn real_numbers_that_differ(rt: HostRuntime) -> Result<(), Fail> {
-    for (size, first, second, differs) in REAL_NUMBERS {
+fn texts_that_are_two_values(rt: HostRuntime) -> Result<(), Fail> {
+    for (size, first, second, differs) in PAIRS {
         assert_eq!(rt; is_changed(rt.alloc(), size, first, second)?, differs);
     }
     Ok(())
-}
-
-#[test]
-fn value_of_no_code_never_differs(rt: HostRuntime) {
-    let codes = [code_of(4)];
-    let mut slots = [Slot::new()];
-    let mut shares = [Share::new()];
-    let mut table = table_in(view_of(&codes), &mut [], &mut slots, &mut shares);
-    for (code, text) in [(0, b"1"), (1, b"1"), (1, b"0")] {
-        assert_eq!(rt;
-            follow(&mut table, code, 4, Form::Scalar, text),
-            step_of(false, 0)
-        );
-    }
 }
 
 // What is counted of a step that differs or not, and goes up, down, or neither.
@@ -571,21 +434,6 @@ fn steps_of_values(rt: HostRuntime) -> Result<(), Fail> {
     let mut table = table_in(view, &mut values, &mut slots, &mut shares);
     for (form, text, differs, way) in STEPS {
         assert_eq!(rt; follow(&mut table, 0, 9, form, text), step_of(differs, way));
-    }
-    Ok(())
-}
-
-#[test]
-fn steps_that_are_counted(rt: HostRuntime) -> Result<(), Fail> {
-    let alloc = rt.alloc();
-    let codes = [code_of(9)];
-    let view = view_of(&codes);
-    let mut values = vec![in alloc; 255u8; need(view).values]?;
-    let mut slots = [Slot::new()];
-    let mut shares = [Share::new()];
-    let mut table = table_in(view, &mut values, &mut slots, &mut shares);
-    for (form, text, _, _) in STEPS {
-        table.follow(0, 9, Value::of_text(form, text));
     }
     assert_eq!(rt; table.tally(0), [7, 2, 2]);
     Ok(())
@@ -704,20 +552,6 @@ fn one_of_three_codes_is_chosen(rt: HostRuntime) {
     let again = table_in(view_of(&codes), &mut [], &mut slots, &mut shares);
     assert!(rt; !again.chosen(0) && !again.chosen(1) && !again.chosen(2));
     assert_eq!(rt; again.get(1), Shown::Unset);
-}
-
-#[test]
-fn sink_that_fails_at_a_value(rt: HostRuntime) {
-    let codes = [code_of(8)];
-    let view = view_of(&codes);
-    let mut slots = [Slot::new()];
-    let mut shares = [Share::new()];
-    let mut table = table_in(view, &mut [], &mut slots, &mut shares);
-    set(&mut table, 0, Form::Vector, b"1");
-    let mut page = Watch::new(Narrow::new(3));
-    assert_eq!(rt; put_full(view, &table, 0, &mut page), Err(WriteFailed));
-    assert_eq!(rt; page.device.held(), b"000".as_slice());
-    assert_eq!(rt; Sink::failures(&page), 1);
 }
 
 // The law over the shortest digits, as a caller has it.
