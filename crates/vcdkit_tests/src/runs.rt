@@ -195,7 +195,7 @@ pub(crate) fn run_on(
         Input::Whole(text) => run_alone(alloc, words, whole(text), limit, chunk),
         Input::Broken(text) => run_alone(alloc, words, broken(text), limit, chunk),
         Input::All(texts) => {
-            if texts.is_empty() || texts.len() > 3 {
+            if texts.len() == 0 || texts.len() > 3 {
                 return Err(AllocError);
             }
             run_merge(alloc, texts, limit, chunk)
