@@ -1,6 +1,11 @@
-//! The tests of `vcd_head` and `vcd_view`, over public functions alone. They are a crate of their
-//! own so that the library is proved once: a crate with tests in it is proved again with them.
+//! The tests of `vcd_head`, `vcd_view` and `vcd_words`, over public functions alone. They are a
+//! crate of their own so that the libraries are proved once: a crate with tests in it is proved
+//! again with them.
 #![tactic(auto)]
 
 #[cfg(test)]
 mod head;
+#[cfg(test)]
+mod times;
+#[cfg(test)]
+mod words;

@@ -1,6 +1,5 @@
-//! The tests of `vcd_words` and `vcdkit`, over their public functions alone: what words ask for,
-//! and what jobs leave. They are a crate of their own so that each library is proved once: a crate
-//! with tests in it is proved again with them.
+//! The tests of `vcdkit`, over public functions alone: what jobs leave. They are a crate of their
+//! own so that the library is proved once: a crate with tests in it is proved again with them.
 #![tactic(auto)]
 
 #[cfg(test)]
@@ -29,9 +28,5 @@ mod produced;
 mod runs;
 #[cfg(test)]
 mod sample;
-#[cfg(test)]
-mod times;
-#[cfg(test)]
-mod words;
 #[cfg(test)]
 mod written;

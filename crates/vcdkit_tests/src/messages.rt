@@ -57,11 +57,18 @@ fn is_unopened(room: usize, left: &[u8], failures: u64) -> bool
     answer == 3 && is_held(&err, left, failures)
 }
 
+const UNOPENED: &[u8] = b"vcdkit: none.vcd: cannot be opened\n";
+
 #[test]
-fn a_file_and_a_write_have_their_lines(rt: HostRuntime) {
-    let line = b"vcdkit: none.vcd: cannot be opened\n".as_slice();
-    assert!(rt; is_unopened(80, line, 0));
-    assert!(rt; is_unopened(8, &line[..8], 1));
+fn an_unopened_file_has_its_line(rt: HostRuntime) {
+    assert!(rt; is_unopened(80, UNOPENED, 0));
+    for room in 0..UNOPENED.len().min(1024) {
+        assert!(rt; is_unopened(room, &UNOPENED[..room], 1), "in {room}");
+    }
+}
+
+#[test]
+fn a_failed_write_has_its_line(rt: HostRuntime) {
     let mut err = Watch::new(Narrow::new(80));
     let status = write_fault(&mut err);
     assert!(rt; status == 3 && is_held(&err, b"vcdkit: write failed\n", 0));

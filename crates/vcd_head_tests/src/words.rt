@@ -1,13 +1,12 @@
 // Command lines: which are taken, and what they ask for.
-ghost use Rattle.std.specs.Prelude.{◌≤◌};
+ghost use Rattle.std.specs.Prelude.{◌≡◌, ◌≤◌, IfOk, true};
+ghost use Rattle.vcd_words.specs.Job.{is_asked};
 
-use super::runs::wanted;
 use clap::error::ErrorKind;
 use clap::{ArgMatches, Command, Error};
 use std::alloc::{AllocError, Global};
 use std::process::Abort;
-use vcd_words::Words;
-use vcdkit::{Job, UseFault, Want, command_of, input_of, job_of, parse_status};
+use vcd_words::{Job, UseFault, Want, Words, command_of, input_of, job_of, parse_status, want_of};
 
 // The token limit where none is asked for.
 const LIMIT: usize = 1_048_576;
@@ -134,6 +133,16 @@ fn is_answered<'a>(
         Some(matches) => job_of(alloc, &matches) == wanted,
         None => false,
     })
+}
+
+// What good words ask for.
+fn wanted(alloc: Global, words: Words<'_, '_>) -> Result<Want, AllocError>
+    ensures { IfOk result (λ want. is_asked want ≡ true) }
+{
+    match want_of(alloc, words) {
+        Ok(want) => Ok(want),
+        Err(_) => Err(AllocError),
+    }
 }
 
 // Whether these words ask for this under this token limit.

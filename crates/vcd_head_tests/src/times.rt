@@ -1,7 +1,6 @@
 // Words that are times, and words that are none.
 use std::alloc::Global;
-use vcd_words::{Words, want_of};
-use vcdkit::{UseFault, Want};
+use vcd_words::{UseFault, Want, Words, want_of};
 
 // The numbers and the units of times, or the fault of their words.
 type Times<'a> = Result<(&'a [u64], &'a [Option<i8>]), UseFault<'a>>;
