@@ -18,7 +18,7 @@ from functools import partial
 from itertools import combinations
 
 import evaluator
-from cases import A, B, CASES, CLOCK, ON_A, ON_B, ON_D, Case
+from cases import A, CASES, CLOCK, ON_A, ON_B, ON_D, Case
 from hostile import wanted
 from trials import MEMORY, TOP, Program, compare, outcome_of
 
@@ -31,6 +31,8 @@ ANSWERED = [["--help"], ["merge", "--help"], ["--version"], [], ["chekc"], ["pic
 CLOSED = [streams for count in (1, 2, 3) for streams in combinations((0, 1, 2), count)]
 CLOSING = {0: "<&-", 1: ">&-", 2: "2>&-"}
 CHUNK = 65_536
+# With it a file is no longer small: such a file has at most 1,048,576 bytes.
+LARGE_COMMENT = b"$comment " + b"x " * (1 << 20) + b"$end\n"
 SIZE_SIGNAL = 25
 SECONDS = 20
 
@@ -267,7 +269,7 @@ def growing(program):
     open a FIFO that comes later. A small file is read as it was when it was opened, a large one to
     its end."""
     small, more = CLOCK, b"#9\n0!\n"
-    large = CLOCK + b"$comment " + b"x " * (9 << 20) + b"$end\n"
+    large = CLOCK + LARGE_COMMENT
     for text, is_read in ((small, small), (large, CLOCK + more)):
         for first in "a.vcd", "-":
             with files_with({"a.vcd": text}) as folder:
@@ -303,10 +305,9 @@ def free_memory():
 def many_files(program):
     """64 files at a token limit of 16 MB. A large file takes two windows of that size, so all
     take 2,101,376 KB; small ones, whose tokens are no longer than they are, run in 32 MB."""
-    padding = b"$comment " + b"x " * CHUNK + b"$end\n"
     words = ["merge", "--token-limit", "16777216", "--"]
     case = Case("many", "merge", [CLOCK] * 64)
-    with files_with({"small.vcd": CLOCK, "large.vcd": CLOCK + padding}) as folder:
+    with files_with({"small.vcd": CLOCK, "large.vcd": CLOCK + LARGE_COMMENT}) as folder:
         trials = [("small.vcd", 32_768, True), ("large.vcd", 2_097_152, False),
                   ("large.vcd", 2_150_000, True)]
         if free_memory() < 4_000_000:
