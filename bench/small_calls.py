@@ -1,12 +1,12 @@
 #!/usr/bin/env python3
-"""small_calls.py [BYTES]   what one call costs over a dump of so many bytes (1000): page faults,
-CPU time, and instructions, if valgrind is there. Beside the commands of vcdkit are `true`, which
-does nothing, `grep -c`, and `vcdkit --version`, which reads no dump. The last lines are 1,000 calls
-in a loop of the shell.
+"""small_calls.py [BYTES]   what one call costs over a dump of so many bytes (1000, at most 65536):
+page faults, CPU time, and instructions, if valgrind is there. Beside the commands of vcdkit are
+`true`, which does nothing, `grep -c`, and `vcdkit --version`, which reads no dump. The last lines
+are 1,000 calls in a loop of the shell.
 
 CPU time is user and system time, the least of 100 runs, of 30 for merges. Instructions are those of
-the process, with the loader's. All programs run in the C locale. VCDKIT names the program, else it is the vcdkit in the folder
-above."""
+the process, with the loader's. All programs run in the C locale. VCDKIT names the program, else it
+is the vcdkit in the folder above."""
 import os
 import re
 import shutil
@@ -38,11 +38,22 @@ def dump_of(size):
     return text
 
 
+def opened(path, is_pipe):
+    """Opens a file, or a pipe that has the bytes of the file."""
+    if not is_pipe:
+        return os.open(path, os.O_RDONLY)
+    reader, writer = os.pipe()
+    with open(path, "rb") as file, open(writer, "wb") as pipe:
+        pipe.write(file.read())
+    return reader
+
+
 def cost_of(words, given):
-    """Returns the page faults and the CPU seconds of a run whose standard input is a file."""
-    actions = NOWHERE + [(os.POSIX_SPAWN_OPEN, 0, given, os.O_RDONLY, 0)]
+    """Returns the page faults and the CPU seconds of a run with this standard input."""
+    actions = NOWHERE + [(os.POSIX_SPAWN_DUP2, given, 0)]
     process = os.posix_spawn(words[0], words, ENVIRONMENT, file_actions=actions)
     _, status, usage = os.wait4(process, 0)
+    os.close(given)
     if status:
         sys.exit("small_calls.py: %s: status %d" % (" ".join(words[:4]), status))
     return usage.ru_minflt, usage.ru_utime + usage.ru_stime
@@ -54,19 +65,20 @@ def instructions_of(words, given):
     if not valgrind:
         return "?"
     tool = [valgrind, "--tool=cachegrind", "--cache-sim=no", "--cachegrind-out-file=/dev/null"]
-    with open(given, "rb") as text:
-        done = subprocess.run(tool + words, stdin=text, stdout=subprocess.DEVNULL,
-                              stderr=subprocess.PIPE)
+    done = subprocess.run(tool + words, stdin=given, stdout=subprocess.DEVNULL,
+                          stderr=subprocess.PIPE, env=ENVIRONMENT)
+    os.close(given)
     found = re.search(rb"I\s+refs:\s+([\d,]+)", done.stderr)
     return found.group(1).decode() if found else "?"
 
 
-def print_cost(name, words, given=os.devnull):
+def print_cost(name, words, given=os.devnull, is_pipe=False):
+    """A line with the costs of these words, whose standard input is a file or a pipe."""
     runs = 30 if "merge" in words else 100
-    costs = [cost_of(words, given) for _ in range(runs)]
+    costs = [cost_of(words, opened(given, is_pipe)) for _ in range(runs)]
     print("%-26s %11d %9.2f %14s" % (name, min(faults for faults, _ in costs),
                                      1000 * min(seconds for _, seconds in costs),
-                                     instructions_of(words, given)), flush=True)
+                                     instructions_of(words, opened(given, is_pipe))), flush=True)
 
 
 def print_loop(name, words):
@@ -100,6 +112,7 @@ def main(size):
                       ["sample", "--at", "5"], ["edges"]):
             print_cost(words[0], [vcdkit] + words[:1] + ["-i", dump] + words[1:])
         print_cost("check < FILE", [vcdkit, "check"], dump)
+        print_cost("cat FILE | check", [vcdkit, "check"], dump, is_pipe=True)
         print_cost("merge of 2", [vcdkit, "merge"] + names[:2])
         print_cost("merge of %d" % FILES, [vcdkit, "merge"] + names)
         print_loop("true", others["true"])
@@ -110,4 +123,4 @@ def main(size):
 if __name__ == "__main__":
     if len(sys.argv) > 2 or not all(word.isdigit() for word in sys.argv[1:]):
         sys.exit(__doc__)
-    main(int((sys.argv[1:] + ["1000"])[0]))
+    main(min(65536, int((sys.argv[1:] + ["1000"])[0])))

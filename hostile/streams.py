@@ -1,7 +1,8 @@
 #!/usr/bin/env python3
 """streams.py PROGRAM
 
-Runs the program on standard streams, pipes and files that do what a terminal's user seldom sees.
+Runs the program while standard streams are closed, while its output fails, and on inputs that are
+no plain files. What it leaves has to be what the evaluator says.
 
 closed     Standard input, output and the error stream are closed, one, two or all of them: no file
            takes their place. A read of standard input fails, a write of output fails, a message is
