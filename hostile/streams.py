@@ -29,8 +29,9 @@ TWICE = (b"", b"vcdkit: standard input twice\n", 2)
 # Words that ask for no job.
 ANSWERED = [["--help"], ["merge", "--help"], ["--version"], [], ["chekc"], ["pick"],
             ["sample", "--at", "5,5"], ["check", "nowhere.vcd"], ["merge", "nowhere.vcd", "-"]]
-CLOSED = [streams for count in (1, 2, 3) for streams in combinations((0, 1, 2), count)]
-CLOSING = {0: "<&-", 1: ">&-", 2: "2>&-"}
+# Which streams are closed, and what a shell writes for it.
+CLOSED = {streams: 'exec "$@" ' + " ".join(("<&-", ">&-", "2>&-")[stream] for stream in streams)
+          for count in (1, 2, 3) for streams in combinations((0, 1, 2), count)}
 CHUNK = 65_536
 # With it a file is no longer small: such a file has at most 1,048,576 bytes.
 LARGE_COMMENT = b"$comment " + b"x " * (1 << 20) + b"$end\n"
@@ -81,14 +82,13 @@ def closed(program, case):
     """Each case with each of the streams closed. Its inputs are files, or one is standard input."""
     with files_with(named(case)) as folder:
         for place in places_of_input(case):
-            words, names, inputs = list(named(case)), list(named(case)), list(case.inputs)
+            words, names = list(named(case)), list(named(case))
             if place is not None:
                 words[place], names[place] = "-", "(stdin)"
-            for streams in CLOSED:
+            for streams, shell in CLOSED.items():
                 given = case.inputs[place or 0]
                 read = [evaluator.Failed(b"") if 0 in streams and k == place else text
-                        for k, text in enumerate(inputs)]
-                shell = 'exec "$@" ' + " ".join(CLOSING[stream] for stream in streams)
+                        for k, text in enumerate(case.inputs)]
                 yield ("%s with %s" % (" ".join(case.words(words)), shell),
                        where_closed(wanted(case, names, read), streams),
                        program.run(case.words(words), folder, given, shell=shell))
@@ -99,8 +99,7 @@ def closed_without_a_job(program):
     closed."""
     for words in ANSWERED:
         whole = program.run(words)
-        for streams in CLOSED:
-            shell = 'exec "$@" ' + " ".join(CLOSING[stream] for stream in streams)
+        for streams, shell in CLOSED.items():
             yield ("%r with %s" % (words, shell), where_closed(whole, streams),
                    program.run(words, shell=shell))
 
@@ -121,10 +120,9 @@ def places_of_closed(program):
     the folder / is in their place, and files come after it."""
     with files_with({"a.vcd": CLOCK}) as folder:
         os.mkfifo(os.path.join(folder, "fifo"))
-        for streams in CLOSED:
-            shell = 'exec "$@" ' + " ".join(CLOSING[stream] for stream in streams)
-            process = program.start(["merge", "a.vcd", "fifo"], folder, shell, stdin=subprocess.PIPE,
-                                    stdout=subprocess.PIPE)
+        for streams, shell in CLOSED.items():
+            process = program.start(["merge", "a.vcd", "fifo"], folder, shell,
+                                    stdin=subprocess.PIPE, stdout=subprocess.PIPE)
             writer = opened(os.path.join(folder, "fifo"))
             links, end = [], time.monotonic() + SECONDS
             while len(links) < 5 and time.monotonic() < end:
@@ -207,12 +205,11 @@ def input_twice(program):
     """`-` twice is refused before a file is opened or anything is read."""
     with files_with({"in.vcd": CLOCK, "-": CLOCK}) as folder:
         for words in (["-", "-"], ["nowhere.vcd", "-", "nowhere.vcd", "-"], ["-", "-", "-"],
-                      ["--", "-", "-"], ["--token-limit", "64", "-", "-"], ["-"] + ["a"] * 62
-                      + ["-"]):
-            with open(os.path.join(folder, "in.vcd"), "rb") as given:
-                yield ("merge %s" % " ".join(words[:4]), [TWICE],
-                       program.run(["merge"] + words, folder, given))
-                yield "what merge %s read" % " ".join(words[:4]), [0], os.lseek(given.fileno(), 0, 1)
+                      ["--", "-", "-"], ["--token-limit", "64", "-", "-"], ["-"] * 64):
+            with open(os.path.join(folder, "in.vcd"), "rb", 0) as given:
+                what = "merge " + " ".join(words[:4])
+                yield what, [TWICE], program.run(["merge"] + words, folder, given)
+                yield "what %s has read" % what, [0], given.tell()
         yield ("65 files with - twice", [(b"", b"vcdkit: too many files\n", 2)],
                program.run(["merge"] + ["-"] * 65, folder))
         # A file whose name is one hyphen is no standard input.
