@@ -4,8 +4,8 @@
 #     program says so and ends where they lack
 # make test    the gate: every proof that no earlier run on this machine passed, must-fail edits,
 #     tests, the program as two compilers build it
-# make hostile runs the program where memory, reads and writes fail, and on dumps that are cut off,
-#     crafted or made at random: some minutes
+# make hostile runs the program where memory, reads and writes fail, where streams are closed, and
+#     on dumps that are cut off, crafted or made at random: some minutes
 # make docs-check runs the commands that README, manual and recipes show over ./vcdkit. It compares
 #     what they print, and the must-fail edits that PROOFS lists, and looks for links that lead
 #     nowhere: seconds
@@ -70,7 +70,7 @@ test: toolchain
 hostile: vcdkit
 	devices=$$(mktemp --suffix=.so) && cc -O1 -shared -fPIC -o $$devices hostile/devices.c -ldl && \
 	hostile/hostile.py ./vcdkit $$devices memory large devices cut_off pipes && \
-	hostile/machine.py ./vcdkit $$devices && \
+	hostile/machine.py ./vcdkit $$devices && hostile/streams.py ./vcdkit && \
 	hostile/random_runs.py ./vcdkit --runs 50000 && hostile/crafted.py ./vcdkit && \
 	{ [ ! -e libvcdkit.so ] || hostile/library.py ./vcdkit ./libvcdkit.so; }; \
 	status=$$?; rm -f $$devices; exit $$status

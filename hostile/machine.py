@@ -1,16 +1,23 @@
 #!/usr/bin/env python3
 """machine.py PROGRAM DEVICES
 
-Runs the program on what only a machine has: files and streams that fail by themselves, words that
-are no text, no random numbers, no memory for words; and on the command lines of the stored runs,
-of which the gate does not compare the error stream. DEVICES is devices.c, built as a shared
-library."""
-import os, subprocess, sys
+Runs the program on what only a machine has: files that cannot be read, words that are no text, no
+random numbers, no memory for words; and on the command lines of the stored runs, of which the gate
+does not compare the error stream. DEVICES is devices.c, built as a shared library.
 
-TOP = os.path.join(os.path.dirname(os.path.abspath(__file__)), "..")
+Each case is also run with 112 KB of stack (`ulimit -s 112`): the whole outcome. And it is run with
+each size of memory, in steps of 16 KB (`ulimit -v`), from the least one with which the loader comes
+to the program up to the first with which the run ends as it has to. With each size below that one
+there is no output, the line `vcdkit: out of memory` and status 3: no signal ends the program."""
+import os, sys, tempfile
+from functools import partial
+
+from cases import A, CASES, Case
+from hostile import wanted
+from trials import MEMORY, TOP, Program, compare
+
 CRATES = os.path.join(TOP, "crates")
 SAMPLE = os.path.join(TOP, "samples", "counter.vcd")
-MEMORY = (b"", b"vcdkit: out of memory\n", 3)
 
 # Each command over an input, with the words that come before and after the one for it.
 COMMANDS = [(["check"], []), (["list"], []), (["pick", "-i"], ["tb"]), (["cut"], []),
@@ -19,73 +26,108 @@ COMMANDS = [(["check"], []), (["list"], []), (["pick", "-i"], ["tb"]), (["cut"],
 ANSWERED = [["--help"], ["cut", "--help"], ["--version"], [], ["chekc"], ["pick"],
             ["check", "-i", "a", "b"], ["merge", "a", "-o", "b"], ["sample", "--at", "5,5"]]
 
-
-class Runs:
-    def __init__(self, program, devices):
-        self.program, self.devices = program, devices
-        self.count = self.bad = 0
-
-    def run(self, words, folder=TOP, given=b"", out=None, **how):
-        environment = {name.upper(): str(value) for name, value in how.items()}
-        if environment:
-            environment["LD_PRELOAD"] = self.devices
-        p = subprocess.run([self.program] + words, input=None if given is None else given,
-                           stdout=out or subprocess.PIPE, stderr=subprocess.PIPE, cwd=folder,
-                           env=environment, timeout=60)
-        return p.stdout or b"", p.stderr, p.returncode
-
-    def wants(self, what, want, got):
-        self.count += 1
-        if got != want:
-            self.bad += 1
-            print("%s\n want %r\n got  %r" % (what, want, got))
+STACK = 112
+STEP = 16
+# As many open scopes as there may be, with a variable in each; and some names in them.
+DEEP = b"".join(b"$scope module s $end $var wire 1 v%d v $end\n" % n for n in range(1000)) + (
+    b"$enddefinitions $end\n#0\n1v0\n#7\n0v999\n")
+DEEP_NAMES = [b"s." * 1 + b"v", b"s." * 500 + b"v", b"s." * 998 + b"s"]
+# The cases of the stack and of memory: those of all commands, and with names where one takes any.
+LIMITED = CASES + [
+    Case("pick_names", "pick", [A + b"#0\n1!\nb1 \"\n"], names=[b"tb.clk", b"tb.q"] * 40),
+    Case("pick_deep", "pick", [DEEP], names=DEEP_NAMES),
+    Case("sample_deep", "sample", [DEEP], options=[(3, None), (9, None)], names=DEEP_NAMES),
+    Case("edges_deep", "edges", [DEEP], names=DEEP_NAMES),
+    Case("merge_deep", "merge", [DEEP, DEEP]),
+]
 
 
-def failing_files(runs):
+def failing_files(program):
     """A read of a folder fails, and so does one of the memory at address 0: neither is the end of a
     dump."""
     for name in ("/", "/proc/self/mem"):
         line = b"vcdkit: " + name.encode() + b": read failed\n"
         for before, after in COMMANDS:
-            runs.wants("%s %s" % (before[0], name), (b"", line, 3),
-                       runs.run(before + [name] + after))
-    with open("/dev/full", "wb") as full:
-        for words in (["check", SAMPLE], ["list", SAMPLE], ["cut", SAMPLE], ["merge", SAMPLE],
-                      ["--help"], ["--version"]):
-            runs.wants("%s > /dev/full" % words[0], (b"", b"vcdkit: write failed\n", 3),
-                       runs.run(words, out=full))
+            yield ("%s %s" % (before[0], name), [(b"", line, 3)],
+                   program.run(before + [name] + after))
 
 
-def words_that_are_no_text(runs):
+def words_that_are_no_text(program):
     for words in ([b"check", b"-i", b"\xff.vcd"], [b"\xc3"], [b"pick", b"a\x80", b"--help"]):
-        runs.wants("%r" % words, (b"", b"vcdkit: bad words\n", 2), runs.run(words))
+        yield "%r" % words, [(b"", b"vcdkit: bad words\n", 2)], program.run(words)
 
 
-def no_random_numbers(runs):
-    """Where codes cannot be hashed by random numbers, no input is read, and it is said."""
+def no_random_numbers(program):
+    """If codes cannot be hashed by random numbers, no input is read, and the message says so."""
     for before, after in COMMANDS:
         line = b"vcdkit: " + SAMPLE.encode() + b": read failed\n"
-        runs.wants("%s without random numbers" % before[0], (b"", line, 3),
-                   runs.run(before + [SAMPLE] + after, no_entropy=1))
+        yield ("%s without random numbers" % before[0], [(b"", line, 3)],
+               program.run(before + [SAMPLE] + after, no_entropy=1))
     for words in ANSWERED:
-        runs.wants("%r without random numbers" % words, runs.run(words),
-                   runs.run(words, no_entropy=1))
+        yield ("%r without random numbers" % words, [program.run(words)],
+               program.run(words, no_entropy=1))
 
 
-def no_memory_for_words(runs):
+def no_memory_for_words(program, words):
     """Each request for memory is refused in turn, up to the first that is not made."""
-    for words in ANSWERED:
-        whole = runs.run(words)
-        refused = 0
-        for n in range(1, 100_000):
-            got = runs.run(words, refuse=n)
-            if got == MEMORY:
-                refused = n
-            elif got != whole:
-                runs.wants("%r, request %d refused" % (words, n), MEMORY, got)
-            elif n > refused + 20:
-                break
-        runs.wants("%r, refused at all" % words, True, refused > 0)
+    whole = program.run(words)
+    refused = 0
+    for n in range(1, 100_000):
+        got = program.run(words, refuse=n)
+        if got == MEMORY:
+            refused = n
+        elif n > refused + 20:
+            break
+        yield "%r, request %d refused" % (words, n), [MEMORY, whole], got
+    yield "%r, refused at all" % words, [True], refused > 0
+
+
+def put(folder, case):
+    """Writes the inputs of a case, and returns the names of their files."""
+    files = ["%s.%d.vcd" % (case.name, k) for k in range(len(case.inputs))]
+    for name, text in zip(files, case.inputs):
+        with open(os.path.join(folder, name), "wb") as f:
+            f.write(text)
+    return files
+
+
+def ways_of(folder, case):
+    """The ways to give the inputs of a case: words, standard input, and the outcome. The first
+    input is a file, or standard input, which is a pipe."""
+    files = put(folder, case)
+    yield case.words(files), b"", wanted(case, files, case.inputs)
+    yield (case.words(["-"] + files[1:]), case.inputs[0],
+           wanted(case, ["(stdin)"] + files[1:], case.inputs))
+
+
+def small_stack(program, case):
+    with tempfile.TemporaryDirectory() as folder:
+        for words, given, want in ways_of(folder, case):
+            got = program.run(words, folder, given, shell='ulimit -s %d; exec "$@"' % STACK)
+            yield "%s with %d KB of stack" % (" ".join(words)[:100], STACK), [want], got
+
+
+def in_memory(size):
+    """The text for a shell that starts the program with so many kilobytes of memory."""
+    return 'ulimit -v %d; exec "$@"' % size
+
+
+def least_memory(program):
+    """The least memory with which the loader comes to the program, in kilobytes. With less, the
+    loader ends with a line and a status of its own, or the kernel ends it by a signal."""
+    return next(size for size in range(STEP, 1 << 20, STEP)
+                if program.run(["--version"], shell=in_memory(size))[2] in (0, 3))
+
+
+def little_memory(program, least, case):
+    with tempfile.TemporaryDirectory() as folder:
+        for words, given, want in ways_of(folder, case):
+            for size in range(least, least + (1 << 20), STEP):
+                got = program.run(words, folder, given, shell=in_memory(size))
+                yield ("%s with %d KB of memory" % (" ".join(words)[:100], size), [MEMORY, want],
+                       got)
+                if got != MEMORY:
+                    break
 
 
 def transcript():
@@ -99,28 +141,31 @@ def transcript():
         yield line, (output[1:] + b"\n" if output else b"", message, int(status))
 
 
-def stored_runs(runs):
+def stored_runs(program):
     """The stored runs again, with their error streams, each on a standard input of its own."""
     folder = os.path.join(CRATES, "run_words")
     with open(os.path.join(folder, "stdin"), "rb") as f:
         given = f.read()
     for line, want in transcript():
-        got = runs.run(line.split(), os.path.join(folder, "data"), given)
-        runs.wants("the stored run %r" % line, want, got)
+        got = program.run(line.split(), os.path.join(folder, "data"), given)
+        yield "the stored run %r" % line, [want], got
     folder = os.path.join(CRATES, "vcdkit_main")
     with open(os.path.join(folder, "args")) as a, open(os.path.join(folder, "stdout"), "rb") as o:
         words, output = a.read().split(), o.read()
     want = (output, b"vcdkit: c.vcd:4: bad time\n", 1)
-    runs.wants("the stored run %r" % words, want, runs.run(words, os.path.join(folder, "data")))
+    yield ("the stored run %r" % words, [want],
+           program.run(words, os.path.join(folder, "data")))
 
 
 def main():
-    runs = Runs(*map(os.path.abspath, sys.argv[1:3]))
-    for part in (failing_files, words_that_are_no_text, no_random_numbers, no_memory_for_words,
-                 stored_runs):
-        part(runs)
-    print("machine: %d runs, %d differ" % (runs.count, runs.bad))
-    return 1 if runs.bad else 0
+    program = Program(*sys.argv[1:3])
+    least = least_memory(program)
+    jobs = [partial(part, program)
+            for part in (failing_files, words_that_are_no_text, no_random_numbers, stored_runs)]
+    jobs += [partial(no_memory_for_words, program, words) for words in ANSWERED]
+    jobs += [partial(small_stack, program, case) for case in LIMITED]
+    jobs += [partial(little_memory, program, least, case) for case in LIMITED]
+    return compare("machine", jobs)
 
 
 if __name__ == "__main__":
