@@ -146,12 +146,7 @@ fn has_variables(
 }
 
 // What a merge has written has the changes of a text inside this scope, and its values.
-fn has_input(
-    alloc: Global,
-    scope: &str,
-    text: &[u8],
-    written: &[u8],
-) -> Result<bool, AllocError> {
+fn has_input(alloc: Global, scope: &str, text: &[u8], written: &[u8]) -> Result<bool, AllocError> {
     let names = [scope];
     let names = names.as_slice();
     let times = "0ns,1ns,2ns,4ns,5ns,6ns";
