@@ -38,14 +38,18 @@ abbrev pub read_as : {F I : Type 0} → Bool → Stream F I → Stream F I
 read_as true stream = stream
 read_as false stream = Refused
 
--- What a host opens whose machine opens files so and gives such a standard input: where there is a
--- name the file of this name, else standard input. No other host is left.
+-- What a host returns whose machine opens files so and gives such a standard input: where there is a
+-- name the file of this name, else standard input.
+abbrev pub OpenedOn : {M F I : Type 0} → (M → List ℕ → Result F Error → Type 0) → (M → I → Type 0) → MachineHost M → Option (List ℕ) → Result (Watch (Stream F I)) OpenFault → Type 0
+OpenedOn opens gives host None (Ok watch) = (input : _) × gives host.machine.now input × (watch.device ≡ read_as host.is_seeded (Input (record { device = input })))
+OpenedOn opens gives host None (Err fault) = ⊥
+OpenedOn opens gives host (Some name) (Ok watch) = (file : _) × opens host.machine.now name (Ok file) × (watch.device ≡ read_as host.is_seeded (File (record { device = file })))
+OpenedOn opens gives host (Some name) (Err Unopened) = (error : Error) × opens host.machine.now name (Err error) × (error_kind error ≢ kind.OutOfMemory)
+OpenedOn opens gives host (Some name) (Err OutOfMemory) = (error : Error) × opens host.machine.now name (Err error) × (error_kind error ≡ kind.OutOfMemory)
+
+-- so an input is opened, and the host stays the same
 abbrev pub OpensOn : {M F I : Type 0} → (M → List ℕ → Result F Error → Type 0) → (M → I → Type 0) → MachineHost M → Option (List ℕ) → Result (Watch (Stream F I)) OpenFault → MachineHost M → Type 0
-OpensOn opens gives old None (Ok watch) new = (input : _) × gives old.machine.now input × (watch.device ≡ read_as old.is_seeded (Input (record { device = input })))
-OpensOn opens gives old None (Err fault) new = ⊥
-OpensOn opens gives old (Some name) (Ok watch) new = (file : _) × opens old.machine.now name (Ok file) × (watch.device ≡ read_as old.is_seeded (File (record { device = file })))
-OpensOn opens gives old (Some name) (Err Unopened) new = (error : Error) × opens old.machine.now name (Err error) × (error_kind error ≢ kind.OutOfMemory)
-OpensOn opens gives old (Some name) (Err OutOfMemory) new = (error : Error) × opens old.machine.now name (Err error) × (error_kind error ≡ kind.OutOfMemory)
+OpensOn opens gives old name result new = OpenedOn opens gives old name result × (new ≡ old)
 
 -- What the program leaves that is run on these words over this machine: that of a host which is this
 -- machine.
