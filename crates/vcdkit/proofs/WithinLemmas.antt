@@ -1,14 +1,17 @@
 -- A run is the same under two token limits, where no input is longer than either.
-use Rattle.std.proofs.Common.{◌≡◌, ℕ, ◌+◌, ◌<◌, ◌≤◌, Bool, false, inl, inr, zero, suc, ◌⊎◌, List, [], ◌∷◌, ◌++◌, filter, length, drop, map, slice_get, take, Option, Some, None, Result, Ok, Err, refl, sym, ap, subst, ◌∙◌, arith}
-use Rattle.std.specs.Prelude.{All, IfSome, nat_lt, option_map, slice_set}
+use Rattle.std.proofs.Common.{◌≡◌, ℕ, ◌≤◌, Bool, false, inl, inr, zero, suc, ◌⊎◌, List, [], ◌∷◌, ◌++◌, filter, length, drop, map, slice_get, take, Option, Some, None, Result, Ok, Err, refl, sym, ap, subst, ◌∙◌, arith}
+use Rattle.std.specs.Prelude.{IfSome, nat_lt, option_map, slice_set}
 use Rattle.std.specs.List.{AllByRecursion, position_or_len, reduce}
 use Rattle.std.proofs.lemmas.Bool.Decides.{nat_tests}
 use Rattle.std.proofs.lemmas.List.{length-drop, length-take}
 use Rattle.vcd_model.specs.Bytes.{is_white_space}
+use Rattle.vcd_model.specs.BodyReading.{body_fault_of, read_body}
 use Rattle.vcd_model.specs.Header.{Header, header_of}
 use Rattle.vcd_model.specs.HeaderReading.{header_fault_of, read_header}
 use Rattle.vcd_model.specs.Input.{Input}
+use Rattle.vcd_model.specs.Items.{BodyItem}
 use Rattle.vcd_model.specs.Job.{Want, outcome, over_opened}
+use Rattle.vcd_model.specs.Merge.{Dump, dump_of, factor}
 use Rattle.vcd_model.specs.Outcome.{Opened, Outcome, allowed_after, fault_outcome, name_at, open_from, with_opened}
 use Rattle.vcd_model.specs.Reading.{Fault, phrases_of}
 use Rattle.vcd_model.specs.SettledMerge.{Seen, is_settled_merge}
@@ -20,10 +23,19 @@ use Rattle.vcd_text.specs.Device.{Device, Supply}
 use Rattle.vcd_text.specs.ReadAhead.{Near, ReadsAsNeeded}
 use Rattle.vcd_text.specs.ReadAhead.ReadsAsNeeded.{Nothing, ToToken, ToEnd}
 use Rattle.vcd_view.proofs.ListLemmas.{from_all}
+use Rattle.vcd_head.specs.Reads.{HasFault}
 use Rattle.vcd_body.specs.Answer.{IsLeft}
+use Rattle.vcd_body.specs.declared.answer.Stop.TheVariants.{Dump as Faulty, Read, Write, Unmatched}
+use Rattle.vcd_merge.specs.MergeRun.{AreReadOnTurn, HasEnded, ReadOnTurn}
+use Rattle.vcd_merge.specs.MergeRun.AreReadOnTurn.{OnTurn, Unread}
+use Rattle.vcd_merge.specs.Seat.{HasDump, Lane}
 use Rattle.vcd_words.specs.declared.job.Job.{Job}
 use Rattle.vcdkit.specs.Calls.{AreWithin, IsWithin, Narrows}
-use Rattle.vcdkit.specs.Run.{AreNeeded, AreRead, HasRun, IsOutcome, header_behind, known, settles_among}
+use Rattle.vcdkit.specs.Inputs.{AreBegun, IsBegun, IsWhy, Stops, headers_in}
+use Rattle.vcdkit.specs.Run.{AreInTurn, AreMergedInTurn, AreNeeded, AreRead, HasRun, IsOutcome, header_behind, known, settles_among}
+use Rattle.vcdkit.specs.Run.AreMergedInTurn.{InBodies, InHeaders}
+use Rattle.vcdkit.specs.declared.failure.Failure.{Failure}
+use Rattle.vcdkit.specs.declared.failure.Failure.TheVariants.{Stopped, Refused, OutOfMemory}
 use Rattle.vcdkit.proofs.HeaderLemmas.{reads_for}
 use Rattle.vcdkit.specs.Run.HasRun.{WithOutcome, NoMemory}
 
@@ -32,6 +44,11 @@ use Rattle.vcdkit.specs.Run.HasRun.{WithOutcome, NoMemory}
 -- the limits are the same, or the text is not longer than either
 abbrev pub IsShort : (a b : ℕ) → List ℕ → Type 0
 IsShort a b text = (a ≡ b) ⊎ ((length text ≤ a) × (length text ≤ b))
+
+at_index : {X : Type 0} (P : X → Type 0) (xs : List X) (k : ℕ) (x : X) → AllByRecursion P xs → slice_get xs k ≡ Some x → P x
+at_index P [] k x all is = absurd (cc)
+at_index P (y ∷ xs) zero x all is = let e : y ≡ x = cc in subst P e all.0
+at_index P (y ∷ xs) (suc k) x all is = at_index P xs k x all.1 is
 
 filter_none : {X : Type 0} (p : X → Bool) (xs : List X) → ((x : X) → p x ≡ false) → filter p xs ≡ []
 filter_none p [] fails = refl
@@ -143,11 +160,6 @@ module _ (a b : ℕ) where
   unfolding outcome
   same_outcome want names inputs short = ap (λ (o : Result (List Opened) (ℕ × Fault)). elim o [ Err e ↦ fault_outcome [] (name_at names e.0) e.1 | Ok os ↦ over_opened want names os ]) (same_opened [] inputs short)
 
-  short_at : (inputs : List Input) (k : ℕ) (i : Input) → AllByRecursion (λ (i : Input). IsShort a b i.bytes) inputs → slice_get inputs k ≡ Some i → IsShort a b i.bytes
-  short_at [] k i short is = absurd (cc)
-  short_at (j ∷ inputs) zero i short is = let e : j ≡ i = cc in subst (λ (x : Input). IsShort a b x.bytes) e short.0
-  short_at (j ∷ inputs) (suc k) i short is = short_at inputs k i short.1 is
-
   same_settled : (inputs : List Input) (k : ℕ) (ts : List Token) → AllByRecursion (λ (i : Input). IsShort a b i.bytes) inputs → settles_among a inputs k ts ≡ settles_among b inputs k ts
   same_settled inputs k ts short = ap (λ (ss : List Seen). is_settled_merge (slice_set ss k (Seen.First ts))) (same_known inputs short)
 
@@ -155,7 +167,7 @@ module _ (a b c d : ℕ) (le : c ≤ d) (old new : List Supply) (inputs : List I
   merge_within : AreNeeded Want.Merge a c old new inputs → AreNeeded Want.Merge b d old new inputs
   merge_within needed k s t i is_s is_t is_i =
       reads_for b d s t i [] (settles_among a inputs k) (settles_among b inputs k) (λ ts e. sym (same_settled a b inputs k ts short) ∙ e)
-      (needed_within a b c d le s t i [] (settles_among a inputs k) (short_at a b inputs k i short is_i) (needed k s t i is_s is_t is_i))
+      (needed_within a b c d le s t i [] (settles_among a inputs k) (at_index (λ (i : Input). IsShort a b i.bytes) inputs k i short is_i) (needed k s t i is_s is_t is_i))
 
   all_within : (want : Want) → AreNeeded want a c old new inputs → AreNeeded want b d old new inputs
   all_within Want.Merge needed = merge_within needed
@@ -166,13 +178,113 @@ module _ (a b c d : ℕ) (le : c ≤ d) (old new : List Supply) (inputs : List I
   all_within (Want.Sample times names) needed = needed
   all_within (Want.Edges names) needed = needed
 
+-- ---- the turns of a merge
+
+module _ (a b c d : ℕ) (le : c ≤ d) where
+  begun_one : (most : ℕ) (text : List ℕ) (l : Lane) (s t : Supply) → IsShort a b text → IsBegun most a c (whole text) l s t → IsBegun most b d (whole text) l s t
+  begun_one most text l s t short n = record {
+    input_is = n.input_is;
+    placed = n.placed;
+    whole = n.whole;
+    header_is = n.header_is;
+    given_first = subst (λ (x : Stream). IsPrefixOf l.front x.tokens) (same_stream a b (whole text) short) n.given_first;
+    near = near_more c d t.rest _ (whole text) le n.near;
+    before = n.before;
+    last = n.last;
+    is = n.is;
+    going = n.going;
+    failures = n.failures;
+  }
+
+  -- their inputs are not longer either
+  begun_within : (earlier : List Header) (texts : List (List ℕ)) (old new : List Supply) (lanes : List Lane) → AllByRecursion (IsShort a b) texts → AreBegun a c earlier texts old new lanes
+      → AreBegun b d earlier texts old new lanes × AllByRecursion (λ (l : Lane). IsShort a b l.input.bytes) lanes
+  begun_within earlier [] [] [] [] short begun = (tt, tt)
+  begun_within earlier (text ∷ texts) (s ∷ old) (t ∷ new) (l ∷ lanes) short begun =
+      let others = begun_within (earlier ++ l.header ∷ []) texts old new lanes short.1 begun.1 in (
+        (begun_one (allowed_after earlier) text l s t short.0 begun.0, others.0),
+        (subst (λ (i : Input). IsShort a b i.bytes) (sym begun.0.input_is) short.0, others.1),
+      )
+  begun_within earlier texts old new lanes short begun = absurd begun
+
+  fault_within : (most : ℕ) (left : Input) (fault line : ℕ) → IsShort a b left.bytes → HasFault most a left fault line → HasFault most b left fault line
+  fault_within most left fault line short f = subst (λ (x : Stream). header_fault_of x (read_header most x) ≡ Some (record { number = fault; line = line })) (same_stream a b left short) f
+
+  why_within : (most place : ℕ) (left : Input) (why : Failure) → IsShort a b left.bytes → IsWhy most a place left why → IsWhy most b place left why
+  why_within most place left (Stopped (Faulty input line fault)) short w = (w.0, w.1, fault_within most left fault line short w.2)
+  why_within most place left (Stopped (Read input)) short w = (w.0, w.1, fault_within most left 31 w.1 short w.2)
+  why_within most place left (Stopped Write) short w = absurd w
+  why_within most place left (Stopped (Unmatched name)) short w = absurd w
+  why_within most place left (Refused why) short w = absurd w
+  why_within most place left OutOfMemory short w = w
+
+  stops_within : (place : ℕ) (earlier : List Header) (texts : List (List ℕ)) (old new : List Supply) (why : Failure) → AllByRecursion (IsShort a b) texts → Stops a c place earlier texts old new why → Stops b d place earlier texts old new why
+  stops_within place earlier (text ∷ texts) (s ∷ old) (t ∷ new) why short (inl h) =
+      let most = allowed_after earlier in
+      let left = h.0.left in
+      let one = left_short a b c d le text s t left short.0 h.0.is_left in
+      inl (record { left = left; is_left = h.0.is_left; read = needed_within a b c d le s t left [] (is_header_over most) one h.0.read; is_why = why_within most place left why one h.0.is_why }, h.1, h.2)
+  stops_within place earlier (text ∷ texts) (s ∷ old) (t ∷ new) why short (inr h) =
+      inr (h.0, begun_one (allowed_after earlier) text h.0 s t short.0 h.1, stops_within (suc place) (earlier ++ h.0.header ∷ []) texts old new why short.1 h.2)
+  stops_within place earlier texts old new why short stops = absurd stops
+
+  dump_within : (scale : ℕ) (h : Header) (front : List Token) (i : Input) (items : List BodyItem) (fault : Option Fault) → IsShort a b i.bytes → HasDump scale a h front i items fault → HasDump scale b h front i items fault
+  dump_within scale h front i items fault short n =
+      let rest = n.rest in
+      record {
+        rest = rest;
+        tokens = subst (λ (x : Stream). x.tokens ≡ front ++ rest) (same_stream a b i short) n.tokens;
+        is = subst (λ (x : Stream). dump_of scale h (body_fault_of x (read_body h.codes rest)) (read_body h.codes rest) ≡ record { header = h; items = items; fault = fault }) (same_stream a b i short) n.is;
+      }
+
+  module _ (hs : List Header) (lanes : List Lane) (short_lane : (k : ℕ) (l : Lane) → slice_get lanes k ≡ Some l → IsShort a b l.input.bytes) where
+    ended_within : {P : Type 0} (l : Lane) (items : List BodyItem) → IsShort a b l.input.bytes → HasEnded a hs l items ⊎ P → HasEnded b hs l items ⊎ P
+    ended_within l items short (inl ended) = inl (dump_within (factor hs l.header) l.header l.front l.input items None short ended)
+    ended_within l items short (inr later) = inr later
+
+    turn_within : (merged : List Dump) (k : ℕ) (l : Lane) (left : Input) (rest : Option (List ℕ)) → IsShort a b left.bytes → ReadOnTurn a c hs lanes merged k l left rest → ReadOnTurn b d hs lanes merged k l left rest
+    turn_within merged k l left rest short r = record {
+      items = r.items;
+      first = λ j m n other at_m at_n. ended_within m n.items (short_lane j m at_m) (r.first j m n other at_m at_n);
+      no_more = λ old failures settled none. needed_within a b c d le old (record { rest = rest; failures = failures }) left l.front settled short (r.no_more old failures settled none);
+    }
+
+    read_or_not : {P : Type 0} (merged : List Dump) (k : ℕ) (l : Lane) (left : Input) (rest : Option (List ℕ)) → IsShort a b left.bytes → P ⊎ ReadOnTurn a c hs lanes merged k l left rest → P ⊎ ReadOnTurn b d hs lanes merged k l left rest
+    read_or_not merged k l left rest short (inl same) = inl same
+    read_or_not merged k l left rest short (inr r) = inr (turn_within merged k l left rest short r)
+
+    bodies_within : (old new : List Supply) (lefts : List Input) (out out' : Device) → AllByRecursion (λ (i : Input). IsShort a b i.bytes) lefts → AreReadOnTurn a c hs lanes old new lefts out out' → AreReadOnTurn b d hs lanes old new lefts out out'
+    bodies_within old new lefts out out' short (Unread same) = Unread same
+    bodies_within old new lefts out out' short (OnTurn merged headers begins more written each) =
+        OnTurn merged headers
+        (λ k l m at_l at_m. let n = begins k l m at_l at_m in (n.0, n.1, dump_within (factor hs l.header) l.header l.front l.input (m.items ++ n.0) n.1 (short_lane k l at_l) n.2))
+        more written
+        (λ k l s t i at_l at_s at_t at_i. read_or_not merged k l i t.rest (at_index (λ (i : Input). IsShort a b i.bytes) lefts k i short at_i) (each k l s t i at_l at_s at_t at_i))
+
+  module _ (texts : List (List ℕ)) (old new : List Supply) (inputs : List Input) (out out' : Device) (short : AllByRecursion (IsShort a b) texts) (all : AllByRecursion (λ (i : Input). IsShort a b i.bytes) inputs) where
+    merged_within : AreMergedInTurn a c texts old new inputs out out' → AreMergedInTurn b d texts old new inputs out out'
+    merged_within (InHeaders why stops) = InHeaders why (stops_within 0 [] texts old new why short stops)
+    merged_within (InBodies lanes mid begun bodies) =
+        let n = begun_within [] texts old mid lanes short begun in
+        InBodies lanes mid n.0 (bodies_within (headers_in lanes) lanes (λ k l at. at_index (λ (l : Lane). IsShort a b l.input.bytes) lanes k l n.1 at) mid new inputs out out' all bodies)
+
+    turns_within : (want : Want) → AreInTurn want a c texts old new inputs out out' → AreInTurn want b d texts old new inputs out out'
+    turns_within Want.Merge turns = merged_within turns
+    turns_within Want.Check turns = turns
+    turns_within Want.Listing turns = turns
+    turns_within (Want.Pick names) turns = turns
+    turns_within (Want.Cut from to) turns = turns
+    turns_within (Want.Sample times names) turns = turns
+    turns_within (Want.Edges names) turns = turns
+
 -- ---- a run
 
 pub run_within : (a b c d : ℕ) → c ≤ d → (want : Want) (names texts : List (List ℕ)) (old new : List Supply) (out out' err err' : Device) (status : ℕ) → AllByRecursion (IsShort a b) texts
     → HasRun want a c names texts old new out out' err err' status → HasRun want b d names texts old new out out' err err' status
-run_within a b c d le want names texts old new out out' err err' status short (WithOutcome inputs read needed leaves) =
+run_within a b c d le want names texts old new out out' err err' status short (WithOutcome inputs read needed turns leaves) =
     let all = lefts_short a b c d le (is_settled want) [] texts old new inputs short read in
     WithOutcome inputs (read_within a b c d le (is_settled want) [] texts old new inputs short read) (all_within a b c d le old new inputs all want needed)
+    (turns_within a b c d le texts old new inputs out out' short all want turns)
     (subst (λ (o : Outcome). IsOutcome o out out' err err' status) (same_outcome a b want names inputs all) leaves)
 run_within a b c d le want names texts old new out out' err err' status short (NoMemory inputs read written shown status_is) =
     NoMemory inputs (read_within a b c d le is_header_over [] texts old new inputs short read) written shown status_is

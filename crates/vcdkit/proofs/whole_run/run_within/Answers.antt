@@ -1,4 +1,4 @@
-use Rattle.std.proofs.Common.{◌≡◌, map, sym, subst}
+use Rattle.std.proofs.Common.{map, subst}
 use Rattle.std.specs.Prelude.{string_bytes}
 use Rattle.vcd_words.specs.Job.{model_want}
 use Rattle.vcd_words.specs.declared.job.Want.{Want}
