@@ -336,10 +336,12 @@ fn are_found_wide(
     let dump = wide_dump(alloc, digits)?;
     let (found_bits, status, reading) = found_in(alloc, &dump, b"!", most)?;
     let (found_vectors, other, again) = found_in(alloc, &dump, b"\"", most)?;
-    Ok(found_bits.as_slice() == bits
-        && found_vectors.as_slice() == vectors
-        && (status, reading.fault, reading.line) == ends
-        && (other, again.fault, again.line) == ends)
+    Ok(
+        found_bits.as_slice() == bits
+            && found_vectors.as_slice() == vectors
+            && (status, reading.fault, reading.line) == ends
+            && (other, again.fault, again.line) == ends,
+    )
 }
 
 // Tokens of one byte less and more than the lower limit, and than the limit, which is 1,048,576.
