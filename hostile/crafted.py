@@ -96,8 +96,7 @@ def limits(program):
 
 
 def files(program):
-    """64 files and 65; standard input once and twice; a merge of 1,000 scopes, whose text has one
-    more."""
+    """64 files and 65; a merge of 1,000 scopes, whose text has one more."""
     with tempfile.TemporaryDirectory() as folder:
         texts = {"a": b"$var wire 1 ! a $end\n" + BODY + b"#0\n1!\n",
                  "deep": scopes(1000) + b"$var wire 1 ! a $end\n" + BODY + b"#0\n1!\n"}
@@ -111,13 +110,6 @@ def files(program):
                                                                                       got, want)
         got = run(program, ["merge"] + ["a"] * 65, folder=folder)
         yield None if got == (b"", b"vcdkit: too many files\n", 2) else "65 files: %.300r" % (got,)
-        twice = (b"", b"vcdkit: standard input twice\n", 2)
-        for names in (["-", "-"], ["a", "-", "a", "-"], ["-"] * 64):
-            got = run(program, ["merge"] + names, texts["a"] * 2, folder=folder)
-            yield None if got == twice else "standard input twice: %.300r" % (got,)
-        want = run(program, ["merge", "a", "a"], folder=folder)
-        got = run(program, ["merge", "a", "-"], texts["a"], folder=folder)
-        yield None if got == want else "standard input once: %.300r" % (got,)
         merged = run(program, ["merge", "deep"], folder=folder)[0]
         got = run(program, ["check"], merged)
         yield None if got == (b"", b"vcdkit: (stdin):1004: scopes too deep\n",
