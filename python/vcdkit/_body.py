@@ -74,6 +74,19 @@ def steps(out: BinaryIO, codes: Container[bytes]) -> Iterator[Tuple[int, Changes
         yield time, before, found
 
 
+def edge_steps(out: BinaryIO, codes: Container[bytes], clock: bytes, edge: Tuple[bytes, bytes]
+               ) -> Iterator[Tuple[int, Changes, Changes, bool]]:
+    """Returns the steps of some codes, a clock's among them, and of each whether the clock goes from
+    one digit to another in it."""
+    now = b""
+    for time, before, found in steps(out, codes):
+        is_edge = False
+        for code, digit in before + found:
+            if code == clock:
+                is_edge, now = is_edge or (now, digit) == edge, digit
+        yield time, before, found, is_edge
+
+
 def full(text: str, size: int) -> Value:
     """Returns all digits of a value."""
     return Value(text.rjust(size, extension(text)))

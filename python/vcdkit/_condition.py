@@ -531,12 +531,9 @@ def _at_edges(out: BinaryIO, condition: Condition, clock: bytes, edge: Tuple[byt
               ) -> Iterator[int]:
     """Returns each time at which a clock goes from one digit to another; the condition has the
     values just before that time, and the events since the last one."""
-    now = b""
-    for time, before, changes in _body.steps(out, {clock, *condition.codes}):
+    codes = {clock, *condition.codes}
+    for time, before, changes, is_edge in _body.edge_steps(out, codes, clock, edge):
         condition.take(before)
-        is_edge = False
-        for digit in [value for code, value in before + changes if code == clock]:
-            is_edge, now = is_edge or (now, digit) == edge, digit
         if is_edge:
             yield time
             condition.end_events()
