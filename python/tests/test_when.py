@@ -1,7 +1,10 @@
 #!/usr/bin/env python3
 """Compares Dump.when, over the program, with a plain reader of its own: random conditions over
 random small dumps, COUNT of them (2000), of a SEED (1). A condition is made as a tree, written by
-the rules of the page, and looked up in lists of changes."""
+the rules of the page, and looked up in lists of changes. Then it tries vcdkit-when on a sample, of
+which the wanted times were read off, and on what it has to refuse, by one line."""
+import contextlib
+import io
 import multiprocessing
 import os
 import random
@@ -11,6 +14,7 @@ import tempfile
 sys.path.insert(0, ABOVE := os.path.dirname(os.path.dirname(os.path.abspath(__file__))))
 os.environ.update(VCDKIT=os.environ.get("VCDKIT", ABOVE + "/../vcdkit"), VCDKIT_WAY="program")
 from vcdkit import Dump
+from vcdkit.commands import when
 
 HEADER = ("$timescale 10ns $end $scope module t $end $var wire 1 ! c $end $var reg 4 \" q [3:0] $end\n"
           "$var real 64 @ r $end $var event 1 $ e $end $var reg 4 \" k[7:4] $end\n"
@@ -303,9 +307,75 @@ def wrong(seed):
     return found
 
 
+NESTED = os.path.dirname(ABOVE) + "/samples/nested.vcd"
+COUNT = "bench.slow.count"  # 0 at 5 ns, one more each 10 ns from 15 ns on, x from 72 to 92 ns
+ANSWERS = [
+    (["%s == 0xb" % COUNT], "115ns"), (["--count", "%s[0]" % COUNT], "5"), (["--count", "1 > 2 | a"], None),
+    (["--first", "%s[1:0]==3&!bench.reset" % COUNT], "35ns"), (["bench.level >= 2.75"], "105ns"),
+    (["%s is x" % COUNT], "0ps 72ns"), (["--from", "80ns", "%s is x" % COUNT], "80ns"),
+    (["--from", "80ns", "--to", "85ns", "%s == 4" % COUNT], ""),
+    (["--rise", "bench.clock", "%s == 4" % COUNT], "55ns"),
+    (["--fall", "bench.clock", "%s == 4" % COUNT], "50ns"),
+    (["--every", "--rise", "bench.clock", "%s < 3" % COUNT], "15ns 25ns 35ns"),
+    (["%s == 1 -> %s == 2 within 10ns" % (COUNT, COUNT)], "15ns"),
+    (["%s == 1 -> %s == 2 within 9.9ns" % (COUNT, COUNT)], ""),
+    (["--rise", "bench.clock", "!(%s == 1 -> %s == 3 within 1)" % (COUNT, COUNT)], "25ns"),
+    (["--rise", "bench.clock", "!(%s == 10 -> %s == 11 within 1)" % (COUNT, COUNT)], "")]
+REFUSED = ["", " ", "(", ")", "a b", "a ==", "a == = 1", "a = 1", "== 1", "!", "!!a", "a &", "a & & b",
+           "1", "1 == 1", "a -> b", "a within 5", "a -> b within", "a -> b within c",
+           "(a -> b within 5) & c", "a -> b -> c within 5 within 5", "c -> c within 5", "a is",
+           "a is 5", "a is not", "q == 5ns", "q == 16", "q == -9", "q == 0b1xx00", "q < 0bx",
+           "q == 0xg", "q == 8'hff", "q == 1.2.3", "!q == 1", "1 < q < 3", "(q) == (c & c)",
+           "q[4]", "q[0:1]", "r[0]", "r == 0bx", "e == 1", "e is x", "e < c", "signed(r) == 1",
+           "signed(1) == q", "signed", "signed(q, q)", "q(c)", "p == 1", "u", "none", "q[3:0].a", '"',
+           '"q', "q; import os", "q.__class__", "lambda: q", "q if c else q", "[q]", "{q}", "q + 1",
+           "q := 1", "\udcff", "(" * 5000 + "q" + ")" * 5000, "!(" * 5000 + "q" + ")" * 5000,
+           "q" * 100000, "0x" + "f" * 100000 + " == q", "9" * 100000 + " == q", "q\n==", "*", "..."]
+
+
+def said(words):
+    """What vcdkit-when prints, its message, and its status."""
+    out, text = io.TextIOWrapper(io.BytesIO()), io.TextIOWrapper(io.BytesIO())
+    with contextlib.redirect_stdout(out), contextlib.redirect_stderr(text):
+        try:
+            status = when.main(words)
+        except SystemExit as end:
+            status = end.code
+        sys.stderr.flush()
+    return (out.buffer.getvalue().decode(), text.buffer.getvalue().decode(errors="replace"), status)
+
+
+def tried():
+    """What is wrong on the sample, and of what has to be refused."""
+    for words, times in ANSWERS:
+        got = said([*words[:-1], "--", NESTED, words[-1]])
+        wanted = "".join(time + "\n" for time in (times or "").split(" ") if time)
+        if got != (wanted, "", 0 if times else 1) if times is not None else got[2] != 2:
+            yield words, "", times, got
+    with tempfile.TemporaryDirectory() as folder:
+        files = {"dump": HEADER + "#0\n0!\n", "empty": "", "header": HEADER, "fault": HEADER + "#x",
+                 "binary": "".join(map(chr, range(256))) * 9, "other": "PK\3\4"}
+        for name, text in files.items():
+            with open("%s/%s" % (folder, name), "w", encoding="latin-1") as file:
+                file.write(text)
+        asked = [["--", folder + "/dump", text.replace("q", "t.q") if text != "q" * 100000 else text]
+                 for text in REFUSED]
+        asked += [[folder + "/" + name, "t.c"]
+                  for name in ("empty", "fault", "binary", "other", "none", "", "dump/none")]
+        asked += [[*words, folder + "/dump", "t.c"] for words in (
+            ["--rise", "t.q"], ["--fall", "none"], ["--rise", "t"], ["--from", "x"], ["--every"],
+            ["--from", "-1"], ["--to", "9" * 99], ["--from", "1.5"], ["--from", "2", "--to", "1"])]
+        for words in asked:
+            out, text, status = said(words)
+            if (out, text.count("\n")) != ("", 1) or status not in (2, 3) or not text.startswith(
+                    "vcdkit-when: "):
+                yield [word[:60] for word in words], "", "a line", (out, text[:300], status)
+
+
 if __name__ == "__main__":
     with multiprocessing.Pool() as pool:
         found = sum(pool.map(wrong, range(int(os.environ.get("COUNT", 2000)) // 5), 5), [])
+    found += tried()
     for one in sorted(found, key=lambda one: len(one[1]))[:3]:
         print("%s: of\n%s  wanted: %s\n  got:    %s" % one)
     sys.exit("%d answers are wrong" % len(found) if found else 0)

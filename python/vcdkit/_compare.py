@@ -3,6 +3,7 @@
 A value is as a body has it: the fewest digits, or r and a real number. Equal values of one size have
 equal digits."""
 import contextlib
+import itertools
 import os
 from math import gcd, isclose, isnan
 from typing import (BinaryIO, Callable, Dict, Iterator, List, NamedTuple, Optional, Sequence,
@@ -18,6 +19,7 @@ from .values import Signal
 
 BLOCK = 1 << 16
 MAX_NAMES = 1 << 17  # bytes of names on a command line
+NOTHING: Iterator[Tuple[int, ...]] = itertools.repeat(())
 Values = Tuple[Optional[bytes], Optional[bytes]]
 Same = Callable[[Optional[bytes], Optional[bytes]], bool]
 
@@ -60,6 +62,14 @@ def kind(signal: Signal) -> Union[str, int]:
     return "event" if signal.type == "event" else "real" if signal.is_real else signal.size
 
 
+def _around(path: str) -> Iterator[str]:
+    """Returns a path without its range, and the scopes around it."""
+    path = bare(path)
+    while path:
+        yield path
+        path = path.rpartition(".")[0]
+
+
 class Side:
     """One of the dumps. Its names are the paths, of which maps replace the front; `found` has what
     of all that was asked for is in it."""
@@ -82,13 +92,11 @@ class Side:
 
     def choose(self, names: Set[str], exceptions: Set[str]) -> None:
         """Takes the signals that names select, all without names, but for the exceptions."""
+        asked = names | exceptions
         for at, name in enumerate(self.names):
-            its, scope = set(), bare(name)
-            while scope:
-                its.add(scope)
-                scope = scope.rpartition(".")[0]
-            self.found |= its & names | its & exceptions
-            if (its & names or not names) and not its & exceptions:
+            its = asked.intersection(_around(name)) if asked else asked
+            self.found |= its
+            if (not names or its & names) and not its & exceptions:
                 self.of_name.setdefault(name, []).append(at)
 
     def unknown(self, name: str) -> UnknownName:
@@ -108,6 +116,8 @@ class Side:
     def alone(self) -> List[Tuple[str, int]]:
         """Returns the names of what the other does not have, and how many signals each has."""
         paths = [name for name in self.of_name if name not in self.common]
+        if not paths:
+            return []
         every = [one._replace(path=name) for one, name in zip(self.signals, self.names)]
         count = dict.fromkeys(names_for(paths, every), 0)
         for path in paths:
@@ -276,6 +286,7 @@ class Comparison:
         for number, pair in enumerate(pairs):
             for table, code in zip(self._tables, pair.codes):
                 table.setdefault(code, []).append(number)
+        self._codes = [pair.codes for pair in pairs]
         self._events = {number for number, pair in enumerate(pairs)
                         if kind(pair.signals[0]) == "event"}
 
@@ -318,26 +329,30 @@ class Comparison:
                 continue
             touched: Set[int] = set()
             for step, table, state in zip(taken, self._tables, states):
-                changes = step.changes if step else {}
-                state.update(changes)
-                for code in changes:
-                    touched.update(table.get(code, ()))
-            found = [one for one in touched & left if not self._same(
-                *self._values(one, taken, states))]
+                if step:
+                    state.update(step.changes)
+                    touched.update(*map(table.get, step.changes, NOTHING))
+            found = self._differing(touched & left, taken, states)
             if found:
-                left.difference_update(found)
+                left.difference_update(number for number, _ in found)
                 times = self._times(taken)
-                yield [Difference(times, self._pairs[one], self._values(one, taken, states))
-                       for one in found]
+                yield [Difference(times, self._pairs[number], values) for number, values in found]
 
-    def _values(self, number: int, taken: Sequence[Optional[Step]],
-                states: Sequence[Dict[bytes, bytes]]) -> Values:
-        """Returns the values of a pair; of an event whether it is triggered."""
-        mine, its = self._pairs[number].codes
-        if number in self._events:
-            one, other = (step.changes if step else {} for step in taken)
-            return one.get(mine), other.get(its)
-        return states[0].get(mine), states[1].get(its)
+    def _differing(self, numbers: Set[int], taken: Sequence[Optional[Step]],
+                   states: Sequence[Dict[bytes, bytes]]) -> List[Tuple[int, Values]]:
+        """Returns those of the pairs whose values differ, with these; of events whether they are
+        triggered."""
+        found = []
+        mine, its = states
+        triggered = [step.changes if step else {} for step in taken]
+        for number in numbers:
+            one, other = self._codes[number]
+            values = mine.get(one), its.get(other)
+            if number in self._events:
+                values = triggered[0].get(one), triggered[1].get(other)
+            if values[0] != values[1] and not self._same(*values):
+                found.append((number, values))
+        return found
 
     def _times(self, taken: Sequence[Optional[Step]]) -> Tuple[int, int]:
         """Returns the time of a step in the ticks of each."""

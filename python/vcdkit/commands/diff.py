@@ -177,6 +177,10 @@ def compare(asked: argparse.Namespace, report: Report) -> None:
         if not asked.all:
             break
     report.say("differs", [])
+    for side, count in zip(sides, comparison.counts):
+        if clocks and pairs and not count:
+            raise UsageError("%s: %s never %s" % (
+                side.dump.name, name, "rises" if asked.rise else "falls"))
     if not asked.common and not (clocks and first):
         say_ends(report, sides, comparison, bool(clocks))
     if first and asked.window:
