@@ -1,7 +1,8 @@
 #!/usr/bin/env python3
 """Compares vcdkit-diff, over the program, with a plain reader of its own: COUNT pairs of random
 small dumps (2000), of a SEED (1). The second dump is the first as another tool could write it:
-other codes, scopes, ranges, ticks and order, values written again, and now and then another one."""
+other codes, scopes, ranges, ticks and order, values written again, and now and then another one. Then it
+tries what vcdkit-diff has to refuse, and its JUnit file."""
 import contextlib
 import io
 import math
@@ -11,6 +12,7 @@ import random
 import re
 import sys
 import tempfile
+import xml.etree.ElementTree as xml
 
 sys.path.insert(0, ABOVE := os.path.dirname(os.path.dirname(os.path.abspath(__file__))))
 os.environ.update(VCDKIT=os.environ.get("VCDKIT", ABOVE + "/../vcdkit"), VCDKIT_WAY="program")
@@ -293,6 +295,18 @@ def other_variables(of):
     return found
 
 
+def said(words):
+    """What vcdkit-diff prints, its message, and its status."""
+    out, text = io.TextIOWrapper(io.BytesIO()), io.TextIOWrapper(io.BytesIO())
+    with contextlib.redirect_stdout(out), contextlib.redirect_stderr(text):
+        try:
+            status = diff.main(words)
+        except SystemExit as end:
+            status = end.code
+        sys.stderr.flush()
+    return (out.buffer.getvalue().decode(), text.buffer.getvalue().decode(errors="replace"), status)
+
+
 def wrong(seed):
     of = random.Random("%s %d" % (os.environ.get("SEED", 1), seed))
     is_other, is_top = of.choice([0, 0, .05, .3]), of.random() < .3
@@ -329,18 +343,79 @@ def wrong(seed):
         for file, text in zip(files, texts):
             file.write(text)
             file.flush()
-        with contextlib.redirect_stdout(io.TextIOWrapper(io.BytesIO())) as out:
-            status = diff.main([*words, *(file.name for file in files), *asked["names"]])
-    got = (out.buffer.getvalue().decode().splitlines(), status)
+        out, _, status = said([*words, *(file.name for file in files), *asked["names"]])
+    got = (out.splitlines(), status)
     lines = expected(texts, scales, asked)
     if got == (lines, int(bool(lines))) or (lines[-1:], got) == ([None], (lines[:-1], 2)):
         return []
     return [("%s %s" % (words, asked["names"]), "".join(texts), lines, got)]
 
 
+HEADER = ("$scope module t $end $var wire 1 ! c $end $var real 64 @ r $end $var reg 4 \" q $end "
+          "$upscope $end $enddefinitions $end\n")
+FILES = {"a": HEADER + "#0\n0!\nr1 @\n#1\n1!\n", "b": HEADER + "#0\n0!\nr1.5 @\n#1\n1!\nb1 \"\n",
+         "other": HEADER.replace("module t", "module u<&"), "empty": "", "fault": HEADER + "#x",
+         "binary": "".join(map(chr, range(256))) * 9}
+LINES = "differs 0 t.r 1.0 1.5\n"
+REFUSED = ["a none", "none a", "a .", "a empty", "empty a", "a fault", "a binary", "binary binary",
+           "a b none", "a b t.none", "a b t.q.q", "a other t", "--map=none=t a b", "--except=none a b",
+           "--window=foo a b", "--window=1ns a b", "--window= a b", "--common a other",
+           "--rise=none a b", "--rise=t a b", "--rise=t.r a b", "--fall=t.q a b", "--fall=t.c a b",
+           "--rise=t.c a other", "--junit=none/j.xml a a", "--junit=. a a"]
+MISUSED = ["", "a", "--into=x a b", "--map=t a b", "--map==t a b", "--real-tolerance=x a b",
+           "--real-tolerance=-1 a b", "--real-tolerance=nan a b", "--rise=t.c --fall=t.c a b",
+           "--none a b", "--common=1 a b"]
+ANSWERED = [("a a", "", 0), ("a b", LINES, 1), ("--all a b", LINES + "differs 1 t.q - 0001\n", 1),
+            ("--real-tolerance=.5 a b", "differs 1 t.q - 0001\n", 1), ("a b t.c", "", 0),
+            ("--except=t.r --except=t.q a b", "", 0), ("--rise=t.c a b", LINES.replace("0", "1", 1), 1),
+            ("--map=t=x a b x.c", "", 0), ("--map=t= a a c", "", 0),
+            ("--map=u<&=t --common a other", "differs 0 t.c 0 -\ndiffers 0 t.r 1.0 -\n", 1)]
+# The errors, failures, and the messages of a JUnit file.
+REPORTS = [("a a", "0", "0", []), ("a b", "0", "1", [LINES.strip()]),
+           ("a fault", "1", "0", ["fault:2: bad time"]),
+           ("--common a other", "1", "0", ["the dumps have no name in common: --map OLD=NEW gives a "
+                                           "scope another"]),
+           ("a other t.q", "1", "0", ["other: t.q: selects nothing; names are the paths that `list` "
+                                      "writes, and the scopes in them"]),
+           ("--map=u<&=t a other", "0", "2", ["differs 0 t.c 0 -", "ends 1 -"])]
+
+
+def tried():
+    """What is wrong of a few dumps, and of what has to be refused."""
+    with tempfile.TemporaryDirectory() as folder:
+        for name, text in FILES.items():
+            with open("%s/%s" % (folder, name), "w", encoding="latin-1") as file:
+                file.write(text)
+        here = os.getcwd()
+        os.chdir(folder)
+        try:
+            for line in REFUSED:
+                out, text, status = said(line.split())
+                if (text.count("\n"), text[:13]) != (1, "vcdkit-diff: ") or status not in (2, 3):
+                    yield line, "", "a line", (out, text, status)
+            for line in MISUSED:
+                out, text, status = said(line.split())
+                if (out, text[:6], status) != ("", "usage:", 2):
+                    yield line, "", "usage", (out, text, status)
+            for line, *wanted in ANSWERED:
+                if said(line.split()) != (wanted[0], "", wanted[1]):
+                    yield line, "", wanted, said(line.split())
+            for line, errors, failures, messages in REPORTS:
+                said(["--junit=j.xml", *line.split()])
+                of = xml.parse("j.xml").getroot()
+                got = (line, of.get("errors"), of.get("failures"), [
+                    one.get("message") for one in of.iter() if one.tag in ("error", "failure")])
+                if got != (line, errors, failures, messages) or of.get("tests") != str(
+                        len(of.findall("testcase"))):
+                    yield line, "", (errors, failures, messages), got
+        finally:
+            os.chdir(here)
+
+
 if __name__ == "__main__":
     with multiprocessing.Pool() as pool:
         found = sum(pool.map(wrong, range(int(os.environ.get("COUNT", 2000))), 5), [])
+    found += tried()
     for one in sorted(found, key=lambda one: len(one[1]))[:3]:
         print("%s: of\n%s\n  wanted: %s\n  got:    %s" % one)
     sys.exit("%d answers are wrong" % len(found) if found else 0)
