@@ -12,6 +12,7 @@ BLOCK = 1 << 22
 BODY = b"$enddefinitions $end\n"
 MAX_SEEN = 1 << 16  # values that are kept to be given again
 Changes = List[Tuple[bytes, bytes]]  # a code and a value each
+Edge = Tuple[bytes, bytes, bytes]  # the code of a clock, a digit and the digit after it
 
 
 class Header(NamedTuple):
@@ -110,6 +111,20 @@ def steps(out: BinaryIO, codes: Collection[bytes], lead: Collection[bytes] = ()
                 (before if is_first and (is_dumpvars or one[0] in lead) else found).append(one)
     if before or found:
         yield time, before, found
+
+
+def edge_steps(out: BinaryIO, codes: Collection[bytes], edges: Collection[Edge],
+               lead: Collection[bytes] = ()) -> Iterator[Tuple[int, Changes, Changes, bool]]:
+    """Returns the steps of some codes, those of the edges among them, and of each whether one of
+    the edges is in it."""
+    last = {code: b"" for code, _, _ in edges}
+    for time, before, found in steps(out, codes, lead):
+        is_edge = False
+        for code, digit in before + found:
+            if code in last:
+                is_edge = is_edge or (code, last[code], digit) in edges
+                last[code] = digit
+        yield time, before, found, is_edge
 
 
 def led(out: BinaryIO, codes: Set[bytes]) -> Set[bytes]:

@@ -142,23 +142,14 @@ def at_changes(text: BinaryIO, columns: Sequence[Signal]) -> Iterator[Row]:
             yield Row(time, values.row())
 
 
-# A code, a digit and the digit after it.
-Edge = Tuple[bytes, bytes, bytes]
-
-
-def at_edges(text: BinaryIO, columns: Sequence[Signal], edges: Collection[Edge],
+def at_edges(text: BinaryIO, columns: Sequence[Signal], edges: Collection[_body.Edge],
              lead: Collection[bytes]) -> Iterator[Row]:
     """Returns a row for each time at which one of some edges is, with the values just before that
     time. `lead` is that of _body.steps."""
     values = _Values(columns)
-    last = {code: b"" for code, _, _ in edges}
-    for time, before, changes in _body.steps(text, {*last, *values.signals}, lead):
+    codes = {*values.signals, *(code for code, _, _ in edges)}
+    for time, before, changes, is_edge in _body.edge_steps(text, codes, edges, lead):
         values.take(before)
-        is_edge = False
-        for code, digit in before + changes:
-            if code in last:
-                is_edge = is_edge or (code, last[code], digit) in edges
-                last[code] = digit
         if is_edge:
             yield Row(time, values.row())
         values.take(changes)
