@@ -52,6 +52,10 @@ else
 fi
 same 'the package, against another reader' 0 \
     "$(python3 python/tests/test_against_reader.py 2>&1; echo $?)"
+for script in when diff; do
+    same "vcdkit-$script, against another reader" 0 \
+        "$(python3 "python/tests/test_$script.py" 2>&1; echo $?)"
+done
 [[ -n $library ]] || echo 'the package is not tried over the library: no libvcdkit.so'
 
 same 'the version of the package' "$("$VCDKIT" --version)" "$(vcdkit-find --version |

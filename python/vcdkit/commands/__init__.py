@@ -13,7 +13,7 @@ STATUSES = """
 exit status:
   0  %s
   1  %s
-  2  usage error
+  2  %s
   3  I/O error, out of memory, or no vcdkit
 
 A dump may be packed (gzip, xz, bzip2, zstd; FST where fst2vcd is on the PATH), a pipe, or - for
@@ -26,6 +26,7 @@ exit status:
   2  usage error
   3  I/O error
 """
+FAULT = "a name selects nothing, or not a valid dump"
 TIMES = "TIME is a number of ticks, or has a unit, as 115ns or 1.5us.\n"
 BROKEN_PIPE = 128 + 13  # the status that a shell shows of a program that SIGPIPE ended
 FORMS = {"hex": "hex", "decimal": "decimal", "signed": "decimal, of two's complement",
@@ -38,12 +39,12 @@ class _Parser(argparse.ArgumentParser):
         return text + TIMES if "TIME" in text else text
 
 
-def parser(name: str, text: str, done: str = "all was written",
-           failed: str = "a name selects nothing, or not a valid dump") -> argparse.ArgumentParser:
-    """Returns a parser of words, whose help has the text of a command and its exit statuses, those
-    of a filter where nothing is said of status 1."""
+def parser(name: str, text: str, done: str = "all was written", failed: str = FAULT,
+           wrong: str = "usage error") -> argparse.ArgumentParser:
+    """Returns a parser of words, whose help has the text of a command and its exit statuses 0, 1
+    and 2, those of a filter if nothing is said of status 1."""
     first, _, rest = text.partition("\n")
-    statuses = STATUSES % (done, failed) if failed else STATUSES_OF_A_FILTER
+    statuses = STATUSES % (done, failed, wrong) if failed else STATUSES_OF_A_FILTER
     made = _Parser(
         prog=name, description=first, epilog=rest.strip("\n") + "\n" + statuses,
         formatter_class=argparse.RawDescriptionHelpFormatter, allow_abbrev=False)
@@ -164,6 +165,20 @@ def command(function: Callable[[List[str]], int]) -> Callable[[Optional[List[str
 def _drop(stream: TextIO) -> None:
     """Lets what is left in a stream go nowhere, so that the end of Python does not write it."""
     os.dup2(os.open(os.devnull, os.O_WRONLY), stream.fileno())
+
+
+def question(function: Callable[[List[str]], int]) -> Callable[[List[str]], int]:
+    """Makes the function of a command that answers yes or no by its status, as cmp and grep do: a
+    fault of a dump and an unknown name have status 2, and not that of an answer."""
+    @functools.wraps(function)
+    def asked(words: List[str]) -> int:
+        try:
+            return function(words)
+        except VcdkitError as error:
+            error.status = max(error.status, 2)
+            raise
+
+    return asked
 
 
 def _said(name: str, text: str, status: int) -> int:
