@@ -74,8 +74,8 @@ class Side:
     """One of the dumps. Its names are the paths, of which maps replace the front; `found` has what
     of all that was asked for is in it."""
 
-    def __init__(self, file: str, maps: Sequence[Tuple[str, str]]):
-        self.dump = Dump(file)
+    def __init__(self, dump: Dump, maps: Sequence[Tuple[str, str]]):
+        self.dump = dump
         self.report, self.scale = self.dump.check(), self.dump.timescale
         self.signals = list(self.dump.signals)
         self.found: Set[str] = set()

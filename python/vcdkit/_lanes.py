@@ -8,8 +8,8 @@ from typing import BinaryIO, Callable, Dict, FrozenSet, Iterator, List, Optional
 from . import _body
 from .values import Signal
 
-BLOCK = 1 << 18
-SMALL = 1 << 12  # bytes of text that are read line by line
+BLOCK = 1 << 20
+SMALL = 1 << 11  # bytes of the begin of a bin, in which most signals change
 Point = Tuple[int, object]
 
 
@@ -28,7 +28,7 @@ class Lane:
         self.signal = signal
         self.points: List[Point] = []
         self.text: Optional[bytes] = None  # the value now
-        self.is_event = signal.type == "event"
+        self.is_event, self.is_real = signal.type == "event", signal.is_real
         # Of the bin: its first changes, and all numbers of a real signal.
         self.first: List[Tuple[int, bytes]] = []
         self.numbers: List[float] = []
@@ -36,7 +36,7 @@ class Lane:
     @property
     def is_full(self) -> bool:
         """Whether further changes in the bin say nothing new, but for the last value."""
-        return len(self.first) > 1 and not self.signal.is_real
+        return len(self.first) > 1 and not self.is_real
 
     def note(self, time: int, text: bytes) -> None:
         """Takes a value from a time on."""
@@ -47,7 +47,7 @@ class Lane:
             self.first[-1] = time, text
         elif len(self.first) < 2:
             self.first.append((time, text))
-        if self.signal.is_real:
+        if self.is_real:
             number = self.value(text)
             if isinstance(number, float):
                 self.numbers.append(number)
@@ -106,19 +106,28 @@ class Lanes:
                 lane.close(begin, end)
 
     def take(self, text: bytes) -> None:
-        """Takes a part of the bin: line by line, or if it is long only its begin and its end, and
-        from what is between the changes of the signals that say something new."""
-        head, tail = text.find(b"\n#", SMALL), text.find(b"\n#", max(len(text) - SMALL, 0))
-        if len(text) <= 8 * SMALL or not 0 <= head < tail:
+        """Takes a part of the bin: each line of its begin, and then only the changes of signals that
+        say something new, and the last values of the others."""
+        begin = text.find(b"\n#", SMALL)
+        if len(text) <= 8 * SMALL or begin < 0:
             self.take_lines(text[1:].split(b"\n"))
             return
-        self.take_lines(text[1:head].split(b"\n"))
-        lines = text[tail + 1:].split(b"\n")
-        for begin, end in _pieces(text, head, tail):
-            self.take_changes(text, begin, end, self.codes(False))
-        in_tail = {_change(line)[0] for line in lines if line[:1] not in b"#$"}
-        self.take_changes(text, head, tail, self.codes(True) - in_tail)
-        self.take_lines(lines)
+        self.take_lines(text[1:begin].split(b"\n"))
+        for piece in _pieces(text, begin):
+            for code, value, at in _changes(text, *piece, self.codes(False)):
+                self.of_code[code].note(_time_at(text, text.rfind(b"\n#", 0, at + 1)), value)
+        self.take_last(text, begin)
+
+    def take_last(self, text: bytes, begin: int) -> None:
+        """Takes the last values of the signals whose lanes are full, and the last time."""
+        codes, end, size = self.codes(True), len(text), SMALL
+        while codes and end > begin:
+            middle = max(text.rfind(b"\n#", begin, max(end - size, begin)), begin)
+            last = {code: value for code, value, _ in _changes(text, middle, end, codes)}
+            for code, value in last.items():
+                self.of_code[code].text = value
+            codes, end, size = codes.difference(last), middle, 4 * size
+        self.time = _time_at(text, text.rfind(b"\n#"))
 
     def codes(self, is_full: bool) -> FrozenSet[bytes]:
         """Returns the codes whose lanes are full in this bin, or those that are not."""
@@ -130,33 +139,24 @@ class Lanes:
             if line[:1] == b"#":
                 self.time = int(line[1:])
             elif line[:1] != b"$" and line:
-                code, text = _change(line)
-                self.of_code[code].note(self.time, text)
-
-    def take_changes(self, text: bytes, begin: int, end: int, codes: FrozenSet[bytes]) -> None:
-        """Takes the changes of some codes from a part of a text that begins with a timestamp."""
-        for found in _pattern(codes).finditer(text, begin, end) if codes else ():
-            code, value = _change(found.group()[1:])
-            lane = self.of_code[code]
-            # The time of a change does not matter once there are two.
-            time = self.time if lane.is_full else _time_at(text, text.rfind(
-                b"\n#", begin, found.start()))
-            lane.note(time, value)
+                value, _, code = line.rpartition(b" ") if line[:1] in b"br" else (
+                    line[:1], b"", line[1:])
+                self.of_code[code].note(self.time, value.lstrip(b"b"))
 
 
 @functools.lru_cache(maxsize=1 << 10)
 def _pattern(codes: FrozenSet[bytes]) -> "re.Pattern[bytes]":
     """Returns the pattern of the changes of some codes."""
-    return re.compile(rb"\n(?:[01xz]|b[01xz]* |r[^ \n]* )(?:" + b"|".join(
+    return re.compile(rb"\n(?:([01xz])|b([01xz]*) |(r[^ \n]*) )(" + b"|".join(
         map(re.escape, sorted(codes))) + rb")(?=\n|\Z)")
 
 
-def _change(line: bytes) -> Tuple[bytes, bytes]:
-    """Returns the code and the value of a line."""
-    if line[:1] == b"b" or line[:1] == b"r":
-        value, code = line.split(b" ")
-        return code, value[1:] if line[:1] == b"b" else value
-    return line[1:], line[:1]
+def _changes(text: bytes, begin: int, end: int, codes: FrozenSet[bytes]
+             ) -> Iterator[Tuple[bytes, bytes, int]]:
+    """Returns the changes of some codes in a part of a text: code, value, and where its line is."""
+    for found in _pattern(codes).finditer(text, begin, end) if codes else ():
+        scalar, vector, real, code = found.groups()
+        yield code, scalar or vector or real or b"", found.start()
 
 
 def _time_at(text: bytes, at: int) -> int:
@@ -178,9 +178,10 @@ def _place_after(text: bytes, time: int) -> int:
     return found
 
 
-def _pieces(text: bytes, begin: int, end: int) -> Iterator[Tuple[int, int]]:
+def _pieces(text: bytes, begin: int) -> Iterator[Tuple[int, int]]:
     """Returns the ends of pieces of a text, each of which begins with a timestamp."""
-    while begin < end:
-        to = text.find(b"\n#", begin + 4 * SMALL, end)
-        yield begin, to if to > 0 else end
-        begin = to if to > 0 else end
+    while begin < len(text):
+        end = text.find(b"\n#", begin + 4 * SMALL)
+        end = end if end > 0 else len(text)
+        yield begin, end
+        begin = end

@@ -18,7 +18,7 @@ exit status:
 
 A dump may be packed (gzip, xz, bzip2, zstd; FST where fst2vcd is on the PATH), a pipe, or - for
 standard input. A pipe is stored in a temporary file, in TMPDIR or /tmp, as it is read more than
-once. VCDKIT names the program, else it is vcdkit on the PATH.
+once. VCDKIT names the program, else it is the vcdkit beside the command, or that on the PATH.
 """
 STATUSES_OF_A_FILTER = """
 exit status:
@@ -126,7 +126,8 @@ def unit(text: str) -> str:
 def command(function: Callable[[List[str]], int]) -> Callable[[Optional[List[str]]], int]:
     """Makes main() of what takes words and returns a status: errors become a line and a status. It
     ends without a line if the reader of its output has gone."""
-    name = "vcdkit-" + function.__module__.rpartition(".")[2].replace("_", "-")
+    module = function.__module__.rpartition(".")[2]
+    name = "vcdkit" if module == "__main__" else "vcdkit-" + module.replace("_", "-")
 
     @functools.wraps(function)
     def main(words: Optional[List[str]] = None) -> int:

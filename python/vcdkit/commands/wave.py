@@ -300,7 +300,8 @@ def draw(dump, chosen, lanes, asked):
         rows.append(bottom)
         bottom += ROW + (CURVE - HIGH) * signal.is_real
     picture.axis(dump.timescale, bottom)
-    picture.text(PAD, TOP - 12, short(scope), "axis", title=scope)
+    if scope:
+        picture.text(PAD, TOP - 12, short(scope), "axis", title=scope)
     for y, signal, name in zip(rows, chosen, names):
         picture.row(y, signal, lanes.of_code[signal.code.encode()].points, name, asked.form)
     mark = asked.mark or asked.around
