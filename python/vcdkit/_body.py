@@ -76,8 +76,8 @@ def steps(out: BinaryIO, codes: Container[bytes]) -> Iterator[Tuple[int, Changes
 
 def edge_steps(out: BinaryIO, codes: Container[bytes], clock: bytes, edge: Tuple[bytes, bytes]
                ) -> Iterator[Tuple[int, Changes, Changes, bool]]:
-    """Returns the steps of some codes, a clock's among them, and of each whether the clock goes from
-    one digit to another in it."""
+    """Returns the steps of some codes, a clock's among them, and of each whether the clock goes
+    from one digit to another in it."""
     now = b""
     for time, before, found in steps(out, codes):
         is_edge = False
