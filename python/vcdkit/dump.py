@@ -7,7 +7,7 @@ from types import ModuleType
 from typing import (Any, BinaryIO, Collection, ContextManager, Dict, Iterable, Iterator, List,
                     Optional, Sequence, Set, Tuple, Union)
 
-from . import _body, _condition, _library, _program, _rows
+from . import _body, _library, _program, _rows, _when
 from ._body import Header
 from ._texts import Bytes, File, Made, Text
 from .errors import NoTimescale, RunFailed, UnknownName, UsageError, VcdkitError
@@ -377,14 +377,14 @@ class Dump:
 
     def when(self, condition: str, rise: Optional[str] = None, fall: Optional[str] = None,
              every: bool = False) -> Iterator[int]:
-        """Returns the times, in ticks, at which a condition begins to hold, as vcdkit-when takes it:
-        "tb.bus == 0xff & !tb.reset".
+        """Returns the times, in ticks, at which a condition begins to hold, as `vcdkit-when` takes
+        it: "tb.bus == 0xff & !tb.reset".
 
         It is looked at at the end of each time; of a cut, one that holds at its begin begins there.
         With `rise` or `fall`, the path of a clock of one bit, it is looked at where that rises or
-        falls, with the values just before that time, and with `every` each such time counts at
-        which it holds. UsageError if the condition is none, UnknownName if a name of it is."""
-        return _condition.when(self, condition, rise, fall, every)
+        falls, with the values just before that time; with `every`, each such time counts at which
+        it holds. UsageError if it is no condition, UnknownName if a name of it selects nothing."""
+        return _when.when(self, condition, rise, fall, every)
 
     # Dumps of it.
 
