@@ -398,7 +398,8 @@ class Dump:
         return self._made("pick", ["--", *chosen])
 
     def _part(self, names: List[str]) -> "Dump":
-        """Returns a dump that has what some names select, and maybe more."""
+        """Returns a dump that has all that some names select, all without names. It has more if a
+        name is not UTF-8."""
         words = _words_for(names)
         return self.pick(words) if words else self.cut()
 
