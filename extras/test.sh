@@ -217,15 +217,15 @@ status 3' "$(status vcdkit-diff $dump samples/none.vcd)"
 
 vcdkit-wave --from 100ns --to 122ns --mark 110ns $dump bench.slow bench.level > "$folder/wave.svg"
 same 'vcdkit-wave: status' 0 $?
-same 'vcdkit-wave: names, values, a mark' 'bench.level bench.slow.clock bench.slow.count
-9 A B 1' "$(python3 - "$folder/wave.svg" <<'END'
+same 'vcdkit-wave: names, values, a mark' 'level slow.clock slow.count
+9 a b 1' "$(python3 - "$folder/wave.svg" <<'END'
 import sys
 import xml.etree.ElementTree as tree
 of = tree.parse(sys.argv[1]).getroot()
-texts = [one.text for one in of.iter() if one.tag.endswith("text")]
-print(*sorted(text for text in texts if text in (
-    "bench.level", "bench.slow.clock", "bench.slow.count")))
-print(*[text for text in texts if text in ("9", "A", "B")],
+texts = ["".join([one.text or "", *(below.tail for below in one)])
+         for one in of.iter() if one.tag.endswith("text")]
+print(*sorted(text for text in texts if text in ("level", "slow.clock", "slow.count")))
+print(*[text for text in texts if text in ("9", "a", "b")],
       sum(one.get("class") == "mark" for one in of.iter()))
 END
 )"
@@ -235,23 +235,25 @@ same 'vcdkit-wave --around, --span: as much on each side' \
 # texts FILE: the texts of a picture, which has to be well-formed
 texts() {
     python3 -c 'import sys, xml.etree.ElementTree as tree
-print(*[ascii(one.text)[1:-1] for one in tree.parse(sys.argv[1]).iter()
-        if one.tag.endswith("text")], sep=",")' "$1" 2>&1
+print(*[ascii("".join([one.text or "", *(below.tail for below in one)]))[1:-1]
+        for one in tree.parse(sys.argv[1]).iter() if one.tag.endswith("text")], sep=",")' "$1" 2>&1
 }
 printf '$timescale 1ns $end $scope module t $end $var wire 1 ! a\001<\351\303\251 $end
     $var real 64 " r&\177 $end $enddefinitions $end #0 0! r\002 " #20 1!\n' > "$folder/odd.vcd"
 vcdkit-wave --width 100 "$folder/odd.vcd" t > "$folder/odd.svg"
 same 'vcdkit-wave: names that XML cannot have, an axis from 0' \
-    '0 ns,20 ns,t.a\ufffd<\ufffd\xe9,t.r&\x7f,\ufffd' "$(texts "$folder/odd.svg")"
+    '0 ns,20 ns,t.,a\ufffd<\ufffd\xe9,r&\x7f,0,0' "$(texts "$folder/odd.svg")"
 printf '$timescale 100s $end $var wire 1 ! a $end $enddefinitions $end #0 0! #%s 1!\n' \
     18446744073709551615 > "$folder/long.vcd"
 vcdkit-wave --width 100 "$folder/long.vcd" a > "$folder/long.svg"
 same 'vcdkit-wave: all of the time there is' '0 s,a' "$(texts "$folder/long.svg")"
 for width in 99 0 -5 1e3 ''; do
     same "vcdkit-wave --width '$width'" 'vcdkit-wave: error: argument --width: it is a number of '\
-'pixels, at least 100
+'pixels, 100 to 20000
 status 2' "$(status vcdkit-wave --width="$width" $dump bench.slow | tail -n 2)"
 done
+same 'vcdkit-wave: a mark that is outside' 'vcdkit-wave: 5ns is not in the window, 10ns to 20ns
+status 2' "$(status vcdkit-wave --from 10ns --to 20ns --mark 5ns $dump bench.slow)"
 same 'vcdkit-wave: nothing there' 'status 2' \
     "$(status vcdkit-wave --from 2us --to 3us $dump bench.slow | tail -n 1)"
 same 'vcdkit-wave: an unknown name' 'status 1' \
@@ -487,7 +489,7 @@ printf '$var wire 1 \xff q $end\n$enddefinitions $end\n' > "$folder/front.vcd"
 same 'vcdkit-explain: damaged in the header' "$anew" "$(helped "$folder/front.vcd")"
 printf "${body}#0\nb\xff- !\n" > "$folder/body.vcd"
 same 'vcdkit-explain: damaged in the body' \
-    "vcdkit cut < $folder/body.vcd | vcdkit-endmend > LEFT.vcd    (all before the fault)" \
+    "vcdkit-explain --salvage LEFT.vcd $folder/body.vcd    (what is before the fault)" \
     "$(helped "$folder/body.vcd")"
 same 'vcdkit-explain: no such file' 3 "$(explained "$folder/none.vcd" able)"
 
@@ -502,7 +504,7 @@ for script in extras/vcdkit-*; do
         vcdkit-four-state | vcdkit-endmend) continue ;;
         vcdkit-join-bits) words=() ;;
         vcdkit-diff) words=(samples/counter.vcd samples/counter.vcd) ;;
-        vcdkit-table | vcdkit-wave) words=(samples/counter.vcd clk) ;;
+        vcdkit-table | vcdkit-wave | vcdkit-stats) words=(samples/counter.vcd clk) ;;
         *) words=(samples/counter.vcd) ;;
     esac
     cp extras/launch "$folder/$name"

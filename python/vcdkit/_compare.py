@@ -71,8 +71,8 @@ class Side:
     """One of the dumps. Its names are the paths, of which maps replace the front; `found` has what
     of all that was asked for is in it."""
 
-    def __init__(self, file: str, maps: Sequence[Tuple[str, str]]):
-        self.dump = Dump(file)
+    def __init__(self, dump: Dump, maps: Sequence[Tuple[str, str]]):
+        self.dump = dump
         self.report, self.scale = self.dump.check(), self.dump.timescale
         self.signals = list(self.dump.signals)
         self.found: Set[str] = set()
@@ -258,7 +258,7 @@ def _edges(out: BinaryIO, codes: Set[bytes], clock: bytes, edge: Tuple[bytes, by
     """Returns the changes from one edge of a clock to the time before the next."""
     number = 0
     changed: Dict[bytes, bytes] = {}
-    for time, before, changes, is_edge in _body.edge_steps(out, {clock, *codes}, clock, edge):
+    for time, before, changes, is_edge in _body.edge_steps(out, {clock, *codes}, [(clock, *edge)]):
         changed.update(before)
         if is_edge:
             yield Step(number, time, changed)

@@ -204,23 +204,30 @@ def _made(text: Made) -> Tuple[bytes, Optional[VcdkitError]]:
 
 
 def _bytes_of(file: File) -> Data:
-    """Returns the bytes of a file: a map of it, or what they unpack to."""
-    unpacker = file.unpacker()
+    """Returns the bytes of a file: a map of it, or what its filters make of it."""
+    filters = file.filters()
     with file.open() as source:
-        if not unpacker:
+        if not filters:
             try:
                 return mmap.mmap(source.fileno(), 0, access=mmap.ACCESS_READ)
             except (ValueError, OSError):  # it is empty, or cannot be mapped
                 return source.read()
-        try:
-            done = subprocess.run(unpacker, stdin=source, stdout=subprocess.PIPE,
-                                  stderr=subprocess.PIPE)
-        except OSError as error:
-            raise not_started(unpacker[0], error) from error
+        data = _filtered(file, filters[0], stdin=source)
+    for words in filters[1:]:
+        data = _filtered(file, words, input=data)
+    return data
+
+
+def _filtered(file: File, words: List[str], **given) -> bytes:
+    """Returns what a filter writes."""
+    try:
+        done = subprocess.run(words, stdout=subprocess.PIPE, stderr=subprocess.PIPE, **given)
+    except OSError as error:
+        raise not_started(words[0], error) from error
     if done.returncode:
         said = done.stderr.decode(errors="backslashreplace").strip()
         raise RunFailed("%s: %s" % (file.name, said or "%s: status %d" % (
-            unpacker[0], done.returncode)))
+            words[0], done.returncode)))
     return done.stdout
 
 
@@ -229,7 +236,7 @@ def opened(text: Text) -> Iterator[BinaryIO]:
     """Opens a text to be read once. As with a pipe, an error comes after what was written before
     it, unless the reader ends early."""
     error = None
-    if isinstance(text, File) and not text.unpacker():
+    if isinstance(text, File) and not text.filters():
         file = text.open()
     elif isinstance(text, Made):
         out, error = _made(text)

@@ -6,23 +6,18 @@ import os
 import shutil
 import signal
 import subprocess
-import sys
 import tempfile
 from typing import BinaryIO, Dict, Iterator, List, Optional, Sequence
 
-from ._texts import Bytes, File, Text
+from ._texts import Bytes, File, Text, installed
 from .errors import RunFailed, UnknownName, VcdkitError, error_of
 
 
 def path() -> Optional[str]:
-    """Returns the program that VCDKIT names, else the one on the PATH, or beside the running
-    command (bin) or above it (a tarball); None where there is none."""
+    """Returns the program that VCDKIT names, else the vcdkit that comes with the running command
+    or is on the PATH; `None` if there is none."""
     named = os.environ.get("VCDKIT")
-    script = sys.argv[0] if sys.argv else ""
-    folder = os.path.dirname(os.path.realpath(script))
-    is_command = os.path.basename(script).startswith("vcdkit-") and not named
-    near = [os.path.join(folder, above, "vcdkit") for above in ("", "..")] if is_command else []
-    return next(filter(None, map(shutil.which, [named or "vcdkit", *near])), None)
+    return shutil.which(named) if named else installed("vcdkit")
 
 
 def refusal() -> str:
@@ -35,7 +30,7 @@ def refusal() -> str:
 def not_started(program: str, error: OSError) -> RunFailed:
     """Returns the exception where a program cannot be started."""
     if error.errno == errno.ENOENT:
-        return RunFailed("there is no program %s on the PATH to unpack it" % program)
+        return RunFailed("there is no program %s on the PATH to read it with" % program)
     if error.errno == errno.E2BIG:
         return RunFailed("too many names for a command line: name scopes")
     return RunFailed("%s: %s" % (program, error.strerror))
@@ -103,9 +98,10 @@ class _Pipe:
     def feed(self, text: Text) -> BinaryIO:
         """Returns a file from which the text can be read."""
         if isinstance(text, File):
-            unpacker = text.unpacker()
             file = text.open()
-            return self.start(unpacker, file, {"(stdin)": text.name}, None) if unpacker else file
+            for words in text.filters():
+                file = self.start(words, file, {"(stdin)": text.name}, None)
+            return file
         if isinstance(text, Bytes):
             file = tempfile.TemporaryFile()
             file.write(text.data)

@@ -2,6 +2,7 @@
 import os
 import shutil
 import stat
+import sys
 import tempfile
 from typing import BinaryIO, List, NamedTuple, Optional, Tuple, Union
 
@@ -11,18 +12,31 @@ from .errors import RunFailed
 UNPACKERS = [(b"\x1f\x8b", ["gzip", "-dc"]), (b"\xfd7zXZ\0", ["xz", "-dc"]),
              (b"BZh", ["bzip2", "-dc"]), (b"\x28\xb5\x2f\xfd", ["zstd", "-dcq"]),
              (b"\0\0\0\0\0\0\0\x01\x49", ["fst2vcd", "/dev/stdin"])]
+FOUR_STATE = "vcdkit-four-state"
+
+
+def installed(name: str) -> Optional[str]:
+    """Returns a program that comes with vcdkit: the one beside the running command (an
+    installation), else the one above it (a tarball), else the one on the PATH. `None` if there is
+    none."""
+    script = sys.argv[0] if sys.argv else ""
+    folder = os.path.dirname(os.path.realpath(script))
+    is_command = os.path.basename(script).startswith("vcdkit-")
+    near = [os.path.join(folder, above, name) for above in ("", "..")] if is_command else []
+    return next(filter(None, map(shutil.which, [*near, name])), None)
 
 
 class File:
     """A file, `-` for standard input. A pipe, which can be read only once, is kept in a temporary
-    file from its first use on."""
+    file from its first use on. With `four_state` its nine states are made four."""
 
-    def __init__(self, path):
+    def __init__(self, path, four_state: bool = False):
         self._path = os.fsencode(path)
         self.name = self._path.decode("utf-8", "backslashreplace")
         if self.name == "-":
             self._path, self.name = b"/dev/stdin", "(stdin)"
         self._kept = None
+        self._four_state = four_state
 
     def open(self) -> BinaryIO:
         """Opens it at its begin, each time anew."""
@@ -41,6 +55,12 @@ class File:
         with self.open() as file:
             front = file.read(16)
         return next((words for magic, words in UNPACKERS if front.startswith(magic)), None)
+
+    def filters(self) -> List[List[str]]:
+        """Returns the words of the programs that make a plain dump of it, one after the other."""
+        unpacker = self.unpacker()
+        last = [[installed(FOUR_STATE) or FOUR_STATE]] if self._four_state else []
+        return [unpacker, *last] if unpacker else last
 
 
 class Bytes(NamedTuple):

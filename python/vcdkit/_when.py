@@ -65,7 +65,7 @@ def _at_edges(out: BinaryIO, condition: Condition, clock: bytes, edge: Tuple[byt
     """Returns each time at which a clock goes from one digit to another; the condition has the
     values just before that time, and the events since the last one."""
     codes = {clock, *condition.codes}
-    for time, before, changes, is_edge in _body.edge_steps(out, codes, clock, edge):
+    for time, before, changes, is_edge in _body.edge_steps(out, codes, [(clock, *edge)]):
         condition.take(before)
         if is_edge:
             yield time

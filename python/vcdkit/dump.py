@@ -48,11 +48,13 @@ class Dump:
     `signals`, or a scope with all that it has."""
 
     def __init__(self, source: Union[str, "os.PathLike[str]", bytes], name: Optional[str] = None,
-                 token_limit: Optional[int] = None):
+                 token_limit: Optional[int] = None, four_state: bool = False):
         """`name` is what faults call bytes; `token_limit`, in bytes, is how long a token may be
-        (1,048,576 without it)."""
+        (1,048,576 without it). With `four_state` a file is read through vcdkit-four-state, which
+        makes four states of VHDL's nine."""
         is_bytes = isinstance(source, (bytes, bytearray, memoryview))
-        self._text: Text = Bytes(bytes(source), name or "(bytes)") if is_bytes else File(source)
+        self._text: Text = (Bytes(bytes(source), name or "(bytes)") if is_bytes
+                            else File(source, four_state))
         self._options = () if token_limit is None else ("--token-limit", str(token_limit))
         self._signals: Optional[_rows.Signals] = None
         self._header: Optional[Header] = None

@@ -34,7 +34,7 @@ from .._compare import (Comparison, Difference, Pair, Side, Sides, bare, in_comm
                         same_within)
 from ..times import word
 from ..values import Signal
-from . import FAULT, add_names, command, parser, question
+from . import FAULT, add_four_state, add_names, command, dump_of, parser, question
 from .wave import NOT_OF_XML
 
 MAX_LINES = 20
@@ -107,7 +107,8 @@ def lines_of(differences: Iterable[Difference], sides: Sides) -> List[str]:
 def sides_of(asked: argparse.Namespace) -> Sides:
     """Reads both dumps, and looks for all names that were given."""
     with ThreadPoolExecutor(2) as pool:
-        one, other = pool.map(lambda file: Side(file, asked.maps), (asked.one, asked.other))
+        one, other = pool.map(lambda file: Side(dump_of(asked, file), asked.maps),
+                              (asked.one, asked.other))
     for side in one, other:
         side.choose(set(map(bare, asked.names)), set(map(bare, asked.exceptions)))
         for name in asked.names:
@@ -227,6 +228,7 @@ def words_of(words: List[str]) -> argparse.Namespace:
     of.add_argument("--window", metavar="TIME", help="at a difference of values, write the dumps "
                     "from so much before it to so much after it, as diff.a.vcd and diff.b.vcd")
     of.add_argument("--into", metavar="FOLDER", help="where these go (here)")
+    add_four_state(of)
     of.add_argument("one", metavar="A", help="a dump")
     of.add_argument("other", metavar="B", help="the other one")
     add_names(of, "*")

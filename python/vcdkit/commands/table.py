@@ -6,10 +6,10 @@ or falls, with the values just before that time, as a flip-flop takes them. With
 each of these times. So what comes and goes within one time, or is written again, is not seen, and
 events have no column.
 
-Values have all their digits, or are numbers (--hex, --decimal). Where a value has an x or a z,
---hex writes x or z for four such digits and X for a mixture, and --decimal leaves all digits. `-`
-is no value yet. Real numbers are as 1.5, 3, 1e-09, nan or inf. Times are whole numbers of the unit
-of the time scale, or exact ones of --unit.
+Values have all their digits, or are numbers (--hex, --decimal, --signed), or text (--ascii). Where
+a value has an x or a z, --hex writes x or z for four such digits and X for a mixture, and the
+others leave all digits. `-` is no value yet. Real numbers are as 1.5, 3, 1e-09, nan or inf. Times
+are whole numbers of the unit of the time scale, or exact ones of --unit.
 
 examples:
   vcdkit-table --hex --at 10ns,20ns,30ns sim.vcd tb.pc tb.bus
@@ -18,21 +18,7 @@ examples:
 import csv
 import sys
 
-from .. import Dump, Value
-from . import add_file, add_form, add_window, command, parser, unit
-
-
-def shown(value, size, form):
-    """Returns a value as a cell has it."""
-    if value is None:
-        return "-"
-    if isinstance(value, float):
-        return repr(value)[:-2] if repr(value).endswith(".0") else repr(value)
-    if not isinstance(value, Value):  # no number
-        return value
-    if form == "hex":
-        return value.hex()
-    return int(value) if form == "decimal" and value.is_known else value
+from . import add_file, add_form, add_window, command, dump_of, parser, shown, unit
 
 
 @command
@@ -47,7 +33,7 @@ def main(words):
     of.add_argument("--unit", type=unit, help="the unit of the times: tick, s, ms, us, ns, ps, fs")
     add_file(of, "+")
     asked = of.parse_args(words)
-    whole = Dump(asked.file)
+    whole = dump_of(asked)
     columns = [one for one in whole.select(asked.names) if one.type != "event"]
     scale = whole.timescale
     in_unit = asked.unit or (scale.unit if scale else "tick")
@@ -61,5 +47,5 @@ def main(words):
     out.writerow(["time (%s)" % in_unit] + [one.path for one in columns])
     for time, values in rows:
         out.writerow([time if in_unit == "tick" else scale.decimal(time, in_unit)] + [
-            shown(value, one.size, asked.form) for value, one in zip(values, columns)])
+            shown(value, asked.form) for value in values])
     return 0

@@ -29,8 +29,7 @@ examples:
   vcdkit-when --first --from 1us sim.vcd 'tb.dut.state is x'"""
 from typing import List
 
-from .. import Dump
-from . import FAULT, add_file, add_window, command, parser, question
+from . import FAULT, add_file, add_window, command, dump_of, parser, question
 
 
 @command
@@ -50,7 +49,7 @@ def main(words: List[str]) -> int:
     add_file(of)
     of.add_argument("condition", metavar="CONDITION", help="as above")
     asked = of.parse_args(words)
-    dump = Dump(asked.file)
+    dump = dump_of(asked)
     is_part = (asked.begin, asked.end) != (of.get_default("begin"), of.get_default("end"))
     part = dump.cut(asked.begin, asked.end) if is_part else dump
     count = 0

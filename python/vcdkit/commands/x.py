@@ -8,8 +8,8 @@ asks that nothing is unknown once reset is over.
 examples:
   vcdkit-x --from 100ns sim.vcd tb.cpu
   vcdkit-x --z --from 1us --to 2us sim.vcd | head"""
-from .. import Dump, _body
-from . import add_file, add_window, command, parser
+from .. import _body
+from . import add_file, add_window, command, dump_of, parser
 
 
 @command
@@ -20,7 +20,7 @@ def main(words):
     add_window(of)
     add_file(of, "*")
     asked = of.parse_args(words)
-    dump = Dump(asked.file)
+    dump = dump_of(asked)
     paths = {}
     for one in dump.select(asked.names) if asked.names else dump.signals:
         if not one.is_real and one.type != "event":
