@@ -184,12 +184,11 @@ def looks_of(changes, codes, clock, edge, factor):
         return {time * factor: (time, {one[2]: one[3] for one in its if one[0] <= time},
                                 {one[2] for one in its if one[0] == time})
                 for time in {one[0] for one in its}}
-    first = {one[2]: one for one in its[::-1]}
-    lead = [one for one in first.values() if one[1][0] == "$dumpvars"]
+    lead = next((one[1] for one in its[:1] if one[1][0] == "$dumpvars"), None)
     digits = [one for one in its if one[2] == clock]
     times = sorted({b[0] for a, b in zip(digits, digits[1:]) if a[3] + b[3] == edge})
     return {number: (time, {one[2]: one[3] for one in its
-                            if one[0] < time or one[0] == time and one in lead},
+                            if one[0] < time or one[0] == time and one[1] == lead},
                      {one[2] for one in its if before <= one[0] < time})
             for number, (before, time) in enumerate(zip([0] + times, times))}
 
