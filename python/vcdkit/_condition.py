@@ -183,7 +183,7 @@ def _declared(dump: "Dump", paths: List[str]) -> Dict[str, Tuple[int, int]]:
     """Returns of each path the range that its declaration has."""
     scopes: List[str] = []
     found: Dict[str, Tuple[int, int]] = {}
-    with dump.pick(paths).open() as out:
+    with dump._part(paths).open() as out:
         for line in out:
             words = line.decode("utf-8", "surrogateescape").split()
             if line.startswith(b"$scope "):

@@ -1,6 +1,6 @@
 """The times at which a condition holds."""
 import collections
-from typing import TYPE_CHECKING, BinaryIO, Deque, Iterator, List, Optional, Tuple
+from typing import TYPE_CHECKING, BinaryIO, Collection, Deque, Iterator, List, Optional, Tuple
 
 from . import _body
 from ._condition import Condition, Span
@@ -41,9 +41,11 @@ def _ticks_of(span: Optional[Span], dump: "Dump", has_clock: bool) -> int:
 
 def _times(dump: "Dump", condition: Condition, ticks: int, clock: Optional[Signal],
            edge: Tuple[bytes, bytes], every: bool) -> Iterator[int]:
-    with dump.pick([*condition.paths, *([clock.path] if clock else [])]).open() as out:
+    edges = [(clock.code.encode(), *edge)] if clock else []
+    lead = dump._lead({*condition.codes, *(code for code, _, _ in edges)} if edges else ())
+    with dump._part([*condition.paths, *([clock.path] if clock else [])]).open() as out:
         _body.skip_header(out)
-        looks = (_at_edges(out, condition, clock.code.encode(), edge) if clock
+        looks = (_at_edges(out, condition, edges, lead) if edges
                  else _at_changes(out, condition))
         if condition.answer is None:
             yield from _begins(looks, condition, bool(clock), every)
@@ -60,12 +62,12 @@ def _at_changes(out: BinaryIO, condition: Condition) -> Iterator[int]:
         yield time
 
 
-def _at_edges(out: BinaryIO, condition: Condition, clock: bytes, edge: Tuple[bytes, bytes]
-              ) -> Iterator[int]:
-    """Returns each time at which a clock goes from one digit to another; the condition has the
-    values just before that time, and the events since the last one."""
-    codes = {clock, *condition.codes}
-    for time, before, changes, is_edge in _body.edge_steps(out, codes, [(clock, *edge)]):
+def _at_edges(out: BinaryIO, condition: Condition, edges: Collection[_body.Edge],
+              lead: Collection[bytes]) -> Iterator[int]:
+    """Returns each time that has one of the edges; the condition has the values just before that
+    time, and the events since the last one. `lead` is that of _body.steps."""
+    codes = {*condition.codes, *(code for code, _, _ in edges)}
+    for time, before, changes, is_edge in _body.edge_steps(out, codes, edges, lead):
         condition.take(before)
         if is_edge:
             yield time
