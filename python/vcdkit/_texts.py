@@ -35,8 +35,8 @@ class _Kept:
     def __init__(self, path: bytes):
         self._pipe = open(path, "rb", buffering=0)
         self._file = tempfile.TemporaryFile()
-        self._lock = threading.Lock()
-        self._length, self._is_whole = 0, False
+        self._news = threading.Condition()
+        self._length, self._is_whole, self._is_reading = 0, False, False
         self.error: Optional[OSError] = None
 
     def open(self) -> BinaryIO:
@@ -63,13 +63,19 @@ class _Kept:
 
     def _block(self, at: int) -> bytes:
         """Returns what is at an offset, once it is there: nothing at the end."""
-        if at == self._length:
-            with self._lock:
-                if at == self._length and not self._is_whole:
-                    self._read_on()
+        with self._news:
+            self._news.wait_for(lambda: self._is_there(at) or not self._is_reading)
+            is_there = self._is_there(at)
+            self._is_reading = self._is_reading or not is_there
+        if not is_there:
+            self._read_on()
         return os.pread(self._file.fileno(), BLOCK, at)
 
+    def _is_there(self, at: int) -> bool:
+        return at < self._length or self._is_whole
+
     def _read_on(self) -> None:
+        """Reads on in the pipe, as one of the readers at a time does."""
         block = b""
         try:
             block = os.read(self._pipe.fileno(), BLOCK)
@@ -77,8 +83,10 @@ class _Kept:
             self._file.flush()
         except OSError as error:
             self.error, block = error, b""
-        self._length += len(block)
-        self._is_whole = not block
+        with self._news:
+            self._length += len(block)
+            self._is_whole, self._is_reading = not block, False
+            self._news.notify_all()
 
 
 class File:
