@@ -1,8 +1,8 @@
 #!/usr/bin/env python3
 """Compares vcdkit-diff, over the program, with a plain reader of its own: COUNT pairs of random
 small dumps (2000), of a SEED (1). The second dump is the first as another tool could write it:
-other codes, scopes, ranges, ticks and order, values written again, and now and then another one. Then it
-tries what vcdkit-diff has to refuse, and its JUnit file."""
+other codes, scopes, ranges, ticks and order, values written again, and now and then another one.
+Then it tries what vcdkit-diff has to refuse, and its JUnit file."""
 import contextlib
 import io
 import math
@@ -22,7 +22,8 @@ from vcdkit.commands import diff
 # The variables: their scope, name, type, size and code; two have one code, and two one path.
 VARIABLES = [("t", "c", "wire", 1, "!"), ("t", "q", "reg", 4, '"'), ("t", "r", "real", 64, "@"),
              ("t", "e", "event", 1, "$"), ("t", "k", "reg", 4, '"'), ("t.u", "p", "wire", 1, "%"),
-             ("t.u", "p", "reg", 3, "&"), ("t.u.v", "s", "reg", 2, "("), ("t.u.v", "w", "reg", 2, ")")]
+             ("t.u", "p", "reg", 3, "&"), ("t.u.v", "s", "reg", 2, "("),
+             ("t.u.v", "w", "reg", 2, ")")]
 SIZES = {code: size for *_, size, code in VARIABLES}
 
 
@@ -186,7 +187,8 @@ def looks_of(changes, codes, clock, edge, factor):
     lead = next((one[1] for one in its[:1] if one[1][0] == "$dumpvars"), None)
     digits = [one for one in its if one[2] == clock]
     times = sorted({b[0] for a, b in zip(digits, digits[1:]) if a[3] + b[3] == edge})
-    return {number: (time, {one[2]: one[3] for one in its if one[0] < time or one[1] == lead},
+    return {number: (time, {one[2]: one[3] for one in its
+                            if one[0] < time or one[0] == time and one[1] == lead},
                      {one[2] for one in its if before <= one[0] < time})
             for number, (before, time) in enumerate(zip([0] + times, times))}
 
@@ -320,7 +322,8 @@ def wrong(seed):
     if is_top:
         variables = [("TOP." + one[0], *one[1:]) for one in variables]
     texts = [written(of, VARIABLES, changes, same_codes, scales[0]),
-             written(of, variables, others, {one[4]: codes[one[4]] for one in variables}, scales[1])]
+             written(of, variables, others, {one[4]: codes[one[4]] for one in variables},
+                     scales[1])]
     asked = {"map": is_top and of.random() < .9, "common": of.random() < .3,
              "all": of.random() < .4, "edge": of.choice(["", "", "01", "10"]),
              "tolerance": of.choice([0, 0, 1e-6]), "names": [], "except": [],
@@ -358,25 +361,27 @@ FILES = {"a": HEADER + "#0\n0!\nr1 @\n#1\n1!\n", "b": HEADER + "#0\n0!\nr1.5 @\n
          "binary": "".join(map(chr, range(256))) * 9}
 LINES = "differs 0 t.r 1.0 1.5\n"
 REFUSED = ["a none", "none a", "a .", "a empty", "empty a", "a fault", "a binary", "binary binary",
-           "a b none", "a b t.none", "a b t.q.q", "a other t", "--map=none=t a b", "--except=none a b",
-           "--window=foo a b", "--window=1ns a b", "--window= a b", "--common a other",
-           "--rise=none a b", "--rise=t a b", "--rise=t.r a b", "--fall=t.q a b", "--fall=t.c a b",
+           "a b none", "a b t.none", "a b t.q.q", "a other t", "--map=none=t a b",
+           "--except=none a b", "--window=foo a b", "--window=1ns a b", "--window= a b",
+           "--common a other", "--rise=none a b", "--rise=t a b", "--rise=t.r a b", "--fall=t.q a b",
+           "--fall=t.c a b",
            "--rise=t.c a other", "--junit=none/j.xml a a", "--junit=. a a"]
 MISUSED = ["", "a", "--into=x a b", "--map=t a b", "--map==t a b", "--real-tolerance=x a b",
            "--real-tolerance=-1 a b", "--real-tolerance=nan a b", "--rise=t.c --fall=t.c a b",
            "--none a b", "--common=1 a b"]
 ANSWERED = [("a a", "", 0), ("a b", LINES, 1), ("--all a b", LINES + "differs 1 t.q - 0001\n", 1),
             ("--real-tolerance=.5 a b", "differs 1 t.q - 0001\n", 1), ("a b t.c", "", 0),
-            ("--except=t.r --except=t.q a b", "", 0), ("--rise=t.c a b", LINES.replace("0", "1", 1), 1),
+            ("--except=t.r --except=t.q a b", "", 0),
+            ("--rise=t.c a b", LINES.replace("0", "1", 1), 1),
             ("--map=t=x a b x.c", "", 0), ("--map=t= a a c", "", 0),
             ("--map=u<&=t --common a other", "differs 0 t.c 0 -\ndiffers 0 t.r 1.0 -\n", 1)]
 # The errors, failures, and the messages of a JUnit file.
 REPORTS = [("a a", "0", "0", []), ("a b", "0", "1", [LINES.strip()]),
            ("a fault", "1", "0", ["fault:2: bad time"]),
-           ("--common a other", "1", "0", ["the dumps have no name in common: --map OLD=NEW gives a "
-                                           "scope another"]),
-           ("a other t.q", "1", "0", ["other: t.q: selects nothing; names are the paths that `list` "
-                                      "writes, and the scopes in them"]),
+           ("--common a other", "1", "0", ["the dumps have no name in common: --map OLD=NEW gives "
+                                           "a scope another"]),
+           ("a other t.q", "1", "0", ["other: t.q: selects nothing; names are the paths that "
+                                      "`list` writes, and the scopes in them"]),
            ("--map=u<&=t a other", "0", "2", ["differs 0 t.c 0 -", "ends 1 -"])]
 
 

@@ -16,8 +16,8 @@ os.environ.update(VCDKIT=os.environ.get("VCDKIT", ABOVE + "/../vcdkit"), VCDKIT_
 from vcdkit import Dump
 from vcdkit.commands import when
 
-HEADER = ("$timescale 10ns $end $scope module t $end $var wire 1 ! c $end $var reg 4 \" q [3:0] $end\n"
-          "$var real 64 @ r $end $var event 1 $ e $end $var reg 4 \" k[7:4] $end\n"
+HEADER = ("$timescale 10ns $end $scope module t $end $var wire 1 ! c $end $var reg 4 \" q [3:0] "
+          "$end $var real 64 @ r $end $var event 1 $ e $end $var reg 4 \" k[7:4] $end\n"
           "$var integer 3 % i $end $scope module u $end $var reg 3 & p [0:2] $end\n"
           "$upscope $end $upscope $end $enddefinitions $end\n")
 SIZES = {"!": 1, '"': 4, "@": 64, "$": 1, "%": 3, "&": 3}
@@ -52,7 +52,7 @@ def body(of):
 
 
 def read(text):
-    """The changes of a body, a time, a section (none: ("", 0)), a code and a text, and the times."""
+    """The changes of a body, each a time, a section, a code and a text, and the times."""
     words, found, now, section, times = iter(text.split()), [], 0, ("", 0), []
     for word in words:
         if word[0] == "#":
@@ -226,7 +226,7 @@ def names_of(node):
 
 def looks_at(changes, codes, clock, begin, end):
     """The times of a window at which a condition is looked at, with the values of then, and those
-    of between these times."""
+    of between these times. What a $dumpvars has that begins is from before its time."""
     its = [one for one in changes if one[2] in codes and (one[2] != "$" or one[0] >= begin)]
     lead = next((one[1] for one in its[:1] if one[1][0] == "$dumpvars"), None)
     times = sorted({max(one[0], begin) for one in its if one[0] <= end})
@@ -237,7 +237,7 @@ def looks_at(changes, codes, clock, begin, end):
     last = begin
     for time in times:
         seen = [one for one in its if one[2] != "$" and (
-            one[0] < time or one[1] == lead or not clock and one[0] <= time)]
+            one[0] < time or one[0] == time and (one[1] == lead or not clock))]
         values = {one[2]: one[3] for one in seen}
         is_event = any(one[2] == "$" and (last <= one[0] < time if clock else one[0] == time)
                        for one in its)
@@ -310,8 +310,9 @@ def wrong(seed):
 NESTED = os.path.dirname(ABOVE) + "/samples/nested.vcd"
 COUNT = "bench.slow.count"  # 0 at 5 ns, one more each 10 ns from 15 ns on, x from 72 to 92 ns
 ANSWERS = [
-    (["%s == 0xb" % COUNT], "115ns"), (["--count", "%s[0]" % COUNT], "5"), (["--count", "1 > 2 | a"], None),
-    (["--first", "%s[1:0]==3&!bench.reset" % COUNT], "35ns"), (["bench.level >= 2.75"], "105ns"),
+    (["%s == 0xb" % COUNT], "115ns"), (["--count", "%s[0]" % COUNT], "5"),
+    (["--first", "%s[1:0]==3&!bench.reset" % COUNT], "35ns"),
+    (["bench.level >= 2.75"], "105ns"),
     (["%s is x" % COUNT], "0ps 72ns"), (["--from", "80ns", "%s is x" % COUNT], "80ns"),
     (["--from", "80ns", "--to", "85ns", "%s == 4" % COUNT], ""),
     (["--rise", "bench.clock", "%s == 4" % COUNT], "55ns"),
@@ -321,16 +322,17 @@ ANSWERS = [
     (["%s == 1 -> %s == 2 within 9.9ns" % (COUNT, COUNT)], ""),
     (["--rise", "bench.clock", "!(%s == 1 -> %s == 3 within 1)" % (COUNT, COUNT)], "25ns"),
     (["--rise", "bench.clock", "!(%s == 10 -> %s == 11 within 1)" % (COUNT, COUNT)], "")]
-REFUSED = ["", " ", "(", ")", "a b", "a ==", "a == = 1", "a = 1", "== 1", "!", "!!a", "a &", "a & & b",
-           "1", "1 == 1", "a -> b", "a within 5", "a -> b within", "a -> b within c",
+REFUSED = ["", " ", "(", ")", "a b", "a ==", "a == = 1", "a = 1", "== 1", "!", "!!a", "a &",
+           "a & & b", "1", "1 == 1", "a -> b", "a within 5", "a -> b within", "a -> b within c",
            "(a -> b within 5) & c", "a -> b -> c within 5 within 5", "c -> c within 5", "a is",
            "a is 5", "a is not", "q == 5ns", "q == 16", "q == -9", "q == 0b1xx00", "q < 0bx",
            "q == 0xg", "q == 8'hff", "q == 1.2.3", "!q == 1", "1 < q < 3", "(q) == (c & c)",
            "q[4]", "q[0:1]", "r[0]", "r == 0bx", "e == 1", "e is x", "e < c", "signed(r) == 1",
-           "signed(1) == q", "signed", "signed(q, q)", "q(c)", "p == 1", "u", "none", "q[3:0].a", '"',
-           '"q', "q; import os", "q.__class__", "lambda: q", "q if c else q", "[q]", "{q}", "q + 1",
-           "q := 1", "\udcff", "(" * 5000 + "q" + ")" * 5000, "!(" * 5000 + "q" + ")" * 5000,
-           "q" * 100000, "0x" + "f" * 100000 + " == q", "9" * 100000 + " == q", "q\n==", "*", "..."]
+           "signed(1) == q", "signed", "signed(q, q)", "q(c)", "p == 1", "u", "none", "q[3:0].a",
+           '"', '"q', "q; import os", "q.__class__", "lambda: q", "q if c else q", "[q]", "{q}",
+           "q + 1", "q := 1", "\udcff", "(" * 5000 + "q" + ")" * 5000, "*", "...", "q\n==",
+           "!(" * 5000 + "q" + ")" * 5000, "a" * 100000, "0x" + "f" * 100000 + " == q",
+           "9" * 100000 + " == q"]
 
 
 def said(words):
@@ -349,8 +351,7 @@ def tried():
     """What is wrong on the sample, and of what has to be refused."""
     for words, times in ANSWERS:
         got = said([*words[:-1], "--", NESTED, words[-1]])
-        wanted = "".join(time + "\n" for time in (times or "").split(" ") if time)
-        if got != (wanted, "", 0 if times else 1) if times is not None else got[2] != 2:
+        if got != ("".join(time + "\n" for time in times.split()), "", 0 if times else 1):
             yield words, "", times, got
     with tempfile.TemporaryDirectory() as folder:
         files = {"dump": HEADER + "#0\n0!\n", "empty": "", "header": HEADER, "fault": HEADER + "#x",
@@ -358,8 +359,7 @@ def tried():
         for name, text in files.items():
             with open("%s/%s" % (folder, name), "w", encoding="latin-1") as file:
                 file.write(text)
-        asked = [["--", folder + "/dump", text.replace("q", "t.q") if text != "q" * 100000 else text]
-                 for text in REFUSED]
+        asked = [["--", folder + "/dump", text.replace("q", "t.q")] for text in REFUSED]
         asked += [[folder + "/" + name, "t.c"]
                   for name in ("empty", "fault", "binary", "other", "none", "", "dump/none")]
         asked += [[*words, folder + "/dump", "t.c"] for words in (

@@ -1,10 +1,8 @@
 """Two dumps side by side, for vcdkit-diff: which signals both have, and where their values differ.
 
-A value is as a body has it: the fewest digits, or r and a real number. Equal values of one size have
-equal digits."""
+A value is as a body has it: the fewest digits, or r and a real number. So equal values of one size
+have equal digits."""
 import contextlib
-import itertools
-import os
 from math import gcd, isclose, isnan
 from typing import (BinaryIO, Callable, Dict, Iterator, List, NamedTuple, Optional, Sequence,
                     Set, Tuple, Union)
@@ -19,7 +17,6 @@ from .values import Signal
 
 BLOCK = 1 << 16
 MAX_NAMES = 1 << 17  # bytes of names on a command line
-NOTHING: Iterator[Tuple[int, ...]] = itertools.repeat(())
 Values = Tuple[Optional[bytes], Optional[bytes]]
 Same = Callable[[Optional[bytes], Optional[bytes]], bool]
 
@@ -200,6 +197,12 @@ def _last_time(text: bytes) -> Optional[int]:
     return int(text[at + 2:text.index(b"\n", at + 1)]) if at >= 0 else None
 
 
+def _count_alike(one: bytes, other: bytes) -> int:
+    """Returns how many bytes two texts have alike at their begin."""
+    pairs = enumerate(zip(one, other))
+    return next((at for at, (mine, its) in pairs if mine != its), min(len(one), len(other)))
+
+
 def _alike_until(dumps: Sequence[Dump]) -> Optional[int]:
     """Returns the last timestamp before the bodies of two dumps differ; None if they do not."""
     time, tail = 0, b"\n"
@@ -211,7 +214,7 @@ def _alike_until(dumps: Sequence[Dump]) -> Optional[int]:
             is_alike = mine == its
             if is_alike and not mine:
                 return None
-            text = tail + (mine if is_alike else os.path.commonprefix([mine, its]))
+            text = tail + (mine if is_alike else mine[:_count_alike(mine, its)])
             found = _last_time(text)
             time = time if found is None else found
             if not is_alike:
@@ -253,7 +256,8 @@ def _steps(out: BinaryIO, codes: Set[bytes], factor: int) -> Iterator[Step]:
 def _edges(out: BinaryIO, codes: Set[bytes], clock: bytes, edge: Tuple[bytes, bytes]
            ) -> Iterator[Step]:
     """Returns the changes from one edge of a clock to the time before the next."""
-    number, changed = 0, {}
+    number = 0
+    changed: Dict[bytes, bytes] = {}
     for time, before, changes, is_edge in _body.edge_steps(out, {clock, *codes}, [(clock, *edge)]):
         changed.update(before)
         if is_edge:
@@ -331,7 +335,7 @@ class Comparison:
             for step, table, state in zip(taken, self._tables, states):
                 if step:
                     state.update(step.changes)
-                    touched.update(*map(table.get, step.changes, NOTHING))
+                    touched.update(*(table.get(code, ()) for code in step.changes))
             found = self._differing(touched & left, taken, states)
             if found:
                 left.difference_update(number for number, _ in found)

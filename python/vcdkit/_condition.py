@@ -8,12 +8,11 @@ A test of values gives True, False, or None if digits that are x or z leave it o
 operators do. A value is an int, a float, digits (a str) if one of them is x or z, or None if the
 signal has none yet."""
 import ast
-import collections
 import functools
 import operator
 import re
-from typing import (TYPE_CHECKING, Any, BinaryIO, Callable, Deque, Dict, Iterable, Iterator, List,
-                    NamedTuple, Optional, Tuple, Union)
+from typing import (TYPE_CHECKING, Any, Callable, Dict, Iterable, KeysView, List, NamedTuple,
+                    Optional, Tuple, Union)
 
 from . import _body
 from .errors import UsageError
@@ -25,7 +24,6 @@ if TYPE_CHECKING:
 Known = Optional[bool]
 Test = Callable[[List[Any]], Known]
 MAX_DEPTH = 50  # parentheses inside each other
-MAX_OPEN = 1_000_000  # times that wait for an answer
 RANGE = re.compile(r"\[(-?\d+):(-?\d+)\]\Z")
 FIELD = re.compile(r"\[(-?\d+)(?::(-?\d+))?\]\Z")
 TOKEN = re.compile(r'"([^"]*)"|(->|&&?|\|\|?|[!=<>]=|[!<>()])|((?:(?!->)[^\s"&|!=<>()])+)')
@@ -41,7 +39,7 @@ class _Number(NamedTuple):
     value: Union[int, float, str]
 
 
-class _Span(NamedTuple):
+class Span(NamedTuple):
     """How long `within` waits: a number and a unit, which is empty for edges of the clock."""
 
     text: str
@@ -60,7 +58,13 @@ class _Name(NamedTuple):
 
     @property
     def width(self) -> int:
+        """How many digits it has."""
         return self.end - self.begin
+
+    @property
+    def has_no_bits(self) -> bool:
+        """Whether it is a real number or an event."""
+        return self.signal.is_real or self.signal.type == "event"
 
     def value(self, raw: bytes) -> Any:
         """Returns the value that a body has for the signal."""
@@ -76,10 +80,10 @@ class _Name(NamedTuple):
         return number - (self.is_signed and digits[0] == "1") * (1 << self.width)
 
 
-Word = Union[str, _Number, _Span]
+Word = Union[str, _Number, Span]
 
 
-def bad(why: str) -> UsageError:
+def _bad(why: str) -> UsageError:
     """Returns the exception for a condition that is none."""
     return UsageError("bad condition: " + why)
 
@@ -88,7 +92,7 @@ def _word(text: str) -> Word:
     """Returns the number, the time or the name that a word is."""
     span = re.match(r"(\d+(?:\.\d+)?)(s|ms|us|ns|ps|fs|tick)\Z", text)
     if span:
-        return _Span(text, span.group(1), span.group(2))
+        return Span(text, span.group(1), span.group(2))
     digits = re.match(r"(-?)0([xXbB])([0-9a-fA-FxXzZ_]+)\Z", text)
     try:
         if digits and re.search("[xXzZ]", digits.group(3)):
@@ -99,7 +103,7 @@ def _word(text: str) -> Word:
             is_whole = re.match(r"-?[\d_]+\Z", text)
             return _Number(text, int(text) if is_whole else float(text))
     except ValueError:
-        raise bad("%s is no number: numbers are as 0xff, 0b1x0, 10, -1 and 1.5" % text) from None
+        raise _bad("%s is no number: numbers are as 0xff, 0b1x0, 10, -1 and 1.5" % text) from None
     return text
 
 
@@ -129,7 +133,7 @@ class _Text:
             self._check_gap(text[at:token.start()])
             depth += {"(": 1, ")": -1}.get(token.group(), 0)
             if depth > MAX_DEPTH or last == token.group() == "!":
-                raise bad("it has !!" if last == "!" else "it is nested too deep")
+                raise _bad("it has !!" if last == "!" else "it is nested too deep")
             at, (quoted, sign, word) = token.end(), token.groups()
             is_letter = last in ("is", "not") and word in ("not", "x", "z") and word != last
             if sign or is_letter or word in ("is", "within", "signed"):
@@ -146,19 +150,19 @@ class _Text:
         """Refuses what is between tokens, unless it is blank."""
         sign = text.strip()[:1]
         if sign:
-            raise bad("write == for =" if sign == "=" else 'a " has no second one')
+            raise _bad("write == for =" if sign == "=" else 'a " has no second one')
 
     def tree(self) -> ast.expr:
         """Returns what Python's parser makes of it."""
         arrows, withins = (len(re.findall(r"\b%s " % word, self.source)) for word in ("if", "else"))
         if arrows != withins:
-            raise bad("-> and within need each other, as in req -> ack within 5")
+            raise _bad("-> and within need each other, as in req -> ack within 5")
         try:
             return ast.parse(self.source.strip() or "(", mode="eval").body
         except SyntaxError as error:
             is_at_end = not error.offset or error.msg.startswith("unexpected EOF")
             rest = [token for end, token in self._ends if end >= (error.offset or 0)]
-            raise bad("it ends too early" if is_at_end or not rest
+            raise _bad("it ends too early" if is_at_end or not rest
                       else "it cannot be read at " + rest[0]) from None
 
 
@@ -179,7 +183,7 @@ def _declared(dump: "Dump", paths: List[str]) -> Dict[str, Tuple[int, int]]:
     """Returns of each path the range that its declaration has."""
     scopes: List[str] = []
     found: Dict[str, Tuple[int, int]] = {}
-    with dump.pick(paths).open() as out:
+    with dump._part(paths).open() as out:
         for line in out:
             words = line.decode("utf-8", "surrogateescape").split()
             if line.startswith(b"$scope "):
@@ -210,16 +214,16 @@ class _Names:
         its = self._found[base if field else name]
         if not its:
             self._dump.select(base)  # it raises UnknownName, unless this is a scope
-            raise bad("%s is a scope: name a signal in it" % base)
+            raise _bad("%s is a scope: name a signal in it" % base)
         if len({one.code for one in its}) > 1:
-            raise bad("%s names %d signals: %s, .." % (base, len(its), its[0].path))
+            raise _bad("%s names %d signals: %s, .." % (base, len(its), its[0].path))
         begin, end = self._part(name, its[0], *field.groups()) if field else (0, its[0].size)
         return _Name(name, its[0], begin, end, its[0].type == "integer" and not field)
 
     def _part(self, name: str, signal: Signal, first: str, last: Optional[str]) -> Tuple[int, int]:
         """Returns from where to where the digits of a field are, counted from the left."""
         if signal.is_real or signal.type == "event":
-            raise bad("%s: %s has no bits" % (name, signal.path))
+            raise _bad("%s: %s has no bits" % (name, signal.path))
         if self._ranges is None:
             self._ranges = _declared(self._dump, [one.path for its in self._found.values()
                                                   for one in its])
@@ -229,7 +233,7 @@ class _Names:
         step = 1 if left <= right else -1
         begin, end = (int(first) - left) * step, (int(last or first) - left) * step + 1
         if not 0 <= begin < end <= signal.size:
-            raise bad("%s: the bits of %s are [%d:%d]" % (name, signal.path, left, right))
+            raise _bad("%s: the bits of %s are [%d:%d]" % (name, signal.path, left, right))
         return begin, end
 
 
@@ -318,11 +322,11 @@ class Condition:
         self._words = its.words
         self._names = _Names(dump, [word for word in its.words if isinstance(word, str)]).of
         if not self._names:
-            raise bad("it names no signal")
+            raise _bad("it names no signal")
         self._places: Dict[Union[_Name, _Number], int] = {}
         self.values: List[Any] = []
         self.answer: Optional[Test] = None
-        self.span: Optional[_Span] = None
+        self.span: Optional[Span] = None
         self.is_refusal = (isinstance(tree, ast.UnaryOp) and isinstance(tree.operand, ast.IfExp))
         whole = tree.operand if isinstance(tree, ast.UnaryOp) and self.is_refusal else tree
         if isinstance(whole, ast.IfExp):
@@ -344,7 +348,7 @@ class Condition:
         return list(dict.fromkeys(name.signal.path for name in self._names.values()))
 
     @property
-    def codes(self) -> Iterable[bytes]:
+    def codes(self) -> KeysView[bytes]:
         """The codes of its signals."""
         return self._readers.keys()
 
@@ -375,33 +379,34 @@ class Condition:
         if isinstance(node, ast.Compare):
             return self._comparison(node)
         if isinstance(node, ast.IfExp):
-            raise bad("-> is for the whole condition, or the whole with ! before it")
+            raise _bad("-> is for the whole condition, or the whole with ! before it")
         side = self._side(node)
         if not isinstance(side, _Name):
-            raise bad("%s is a number: compare it" % side.text)
+            raise _bad("%s is a number: compare it" % side.text)
         return _truth(self._place(side))
+
+    def _word(self, node: ast.expr) -> Optional[Word]:
+        """Returns the name, number or time that an expression is; None if it is none."""
+        if isinstance(node, ast.Name) and node.id[1:].isdigit():
+            return self._words[int(node.id[1:])]
+        return None
 
     def _side(self, node: ast.expr) -> Union[_Name, _Number]:
         """Returns the signal or the number that an expression is."""
         if isinstance(node, ast.Call) and len(node.args) == 1 and not node.keywords and isinstance(
                 node.func, ast.Name) and node.func.id == "signed":
             name = self._side(node.args[0])
-            if isinstance(name, _Name) and not self._is_odd(name):
+            if isinstance(name, _Name) and not name.has_no_bits:
                 return name._replace(is_signed=True)
-        word = (self._words[int(node.id[1:])] if isinstance(node, ast.Name)
-                and node.id[1:].isdigit() else None)
+        word = self._word(node)
         if isinstance(word, str):
             return self._names[word]
         if isinstance(word, _Number):
             return word
-        if isinstance(word, _Span):
-            raise bad("%s is a time: it goes with within" % word.text)
-        raise bad("only names and numbers are compared: write !(a == b) for !a == b, and "
+        if isinstance(word, Span):
+            raise _bad("%s is a time: it goes with within" % word.text)
+        raise _bad("only names and numbers are compared: write !(a == b) for !a == b, and "
                   "signed(a) for a name")
-
-    @staticmethod
-    def _is_odd(name: _Name) -> bool:
-        return name.signal.is_real or name.signal.type == "event"
 
     def _place(self, of: Union[_Name, _Number]) -> int:
         """Returns where among the values its own is."""
@@ -413,15 +418,15 @@ class Condition:
     def _comparison(self, node: ast.Compare) -> Test:
         """Returns the test of two values, or of one for x."""
         if len(node.ops) > 1:
-            raise bad("two comparisons in one: write a < b & b < c")
+            raise _bad("two comparisons in one: write a < b & b < c")
         kind, other_node = node.ops[0], node.comparators[0]
         one = self._side(node.left)
         if isinstance(one, _Name) and one.signal.type == "event":
-            raise bad("%s is an event: it has no value" % one.text)
+            raise _bad("%s is an event: it has no value" % one.text)
         if isinstance(kind, (ast.Is, ast.IsNot)):
             letter = other_node.id if isinstance(other_node, ast.Name) else ""
             if letter not in ("x", "z") or not isinstance(one, _Name):
-                raise bad("is asks for x or z of a name, as in a is x or a is not z")
+                raise _bad("is asks for x or z of a name, as in a is x or a is not z")
             test = _has(self._place(one), letter)
             return _not(test) if isinstance(kind, ast.IsNot) else test
         return self._comparison_of(one, self._side(other_node), kind)
@@ -432,13 +437,13 @@ class Condition:
         sides = [one, other]
         for at, (side, against) in enumerate(((one, other), (other, one))):
             if isinstance(side, _Name) and side.signal.type == "event":
-                raise bad("%s is an event: it has no value" % side.text)
+                raise _bad("%s is an event: it has no value" % side.text)
             if isinstance(side, _Name) and isinstance(against, _Number):
                 sides[at] = self._against(side, against, isinstance(kind, (ast.Eq, ast.NotEq)))
         numbers = [side for side in sides if isinstance(side, _Number)]
         names = [side for side in sides if isinstance(side, _Name)]
         if not names:
-            raise bad("%s and %s are two numbers" % (one.text, other.text))
+            raise _bad("%s and %s are two numbers" % (one.text, other.text))
         places = self._place(sides[0]), self._place(sides[1])
         if type(kind) in ORDERS:
             return _in_order(places, ORDERS[type(kind)])
@@ -456,9 +461,9 @@ class Condition:
         value, is_real = number.value, name.signal.is_real
         if isinstance(value, str):
             if is_real or not is_equality:
-                raise bad("%s has x or z: only == and != of digits take it" % number.text)
+                raise _bad("%s has x or z: only == and != of digits take it" % number.text)
             if _at_width(_at_width(value, name.width), len(value)) != value:
-                raise bad("%s has more digits than the %d of %s"
+                raise _bad("%s has more digits than the %d of %s"
                           % (number.text, name.width, name.text))
             return name
         if is_real or isinstance(value, float):
@@ -466,121 +471,15 @@ class Condition:
         name = name if value >= 0 else name._replace(is_signed=True)
         limit = 1 << name.width - name.is_signed
         if is_equality and not -limit * name.is_signed <= value < limit:
-            raise bad("%s is never %s: it has %d bits%s" % (
+            raise _bad("%s is never %s: it has %d bits%s" % (
                 name.text, number.text, name.width, ", signed" if name.is_signed else ""))
         return name
 
-    def _span(self, node: ast.expr) -> _Span:
+    def _span(self, node: ast.expr) -> Span:
         """Returns what is after `within`."""
-        word = (self._words[int(node.id[1:])] if isinstance(node, ast.Name)
-                and node.id[1:].isdigit() else None)
+        word = self._word(node)
         if isinstance(word, _Number) and isinstance(word.value, int) and word.value >= 0:
-            return _Span(word.text, str(word.value), "")
-        if isinstance(word, _Span):
+            return Span(word.text, str(word.value), "")
+        if isinstance(word, Span):
             return word
-        raise bad("within takes a number of edges or a time, as 5 or 20ns")
-
-
-def when(dump: "Dump", text: str, rise: Optional[str], fall: Optional[str],
-         every: bool) -> Iterator[int]:
-    """Returns the times of Dump.when."""
-    if rise is not None and fall is not None:
-        raise UsageError("rise and fall: name one clock")
-    name = fall if rise is None else rise
-    if every and name is None:
-        raise UsageError("every edge: name a clock by rise or fall")
-    condition = Condition(text, dump)
-    ticks = _ticks_of(condition.span, dump, name is not None)
-    clock = None if name is None else dump._clock(name)
-    edge = (b"1", b"0") if rise is None else (b"0", b"1")
-    return _times(dump, condition, ticks, clock, edge, every)
-
-
-def _ticks_of(span: Optional[_Span], dump: "Dump", has_clock: bool) -> int:
-    """Returns how many ticks a wait is long; of edges how many there are."""
-    if span is None:
-        return 0
-    if not span.unit and not has_clock:
-        raise UsageError("within %s counts edges: name a clock by rise or fall, or give a time, as "
-                         "%sns" % (span.text, span.text))
-    return dump.ticks(span.number + span.unit.replace("tick", ""))
-
-
-def _times(dump: "Dump", condition: Condition, ticks: int, clock: Optional[Signal],
-           edge: Tuple[bytes, bytes], every: bool) -> Iterator[int]:
-    with dump.pick([*condition.paths, *([clock.path] if clock else [])]).open() as out:
-        _body.skip_header(out)
-        looks = (_at_edges(out, condition, clock.code.encode(), edge) if clock
-                 else _at_changes(out, condition))
-        if condition.answer is None:
-            yield from _begins(looks, condition, bool(clock), every)
-        else:
-            yield from _answered(looks, condition, ticks, dump, bool(clock), every)
-
-
-def _at_changes(out: BinaryIO, condition: Condition) -> Iterator[int]:
-    """Returns each time at which a signal of a condition changes; the condition has the values at
-    its end."""
-    for time, before, changes in _body.steps(out, condition.codes):
-        condition.take(before)
-        condition.take(changes)
-        yield time
-
-
-def _at_edges(out: BinaryIO, condition: Condition, clock: bytes, edge: Tuple[bytes, bytes]
-              ) -> Iterator[int]:
-    """Returns each time at which a clock goes from one digit to another; the condition has the
-    values just before that time, and the events since the last one."""
-    codes = {clock, *condition.codes}
-    for time, before, changes, is_edge in _body.edge_steps(out, codes, [(clock, *edge)]):
-        condition.take(before)
-        if is_edge:
-            yield time
-            condition.end_events()
-        condition.take(changes)
-
-
-def _starts(looks: Iterator[int], condition: Condition, has_clock: bool, every: bool
-            ) -> Iterator[Tuple[int, bool]]:
-    """Returns each time, and whether the condition begins to hold."""
-    held = False
-    for time in looks:
-        holds = condition.test(condition.values) is True
-        yield time, holds and (every or not held)
-        held = holds
-        if not has_clock and condition.end_events():  # an event is over before the next time
-            held = condition.test(condition.values) is True
-
-
-def _begins(looks: Iterator[int], condition: Condition, has_clock: bool, every: bool
-            ) -> Iterator[int]:
-    for time, is_start in _starts(looks, condition, has_clock, every):
-        if is_start:
-            yield time
-
-
-def _answered(looks: Iterator[int], condition: Condition, ticks: int, dump: "Dump",
-              has_clock: bool, every: bool) -> Iterator[int]:
-    """Returns the starts that have an answer in time; of a refusal those that have none. What the
-    end of the dump leaves open is neither."""
-    assert condition.answer and condition.span
-    counts_edges, at = not condition.span.unit, 0
-    is_open: Deque[Tuple[int, int]] = collections.deque()  # a start, and how long it waits
-    for count, (time, is_start) in enumerate(_starts(looks, condition, has_clock, every)):
-        at = count if counts_edges else time
-        while is_open and is_open[0][1] < at:
-            start = is_open.popleft()[0]
-            if condition.is_refusal:
-                yield start
-        if is_start:
-            is_open.append((time, at + ticks))
-        if is_open and condition.answer(condition.values) is True:
-            if not condition.is_refusal:
-                yield from [start for start, _ in is_open]
-            is_open.clear()
-        if len(is_open) > MAX_OPEN:
-            raise UsageError("more than %d times wait for an answer: give a shorter time"
-                             % MAX_OPEN)
-    if condition.is_refusal and is_open:
-        last = at if counts_edges else dump.check().last or 0
-        yield from [start for start, end in is_open if end <= last]
+        raise _bad("within takes a number of edges or a time, as 5 or 20ns")

@@ -7,7 +7,7 @@ import shutil
 import signal
 import subprocess
 import tempfile
-from typing import BinaryIO, Dict, Iterator, List, Optional, Sequence
+from typing import BinaryIO, Dict, Iterator, List, Optional, Sequence, Union, cast
 
 from ._texts import Bytes, File, Text, installed
 from .errors import RunFailed, UnknownName, VcdkitError, error_of
@@ -50,18 +50,19 @@ def is_vcdkit(program: str) -> bool:
 class _Part:
     """A running program, and what it calls its inputs."""
 
-    def __init__(self, words: Sequence[str], stdin, names: Dict[str, str], of: Optional[Text],
-                 pass_fds=()):
+    def __init__(self, words: Sequence[str], stdin: Union[BinaryIO, int], names: Dict[str, str],
+                 of: Optional[Text], pass_fds: Sequence[int] = ()):
         self.words, self.names, self.of = words, names, of
         try:
             self.process = subprocess.Popen(words, stdin=stdin, stdout=subprocess.PIPE,
                                             stderr=subprocess.PIPE, pass_fds=pass_fds)
         except OSError as error:
             raise not_started(words[0], error) from error
+        self.out = cast(BinaryIO, self.process.stdout)
 
     def finish(self) -> None:
         """Waits for it, and keeps what it says."""
-        with self.process.stderr as said:
+        with cast(BinaryIO, self.process.stderr) as said:
             self.said = said.read().decode(errors="backslashreplace").strip()
         self.status = self.process.wait()
 
@@ -76,37 +77,40 @@ class _Part:
                 self.words[0], self.status)))
         error = error_of(self.said or "vcdkit: status %d" % self.status, self.status, self.names)
         if isinstance(error, UnknownName):
-            error.text = self.of
+            error.of = self.of
         return error
 
 
 class _Pipe:
     """The programs of one pipe, the nearest to the files first."""
 
-    def __init__(self):
+    def __init__(self) -> None:
+        self.files: List[File] = []
         self.parts: List[_Part] = []
 
-    def start(self, words, stdin, names, of, pass_fds=()) -> BinaryIO:
+    def start(self, words: Sequence[str], stdin: Optional[BinaryIO], names: Dict[str, str],
+              of: Optional[Text], pass_fds: Sequence[int] = ()) -> BinaryIO:
         """Starts a program, and returns what it writes."""
         try:
             self.parts.append(_Part(words, stdin or subprocess.DEVNULL, names, of, pass_fds))
         finally:
             if stdin:
                 stdin.close()
-        return self.parts[-1].process.stdout
+        return self.parts[-1].out
 
     def feed(self, text: Text) -> BinaryIO:
         """Returns a file from which the text can be read."""
         if isinstance(text, File):
+            self.files.append(text)
             file = text.open()
             for words in text.filters():
                 file = self.start(words, file, {"(stdin)": text.name}, None)
             return file
         if isinstance(text, Bytes):
-            file = tempfile.TemporaryFile()
-            file.write(text.data)
-            file.seek(0)
-            return file
+            kept = cast(BinaryIO, tempfile.TemporaryFile())
+            kept.write(text.data)
+            kept.seek(0)
+            return kept
         program = path()
         if not program:
             raise RunFailed(refusal())
@@ -125,34 +129,39 @@ class _Pipe:
             for file in files:
                 file.close()
 
-    def finish(self, was_read: bool) -> None:
-        """Waits for all; raises the error of the one nearest to the files, unless the reader ended
-        before all was read."""
+    def finish(self) -> None:
+        """Waits for all; raises the error of the one nearest to the files."""
         for part in self.parts:
             part.finish()
+        for file in self.files:
+            file.check()
         for at, part in enumerate(self.parts):
             is_last = at == len(self.parts) - 1
-            if part.status and was_read and (is_last or not part.ended_early()):
+            if part.status and (is_last or not part.ended_early()):
                 raise part.error()
 
     def stop(self) -> None:
         """Ends all that still run."""
         for part in self.parts:
             part.process.terminate()
-            part.process.stdout.close()
+            part.out.close()
             part.finish()
 
 
 @contextlib.contextmanager
 def opened(text: Text) -> Iterator[BinaryIO]:
-    """Opens a text to be read once; where the reader ends early, so do the programs."""
+    """Opens a text to be read once. If the reader ends early, or closes it, so do the programs, and
+    there is no error."""
     pipe = _Pipe()
     try:
         out = pipe.feed(text)
         with out:
             yield out
-            was_read = not out.read(1)
+            was_read = not out.closed and not out.read(1)
     except BaseException:
         pipe.stop()
         raise
-    pipe.finish(was_read)
+    if was_read:
+        pipe.finish()
+    else:
+        pipe.stop()

@@ -79,17 +79,17 @@ class Signals(Sequence[Signal]):
         return "<%d signals>" % self._count
 
 
-def counts_of(rows: str) -> List[Tuple[str, Edges]]:
-    """Returns the paths and Edges of the rows of `edges`. Those with the same counts, as most have,
-    share one."""
+def counts_of(rows: str) -> List[Edges]:
+    """Returns the Edges of the rows of `edges`. Those with the same counts, as most have, are
+    one."""
     made: Dict[str, Edges] = {}
     found = []
     for row in rows.split("\n")[:-1]:
-        path, _, counts = row.partition(" ")
+        counts = row[row.index(" ") + 1:]
         one = made.get(counts)
         if one is None:
             one = made[counts] = Edges(*map(int, counts.split(" ")))
-        found.append((path, one))
+        found.append(one)
     return found
 
 

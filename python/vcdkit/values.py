@@ -23,8 +23,9 @@ class Signal(NamedTuple):
 
 
 class Scope(NamedTuple):
-    """A scope of a header: its name, its path, its type (`module`, `task`, ..), and the scopes and
-    the signals in it, in the order of declaration. The tree begins with one that has no name."""
+    """A scope of a header that has signals, maybe in scopes below: its name, its path, its type
+    (`module`, `task`, ..), and the scopes and the signals in it, in the order of declaration. The
+    tree begins with one that has no name."""
 
     name: str
     path: str
