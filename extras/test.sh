@@ -56,6 +56,9 @@ for script in when diff; do
     same "vcdkit-$script, against another reader" 0 \
         "$(python3 "python/tests/test_$script.py" 2>&1; echo $?)"
 done
+python3 python/tests/test_scripts.py > "$folder/said" 2>&1
+same 'the scripts, at any argument, file and stream' 0 \
+    "$?$(grep -A 30 -E '^(ERROR|FAIL|Trace)' "$folder/said")"
 [[ -n $library ]] || echo 'the package is not tried over the library: no libvcdkit.so'
 
 same 'the version of the package' "$("$VCDKIT" --version)" "$(vcdkit-find --version |
