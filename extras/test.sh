@@ -52,6 +52,15 @@ else
 fi
 same 'the package, against another reader' 0 \
     "$(python3 python/tests/test_against_reader.py 2>&1; echo $?)"
+[[ -z $library ]] || same 'the package over the library, against another reader' 0 "$(
+    VCDKIT_WAY=library VCDKIT_LIBRARY=$library python3 python/tests/test_against_reader.py 2>&1
+    echo $?)"
+if command -v mypy > /dev/null; then
+    same 'the types of package and scripts' 0 "$(mypy --no-error-summary --cache-dir /dev/null \
+        --config-file python/mypy.ini python/vcdkit 2>&1; echo $?)"
+else
+    echo 'the types of package and scripts are not checked: there is no mypy'
+fi
 for script in when diff; do
     same "vcdkit-$script, against another reader" 0 \
         "$(python3 "python/tests/test_$script.py" 2>&1; echo $?)"
@@ -138,12 +147,32 @@ same 'vcdkit-table --at, a unit' 'time (us),bench.slow.count,bench.level
 same 'vcdkit-table --from' 'time (ps),bench.slow.count
 100000,1001
 105000,1010' "$(vcdkit-table --from 100ns --to 110ns $dump bench.slow.count)"
-for clock in 'bench.slow:it selects 4 signals' 'bench.slow.overflow:it is an event' \
+same 'vcdkit-table: a clock that is a scope' 'vcdkit-table: bench.slow: selects 4 signals, where '\
+'one is asked for: bench.slow.overflow, ..
+status 2' "$(status vcdkit-table --rise bench.slow $dump bench.slow.count)"
+for clock in 'bench.slow.overflow:it is an event' \
     'bench.level:it is a real number' 'bench.slow.count:it has 4 bits'; do
     same "vcdkit-table: a clock that is none, ${clock%:*}" \
         "vcdkit-table: ${clock%:*}: is no clock of one bit: ${clock#*:}
 status 2" "$(status vcdkit-table --rise "${clock%:*}" $dump bench.slow.count)"
 done
+same 'vcdkit-table --rise --fall: both edges' 'time (ns),count0
+5,x
+10,0
+15,0
+20,1' "$(vcdkit-table --rise clk --fall clk --to 20ns samples/counter.vcd count0)"
+for words in '--rise clk' '--fall clk' '--from 5' '--to 5'; do
+    same "vcdkit-table --at $words" \
+        'vcdkit-table: error: --at goes with none of --rise, --fall, --from and --to
+status 2' "$(status vcdkit-table --at 5 $words samples/counter.vcd count0 | tail -n 2)"
+done
+: > "$folder/rows"
+{
+    printf '$var wire 1 ! a $end $enddefinitions $end\n#0 0!\n#1 1!\n'
+    for _ in {1..300}; do ! grep -q 0,0 "$folder/rows" || break; sleep 0.1; done
+    grep -c 0,0 "$folder/rows" > "$folder/seen"
+} | vcdkit-table - a > "$folder/rows"
+same 'vcdkit-table: the rows of a pipe come as it does' 1 "$(cat "$folder/seen")"
 same 'vcdkit-table: an unknown name' \
     'vcdkit-table: level: selects nothing; there is bench.level
 status 1' "$(status vcdkit-table $dump level)"
@@ -151,6 +180,8 @@ status 1' "$(status vcdkit-table $dump level)"
 same 'vcdkit-x' '0ps bench.step.parity xx
 status 1' "$(status vcdkit-x --to 10ns $dump bench.step)"
 same 'vcdkit-x: none' 'status 0' "$(status vcdkit-x --from 100ns $dump bench.slow)"
+same 'vcdkit-x: an unknown name' 'status 2' "$(status vcdkit-x $dump none | tail -n 1)"
+same 'vcdkit-x: a fault' 'status 2' "$(status vcdkit-x samples/ghdl.vcd | tail -n 1)"
 
 printf '%s' '$var wire 1 ! a $end $var wire 2 " b $end $enddefinitions $end #0 x! b0 " ' \
     '#10 0! bx " #20 b10 " bx " #25 bxx " #30 x! 1! bz "' > "$folder/x.vcd"

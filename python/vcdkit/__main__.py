@@ -28,7 +28,7 @@ def main() -> int:
     """Runs the command of the first word, and returns its status."""
     name = "".join(sys.argv[1:2]).replace("-", "_")
     if name not in names():
-        return list_commands()
+        return list_commands(None)
     del sys.argv[1]
     status: int = importlib.import_module("vcdkit.commands." + name).main()
     return status

@@ -58,7 +58,7 @@ class Lane:
 
     def close(self, begin: int, end: int) -> None:
         """Ends a bin, which goes from one time to just before another."""
-        if len(self.first) > 1:
+        if self.text is not None and len(self.first) > 1:
             self.points.append((begin, Several(min(self.numbers, default=0.0),
                                                max(self.numbers, default=0.0))))
             self.points.append((end, self.value(self.text)))

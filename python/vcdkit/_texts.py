@@ -83,6 +83,8 @@ class _Kept:
             self._file.flush()
         except OSError as error:
             self.error, block = error, b""
+        if not block:
+            self._pipe.close()
         with self._news:
             self._length += len(block)
             self._is_whole, self._is_reading = not block, False

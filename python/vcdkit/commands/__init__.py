@@ -1,6 +1,7 @@
 """The commands vcdkit-diff, vcdkit-explain, .. : a module each, whose main() the shell calls."""
 import argparse
 import functools
+import io
 import os
 import sys
 from typing import Callable, List, Optional, TextIO
@@ -137,10 +138,10 @@ def command(function: Callable[[List[str]], int]) -> Callable[[Optional[List[str
         if _program.path():
             os.environ.setdefault("VCDKIT_WAY", "program")
         sys.stderr = sys.stderr or open(os.devnull, "w")  # None where it was closed
-        sys.stderr.reconfigure(encoding="utf-8", errors="surrogateescape")
+        _write_bytes(sys.stderr)
         if sys.stdout is None:
             return _said(name, "write failed", RunFailed.status)
-        sys.stdout.reconfigure(encoding="utf-8", errors="surrogateescape", newline="\n")
+        _write_bytes(sys.stdout)
         try:
             try:
                 return function(sys.argv[1:] if words is None else words)
@@ -160,6 +161,12 @@ def command(function: Callable[[List[str]], int]) -> Callable[[Optional[List[str
             return _said(name, "write failed", RunFailed.status)
 
     return main
+
+
+def _write_bytes(stream: TextIO) -> None:
+    """Lets a stream write the bytes of names as they are."""
+    if isinstance(stream, io.TextIOWrapper):
+        stream.reconfigure(encoding="utf-8", errors="surrogateescape", newline="\n")
 
 
 def _drop(stream: TextIO) -> None:

@@ -17,12 +17,13 @@ import shutil
 import sys
 import warnings
 from collections import Counter, defaultdict
+from typing import Dict, Iterable, List, Sequence
 
-from .. import UsageError
+from .. import Signal, UsageError
 from . import add_file, command, dump_of, parser
 
 
-def names_for(chosen, signals):
+def names_for(chosen: Sequence[str], signals: Iterable[Signal]) -> List[str]:
     """Returns as few names as select these paths and no other: a scope where all in it are
     chosen."""
     others = {one.path for one in signals} - set(chosen)
@@ -31,7 +32,7 @@ def names_for(chosen, signals):
         while path and path not in mixed:
             mixed.add(path)
             path = path.rpartition(".")[0]
-    names = {}
+    names: Dict[str, bool] = {}
     for path in chosen:
         scope = path.rpartition(".")[0]
         while scope and scope not in mixed:
