@@ -120,6 +120,7 @@ install:
 	if command -v python3 > /dev/null; then \
 	    packaging/manuals.py "$(man)" $(addprefix extras/,$(scripts)); fi
 	install -m 644 completions/vcdkit.bash "$(bash_words)/vcdkit"
+	for name in $(scripts); do ln -sf vcdkit "$(bash_words)/$$name"; done
 	install -m 644 completions/_vcdkit "$(zsh_words)/_vcdkit"
 	install -m 644 python/vcdkit/*.py python/vcdkit/py.typed "$(python)"
 	install -m 644 python/vcdkit/commands/*.py "$(python)/commands"
@@ -134,8 +135,8 @@ install:
 	packaging/pages.sh "$(documents)"
 
 uninstall:
-	rm -f $(foreach name,vcdkit $(scripts),"$(bin)/$(name)" "$(man)/$(name).1") \
-	    "$(bash_words)/vcdkit" "$(zsh_words)/_vcdkit"
+	rm -f $(foreach name,vcdkit $(scripts),"$(bin)/$(name)" "$(man)/$(name).1" \
+	    "$(bash_words)/$(name)") "$(zsh_words)/_vcdkit"
 	rm -f "$(library)"/libvcdkit.a "$(library)"/libvcdkit.so* "$(library)/pkgconfig/vcdkit.pc"
 	rm -f "$(headers)/vcdkit.h"
 	rm -rf "$(DESTDIR)$(PREFIX)/share/vcdkit" "$(python)" "$(documents)"

@@ -1,7 +1,8 @@
 #!/usr/bin/env bash
 # Compares the commands and options that both completions name with those that the help of the
-# program prints, looks for them in the man page, and tries the completion of bash on words. Nothing
-# is built: VCDKIT names the program, else ./vcdkit.
+# program prints, looks for them in the man page, and tries the completion of bash on words; the
+# same for the names of the scripts, whose options come from their help. Nothing is built: VCDKIT
+# names the program, else ./vcdkit.
 set -u
 cd "$(dirname "$0")/.."
 program=${VCDKIT:-./vcdkit}
@@ -36,7 +37,10 @@ compopt() { options_set=$2; }
 completed() {
     COMP_LINE="$*" COMP_POINT=${#COMP_LINE} COMP_WORDS=("$@") COMP_CWORD=$(($# - 1)) options_set=
     COMPREPLY=()
-    _vcdkit "$1" "${!#}" "${@:$#-1:1}"
+    case ${1##*/} in
+        vcdkit-*) _vcdkit_script "$1" "${!#}" "${@:$#-1:1}" ;;
+        *) _vcdkit "$1" "${!#}" "${@:$#-1:1}" ;;
+    esac
     printf '%s' "${COMPREPLY[*]-}${options_set:+ ($options_set)}"
 }
 
@@ -137,6 +141,25 @@ same 'a name between quotes' 'bench.\data+flags' \
     "$(completed "$program" pick -i $dump "'bench.\\da")"
 same 'brackets' 'bench.lane\[0\].fast. (nospace)' \
     "$(completed "$program" pick -i $dump 'bench.lane\[0\].f')"
+
+# The scripts.
+scripts=$(cd extras && ls -d vcdkit-* | sorted)
+same 'scripts, bash' "$scripts" "$(complete -p | sed -n 's/^complete -F _vcdkit_script //p' | sorted)"
+same 'scripts, zsh' "vcdkit $scripts" "$(sed -n '1s/^#compdef //p' completions/_vcdkit)"
+for script in $scripts; do
+    same "$script in the man page" 1 "$(in_manual "^\.B[RI]* $script( |\*|\$)")"
+    same "$script in README" 1 "$(grep -qF "\`$script" README.md && echo 1)"
+done
+export VCDKIT=$program
+same 'an option of a script' '--salvage' "$(completed extras/vcdkit-explain --sal)"
+same 'options of a script' '--help --version --z --from --to --four-state' \
+    "$(completed extras/vcdkit-x --)"
+same 'the file of a script' ' (default)' "$(completed extras/vcdkit-x sam)"
+same 'both files of vcdkit-diff' ' (default)' "$(completed extras/vcdkit-diff $dump '')"
+same 'a file of an option' ' (default)' "$(completed extras/vcdkit-explain --salvage '')"
+same 'a time' '' "$(completed extras/vcdkit-table --from '')"
+same 'names of a script' 'bench.steps bench.step.' "$(completed extras/vcdkit-table $dump bench.step)"
+same 'a clock' 'bench.clock' "$(completed extras/vcdkit-table $dump --rise bench.cl)"
 
 # A header with 200,000 variables in a scope: what the names have in common, and soon.
 many=$(mktemp "${TMPDIR:-/tmp}/many names.XXXXXX")

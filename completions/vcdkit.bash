@@ -1,5 +1,6 @@
-# Completion of vcdkit for bash: commands, options, files, and the names of a dump where `-i FILE`
-# comes before. Source this file, or let `make install` put it where bash-completion finds it.
+# Completion of vcdkit and its scripts for bash: commands, options, files, and the names of a dump
+# where its file comes before. Source this file, or let `make install` put it where bash-completion
+# finds it.
 
 # What a command takes: its options, and whether it takes names (`name`), files (`file`), or
 # one file where none comes after `-i` (`dump`).
@@ -14,11 +15,11 @@ _vcdkit_words() {
     esac
 }
 
-# The names of a dump that begin with some text, up to the next point each: a variable, or a scope
-# and the point. Of more than 1,000 only what they have in common, and an empty line: a scope with
-# many variables takes no time to show.
+# _vcdkit_names START COMMAND ..: the names of the rows of a command that begin with some text, up
+# to the next point each: a variable, or a scope and the point. Of more than 1,000 only what they
+# have in common, and an empty line: a scope with many variables takes no time to show.
 _vcdkit_names() {
-    "$1" list -i "$2" 2> /dev/null | start=$3 LC_ALL=C awk '
+    "${@:2}" 2> /dev/null | start=$1 LC_ALL=C awk '
         BEGIN { start = ENVIRON["start"]; from = length(start) + 1 }
         substr($0, 1, from - 1) == start {
             path = substr($0, 1, index($0, " ") - 1)
@@ -50,11 +51,11 @@ _vcdkit_plain() {
     printf '%s\n' "$word"
 }
 
-_vcdkit() {
-    COMPREPLY=()
-    # The words as they were typed: bash also parts them at `=` and `:`, which names and files may
-    # have.
-    local line=${COMP_LINE:0:COMP_POINT} words=() word= next char quote= i
+# Parts what was typed into words and current, the word to complete: bash also parts words at `=`
+# and `:`, which names and files may have.
+_vcdkit_split() {
+    local line=${COMP_LINE:0:COMP_POINT} word= next char quote= i
+    words=()
     for ((i = 0; i < ${#line}; i++)); do
         char=${line:i:1} next=
         if [[ $char == \\ && $quote != \' ]]; then next=${line:$((++i)):1}
@@ -67,7 +68,32 @@ _vcdkit() {
         fi
         word+=$char$next
     done
-    local current=$word
+    current=$word
+}
+
+# _vcdkit_complete_names COMMAND ..: completes current with the names of the rows of a command.
+_vcdkit_complete_names() {
+    local word i
+    mapfile -t COMPREPLY < <(_vcdkit_names "$(_vcdkit_plain "$current")" "$@")
+    if [[ ${#COMPREPLY[@]} == 2 && -z ${COMPREPLY[1]} ||
+        ${#COMPREPLY[@]} == 1 && ${COMPREPLY[0]} == *. ]]; then
+        compopt -o nospace 2> /dev/null
+        COMPREPLY=("${COMPREPLY[0]}")
+    fi
+    # Between quotes bash takes a word as it is; else it is quoted, and what comes before a mark at
+    # which bash parts words left out.
+    [[ $current == [\'\"]* ]] && return
+    local before=${current%"${current##*[=:@]}"}
+    for i in "${!COMPREPLY[@]}"; do
+        printf -v word %q "${COMPREPLY[i]}"
+        COMPREPLY[i]=${word#"$before"}
+    done
+}
+
+_vcdkit() {
+    COMPREPLY=()
+    local words current word
+    _vcdkit_split
 
     # What comes before the word: the command, the file of `-i`, and whether `--` ended the
     # options.
@@ -103,23 +129,38 @@ _vcdkit() {
     elif [[ $can == *' file '* || $can == *' dump '* && -z $file ]]; then
         compopt -o default 2> /dev/null
     elif [[ $can == *' name '* && -f $file ]]; then
-        mapfile -t COMPREPLY < <(
-            _vcdkit_names "${1/#~\//$HOME/}" "$file" "$(_vcdkit_plain "$current")"
-        )
-        if [[ ${#COMPREPLY[@]} == 2 && -z ${COMPREPLY[1]} ||
-            ${#COMPREPLY[@]} == 1 && ${COMPREPLY[0]} == *. ]]; then
-            compopt -o nospace 2> /dev/null
-            COMPREPLY=("${COMPREPLY[0]}")
-        fi
-        # Between quotes bash takes a word as it is; else it is quoted, and what comes before a
-        # mark at which bash parts words left out.
-        [[ $current == [\'\"]* ]] && return
-        local before=${current%"${current##*[=:@]}"}
-        for i in "${!COMPREPLY[@]}"; do
-            printf -v word %q "${COMPREPLY[i]}"
-            COMPREPLY[i]=${word#"$before"}
-        done
+        _vcdkit_complete_names "${1/#~\//$HOME/}" list -i "$file"
     fi
 }
 
+# A script: its help says which options there are, and which words they take. The first word is a
+# dump, of vcdkit-diff the second too, and further ones are names of it.
+_vcdkit_script() {
+    COMPREPLY=()
+    local words current word help kind= file= count=0
+    local script=${1/#~\//$HOME/}
+    _vcdkit_split
+    help=$("$script" --help 2> /dev/null < /dev/null | sed -nE 's/^  (-[a-z], )?(--[a-z])/\2/p')
+    for word in "${words[@]:1}"; do
+        if [[ -n $kind ]]; then kind=
+        elif [[ $word == -?* ]]; then kind=$(sed -nE "s/^$word ([A-Z]+).*/\1/p" <<< "$help")
+        else file=${file:-$(_vcdkit_plain "$word")} count=$((count + 1))
+        fi
+    done
+    if [[ -z $kind && $current == -* ]]; then
+        COMPREPLY=($(compgen -W "$(sed 's/ .*//' <<< "$help")" -- "$current"))
+        return
+    fi
+    [[ -n $kind || ($count -gt 0 && ${1##*/} != vcdkit-diff) || $count -gt 1 ]] || kind=FILE
+    case $kind in
+        FILE | FOLDER | OUT) compopt -o default 2> /dev/null ;;
+        '' | CLOCK | NAME)
+            [[ -f $file ]] && _vcdkit_complete_names "${script%"${script##*/}"}vcdkit-find" "$file"
+            ;;
+    esac
+}
+
 complete -F _vcdkit vcdkit
+complete -F _vcdkit_script vcdkit-diff vcdkit-endmend vcdkit-explain vcdkit-find vcdkit-four-state \
+    vcdkit-info vcdkit-join-bits vcdkit-stats vcdkit-table vcdkit-values vcdkit-wave vcdkit-when \
+    vcdkit-x

@@ -52,6 +52,22 @@ else
 fi
 same 'the package, against another reader' 0 \
     "$(python3 python/tests/test_against_reader.py 2>&1; echo $?)"
+[[ -z $library ]] || same 'the package over the library, against another reader' 0 "$(
+    VCDKIT_WAY=library VCDKIT_LIBRARY=$library python3 python/tests/test_against_reader.py 2>&1
+    echo $?)"
+if command -v mypy > /dev/null; then
+    same 'the types of package and scripts' 0 "$(mypy --no-error-summary --cache-dir /dev/null \
+        --config-file python/mypy.ini python/vcdkit 2>&1; echo $?)"
+else
+    echo 'the types of package and scripts are not checked: there is no mypy'
+fi
+for script in when diff; do
+    same "vcdkit-$script, against another reader" 0 \
+        "$(python3 "python/tests/test_$script.py" 2>&1; echo $?)"
+done
+python3 python/tests/test_scripts.py > "$folder/said" 2>&1
+same 'the scripts, at any argument, file and stream' 0 \
+    "$?$(grep -A 30 -E '^(ERROR|FAIL|Trace)' "$folder/said")"
 [[ -n $library ]] || echo 'the package is not tried over the library: no libvcdkit.so'
 
 same 'the version of the package' "$("$VCDKIT" --version)" "$(vcdkit-find --version |
@@ -131,12 +147,32 @@ same 'vcdkit-table --at, a unit' 'time (us),bench.slow.count,bench.level
 same 'vcdkit-table --from' 'time (ps),bench.slow.count
 100000,1001
 105000,1010' "$(vcdkit-table --from 100ns --to 110ns $dump bench.slow.count)"
-for clock in 'bench.slow:it selects 4 signals' 'bench.slow.overflow:it is an event' \
+same 'vcdkit-table: a clock that is a scope' 'vcdkit-table: bench.slow: selects 4 signals, where '\
+'one is asked for: bench.slow.overflow, ..
+status 2' "$(status vcdkit-table --rise bench.slow $dump bench.slow.count)"
+for clock in 'bench.slow.overflow:it is an event' \
     'bench.level:it is a real number' 'bench.slow.count:it has 4 bits'; do
     same "vcdkit-table: a clock that is none, ${clock%:*}" \
         "vcdkit-table: ${clock%:*}: is no clock of one bit: ${clock#*:}
 status 2" "$(status vcdkit-table --rise "${clock%:*}" $dump bench.slow.count)"
 done
+same 'vcdkit-table --rise --fall: both edges' 'time (ns),count0
+5,x
+10,0
+15,0
+20,1' "$(vcdkit-table --rise clk --fall clk --to 20ns samples/counter.vcd count0)"
+for words in '--rise clk' '--fall clk' '--from 5' '--to 5'; do
+    same "vcdkit-table --at $words" \
+        'vcdkit-table: error: --at goes with none of --rise, --fall, --from and --to
+status 2' "$(status vcdkit-table --at 5 $words samples/counter.vcd count0 | tail -n 2)"
+done
+: > "$folder/rows"
+{
+    printf '$var wire 1 ! a $end $enddefinitions $end\n#0 0!\n#1 1!\n'
+    for _ in {1..300}; do ! grep -q 0,0 "$folder/rows" || break; sleep 0.1; done
+    grep -c 0,0 "$folder/rows" > "$folder/seen"
+} | vcdkit-table - a > "$folder/rows"
+same 'vcdkit-table: the rows of a pipe come as it does' 1 "$(cat "$folder/seen")"
 same 'vcdkit-table: an unknown name' \
     'vcdkit-table: level: selects nothing; there is bench.level
 status 1' "$(status vcdkit-table $dump level)"
@@ -144,6 +180,8 @@ status 1' "$(status vcdkit-table $dump level)"
 same 'vcdkit-x' '0ps bench.step.parity xx
 status 1' "$(status vcdkit-x --to 10ns $dump bench.step)"
 same 'vcdkit-x: none' 'status 0' "$(status vcdkit-x --from 100ns $dump bench.slow)"
+same 'vcdkit-x: an unknown name' 'status 2' "$(status vcdkit-x $dump none | tail -n 1)"
+same 'vcdkit-x: a fault' 'status 2' "$(status vcdkit-x samples/ghdl.vcd | tail -n 1)"
 
 printf '%s' '$var wire 1 ! a $end $var wire 2 " b $end $enddefinitions $end #0 x! b0 " ' \
     '#10 0! bx " #20 b10 " bx " #25 bxx " #30 x! 1! bz "' > "$folder/x.vcd"
@@ -213,15 +251,15 @@ status 3' "$(status vcdkit-diff $dump samples/none.vcd)"
 
 vcdkit-wave --from 100ns --to 122ns --mark 110ns $dump bench.slow bench.level > "$folder/wave.svg"
 same 'vcdkit-wave: status' 0 $?
-same 'vcdkit-wave: names, values, a mark' 'bench.level bench.slow.clock bench.slow.count
-9 A B 1' "$(python3 - "$folder/wave.svg" <<'END'
+same 'vcdkit-wave: names, values, a mark' 'level slow.clock slow.count
+9 a b 1' "$(python3 - "$folder/wave.svg" <<'END'
 import sys
 import xml.etree.ElementTree as tree
 of = tree.parse(sys.argv[1]).getroot()
-texts = [one.text for one in of.iter() if one.tag.endswith("text")]
-print(*sorted(text for text in texts if text in (
-    "bench.level", "bench.slow.clock", "bench.slow.count")))
-print(*[text for text in texts if text in ("9", "A", "B")],
+texts = ["".join([one.text or "", *(below.tail for below in one)])
+         for one in of.iter() if one.tag.endswith("text")]
+print(*sorted(text for text in texts if text in ("level", "slow.clock", "slow.count")))
+print(*[text for text in texts if text in ("9", "a", "b")],
       sum(one.get("class") == "mark" for one in of.iter()))
 END
 )"
@@ -231,23 +269,25 @@ same 'vcdkit-wave --around, --span: as much on each side' \
 # texts FILE: the texts of a picture, which has to be well-formed
 texts() {
     python3 -c 'import sys, xml.etree.ElementTree as tree
-print(*[ascii(one.text)[1:-1] for one in tree.parse(sys.argv[1]).iter()
-        if one.tag.endswith("text")], sep=",")' "$1" 2>&1
+print(*[ascii("".join([one.text or "", *(below.tail for below in one)]))[1:-1]
+        for one in tree.parse(sys.argv[1]).iter() if one.tag.endswith("text")], sep=",")' "$1" 2>&1
 }
 printf '$timescale 1ns $end $scope module t $end $var wire 1 ! a\001<\351\303\251 $end
     $var real 64 " r&\177 $end $enddefinitions $end #0 0! r\002 " #20 1!\n' > "$folder/odd.vcd"
 vcdkit-wave --width 100 "$folder/odd.vcd" t > "$folder/odd.svg"
 same 'vcdkit-wave: names that XML cannot have, an axis from 0' \
-    '0 ns,20 ns,t.a\ufffd<\ufffd\xe9,t.r&\x7f,\ufffd' "$(texts "$folder/odd.svg")"
+    '0 ns,20 ns,t.,a\ufffd<\ufffd\xe9,r&\x7f,0,0' "$(texts "$folder/odd.svg")"
 printf '$timescale 100s $end $var wire 1 ! a $end $enddefinitions $end #0 0! #%s 1!\n' \
     18446744073709551615 > "$folder/long.vcd"
 vcdkit-wave --width 100 "$folder/long.vcd" a > "$folder/long.svg"
 same 'vcdkit-wave: all of the time there is' '0 s,a' "$(texts "$folder/long.svg")"
 for width in 99 0 -5 1e3 ''; do
     same "vcdkit-wave --width '$width'" 'vcdkit-wave: error: argument --width: it is a number of '\
-'pixels, at least 100
+'pixels, 100 to 20000
 status 2' "$(status vcdkit-wave --width="$width" $dump bench.slow | tail -n 2)"
 done
+same 'vcdkit-wave: a mark that is outside' 'vcdkit-wave: 5ns is not in the window, 10ns to 20ns
+status 2' "$(status vcdkit-wave --from 10ns --to 20ns --mark 5ns $dump bench.slow)"
 same 'vcdkit-wave: nothing there' 'status 2' \
     "$(status vcdkit-wave --from 2us --to 3us $dump bench.slow | tail -n 1)"
 same 'vcdkit-wave: an unknown name' 'status 1' \
@@ -483,7 +523,7 @@ printf '$var wire 1 \xff q $end\n$enddefinitions $end\n' > "$folder/front.vcd"
 same 'vcdkit-explain: damaged in the header' "$anew" "$(helped "$folder/front.vcd")"
 printf "${body}#0\nb\xff- !\n" > "$folder/body.vcd"
 same 'vcdkit-explain: damaged in the body' \
-    "vcdkit cut < $folder/body.vcd | vcdkit-endmend > LEFT.vcd    (all before the fault)" \
+    "vcdkit-explain --salvage LEFT.vcd $folder/body.vcd    (what is before the fault)" \
     "$(helped "$folder/body.vcd")"
 same 'vcdkit-explain: no such file' 3 "$(explained "$folder/none.vcd" able)"
 
@@ -498,7 +538,7 @@ for script in extras/vcdkit-*; do
         vcdkit-four-state | vcdkit-endmend) continue ;;
         vcdkit-join-bits) words=() ;;
         vcdkit-diff) words=(samples/counter.vcd samples/counter.vcd) ;;
-        vcdkit-table | vcdkit-wave) words=(samples/counter.vcd clk) ;;
+        vcdkit-table | vcdkit-wave | vcdkit-stats) words=(samples/counter.vcd clk) ;;
         *) words=(samples/counter.vcd) ;;
     esac
     cp extras/launch "$folder/$name"

@@ -120,6 +120,11 @@ Description: value change dumps (VCD): check, list, pick, cut, sample, edges, me
  length of a dump. The answers are proved; README.md says what of it is, and
  what is not.
 END
+    # Python is no dependency, so that dpkg -i installs both packages on a machine without it: the
+    # scripts then say that they lack it.
+    mkdir -p "$python/usr/share/lintian/overrides"
+    printf 'python3-vcdkit: %s\n' python3-script-but-no-python3-dep \
+        > "$python/usr/share/lintian/overrides/python3-vcdkit"
     architecture=all depends=
     if [[ -n $library ]]; then
         architecture=amd64 depends=', libc6 (>= 2.34)'
@@ -128,13 +133,14 @@ END
     deb python3-vcdkit $architecture <<END
 Section: python
 Priority: optional
-Depends: python3 (>= 3.8), vcdkit (= $version)$depends
-Recommends: python3-numpy
+Depends: vcdkit (= $version)$depends
+Recommends: python3 (>= 3.8), python3-numpy
 Suggests: gtkwave, zstd
 Description: value change dumps (VCD) in Python, and commands over them
  The Python package vcdkit, which asks the program vcdkit or its library, and
  commands over it: vcdkit-diff, vcdkit-explain, vcdkit-find, vcdkit-info,
- vcdkit-table, vcdkit-wave and vcdkit-x. They are tested, and not proved.
+ vcdkit-stats, vcdkit-table, vcdkit-values, vcdkit-wave, vcdkit-when and
+ vcdkit-x. They need Python 3.8, and are tested, and not proved.
 END
 fi
 

@@ -40,6 +40,8 @@ tries 'the program needs no shared library' \
 for target in docs-check extras-check completions-check; do
     tries "make $target" without_kit make -s "$target"
 done
+tries 'a script of the tarball uses the program above it' without_kit bash -c \
+    'cd / && "$1/extras/vcdkit-find" "$1/samples/counter.vcd" | grep -q count0' - "$unpacked"
 tries 'make says what to do' bash -c '! make static > "$1" 2>&1 && grep -q "make install" "$1"' - \
     "$folder/static"
 tries 'links of the pages' without_kit packaging/links.py .
@@ -84,6 +86,12 @@ if [[ -n $package ]]; then
         tries "${page##*/}" bash -c 'gzip -dc "$1" | groff -man -ww -z 2>&1 | { ! grep .; }' - \
             "$page"
     done
+    mkdir -p "$folder/bare/var/lib/dpkg"/{info,updates}
+    printf '%s\n' 'Package: libc6' 'Status: install ok installed' 'Version: 2.36' \
+        'Architecture: amd64' 'Maintainer: nobody' 'Description: stands for that of the machine' \
+        > "$folder/bare/var/lib/dpkg/status"
+    tries 'dpkg -i where there is no Python' env PATH="$PATH:/usr/sbin:/sbin" \
+        dpkg --root="$folder/bare" --force-not-root -i "$package" "$for_python"
     tries 'a script of the package' bash -c 'export PATH=$1/usr/bin:/usr/bin:/bin
         export PYTHONPATH=$1/usr/lib/python3/dist-packages
         vcdkit-find samples/counter.vcd | grep -q count0' - "$folder/deb"
@@ -104,6 +112,8 @@ tries 'the wheel is installed, and answers' bash -c 'python3 -m venv "$2/venv" &
     "$2/venv/bin/pip" install --no-index --disable-pip-version-check -q "$1" &&
     export PATH="$2/venv/bin:/usr/bin:/bin" &&
     vcdkit-info samples/nested.vcd | grep -q "last 122ns" &&
+    vcdkit-values --four-state --at 20ns samples/ghdl.vcd tb.reset | grep -qx "tb.reset 0" &&
+    python3 -m vcdkit find samples/counter.vcd count0 | grep -q count0 &&
     python3 -c "import vcdkit; print(vcdkit.Dump(\"samples/nested.vcd\").check())"' - \
     "$wheel" "$folder"
 

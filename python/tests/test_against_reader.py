@@ -1,47 +1,61 @@
 #!/usr/bin/env python3
-"""Compares the package and vcdkit-x, over the program, with a plain reader of VCD of its own, on
-random small dumps and windows: COUNT of them (500), of a SEED (1)."""
+"""Compares the package and vcdkit-x with a plain reader of VCD of its own, on COUNT (2000) random
+small dumps of a SEED (1) and a window of each: rows at changes, edges and times, table, value,
+sample, edges, changes, cut, around, and rows of a merge. VCDKIT_WAY says over what: over the
+program without it."""
 import contextlib
 import io
 import multiprocessing
 import os
 import random
 import sys
-import tempfile
 
 sys.path.insert(0, ABOVE := os.path.dirname(os.path.dirname(os.path.abspath(__file__))))
-os.environ.update(VCDKIT=os.environ.get("VCDKIT", ABOVE + "/../vcdkit"), VCDKIT_WAY="program")
-from vcdkit import Dump
+os.environ.setdefault("VCDKIT", ABOVE + "/../vcdkit")
+os.environ.setdefault("VCDKIT_WAY", "program")
+from vcdkit import Dump, merge
 from vcdkit.commands import x
 
-HEADER = ('$scope module t $end $var wire 1 ! c $end $var reg 3 " q $end $var real 64 @ r $end\n'
-          '$var event 1 $ e $end $var reg 3 " k $end $scope module u $end $var wire 1 % p $end\n'
-          '$var reg 2 & p $end $upscope $end $upscope $end $enddefinitions $end\n')
-VARIABLES = [("t.c", "!"), ("t.q", '"'), ("t.r", "@"), ("t.k", '"'), ("t.u.p", "%"), ("t.u.p", "&")]
-SIZES = {"!": 1, '"': 3, "@": 1, "$": 1, "%": 1, "&": 2}
+HEADER = b"""$timescale 1ns $end $scope module t $end $var wire 1 ! c $end $var reg 3 " q $end
+    $var real 64 @ r $end $var event 1 $ e $end $var reg 3 " k $end $var reg 70 ( w $end
+    $scope module u $end $var wire 1 % p $end $var reg 2 & p $end $var wire 1 ) n\xff $end
+    $upscope $end $upscope $end $enddefinitions $end\n"""
+VARIABLES = [("t.c", "!"), ("t.q", '"'), ("t.r", "@"), ("t.e", "$"), ("t.k", '"'), ("t.w", "("),
+             ("t.u.p", "%"), ("t.u.p", "&"), ("t.u.n\udcff", ")")]
+SIZES = {"!": 1, '"': 3, "@": 64, "$": 1, "(": 70, "%": 1, "&": 2, ")": 1}
+REALS = ["r0", "r1", "r1.0", "rNaN", "rnan", "R-2e3", "rtext", "b1x"]
+
+
+# Random dumps.
+
+def change(of, code):
+    """A line that gives a code a value."""
+    if code == "@":
+        return of.choice(REALS) + " @"
+    digits = "".join(of.choices("00011101x" if code == "!" else "0011xzXZ",
+                                k=of.choice([1, 1, 2, 3, 70]) if code == "(" else
+                                of.randint(1, SIZES[code])))
+    is_short = SIZES[code] == 1 and of.random() < .8
+    return digits + code if is_short else "%s%s %s" % (of.choice("bB"), digits, code)
 
 
 def body(of):
-    """A random body: times without change or twice, sections anywhere, glitches."""
+    """A body: times without a change or twice, sections anywhere, values again, glitches."""
     words, now = [], of.choice([0, 0, 0, 7])
     for step in range(of.randint(1, 9)):
         words += ["#%d" % now] if step or of.random() < .8 else []
         for _ in range(of.randint(0, 2)):
-            some = []
-            for code in of.choices("!!!\"\"@$%&", k=of.randint(0, 4)):
-                digits = "".join(of.choices("00011101x" if code == "!" else "0011xzX",
-                                            k=of.randint(1, SIZES[code])))
-                real = "r%s @" % of.choice(["0", "1", "1.0", "NaN", "nan", "2e3"])
-                some.append(real if code == "@" else digits + code if SIZES[code] == 1 and
-                            of.random() < .8 else "b%s %s" % (digits, code))
-            section = of.choice(["$dumpvars", "$dumpall", "$dumpoff"][:3 * step or 1])
+            some = [change(of, code) for code in of.choices("!!!\"\"@$(%&)", k=of.randint(0, 4))]
+            section = of.choice(["$dumpvars", "$dumpall", "$dumpoff", "$dumpon"][:4 * step or 1])
             words += [section, *some, "$end"] if of.random() < .3 else some
         now += of.choice([0, 1, 2, 10])
     return "\n".join(words) + "\n"
 
 
+# The reader. A change is a tuple: its time, its section (none: ("", 0)), its code and its value.
+
 def read(text):
-    """The changes of a body: a time, a section (none: ("", 0)), a code and a value."""
+    """Reads the changes of a body."""
     words, found, now, section = iter(text.split()), [], 0, ("", 0)
     for word in words:
         if word[0] == "#":
@@ -49,72 +63,210 @@ def read(text):
         elif word[0] == "$" and len(word) > 2:
             section = (word.replace("$end", ""), len(found))
         else:
-            code = next(words) if word[0] in "br" else word[1:]
-            digits = (word[1:] if word[0] in "br" else word[0]).lower()
-            found.append((now, section, code, float(digits) if code == "@" else
+            code = next(words) if word[0] in "bBrR" else word[1:]
+            digits = (word[1:] if word[0] in "bB" else word[0]).lower()
+            found.append((now, section, code, "1" if code == "$" else
+                          number(word[1:]) if word[0] in "rR" else
                           digits.rjust(SIZES[code], digits[0].replace("1", "0"))))
     return found
 
 
-def row(changes, codes, is_seen):
-    return [([None] + [one[3] for one in changes if one[2] == code and is_seen(one)])[-1]
-            for code in codes]
+def number(text):
+    try:
+        return float(text)
+    except ValueError:
+        return text
 
 
-def at_changes(changes, codes, begin, end):
-    """The rows of a window: its begin, where there is a value, and each time with another row."""
+def window(changes, begin, end):
+    """The changes of a cut: in a `$dumpvars` the values just before it, and all in it."""
+    last = {one[2]: one[3] for one in changes if one[0] < begin and one[2] != "$"}
+    return [(begin, ("$dumpvars", -1), code, last[code]) for code in SIZES if code in last] + [
+        one for one in changes
+        if begin <= one[0] <= end and not (one[2] == "$" and one[1][0])]
+
+
+def row(changes, codes, is_seen=lambda one: True):
+    """The last value of each code."""
+    last = {one[2]: one[3] for one in changes if is_seen(one)}
+    return [last.get(code) for code in codes]
+
+
+def at_changes(changes, codes):
+    """The rows at whose times a value is another one than before."""
     rows = [(-1, [None] * len(codes))] + [
         (time, row(changes, codes, lambda one: one[0] <= time))
-        for time in sorted({begin, *(one[0] for one in changes if begin <= one[0] <= end)})]
+        for time in sorted({one[0] for one in changes})]
     return [now for was, now in zip(rows, rows[1:]) if repr(was[1]) != repr(now[1])]
 
 
-def at_edges(changes, codes, edge):
-    """The rows at a clock's edges; what a first $dumpvars has is from before its time."""
-    its = [one for one in changes if one[2] in ("!", *codes)]
-    lead = next((one[1] for one in its[:1] if one[1][0] == "$dumpvars"), None)
-    clock = [one for one in its if one[2] == "!"]
-    return [(time, row(its, codes, lambda one: one[0] < time or one[1] == lead)) for time in sorted(
-        {after[0] for before, after in zip(clock, clock[1:]) if before[3] + after[3] == edge})]
+def at_edges(changes, codes, clocks):
+    """The rows at edges; what the `$dumpvars` has that is first, is from before its time."""
+    its = [one for one in changes if one[2] in {*codes, *(code for code, _ in clocks)}]
+    lead = {one for one in its if one[1][0] == "$dumpvars" and one[1] == its[0][1]}
+    times = {after[0] for code, edge in clocks
+             for clock in [[one for one in its if one[2] == code]]
+             for before, after in zip(clock, clock[1:]) if before[3] + after[3] == edge}
+    return [(time, row(its, codes, lambda one: one[0] < time or one in lead))
+            for time in sorted(times)]
+
+
+def counts(changes, code):
+    """How often a value changes, rises and falls."""
+    if code == "$":
+        return sum(one[2] == "$" and not one[1][0] for one in changes), 0, 0
+    its = [repr(one[3]) if code == "@" else one[3] for one in changes if one[2] == code]
+    pairs = list(zip(its, its[1:]))
+    ends = [one[-1] + other[-1] for one, other in pairs if isinstance(one, str)]
+    return sum(one != other for one, other in pairs), ends.count("01"), ends.count("10")
+
+
+def shown(value):
+    """A value of a table: a number, or None."""
+    if isinstance(value, str) and not value.strip("01"):
+        return int(value, 2)
+    return None if isinstance(value, str) and not value.strip("01xz") else value
+
+
+def keys(codes):
+    """What a table and a sample call their columns."""
+    paths = [[path for path, of in VARIABLES if of == code][0] for code in codes]
+    return [path + " " + code if path == "t.u.p" else path for path, code in zip(paths, codes)]
+
+
+# What is compared.
+
+class Case:
+    """A random dump and a window, and what is wrong in it."""
+
+    def __init__(self, seed):
+        of = self.of = random.Random("%s %d" % (os.environ.get("SEED", 1), seed))
+        self.text, self.found = body(of), []
+        self.changes = read(self.text)
+        times = [int(one[1:]) for one in self.text.split() if one[0] == "#"]
+        self.begin = of.choice([of.randint(0, 30), *times])
+        self.end = self.begin + of.randint(0, 20)
+        paths = [path for path, _ in VARIABLES if path not in ("t.e", "t.k")]
+        self.names = of.sample(sorted({*paths}), of.choice([1, 2, 2, 3]))
+        self.codes = [code for name in self.names for path, code in VARIABLES if path == name]
+        self.whole = Dump(HEADER + self.text.encode(), "dump")
+
+    def same(self, what, wanted, got):
+        if repr(wanted) != repr(got):
+            self.found.append((what, self.text, (self.begin, self.end, self.names), wanted, got))
+
+    def part(self):
+        """The whole dump, a cut or what is around a time, and its changes."""
+        begin, end = self.begin, self.end
+        kind = self.of.choice(["whole", "cut", "around"])
+        if kind == "whole":
+            return self.whole, self.changes
+        if kind == "cut":
+            return self.whole.cut(begin, "%dns" % end), window(self.changes, begin, end)
+        return (self.whole.around(begin, 5, "%dns" % (end - begin)),
+                window(self.changes, max(begin - 5, 0), end))
+
+    def try_windows(self):
+        """Compares the texts of cut and around."""
+        for what, dump, begin, end in (
+                ("cut", self.whole.cut(self.begin, self.end), self.begin, self.end),
+                ("around", self.whole.around(self.end, 7), max(self.end - 7, 0), self.end + 7)):
+            text = dump.read().partition(b"$enddefinitions $end\n")[2].decode()
+            self.same(what, [(one[0], one[2], one[3]) for one in window(self.changes, begin, end)],
+                      [(one[0], one[2], one[3]) for one in read(text)])
+
+    def try_part(self):
+        """Compares the questions about a part."""
+        part, its = self.part()
+        if self.of.random() < .8:  # in memory it takes fewer processes
+            part = Dump(part.read())
+        times = self.of.sample(range(40), 3)
+        names, codes = self.names, self.codes
+        self.same("rows", at_changes(its, codes), [(*one,) for one in part.rows(names)])
+        clocks = self.of.choice([{"rise": "01"}, {"fall": "10"}, {"rise": "01", "fall": "10"}])
+        self.same("edges", at_edges(its, codes, [("!", edge) for edge in clocks.values()]),
+                  [(*one,) for one in part.rows(names, **{kind: "t.c" for kind in clocks})])
+        which, rows = self.of.choice([
+            ({}, at_changes(its, codes)), ({"rise": "t.c"}, at_edges(its, codes, [("!", "01")])),
+            ({"at": times}, [(at, row(its, codes, lambda one: one[0] <= at)) for at in times])])
+        columns = list(zip(*(values for _, values in rows))) or [[] for _ in codes]
+        self.same("table", {"time": [time for time, _ in rows], **{
+            key: [shown(one) for one in column] for key, column in zip(keys(codes), columns)}},
+            part.table(names, **which))
+        order = [code for _, code in VARIABLES if code in codes]
+        self.same("sample", {time: dict(zip(keys(order), row(
+            its, order, lambda one: one[0] <= time))) for time in sorted(times)},
+            part.sample(sorted(times), names))
+        code = self.of.choice('!"@$()')
+        path = [path for path, of in VARIABLES if of == code][-1]
+        self.same("changes", [(one[0], one[3]) for one in its
+                              if one[2] == code and not (code == "$" and one[1][0])],
+                  [(time, one) for time, one in part.changes(path)])
+
+    def try_some(self):
+        """Compares questions that take more processes, or are small."""
+        part, its = self.part()
+        code, time = self.of.choice('!"@$()'), self.of.randint(0, 40)
+        path = [path for path, of in VARIABLES if of == code][0]
+        self.same("value", None if code == "$" else row(its, [code], lambda one: one[0] <= time)[0],
+                  part.value(path, time))
+        if code != "@":
+            self.same("counts", {path: counts(its, code)}, {
+                name: (*one,) for name, one in part.edges(path).items()})
+        cut = window(self.changes, self.begin, self.end)
+        one = merge(self.whole.cut(self.begin, self.end), self.whole)
+        its = [one for one in cut if one[2] in {"!", *self.codes}]
+        lead = {one[2]: one for one in reversed(its) if one[1][0] == "$dumpvars"
+                and one[1] == its[0][1]}
+        its = [(time, ("$dumpvars", 0) if one == lead.get(one[2]) else ("", 0), *rest)
+               for one in its for time, _, *rest in [one]]
+        self.same("merge", at_edges(its, self.codes, [("!", "01")]), [
+            (*row,) for row in one.rows(["in1." + name for name in self.names], rise="in1.t.c")])
+
+    def try_x(self):
+        """Compares vcdkit-x."""
+        letters = self.of.choice(["x", "xz"])
+        names = self.names if self.of.random() < .7 else []
+        names = [name for name in names if name.isascii()]
+        with contextlib.redirect_stdout(io.TextIOWrapper(io.BytesIO())) as out, open(
+                "/proc/self/fd/%d" % memory(HEADER + self.text.encode()), "rb") as file:
+            status = x.main(["--from=%d" % self.begin, "--to=%d" % self.end,
+                             *(["--z"] if letters == "xz" else []),
+                             "/proc/self/fd/%d" % file.fileno(), *names])
+            out.flush()
+        wanted = []
+        for path, code in VARIABLES:
+            if (path in names or not names) and code not in "@$":
+                wanted += ["%s %s %s" % (
+                    "%dns" % time, path, value) for time, (value,) in at_changes(
+                        window(self.changes, self.begin, self.end), [code])
+                    if set(letters) & set(value)]
+        got = out.buffer.getvalue().decode("utf-8", "surrogateescape").splitlines()
+        self.same("vcdkit-x", (1 if wanted else 0, sorted(wanted)), (status, sorted(got)))
+        times = [int(line.split("ns ")[0]) for line in got]
+        self.same("vcdkit-x, its order", sorted(times), times)
+
+
+def memory(data):
+    """A file in memory."""
+    file = os.memfd_create("dump")
+    os.write(file, data)
+    return file
 
 
 def wrong(seed):
-    of = random.Random("%s %d" % (os.environ.get("SEED", 1), seed))
-    text, names = body(of), of.sample(["t.c", "t.q", "t.r", "t.k", "t.u.p"], 2)
-    codes = [code for name in names for path, code in VARIABLES if path == name]
-    changes, times = read(text), [int(one[1:]) for one in text.split() if one[0] == "#"]
-    begin, asked = of.choice([of.randint(0, 30), *times]), []
-    end, (kind, edge) = begin + of.randint(0, 20), of.choice([("rise", "01"), ("fall", "10")])
-    with tempfile.NamedTemporaryFile("w") as file:
-        print(HEADER + text, file=file, flush=True)
-        whole, early = Dump(file.name), max(begin - 5, 0)
-        for part, first, last in of.sample([(whole, 0, 99), (whole.cut(begin, end), begin, end),
-                                            (whole.around(begin, 5), early, begin + 5)], 2):
-            rows, at = at_changes(changes, codes, first, last), sorted({first, begin, last})
-            asked += [
-                ("rows", rows, list(part.rows(names))),
-                ("table", [(time, *its) for time, its in rows],
-                 list(zip(*part.table(names, digits=True).values()))),
-                ("sample", [(time, row(changes, codes, lambda one: one[0] <= time)) for time in at],
-                 list(part.rows(names, at=at))),
-                ("changes", [(first, now) for now in row(changes, '"', lambda one: one[0] < first)
-                             if now] + [(one[0], one[3]) for one in changes
-                                        if one[2] == '"' and first <= one[0] <= last],
-                 [(int(at), it) for at, it in zip(*part.changes("t.k", digits=True))]),
-                ("edges", [it for it in at_edges(changes, codes, edge) if first <= it[0] <= last],
-                 list(part.rows(names, **{kind: "t.c"})))]
-        with contextlib.redirect_stdout(io.TextIOWrapper(io.BytesIO())) as out:
-            x.main(["--from=%d" % begin, "--to=%d" % end, file.name, *names])
-    asked.append(("vcdkit-x", sorted(
-        "%d %s %s" % (time, path, its[0]) for path, code in set(VARIABLES) if path in names
-        for time, its in at_changes(changes, [code], begin, end) if "x" in str(its[0])),
-        sorted(out.buffer.getvalue().decode().splitlines())))
-    return [(what, text, *both) for what, *both in asked if repr(both[0]) != repr(both[1])]
+    case = Case(seed)
+    case.try_windows()
+    case.try_part()
+    case.try_x()
+    if seed % 4 == 0:
+        case.try_some()
+    return case.found
 
 
 if __name__ == "__main__":
     with multiprocessing.Pool() as pool:
-        found = sum(pool.map(wrong, range(int(os.environ.get("COUNT", 500))), 5), [])
+        found = sum(pool.map(wrong, range(int(os.environ.get("COUNT", 2000))), 5), [])
     for of_what in {one[0]: one for one in sorted(found, key=lambda one: -len(one[1]))}.values():
-        print("%s: of\n%s  wanted: %s\n  got:    %s" % of_what)
+        print("%s: of\n%s  asked:  %s\n  wanted: %s\n  got:    %s" % of_what)
     sys.exit("%d answers are wrong" % len(found) if found else 0)

@@ -16,6 +16,7 @@ import sys
 import tempfile
 import threading
 import unittest
+from fractions import Fraction
 
 HERE = os.path.dirname(os.path.abspath(__file__))
 TOP = os.path.dirname(os.path.dirname(HERE))
@@ -24,6 +25,10 @@ if "VCDKIT" not in os.environ and os.path.exists(os.path.join(TOP, "vcdkit")):
     os.environ["VCDKIT"] = os.path.join(TOP, "vcdkit")
 LIBRARY = os.environ.setdefault("VCDKIT_LIBRARY", "")
 
+try:
+    import numpy
+except ImportError:
+    numpy = None
 try:
     import pandas
 except ImportError:
@@ -82,11 +87,6 @@ def changes_by_hand(text, code):
         elif token[:1] in b"01xXzZ" and token[1:] == code:
             found.append((now, token[:1].lower().decode()))
     return found
-
-
-def plain(column):
-    """A column as a list, with None for what is masked."""
-    return column.tolist() if hasattr(column, "tolist") else list(column)
 
 
 class Questions:
@@ -157,17 +157,67 @@ class Questions:
         self.assertEqual(list(every), Dump(NESTED).signals.columns()[0])
         self.assertEqual(json.loads(json.dumps(every))["bench.slow.count"], [12, 5, 4])
 
+    def test_one_signal_by_its_path(self):
+        dump = Dump(NESTED)
+        self.assertEqual(dump["bench.slow.count"], ("bench.slow.count", "reg", 4, "1"))
+        for path, is_there in (("bench.slow.count", True), ("bench.slow", False), ("count", False)):
+            self.assertEqual(path in dump.signals, is_there)
+        self.assertIn(dump.signals[3], dump.signals)
+        for time, wanted in (("115ns", 11), (1150, "1011"), (0, "xxxx"), ("118.999ns", 11)):
+            self.assertEqual(dump.value("bench.slow.count", time), wanted)
+        self.assertEqual(dump.value("bench.level", 1150), 3.0)
+        self.assertIsNone(dump.value("bench.slow.overflow", 1150))
+        for call in (lambda: dump["bench.slow"], lambda: dump.value("bench.slow", 0)):
+            self.assertRaises(UsageError, call)
+        self.assertRaises(UnknownName, lambda: dump["none"])
+        self.assertRaises(TypeError, iter, dump)
+
+    def test_tree(self):
+        tree = Dump(NESTED).tree
+        self.assertEqual([(one.path, one.type, len(one.signals)) for one in tree.walk()], [
+            ("", "", 0), ("bench", "module", 9), ("bench.lane[0]", "begin", 1),
+            ("bench.lane[0].fast", "module", 4), ("bench.lane[1]", "begin", 1),
+            ("bench.lane[1].fast", "module", 4), ("bench.slow", "module", 4),
+            ("bench.step", "begin", 1)])
+        self.assertEqual([one for scope in tree.walk() for one in scope.signals],
+                         list(Dump(NESTED).signals))
+        tree = Dump(b"$scope module a.b $end $scope task c $end $var wire 1 ! e $end $upscope $end "
+                    b"$upscope $end $scope task d $end $upscope $end $scope module a.b $end $var "
+                    b"wire 1 ! f [0] $end $enddefinitions $end").tree
+        self.assertEqual([(one.name, one.path) for one in tree.walk()],
+                         [("", ""), ("a.b", "a.b"), ("c", "a.b.c")])
+        self.assertEqual(tree.scopes[0].signals, [("a.b.f", "wire", 1, "!")])
+
     def test_changes(self):
-        times, values = Dump(NESTED).changes("bench.slow.count")
-        self.assertEqual((plain(times)[:3], plain(values)[:3]), ([0, 50, 150], [None, 0, 1]))
-        times, values = Dump(NESTED).changes("bench.level")
-        self.assertEqual((plain(times)[:3], plain(values)[:3]), ([0, 50, 150], [0, 0.25, 0.5]))
+        changes = Dump(NESTED).changes("bench.slow.count")
+        self.assertEqual([next(changes), next(changes), next(changes)],
+                         [(0, "xxxx"), (50, 0), (150, 1)])
+        self.assertEqual(list(Dump(NESTED).changes("bench.level"))[:3],
+                         [(0, 0.0), (50, 0.25), (150, 0.5)])
+
+    @unittest.skipUnless(numpy, "there is no numpy")
+    def test_arrays(self):
+        times, values = Dump(NESTED).arrays("bench.slow.count")
+        self.assertEqual((times.dtype, values.dtype, values.mask[0]), ("uint64", "uint64", True))
+        self.assertEqual((times.tolist()[:3], values.tolist()[:3]), ([0, 50, 150], [None, 0, 1]))
+        times, values = Dump(NESTED).arrays("bench.level")
+        self.assertEqual((times.tolist()[:3], values.tolist()[:3]), ([0, 50, 150], [0, 0.25, 0.5]))
+        empty = Dump(b"$var wire 1 ! a $end $var real 64 % r $end $enddefinitions $end")
+        self.assertEqual([len(column) for name in "ar" for column in empty.arrays(name)], [0] * 4)
+
+    @unittest.skipIf(numpy, "there is numpy")
+    def test_no_arrays(self):
+        with self.assertRaises(RunFailed) as raised:
+            Dump(NESTED).arrays("bench.level")
+        self.assertIn("numpy", str(raised.exception))
 
     def test_a_real_text_that_is_no_number(self):
         dump = Dump(b"$var real 64 ! q $end\n$enddefinitions $end\n#0\nrfoo !\n#1\nr1e3 !\n")
         self.assertEqual(dump.sample([0, 1]), {0: {"q": "foo"}, 1: {"q": 1000.0}})
         self.assertEqual(list(dump.rows("q")), [(0, ["foo"]), (1, [1000.0])])
-        self.assertEqual(list(map(str, plain(dump.changes("q")[1]))), ["nan", "1000.0"])
+        self.assertEqual(list(dump.changes("q")), [(0, "foo"), (1, 1000.0)])
+        if numpy:
+            self.assertEqual(list(map(str, dump.arrays("q")[1])), ["nan", "1000.0"])
 
     def test_changes_are_those_of_another_reader(self):
         tried = 0
@@ -180,23 +230,26 @@ class Questions:
                     wanted = [(now, Value(digits.rjust(one.size, "0" if digits[0] == "1" else
                                                        digits[0])))
                               for now, digits in changes_by_hand(text, one.code.encode())]
-                    times, values = dump.changes(one.path, digits=True)
-                    self.assertEqual(list(zip(plain(times), values)), wanted)
-                    times, values = dump.changes(one.path)
-                    self.assertEqual(list(zip(plain(times), plain(values))), [
-                        (now, value if one.size > 64 else int(value) if value.is_known else None)
-                        for now, value in wanted])
+                    self.assertEqual(list(dump.changes(one.path)), wanted)
+                    if numpy:
+                        times, values = (column.tolist() for column in dump.arrays(one.path))
+                        self.assertEqual(list(zip(times, values)), [
+                            (now, value if one.size > 64 else
+                             int(value) if value.is_known else None) for now, value in wanted])
                     tried += 1
         self.assertGreater(tried, 30)
 
     def test_events_and_wide_values(self):
         text = (b"$var event 1 ! e $end $var reg 70 \" w $end $enddefinitions $end\n"
                 b"#0 $dumpvars 1! $end #3 1! b1%s \" #4 1! bx \"\n" % (b"0" * 65))
-        times, values = Dump(text).changes("e")
-        self.assertEqual((plain(times), plain(values)), ([3, 4], [1, 1]))
-        times, values = Dump(text).changes("w")
-        self.assertEqual((plain(times), values), ([3, 4], ["00001" + "0" * 65, "x" * 70]))
-        self.assertEqual(values[0].hex(), "02" + "0" * 16)
+        self.assertEqual(list(Dump(text).changes("e")), [(3, 1), (4, 1)])
+        changes = list(Dump(text).changes("w"))
+        self.assertEqual(changes, [(3, "00001" + "0" * 65), (4, "x" * 70)])
+        self.assertEqual(changes[0][1].hex(), "02" + "0" * 16)
+        if numpy:
+            self.assertEqual([column.tolist() for column in Dump(text).arrays("e")],
+                             [[3, 4], [1, 1]])
+            self.assertEqual(Dump(text).arrays("w")[1].tolist(), [value for _, value in changes])
 
     @unittest.skipUnless(pandas, "there is no pandas")
     def test_pandas(self):
@@ -205,7 +258,7 @@ class Questions:
         frame = frame.set_index("time")
         self.assertEqual(frame.loc[1150].tolist(), [11, 3])
         self.assertEqual(frame.isna().sum().tolist(), [2, 1])  # also after $dumpoff
-        series = pandas.Series(*reversed(dump.changes("bench.slow.count")))
+        series = pandas.Series(*reversed(dump.arrays("bench.slow.count")))
         self.assertEqual((series[50], series[1150], series.isna().sum()), (0, 11, 2))
 
     def test_rows(self):
@@ -218,8 +271,15 @@ class Questions:
         self.assertEqual(rows[0], (100, ["0000"]))
         table = dump.table("bench.slow.count", at=["10ns", "115ns"])
         self.assertEqual(table, {"time": [100, 1150], "bench.slow.count": [0, 11]})
-        table = dump.table("bench.slow.count", digits=True)
-        self.assertEqual(table["bench.slow.count"][0], "xxxx")
+        rows = list(dump.rows("bench.slow.count", rise="bench.slow.clock",
+                              fall="bench.slow.clock"))
+        self.assertEqual(rows[:3], [(50, ["xxxx"]), (100, [0]), (150, [0])])
+        self.assertEqual([row.time for row in dump.rows(
+            "bench.slow.count", rise="bench.slow.clock", fall="bench.slow.reset")][:5],
+            [50, 120, 150, 250, 350])
+        for which in {"rise": "bench.slow.clock"}, {"fall": "bench.slow.clock"}:
+            self.assertRaises(UsageError, dump.rows, "bench.level", at=[0], **which)
+        self.assertRaises(UsageError, dump.rows, [])
         for clock, said in (("bench.slow", "selects 4 signals"),
                             ("bench.slow.overflow", "an event"),
                             ("bench.level", "a real number"), ("bench.slow.count", "4 bits")):
@@ -237,7 +297,10 @@ class Questions:
         self.assertEqual(dump.table(["a", "b", "time"]), wanted)
         self.assertEqual(dump.table(["a", "b", "time"], at=[0, 1, 1, 2]), wanted)
         self.assertEqual(list(dump.rows("a", at=[2, 0])), [(2, ["1", "10"]), (0, ["0", "01"])])
-        self.assertEqual(dump.sample(0, "a"), {0: {"a": "01"}})
+        self.assertEqual(dump.sample(0, ["a", "b"]), {0: {"a !": "0", 'a "': "01", "b": None}})
+        self.assertEqual(dump.edges(), {"a !": (1, 1, 0), 'a "': (1, 0, 1), "b": (0, 0, 0),
+                                        "time": (0, 0, 0)})
+        self.assertRaises(UsageError, dump.value, "a", 0)
 
     def test_rows_where_a_value_changed(self):
         dump = Dump(b'$var wire 2 ! q $end $var real 64 " r $end $enddefinitions $end #0 b0 ! '
@@ -245,9 +308,9 @@ class Questions:
                     b'#5 bx ! r1 " #6 bxx ! r1e0 " #7 r-1 " #8 b1 ! b1 !')
         rows = [(0, ["00", None]), (1, ["00", float("nan")]), (4, ["00", 1.0]), (5, ["xx", 1.0]),
                 (7, ["xx", -1.0]), (8, ["01", -1.0])]
-        self.assertEqual(repr(list(dump.rows(["q", "r"]))), repr(rows))
+        self.assertEqual(repr([(*row,) for row in dump.rows(["q", "r"])]), repr(rows))
         self.assertEqual(list(dump.cut(6, 7).rows(["q", "r"])), [(6, ["xx", 1.0]), rows[4]])
-        self.assertEqual(repr(list(dump.cut(2, 4).rows(["q", "r"]))),
+        self.assertEqual(repr([(*row,) for row in dump.cut(2, 4).rows(["q", "r"])]),
                          repr([(2, rows[1][1]), rows[2]]))
 
     def test_rows_at_edges_of_a_window(self):
@@ -269,6 +332,43 @@ class Questions:
                                          (body, begin))
         rows = Dump(NESTED).cut("100ns").rows("bench.slow.count", fall="bench.slow.clock")
         self.assertEqual(next(rows), (1000, ["1001"]))
+
+    def test_rows_at_edges_of_a_merge(self):
+        dump = Dump(b'$var wire 1 ! c $end $var wire 2 " q $end $enddefinitions $end '
+                    b'#0 0! b1 " #10 1! b10 " #20 0! #30 1! b11 " #40 0! #50 1! b0 "')
+        both = merge(dump.cut(30, 40), dump, dump.cut(10))
+        for name, wanted in (("in1", [(30, [2])]), ("in2", [(10, [1]), (30, [2]), (50, [3])]),
+                             ("in3", [(10, [1]), (30, [2]), (50, [3])])):
+            self.assertEqual(list(both.rows(name + ".q", rise=name + ".c")), wanted)
+            self.assertEqual(list(merge(both).rows("in1.%s.q" % name, rise="in1.%s.c" % name)),
+                             wanted)
+            for part in both.cut(30, 49), both.pick(["in1", "in2", "in3"]).cut(30, 49):
+                self.assertEqual(list(part.rows(name + ".q", rise=name + ".c")), [
+                    row for row in wanted if 30 <= row[0] <= 49])
+
+    def test_names_that_are_not_utf_8(self):
+        for scope in b"t", b"t\xff":
+            dump = Dump(b'$scope module %s $end $var wire 1 ! a\xff $end $var wire 1 " b $end $var '
+                        b'wire 1 %% c $end $upscope $end $enddefinitions $end #0 1! 0" #5 $dumpall '
+                        b'0! 1" $end #6 b1 " bx !' % scope)
+            name, other = (scope.decode(errors="surrogateescape") + end
+                           for end in (".a\udcff", ".b"))
+            self.assertIn(name, dump.signals)
+            self.assertEqual(list(dump.changes(name)), [(0, 1), (5, 0), (6, "x")])
+            self.assertEqual(list(dump.rows([other, name])), [(0, [0, 1]), (5, [1, 0]),
+                                                              (6, [1, "x"])])
+            self.assertEqual(list(dump.rows(name, rise=other)), [(5, [1])])
+            self.assertEqual(list(dump.rows(name, at=[5, 0])), [(5, [0]), (0, [1])])
+            self.assertEqual(dump.value(name, 5), 0)
+            self.assertEqual(dump.sample([5], [name]), {5: {name: "0"}})
+            self.assertEqual(dump.edges(name), {name: (2, 0, 1)})
+            self.assertEqual(dump.tree.scopes[0].signals[0].path, name)
+            if numpy:
+                self.assertEqual([column.tolist() for column in dump.arrays(name)],
+                                 [[0, 5, 6], [1, 0, None]])
+            with self.assertRaises(UsageError) as raised:
+                dump.pick(name)
+            self.assertIn("UTF-8", str(raised.exception))
 
     def test_rows_end_with_the_values_of_sample(self):
         for dump in dumps():
@@ -323,7 +423,7 @@ class Questions:
 
     def test_faults_have_a_file_and_a_line(self):
         broken = Dump(BROKEN, "bad.vcd")
-        for call in (broken.check, broken.cut().pick("a").check, lambda: broken.changes("a"),
+        for call in (broken.check, broken.cut().pick("a").check, lambda: list(broken.changes("a")),
                      lambda: broken.edges(), lambda: merge(Dump(NESTED), broken.cut()).check(),
                      lambda: merge(broken, Dump(NESTED)).read(), lambda: list(broken.rows("a"))):
             with self.assertRaises(DumpFault) as raised:
@@ -392,6 +492,28 @@ class Questions:
 class ByProgram(Questions, unittest.TestCase):
     WAY = "program"
 
+    def test_a_pipe_is_read_as_it_comes(self):
+        front, back = os.pipe()
+        os.write(back, b'$timescale 1ns $end $var wire 1 ! c $end $var wire 2 " q $end '
+                       b'$enddefinitions $end\n#0 0! b1 "\n#10 1! b10 "\n')
+        dump = Dump("/dev/fd/%d" % front)
+        self.assertEqual((len(dump.signals), dump.time(5), dump.tree.signals[0].path),
+                         (2, "5ns", "c"))
+        rows, changes = dump.rows("q"), dump.changes("c")
+        self.assertEqual((next(rows), next(changes)), ((0, [1]), (0, 0)))
+        os.write(back, b'#20 0! b11 "\n')
+        self.assertEqual((next(rows), next(changes), next(changes)), ((10, [2]), (10, 1), (20, 0)))
+        os.write(back, b'#30 1!\n')
+        self.assertEqual(next(changes), (30, 1))
+        changes.close()
+        edges = dump.rows("q", rise="c")
+        os.write(back, b'#40 0!\n')
+        self.assertEqual([next(edges), next(edges)], [(10, [1]), (30, [3])])
+        edges.close()
+        os.close(back)
+        self.assertEqual((list(rows), dump.check().last), ([(20, [3])], 40))
+        os.close(front)
+
     def test_no_program(self):
         named = os.environ.pop("VCDKIT", None)
         path, os.environ["PATH"] = os.environ["PATH"], "/nowhere"
@@ -455,6 +577,52 @@ class Times(unittest.TestCase):
 
 
 class Values(unittest.TestCase):
+    def test_numbers(self):
+        value = Value("0101")
+        for other in 5, 5.0, Fraction(5), "0101", Value("101"), Value("00000101"):
+            self.assertTrue(value == other and other == value)
+            self.assertFalse(value != other or other != value)
+            self.assertTrue(value <= other and value >= other)
+        for other in 4, 5.5, True, "101", "5", None, Value("1101"), [5]:
+            self.assertFalse(value == other or other == value)
+            self.assertTrue(value != other and other != value)
+        self.assertTrue(4 < value < 6 and value > Value("11") and Value("11") < value)
+        self.assertTrue(value in (1, 5) and value in range(6) and value not in range(5))
+        self.assertEqual((int(value), float(value), "abcdef"[value], value.signed()), (5, 5, "f", 5))
+        self.assertEqual([Value(one).signed() for one in ("1", "1111", "1000")], [-1, -1, -8])
+        self.assertRaises(TypeError, lambda: value < None)
+
+    def test_values_that_are_not_known(self):
+        for value in Value("0x01"), Value("z"), Value("xxxx"):
+            for number in 0, 1, 5, -1:
+                self.assertFalse(value == number or value < number or value >= number)
+                self.assertTrue(value != number)
+            self.assertRaises(ValueError, int, value)
+            self.assertFalse(value.is_known)
+        self.assertEqual(Value("x"), Value("xxx"))
+        self.assertNotEqual(Value("x"), Value("0x"))
+
+    def test_truth_and_digits(self):
+        for digits, wanted in (("0", False), ("1", True), ("0x", False), ("1x", True), ("z", False)):
+            self.assertIs(bool(Value(digits)), wanted)
+        self.assertEqual((Value("1010")[0], Value("1010")[1:3], list(Value("10"))),
+                         (1, 1, ["1", "0"]))
+        self.assertEqual({Value("01"): 1}, {"01": 1})
+        for again in pickle.loads(pickle.dumps(Value("01"))), copy.deepcopy(Value("01")):
+            self.assertEqual((type(again), again), (Value, 1))
+        self.assertEqual(json.dumps([Value("0x")]), '["0x"]')
+
+    def test_formats(self):
+        for digits, form, wanted in (
+                ("01011", "x", "b"), ("01011", "#06x", "0x000b"), ("01011", "d", "11"),
+                ("01011", "4d", "  11"), ("01011", "08b", "00001011"), ("01011", "", "01011"),
+                ("01011", ">8", "   01011"), ("01011", "o", "13"), ("01011", "_b", "1011"),
+                ("xxxx0001", "x", "x1"), ("xxxx0001", "04x", "00x1"), ("00xx", "x", "X"),
+                ("00xx", "d", "xx"), ("000z", "4d", "   z"), ("z", "<3x", "z  "),
+                ("0000zzzz", "X", "z"), ("x", "*^3d", "*x*"), ("xxx001", "o", "x1")):
+            self.assertEqual(format(Value(digits), form), wanted, (digits, form))
+        self.assertEqual("%x %d" % (Value("1011"), Value("11")), "b 3")
+
     def test_hex(self):
         for digits, wanted in (("1011", "b"), ("x", "x"), ("xxxx0001", "x1"), ("10000", "10"),
                                ("z0z0", "X"), ("xx1", "X"), ("0", "0"), ("zzzzz", "zz")):

@@ -6,23 +6,25 @@
     dump.check().last                           # a fault raises DumpFault: .file, .line, .fault
     [one.path for one in dump.find(r"count$")]  # Signal: path, type, size, code
     dump.timescale, dump.time(1150)             # 100ps, 115ns
-    dump.sample("115ns", "bench.slow")["115ns"]["bench.slow.count"].hex()
+    dump.value("bench.slow.count", "115ns")     # a Value: == 11, .hex(), f"{..:x}"
     dump.edges("bench.slow")                    # {path: Edges(changes, rises, falls)}
-    times, values = dump.changes("bench.bus")   # arrays, where numpy is there
+    for time, value in dump.changes("bench.bus"): ..
+    for time, (a, b) in dump.rows(["bench.a", "bench.b"], rise="bench.clock"): ..
+    dump.when("bench.bus == 0xff & bench.valid", rise="bench.clock")
     dump.cut("100ns", "2us").pick("bench.slow").save("window.vcd")
     merge(dump, Dump("other.vcd")).check()
 
-The library libvcdkit.so answers where it is beside this package, or where VCDKIT_LIBRARY names it;
-else the program vcdkit on the PATH, or the one that VCDKIT names. Both answer the same. What they
-answer is proved; the reading of their rows, in this package, is only tested.
+The library libvcdkit.so answers if it is beside this package or VCDKIT_LIBRARY names it, else the
+program vcdkit on the PATH, or the one that VCDKIT names. Both answer the same. What they answer is
+proved; the reading of their rows, in this package, is only tested.
 """
 from ._body import Header
 from .dump import Dump, merge, way
 from .errors import (DumpFault, NoTimescale, RunFailed, UnknownName, UsageError, VcdkitError)
 from .times import Time, Timescale
-from .values import Edges, Report, Signal, Value
+from .values import Cell, Edges, Report, Row, Scope, Signal, Value
 
 __version__ = "0.1.0"
-__all__ = ["Dump", "DumpFault", "Edges", "Header", "NoTimescale", "Report", "RunFailed", "Signal",
-           "Time", "Timescale", "UnknownName", "UsageError", "Value", "VcdkitError", "merge",
-           "way"]
+__all__ = ["Cell", "Dump", "DumpFault", "Edges", "Header", "NoTimescale", "Report", "Row",
+           "RunFailed", "Scope", "Signal", "Time", "Timescale", "UnknownName", "UsageError",
+           "Value", "VcdkitError", "merge", "way"]

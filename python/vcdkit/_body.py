@@ -1,39 +1,74 @@
 """The text that vcdkit writes of a dump: a header, and then on each line a timestamp, a section's
 command or a value."""
+import functools
 import re
-from typing import BinaryIO, Container, Iterator, List, NamedTuple, Optional, Tuple
+from typing import (Any, BinaryIO, Collection, Dict, Iterator, List, NamedTuple, Optional, Set,
+                    Tuple)
 
 from .times import Timescale
-from .values import Signal, Value, extension, real
+from .values import Cell, Scope, Signal, Value, full, real
 
 BLOCK = 1 << 22
 BODY = b"$enddefinitions $end\n"
+MAX_SEEN = 1 << 16  # values that are kept to be given again
 Changes = List[Tuple[bytes, bytes]]  # a code and a value each
+Edge = Tuple[bytes, bytes, bytes]  # the code of a clock, a digit and the digit after it
 
 
 class Header(NamedTuple):
-    """What a header says of the dump as a whole: None where it says nothing."""
+    """What a header says of the dump as a whole: `None` if it says nothing."""
 
     date: Optional[str]
     version: Optional[str]
     timescale: Optional[Timescale]
 
 
+def head(out: BinaryIO) -> Iterator[bytes]:
+    """Returns the lines of a header, and reads nothing after it."""
+    for line in out:
+        if line == BODY:
+            out.close()
+            break
+        yield line
+
+
 def header(out: BinaryIO) -> Header:
     """Reads a header up to the first scope or variable."""
-    texts, name, lines = {}, None, []
-    for line in out:
-        if line.startswith((b"$scope ", b"$var ", BODY)):
+    texts: Dict[str, str] = {}
+    name = ""
+    lines: List[str] = []
+    for line in head(out):
+        if line.startswith((b"$scope ", b"$var ")):
             break
-        if name is None:
+        if not name:
             name, lines = line.strip().decode(), []
         elif line == b"$end\n":
-            texts[name], name = " ".join(lines), None
+            texts[name], name = " ".join(lines), ""
         else:
             lines.append(line.strip().decode(errors="backslashreplace"))
     scale = re.match(r"(\d+) ?([munpf]?s)\Z", texts.get("$timescale", ""))
     return Header(texts.get("$date"), texts.get("$version"),
                   Timescale(int(scale.group(1)), scale.group(2)) if scale else None)
+
+
+def tree(out: BinaryIO) -> Scope:
+    """Reads the scopes of a header. A scope that is there twice is one."""
+    opened = [Scope("", "", "", [], [])]
+    for line in head(out):
+        words = line.decode("utf-8", "surrogateescape").split(" ")
+        outer = opened[-1]
+        before = outer.path + "." if outer.path else ""
+        if words[0] == "$scope":
+            inner = Scope(words[2], before + words[2], words[1], [], [])
+            same = [one for one in outer.scopes if one.name == inner.name]
+            if not same:
+                outer.scopes.append(inner)
+            opened.append(same[0] if same else inner)
+        elif words[0] == "$upscope":
+            opened.pop()
+        elif words[0] == "$var":
+            outer.signals.append(Signal(before + words[4], words[1], int(words[2]), words[3]))
+    return opened[0]
 
 
 def skip_header(out: BinaryIO) -> None:
@@ -43,14 +78,28 @@ def skip_header(out: BinaryIO) -> None:
             break
 
 
-def steps(out: BinaryIO, codes: Container[bytes]) -> Iterator[Tuple[int, Changes, Changes]]:
-    """Returns of each timestamp the changes of some codes, pairs of a code and a value without its
-    `b`: those that are values from before it, and the others. What comes before the first timestamp
-    has time 0. No two steps that follow each other have one time.
+def change(line: bytes) -> Tuple[bytes, bytes]:
+    """Returns the code and the value of a line, without the `b` of digits."""
+    first = line[:1]
+    if first == b"b" or first == b"r":
+        text, code = line.split()
+        return code, text[1:] if first == b"b" else text
+    return line[1:-1], first
+
+
+def steps(out: BinaryIO, codes: Collection[bytes], lead: Collection[bytes] = ()
+          ) -> Iterator[Tuple[int, Changes, Changes]]:
+    """Returns of each timestamp the changes of some codes: those that are values from before it,
+    and the others. What comes before the first timestamp has time 0. No two steps that follow each
+    other have one time.
 
     Values from before it are those of a `$dumpvars` with which the values of these codes begin:
-    `cut` begins with the values just before its first time, and goes on with what changes at it."""
-    time, before, found, is_begin, has_begun = 0, [], [], False, False
+    `cut` begins with the values just before its first time, and goes on with what changes at it.
+    So are the first values of the codes in `lead`."""
+    time, is_begin, has_begun = 0, False, False
+    before: Changes = []
+    found: Changes = []
+    left = set(lead)
     for line in out:
         first = line[:1]
         if first == b"#":
@@ -62,64 +111,103 @@ def steps(out: BinaryIO, codes: Container[bytes]) -> Iterator[Tuple[int, Changes
         elif first == b"$":
             is_begin = not has_begun and line == b"$dumpvars\n"
         else:
-            if first == b"b" or first == b"r":
-                value, code = line.split()
-                value = value[1:] if first == b"b" else value
-            else:
-                value, code = first, line[1:-1]
-            if code in codes:
-                (before if is_begin else found).append((code, value))
+            one = change(line)
+            if one[0] in codes:
+                (before if is_begin or one[0] in left else found).append(one)
                 has_begun = True
+                left.discard(one[0])
     if before or found:
         yield time, before, found
 
 
-def full(text: str, size: int) -> Value:
-    """Returns all digits of a value."""
-    return Value(text.rjust(size, extension(text)))
-
-
-def value(text: bytes, signal: Signal):
-    """Returns the Value or the real number that a body has for a signal."""
-    return (real(text[1:].decode(errors="backslashreplace")) if text[:1] == b"r"
-            else full(text.decode(), signal.size))
-
-
-def number(one):
-    """Returns a Value as an int, None where it has x or z; other values as they are."""
-    if isinstance(one, Value):
-        return int(one) if one.is_known else None
-    return one
-
-
-def changes(out: BinaryIO, signal: Signal, digits: bool, numpy):
-    """Returns the times and the values of a dump of one signal, as Dump.changes."""
-    skip_header(out)
-    if numpy and not digits and not signal.is_real and signal.size <= 64:
-        return _by_arrays(out, signal, numpy)
-    times, lines, now = [], [], 0
+def lead_of(out: BinaryIO, codes: Collection[bytes]) -> Set[bytes]:
+    """Returns those of some codes that are in a `$dumpvars` with which their values begin."""
+    is_begin = False
+    found: Set[bytes] = set()
     for line in out:
-        first = line[:1]
-        if first == b"#":
+        if line[:1] == b"$":
+            if found:
+                break
+            is_begin = line == b"$dumpvars\n"
+        elif line[:1] != b"#":
+            code = change(line)[0]
+            if code in codes:
+                if not is_begin:
+                    break
+                found.add(code)
+    return found
+
+
+def edge_steps(out: BinaryIO, codes: Collection[bytes], edges: Collection[Edge],
+               lead: Collection[bytes] = ()
+               ) -> Iterator[Tuple[int, Changes, Changes, bool]]:
+    """Returns the steps of some codes, those of the edges among them, and of each whether one of
+    the edges is in it."""
+    last = {code: b"" for code, _, _ in edges}
+    for time, before, found in steps(out, codes, lead):
+        is_edge = False
+        for code, digit in before + found:
+            if code in last:
+                is_edge = is_edge or (code, last[code], digit) in edges
+                last[code] = digit
+        yield time, before, found, is_edge
+
+
+@functools.lru_cache(maxsize=MAX_SEEN)
+def _digits(text: bytes, size: int) -> Value:
+    return Value(full(text.decode(), size))
+
+
+def value(text: bytes, signal: Signal) -> Cell:
+    """Returns the value that a body has for a signal."""
+    if text[:1] == b"r":
+        return real(text[1:].decode(errors="backslashreplace"))
+    return _digits(text, signal.size)
+
+
+def changes(out: BinaryIO, signal: Signal) -> Iterator[Tuple[int, Cell]]:
+    """Returns the times and the values of a signal, from a dump in which it may be one of many."""
+    code, size = signal.code.encode(), signal.size
+    now = 0
+    seen: Dict[bytes, Any] = {}  # of a line its value; `code` of one of another signal
+    get = seen.get
+    for line in out:
+        if line[0] == 35:  # "#"
             now = int(line[1:])
-        elif first != b"$":
-            times.append(now)
-            lines.append(line)
-    seen = {line: value(line.split(b" ")[0].lstrip(b"b") if line[:1] in b"br" else line[:1], signal)
-            for line in set(lines)}
-    if signal.is_real:  # a dump may give it digits too
-        seen = {line: float("nan") if number(one) is None or isinstance(number(one), str)
-                else float(number(one)) for line, one in seen.items()}
-    elif not digits and signal.size <= 64:
-        seen = {line: number(one) for line, one in seen.items()}
-    values = [seen[line] for line in lines]
-    if numpy:
-        times = numpy.array(times, dtype=numpy.uint64)
-        values = numpy.array(values, dtype=float) if signal.is_real else values
-    return times, values
+        elif line[0] != 36:  # "$"
+            its: Any = get(line)
+            if its is None:
+                its_code, text = change(line)
+                its = code if its_code != code else (
+                    value(text, signal) if text[:1] == b"r" else Value(full(text.decode(), size)))
+                if len(seen) >= MAX_SEEN:
+                    seen.clear()
+                seen[line] = its
+            if its is not code:
+                yield now, its
 
 
-def _numbers(numpy, text, starts, ends, base, mask):
+def arrays(out: BinaryIO, signal: Signal, is_alone: bool, numpy: Any) -> Tuple[Any, Any]:
+    """Returns the times and the values of a signal, as Dump.arrays. It takes a fifth of the time if
+    the signal has at most 64 bits and is alone in the dump."""
+    is_short = signal.size <= 64 and not signal.is_real
+    if is_short and is_alone:
+        return _by_arrays(out, signal, numpy)
+    pairs = list(changes(out, signal))
+    times = numpy.array([time for time, _ in pairs], dtype=numpy.uint64)
+    if signal.is_real:
+        return times, numpy.array([
+            float(one) if isinstance(one, float) or isinstance(one, Value) and one.is_known
+            else float("nan") for _, one in pairs], dtype=float)
+    if not is_short:
+        return times, numpy.array([one for _, one in pairs], dtype=object)
+    numbers = [int(one) if isinstance(one, Value) and one.is_known else None for _, one in pairs]
+    return times, numpy.ma.masked_array(
+        numpy.array([number or 0 for number in numbers], dtype=numpy.uint64),
+        mask=[number is None for number in numbers])
+
+
+def _numbers(numpy: Any, text: Any, starts: Any, ends: Any, base: int, mask: int) -> Any:
     """Returns the numbers whose digits are between starts and ends, the first digit highest."""
     numbers = numpy.zeros(len(starts), dtype=numpy.uint64)
     lengths = ends - starts
@@ -129,8 +217,8 @@ def _numbers(numpy, text, starts, ends, base, mask):
     return numbers
 
 
-def _by_arrays(out: BinaryIO, signal: Signal, numpy):
-    """As changes, of a signal of up to 64 bits: arrays of uint64, the values masked."""
+def _by_arrays(out: BinaryIO, signal: Signal, numpy: Any) -> Tuple[Any, Any]:
+    """As arrays, of a signal of up to 64 bits: arrays of uint64, the values masked."""
     now, kept = numpy.uint64(0), []
     code_length = len(signal.code.encode())
     for lines in iter(lambda: out.read(BLOCK) + out.readline(), b""):

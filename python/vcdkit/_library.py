@@ -8,7 +8,7 @@ import mmap
 import os
 import subprocess
 from array import array
-from typing import BinaryIO, Dict, Iterator, List, Optional, Sequence, Tuple, Union
+from typing import Any, BinaryIO, Dict, Iterator, List, Optional, Sequence, Tuple, Union, cast
 
 from ._program import not_started
 from ._texts import Bytes, File, Made, Text
@@ -89,7 +89,7 @@ def _library() -> ctypes.CDLL:
 class _Lender:
     """Keeps lent bytes alive until the call is over."""
 
-    def __init__(self):
+    def __init__(self) -> None:
         self.kept: List[object] = []
         self.buffers: List[_Buffer] = []
 
@@ -98,7 +98,7 @@ class _Lender:
         self.kept.append(data)
         if isinstance(data, bytes):
             # The object's own bytes, which a NUL ends, so that the pointer is never null.
-            return ctypes.cast(ctypes.c_char_p(data), ctypes.c_void_p).value, len(data)
+            return ctypes.cast(ctypes.c_char_p(data), ctypes.c_void_p).value or 0, len(data)
         buffer = _Buffer()
         _python.PyObject_GetBuffer(data, ctypes.byref(buffer), 0)
         self.buffers.append(buffer)
@@ -107,7 +107,7 @@ class _Lender:
     def __enter__(self) -> "_Lender":
         return self
 
-    def __exit__(self, *_) -> None:
+    def __exit__(self, *_: object) -> None:
         for buffer in self.buffers:
             _python.PyBuffer_Release(ctypes.byref(buffer))
 
@@ -124,7 +124,7 @@ class _Filled:
     def first(self, length: int) -> bytes:
         """Returns the first bytes; to be called once."""
         _python._PyBytes_Resize(ctypes.byref(self.owned), length)
-        return ctypes.cast(self.owned, ctypes.py_object).value
+        return cast(bytes, ctypes.cast(self.owned, ctypes.py_object).value)
 
     def __del__(self) -> None:
         _python.Py_DecRef(self.owned)
@@ -140,8 +140,9 @@ def run(words: Sequence[str], given: Data = b"", files: Sequence[Tuple[bytes, Da
         lent = [lender.lend(word.encode("utf-8", "surrogateescape")) for word in words]
         named = [(lender.lend(name), lender.lend(data)) for name, data in files]
         seed = int.from_bytes(os.urandom(8), "little")  # of the hash of codes
-        asked = ((_Lent * max(len(lent), 1))(*lent), len(lent), *lender.lend(given),
-                 (_File * max(len(named), 1))(*[(_Lent(*a), _Lent(*b)) for a, b in named]),
+        asked = ((_Lent * max(len(lent), 1))(*[_Lent(*one) for one in lent]), len(lent),
+                 *lender.lend(given),
+                 (_File * max(len(named), 1))(*[_File(_Lent(*a), _Lent(*b)) for a, b in named]),
                  len(named), seed)
         used, said_used, said_room = ctypes.c_uint64(0), ctypes.c_uint64(0), 1 << 16
         while True:
@@ -156,7 +157,7 @@ def run(words: Sequence[str], given: Data = b"", files: Sequence[Tuple[bytes, Da
             room, said_room = max(room, used.value), max(said_room, said_used.value)
 
 
-def changes(text: Text, code: bytes, room: int = 1 << 18) -> Optional[array]:
+def changes(text: Text, code: bytes, room: int = 1 << 18) -> Optional["array[int]"]:
     """Returns the changes of a code, three uint64 each: a time, a value, and ones where its digits
     are 0 or 1. None where the dump has a fault or no such code, or the library cannot say."""
     if not hasattr(_library(), "vcdkit_changes"):
@@ -199,29 +200,36 @@ def _made(text: Made) -> Tuple[bytes, Optional[VcdkitError]]:
         status, out, said = run([text.command, *text.words], inputs[0], (), room)
     error = error_of(said.decode(errors="backslashreplace"), status, names) if status else None
     if isinstance(error, UnknownName):
-        error.text = text.of[0]
+        error.of = text.of[0]
     return out, error
 
 
 def _bytes_of(file: File) -> Data:
-    """Returns the bytes of a file: a map of it, or what they unpack to."""
-    unpacker = file.unpacker()
+    """Returns the bytes of a file: a map of it, or what its filters make of it."""
+    filters = file.filters()
     with file.open() as source:
-        if not unpacker:
+        if not filters:
             try:
                 return mmap.mmap(source.fileno(), 0, access=mmap.ACCESS_READ)
             except (ValueError, OSError):  # it is empty, or cannot be mapped
                 return source.read()
-        try:
-            done = subprocess.run(unpacker, stdin=source, stdout=subprocess.PIPE,
-                                  stderr=subprocess.PIPE)
-        except OSError as error:
-            raise not_started(unpacker[0], error) from error
+        data = _filtered(file, filters[0], stdin=source)
+    for words in filters[1:]:
+        data = _filtered(file, words, input=data)
+    return data
+
+
+def _filtered(file: File, words: List[str], **given: Any) -> bytes:
+    """Returns what a filter writes."""
+    try:
+        done = subprocess.run(words, stdout=subprocess.PIPE, stderr=subprocess.PIPE, **given)
+    except OSError as error:
+        raise not_started(words[0], error) from error
     if done.returncode:
         said = done.stderr.decode(errors="backslashreplace").strip()
         raise RunFailed("%s: %s" % (file.name, said or "%s: status %d" % (
-            unpacker[0], done.returncode)))
-    return done.stdout
+            words[0], done.returncode)))
+    return bytes(done.stdout)
 
 
 @contextlib.contextmanager
@@ -229,7 +237,8 @@ def opened(text: Text) -> Iterator[BinaryIO]:
     """Opens a text to be read once. As with a pipe, an error comes after what was written before
     it, unless the reader ends early."""
     error = None
-    if isinstance(text, File) and not text.unpacker():
+    file: BinaryIO
+    if isinstance(text, File) and not text.filters():
         file = text.open()
     elif isinstance(text, Made):
         out, error = _made(text)
@@ -238,6 +247,6 @@ def opened(text: Text) -> Iterator[BinaryIO]:
         file = io.BytesIO(_data(text))
     with file:
         yield file
-        was_read = not file.read(1)
+        was_read = not file.closed and not file.read(1)
     if error and was_read:
         raise error

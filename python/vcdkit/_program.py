@@ -6,23 +6,18 @@ import os
 import shutil
 import signal
 import subprocess
-import sys
 import tempfile
-from typing import BinaryIO, Dict, Iterator, List, Optional, Sequence
+from typing import BinaryIO, Dict, Iterator, List, Optional, Sequence, Union, cast
 
-from ._texts import Bytes, File, Text
+from ._texts import Bytes, File, Text, installed
 from .errors import RunFailed, UnknownName, VcdkitError, error_of
 
 
 def path() -> Optional[str]:
-    """Returns the program that VCDKIT names, else the one on the PATH, or beside the running
-    command (bin) or above it (a tarball); None where there is none."""
+    """Returns the program that VCDKIT names, else the vcdkit that comes with the running command
+    or is on the PATH; `None` if there is none."""
     named = os.environ.get("VCDKIT")
-    script = sys.argv[0] if sys.argv else ""
-    folder = os.path.dirname(os.path.realpath(script))
-    is_command = os.path.basename(script).startswith("vcdkit-") and not named
-    near = [os.path.join(folder, above, "vcdkit") for above in ("", "..")] if is_command else []
-    return next(filter(None, map(shutil.which, [named or "vcdkit", *near])), None)
+    return shutil.which(named) if named else installed("vcdkit")
 
 
 def refusal() -> str:
@@ -35,7 +30,7 @@ def refusal() -> str:
 def not_started(program: str, error: OSError) -> RunFailed:
     """Returns the exception where a program cannot be started."""
     if error.errno == errno.ENOENT:
-        return RunFailed("there is no program %s on the PATH to unpack it" % program)
+        return RunFailed("there is no program %s on the PATH to read it with" % program)
     if error.errno == errno.E2BIG:
         return RunFailed("too many names for a command line: name scopes")
     return RunFailed("%s: %s" % (program, error.strerror))
@@ -55,18 +50,19 @@ def is_vcdkit(program: str) -> bool:
 class _Part:
     """A running program, and what it calls its inputs."""
 
-    def __init__(self, words: Sequence[str], stdin, names: Dict[str, str], of: Optional[Text],
-                 pass_fds=()):
+    def __init__(self, words: Sequence[str], stdin: Union[BinaryIO, int], names: Dict[str, str],
+                 of: Optional[Text], pass_fds: Sequence[int] = ()):
         self.words, self.names, self.of = words, names, of
         try:
             self.process = subprocess.Popen(words, stdin=stdin, stdout=subprocess.PIPE,
                                             stderr=subprocess.PIPE, pass_fds=pass_fds)
         except OSError as error:
             raise not_started(words[0], error) from error
+        self.out = cast(BinaryIO, self.process.stdout)
 
     def finish(self) -> None:
         """Waits for it, and keeps what it says."""
-        with self.process.stderr as said:
+        with cast(BinaryIO, self.process.stderr) as said:
             self.said = said.read().decode(errors="backslashreplace").strip()
         self.status = self.process.wait()
 
@@ -81,36 +77,40 @@ class _Part:
                 self.words[0], self.status)))
         error = error_of(self.said or "vcdkit: status %d" % self.status, self.status, self.names)
         if isinstance(error, UnknownName):
-            error.text = self.of
+            error.of = self.of
         return error
 
 
 class _Pipe:
     """The programs of one pipe, the nearest to the files first."""
 
-    def __init__(self):
+    def __init__(self) -> None:
+        self.files: List[File] = []
         self.parts: List[_Part] = []
 
-    def start(self, words, stdin, names, of, pass_fds=()) -> BinaryIO:
+    def start(self, words: Sequence[str], stdin: Optional[BinaryIO], names: Dict[str, str],
+              of: Optional[Text], pass_fds: Sequence[int] = ()) -> BinaryIO:
         """Starts a program, and returns what it writes."""
         try:
             self.parts.append(_Part(words, stdin or subprocess.DEVNULL, names, of, pass_fds))
         finally:
             if stdin:
                 stdin.close()
-        return self.parts[-1].process.stdout
+        return self.parts[-1].out
 
     def feed(self, text: Text) -> BinaryIO:
         """Returns a file from which the text can be read."""
         if isinstance(text, File):
-            unpacker = text.unpacker()
+            self.files.append(text)
             file = text.open()
-            return self.start(unpacker, file, {"(stdin)": text.name}, None) if unpacker else file
-        if isinstance(text, Bytes):
-            file = tempfile.TemporaryFile()
-            file.write(text.data)
-            file.seek(0)
+            for words in text.filters():
+                file = self.start(words, file, {"(stdin)": text.name}, None)
             return file
+        if isinstance(text, Bytes):
+            kept = cast(BinaryIO, tempfile.TemporaryFile())
+            kept.write(text.data)
+            kept.seek(0)
+            return kept
         program = path()
         if not program:
             raise RunFailed(refusal())
@@ -129,34 +129,39 @@ class _Pipe:
             for file in files:
                 file.close()
 
-    def finish(self, was_read: bool) -> None:
-        """Waits for all; raises the error of the one nearest to the files, unless the reader ended
-        before all was read."""
+    def finish(self) -> None:
+        """Waits for all; raises the error of the one nearest to the files."""
         for part in self.parts:
             part.finish()
+        for file in self.files:
+            file.check()
         for at, part in enumerate(self.parts):
             is_last = at == len(self.parts) - 1
-            if part.status and was_read and (is_last or not part.ended_early()):
+            if part.status and (is_last or not part.ended_early()):
                 raise part.error()
 
     def stop(self) -> None:
         """Ends all that still run."""
         for part in self.parts:
             part.process.terminate()
-            part.process.stdout.close()
+            part.out.close()
             part.finish()
 
 
 @contextlib.contextmanager
 def opened(text: Text) -> Iterator[BinaryIO]:
-    """Opens a text to be read once; where the reader ends early, so do the programs."""
+    """Opens a text to be read once. If the reader ends early, or closes it, so do the programs, and
+    there is no error."""
     pipe = _Pipe()
     try:
         out = pipe.feed(text)
         with out:
             yield out
-            was_read = not out.read(1)
+            was_read = not out.closed and not out.read(1)
     except BaseException:
         pipe.stop()
         raise
-    pipe.finish(was_read)
+    if was_read:
+        pipe.finish()
+    else:
+        pipe.stop()

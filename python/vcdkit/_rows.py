@@ -1,13 +1,13 @@
 """Rows: those that vcdkit writes, and those of a table, from the text of a body (_body.steps)."""
 import gc
 import itertools
-from typing import Any, BinaryIO, Dict, Iterable, Iterator, List, Optional, Sequence, Tuple
+from typing import (Any, BinaryIO, Collection, Dict, FrozenSet, Iterable, Iterator, List, Optional,
+                    Sequence, Set, Tuple, Type, TypeVar, Union, overload)
 
 from . import _body
-from .values import Edges, Signal
+from .values import Cell, Edges, Row, Signal
 
-Row = Tuple[int, List[Any]]
-NAN = float("nan")  # one object, so that rows with it are equal
+Tuples = TypeVar("Tuples", bound=Tuple[Any, ...])
 
 
 def words_of(rows: str) -> List[str]:
@@ -17,12 +17,12 @@ def words_of(rows: str) -> List[str]:
     return words
 
 
-def each(kind, *columns: Iterable) -> Iterator[Any]:
+def each(kind: Type[Tuples], *columns: Iterable[Any]) -> Iterator[Tuples]:
     """Makes a NamedTuple of this kind of each row of columns."""
     return map(tuple.__new__, itertools.repeat(kind), zip(*columns))
 
 
-def tuples(kind, *columns: Iterable) -> List[Any]:
+def tuples(kind: Type[Tuples], *columns: Iterable[Any]) -> List[Tuples]:
     """Returns a NamedTuple of this kind for each row of columns."""
     was_enabled = gc.isenabled()
     gc.disable()  # else it looks through all of them many times
@@ -40,6 +40,7 @@ class Signals(Sequence[Signal]):
     def __init__(self, rows: str):
         self._rows, self._count = rows, rows.count("\n")
         self._columns: Optional[Tuple[List[str], List[str], List[int], List[str]]] = None
+        self._paths: FrozenSet[str] = frozenset()
 
     def columns(self) -> Tuple[List[str], List[str], List[int], List[str]]:
         """Returns the paths, the types, the sizes and the codes, a list of each."""
@@ -52,9 +53,24 @@ class Signals(Sequence[Signal]):
     def __len__(self) -> int:
         return self._count
 
-    def __getitem__(self, at):
-        columns = [column[at] for column in self.columns()]
-        return tuples(Signal, *columns) if isinstance(at, slice) else Signal(*columns)
+    @overload
+    def __getitem__(self, at: int) -> Signal: ...
+
+    @overload
+    def __getitem__(self, at: slice) -> List[Signal]: ...
+
+    def __getitem__(self, at: Union[int, slice]) -> Union[Signal, List[Signal]]:
+        paths, types, sizes, codes = self.columns()
+        if isinstance(at, slice):
+            return tuples(Signal, paths[at], types[at], sizes[at], codes[at])
+        return Signal(paths[at], types[at], sizes[at], codes[at])
+
+    def __contains__(self, one: object) -> bool:
+        """Whether there is a signal, or one of a path."""
+        if isinstance(one, str):
+            self._paths = self._paths or frozenset(self.columns()[0])
+            return one in self._paths
+        return any(one == its for its in self)
 
     def __iter__(self) -> Iterator[Signal]:
         return each(Signal, *self.columns())
@@ -63,18 +79,28 @@ class Signals(Sequence[Signal]):
         return "<%d signals>" % self._count
 
 
-def counts_of(rows: str) -> Dict[str, Edges]:
-    """Returns the Edges of each path, from the rows of `edges`. Paths with the same counts, as most
-    have, share one."""
+def counts_of(rows: str) -> List[Edges]:
+    """Returns the Edges of the rows of `edges`. Those with the same counts, as most have, are
+    one."""
     made: Dict[str, Edges] = {}
-    found: Dict[str, Edges] = {}
+    found = []
     for row in rows.split("\n")[:-1]:
-        path, _, counts = row.partition(" ")
+        counts = row[row.index(" ") + 1:]
         one = made.get(counts)
         if one is None:
             one = made[counts] = Edges(*map(int, counts.split(" ")))
-        found[path] = one
+        found.append(one)
     return found
+
+
+def keys_of(signals: Iterable[Signal], others: Iterable[str] = ()) -> List[str]:
+    """Returns what to call each signal: its path; if variables that are not one value have that
+    path, or others have that name, the path, a blank and the code."""
+    chosen = list(signals)
+    codes: Dict[str, Set[str]] = {name: {""} for name in others}
+    for one in chosen:
+        codes.setdefault(one.path, set()).add(one.code)
+    return [one.path if len(codes[one.path]) == 1 else one.path + " " + one.code for one in chosen]
 
 
 class _Values:
@@ -83,43 +109,47 @@ class _Values:
     def __init__(self, columns: Sequence[Signal]):
         self.codes = [one.code.encode() for one in columns]
         self.signals = dict(zip(self.codes, columns))
-        self.values: Dict[bytes, Any] = {}
+        self._texts: Dict[bytes, bytes] = {}
+        self._values: Dict[bytes, Cell] = {}
 
-    def take(self, changes: _body.Changes) -> None:
-        """Takes changes, of which some may be of other signals."""
-        for code, value in changes:
-            if code in self.signals:
-                now = _body.value(value, self.signals[code])
-                self.values[code] = NAN if now != now else now
+    def take(self, changes: _body.Changes) -> bool:
+        """Takes changes, of which some may be of other signals; whether one of the values is
+        another one after them."""
+        is_other = False
+        for code, text in dict(changes).items():
+            if code in self.signals and self._texts.get(code) != text:
+                now, was = _body.value(text, self.signals[code]), self._values.get(code)
+                self._texts[code], self._values[code] = text, now
+                is_other = is_other or not _is_same(now, was)
+        return is_other
 
-    def row(self) -> List[Any]:
-        """Returns the values, None where there is none yet."""
-        return [self.values.get(code) for code in self.codes]
+    def row(self) -> List[Cell]:
+        """Returns the values, `None` if there is none yet."""
+        return [self._values.get(code) for code in self.codes]
+
+
+def _is_same(now: Cell, was: Cell) -> bool:
+    """Whether two values are the same: real numbers as numbers, and NaN is NaN."""
+    return type(now) is type(was) and (now == was or now != now and was != was)
 
 
 def at_changes(text: BinaryIO, columns: Sequence[Signal]) -> Iterator[Row]:
     """Returns a row for each time at whose end a value is another one than before it, with the
     values at its end."""
-    values, last = _Values(columns), [None] * len(columns)
+    values = _Values(columns)
     for time, before, changes in _body.steps(text, values.signals):
-        values.take(before)
-        values.take(changes)
-        row = values.row()
-        if row != last:
-            yield time, row
-        last = row
+        if values.take(before + changes):
+            yield Row(time, values.row())
 
 
-def at_edges(text: BinaryIO, columns: Sequence[Signal], clock: Signal, edge: Tuple[bytes, bytes]
-             ) -> Iterator[Row]:
-    """Returns a row for each time at which a clock of one bit goes from one digit to another, with
-    the values just before that time."""
-    values, code, now = _Values(columns), clock.code.encode(), b""
-    for time, before, changes in _body.steps(text, {code, *values.signals}):
+def at_edges(text: BinaryIO, columns: Sequence[Signal], edges: Collection[_body.Edge],
+             lead: Collection[bytes]) -> Iterator[Row]:
+    """Returns a row for each time at which one of some edges is, with the values just before that
+    time. `lead` is that of _body.steps."""
+    values = _Values(columns)
+    codes = {*values.signals, *(code for code, _, _ in edges)}
+    for time, before, changes, is_edge in _body.edge_steps(text, codes, edges, lead):
         values.take(before)
-        is_edge = False
-        for digit in [value for of, value in before + changes if of == code]:
-            is_edge, now = is_edge or (now, digit) == edge, digit
         if is_edge:
-            yield time, values.row()
+            yield Row(time, values.row())
         values.take(changes)

@@ -2,7 +2,9 @@
 import os
 import shutil
 import stat
+import sys
 import tempfile
+import threading
 from typing import BinaryIO, List, NamedTuple, Optional, Tuple, Union
 
 from .errors import RunFailed
@@ -11,36 +13,124 @@ from .errors import RunFailed
 UNPACKERS = [(b"\x1f\x8b", ["gzip", "-dc"]), (b"\xfd7zXZ\0", ["xz", "-dc"]),
              (b"BZh", ["bzip2", "-dc"]), (b"\x28\xb5\x2f\xfd", ["zstd", "-dcq"]),
              (b"\0\0\0\0\0\0\0\x01\x49", ["fst2vcd", "/dev/stdin"])]
+FOUR_STATE = "vcdkit-four-state"
+BLOCK = 1 << 16
+
+
+def installed(name: str) -> Optional[str]:
+    """Returns a program that comes with vcdkit: the one beside the running command (an
+    installation), else the one above it (a tarball), else the one on the PATH. `None` if there is
+    none."""
+    script = sys.argv[0] if sys.argv else ""
+    folder = os.path.dirname(os.path.realpath(script))
+    is_command = os.path.basename(script).startswith("vcdkit-")
+    near = [os.path.join(folder, above, name) for above in ("", "..")] if is_command else []
+    return next(filter(None, map(shutil.which, [*near, name])), None)
+
+
+class _Kept:
+    """What comes through a pipe, which can be read only once: a temporary file has it as it is
+    read, so that each reader gets it from its begin, and what has not come yet when it comes."""
+
+    def __init__(self, path: bytes):
+        self._pipe = open(path, "rb", buffering=0)
+        self._file = tempfile.TemporaryFile()
+        self._news = threading.Condition()
+        self._length, self._is_whole, self._is_reading = 0, False, False
+        self.error: Optional[OSError] = None
+
+    def open(self) -> BinaryIO:
+        """Opens it at its begin."""
+        if self._is_whole:
+            return open("/dev/fd/%d" % self._file.fileno(), "rb")
+        front, back = os.pipe()
+        threading.Thread(target=self._write_to, args=(back,), daemon=True).start()
+        return open(front, "rb")
+
+    def _write_to(self, back: int) -> None:
+        """Writes it to a pipe, until all is written or nobody reads there."""
+        at = 0
+        try:
+            while True:
+                block = self._block(at)
+                if not block:
+                    break
+                at += os.write(back, block)
+        except BrokenPipeError:
+            pass
+        finally:
+            os.close(back)
+
+    def _block(self, at: int) -> bytes:
+        """Returns what is at an offset, once it is there: nothing at the end."""
+        with self._news:
+            self._news.wait_for(lambda: self._is_there(at) or not self._is_reading)
+            is_there = self._is_there(at)
+            self._is_reading = self._is_reading or not is_there
+        if not is_there:
+            self._read_on()
+        return os.pread(self._file.fileno(), BLOCK, at)
+
+    def _is_there(self, at: int) -> bool:
+        return at < self._length or self._is_whole
+
+    def _read_on(self) -> None:
+        """Reads on in the pipe, as one of the readers at a time does."""
+        block = b""
+        try:
+            block = os.read(self._pipe.fileno(), BLOCK)
+            self._file.write(block)
+            self._file.flush()
+        except OSError as error:
+            self.error, block = error, b""
+        if not block:
+            self._pipe.close()
+        with self._news:
+            self._length += len(block)
+            self._is_whole, self._is_reading = not block, False
+            self._news.notify_all()
 
 
 class File:
-    """A file, `-` for standard input. A pipe, which can be read only once, is kept in a temporary
-    file from its first use on."""
+    """A file, `-` for standard input. A pipe is read as its readers ask for it. With `four_state`
+    its nine states are made four."""
 
-    def __init__(self, path):
+    def __init__(self, path: Union[str, bytes, "os.PathLike[str]"], four_state: bool = False):
         self._path = os.fsencode(path)
         self.name = self._path.decode("utf-8", "backslashreplace")
         if self.name == "-":
             self._path, self.name = b"/dev/stdin", "(stdin)"
-        self._kept = None
+        self._kept: Optional[_Kept] = None
+        self._four_state = four_state
 
     def open(self) -> BinaryIO:
         """Opens it at its begin, each time anew."""
         try:
             if self._kept is None and not stat.S_ISREG(os.stat(self._path).st_mode):
-                with open(self._path, "rb") as pipe:
-                    self._kept = tempfile.NamedTemporaryFile(prefix="vcdkit-")
-                    shutil.copyfileobj(pipe, self._kept, 1 << 20)
-                    self._kept.flush()
-            return open(self._kept.name if self._kept else self._path, "rb")
+                self._kept = _Kept(self._path)
+            return self._kept.open() if self._kept else open(self._path, "rb")
         except OSError as error:
-            raise RunFailed("%s: %s" % (self.name, error.strerror or error)) from error
+            raise self._failure(error) from error
+
+    def check(self) -> None:
+        """Raises the error with which a pipe ended, if there was one."""
+        if self._kept and self._kept.error:
+            raise self._failure(self._kept.error)
+
+    def _failure(self, error: OSError) -> RunFailed:
+        return RunFailed("%s: %s" % (self.name, error.strerror or error))
 
     def unpacker(self) -> Optional[List[str]]:
-        """Returns the words of the program that unpacks it; None for plain text."""
+        """Returns the words of the program that unpacks it; `None` if it is plain text."""
         with self.open() as file:
             front = file.read(16)
         return next((words for magic, words in UNPACKERS if front.startswith(magic)), None)
+
+    def filters(self) -> List[List[str]]:
+        """Returns the words of the programs that make a plain dump of it, one after the other."""
+        unpacker = self.unpacker()
+        last = [[installed(FOUR_STATE) or FOUR_STATE]] if self._four_state else []
+        return [unpacker, *last] if unpacker else last
 
 
 class Bytes(NamedTuple):

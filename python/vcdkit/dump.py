@@ -1,30 +1,27 @@
 """Dump: questions about one dump."""
 import contextlib
-import numbers
+import importlib
 import os
 import re
-from typing import (Any, BinaryIO, Dict, Iterable, Iterator, List, Optional, Sequence, Set,
-                    Tuple, Union)
+from types import ModuleType
+from typing import (Any, BinaryIO, Collection, ContextManager, Dict, Iterable, Iterator, List,
+                    Optional, Sequence, Set, Tuple, Union)
 
-from . import _body, _library, _program, _rows
+from . import _body, _library, _program, _rows, _when
 from ._body import Header
 from ._texts import Bytes, File, Made, Text
 from .errors import NoTimescale, RunFailed, UnknownName, UsageError, VcdkitError
 from .times import LAST_TICK, Time, Timescale, word
-from .values import Edges, Report, Signal, value_of
-
-try:
-    import numpy
-except ImportError:  # lists instead of arrays
-    numpy = None
+from .values import Cell, Edges, Report, Row, Scope, Signal, Value, value_of
 
 Names = Union[str, Iterable[str]]
 TIMES_OF_A_CALL = 5000  # a word of Linux has at most 131,071 bytes
+RISE, FALL = (b"0", b"1"), (b"1", b"0")
 
 
-def way():
-    """Returns what answers: the library where there is one, else the program. VCDKIT_WAY=program
-    or VCDKIT_WAY=library takes one of them alone."""
+def way() -> ModuleType:
+    """Returns what answers: the library if there is one, else the program. VCDKIT_WAY=program or
+    VCDKIT_WAY=library takes only one of them."""
     asked = os.environ.get("VCDKIT_WAY", "")
     if asked not in ("", "library", "program"):
         raise UsageError("VCDKIT_WAY is %s: it may be library or program" % asked)
@@ -39,27 +36,32 @@ def way():
 class Dump:
     """A dump: a file, its bytes, or what pick(), cut() and merge() make of others.
 
-    A file may be packed (gzip, xz, bzip2, zstd, or FST where fst2vcd is on the PATH), or a pipe;
-    "-" is standard input. Nothing is read before the first question, and each question reads the
-    dump anew, but for the header. So a fault or an unknown name comes up at a question:
-    DumpFault, UnknownName, NoTimescale, UsageError or RunFailed, which are all VcdkitErrors.
+    A file may be packed (gzip, xz, bzip2, zstd, or FST if fst2vcd is on the PATH), or a pipe; "-"
+    is standard input. Nothing is read before the first question, and each question reads the dump
+    anew, but for the header. So a fault or an unknown name comes up at a question: DumpFault,
+    UnknownName, NoTimescale, UsageError or RunFailed, which are all VcdkitErrors.
 
     A time is a number of ticks, or a text with a unit, as "115ns" or "1.5us". A name is a path of
-    `signals`, or a scope with all that it has."""
+    `signals`, or a scope with all that it has. Keys of dictionaries are paths; if variables that
+    are not one value have one path, they are the path, a blank and the code."""
 
     def __init__(self, source: Union[str, "os.PathLike[str]", bytes], name: Optional[str] = None,
-                 token_limit: Optional[int] = None):
+                 token_limit: Optional[int] = None, four_state: bool = False):
         """`name` is what faults call bytes; `token_limit`, in bytes, is how long a token may be
-        (1,048,576 without it)."""
-        is_bytes = isinstance(source, (bytes, bytearray, memoryview))
-        self._text: Text = Bytes(bytes(source), name or "(bytes)") if is_bytes else File(source)
+        (1,048,576 without it). With `four_state` a file is read through vcdkit-four-state, which
+        makes four states of VHDL's nine."""
+        self._text: Text = (
+            Bytes(bytes(source), name or "(bytes)")
+            if isinstance(source, (bytes, bytearray, memoryview)) else File(source, four_state))
         self._options = () if token_limit is None else ("--token-limit", str(token_limit))
         self._signals: Optional[_rows.Signals] = None
         self._header: Optional[Header] = None
+        self._last: Tuple[List[str], Dict[int, Signal]] = [], {}  # names, and what they select
+
+    __iter__ = None  # else Python would look for [0], [1], ..
 
     def _made(self, command: str, words: Sequence[str], of: Tuple[Text, ...] = ()) -> "Dump":
-        made = Dump(b"")
-        made._text = Made(command, (*self._options, *words), of or (self._text,))
+        made = _dump_of(Made(command, (*self._options, *words), of or (self._text,)))
         made._options = self._options
         return made
 
@@ -69,11 +71,11 @@ class Dump:
         return self._text.name
 
     def __repr__(self) -> str:
-        made = isinstance(self._text, Made) and self._text.command != "merge"
-        return "<Dump %s%s>" % (self._text.command + " of " if made else "", self.name)
+        command = self._text.command if isinstance(self._text, Made) else "merge"
+        return "<Dump %s%s>" % ("" if command == "merge" else command + " of ", self.name)
 
     def unpacker(self) -> Optional[List[str]]:
-        """Returns the words of the program that unpacks the file; None for plain text."""
+        """Returns the words of the program that unpacks the file; `None` if it is plain text."""
         return self._text.unpacker() if isinstance(self._text, File) else None
 
     # Reading.
@@ -132,10 +134,28 @@ class Dump:
         paths = self.signals.columns()[0]
         return [self.signals[at] for at, path in enumerate(paths) if search(path)]
 
+    def __getitem__(self, name: str) -> Signal:
+        """Returns the one signal that a name selects. UnknownName if it selects nothing, UsageError
+        if it selects several."""
+        chosen = self.select(name)
+        if len({one.code for one in chosen}) > 1:
+            raise UsageError("%s: selects %d signals, where one is asked for: %s, .."
+                             % (name, len(chosen), chosen[0].path))
+        return chosen[0]
+
     def select(self, names: Names) -> List[Signal]:
         """Returns the signals that names select, each once, in the order of the names. UnknownName
-        where one selects nothing."""
-        found: Dict[str, Dict[int, Signal]] = {name: {} for name in _list(names)}
+        if one selects nothing."""
+        its = _list(names)
+        return list(self._places(its).values()) if its else []
+
+    def _places(self, names: List[str]) -> Dict[int, Signal]:
+        """Returns the signals that names select, by their places among all; all without names."""
+        if not names:
+            return dict(enumerate(self.signals))
+        if names == self._last[0]:
+            return self._last[1]
+        found: Dict[str, Dict[int, Signal]] = {name: {} for name in names}
         for at, path in enumerate(self.signals.columns()[0]):
             while path:
                 if path in found:
@@ -146,25 +166,36 @@ class Dump:
             if not its:
                 raise UnknownName(name, _hint(name, self.signals))
             chosen.update(its)
-        return list(chosen.values())
+        self._last = names, chosen
+        return chosen
+
+    @property
+    def tree(self) -> Scope:
+        """The scopes of the header, in a scope without a name: dump.tree.scopes[0].signals, or
+        [scope.path for scope in dump.tree.walk()]."""
+        with self._head() as out:
+            return _body.tree(out)
 
     @property
     def header(self) -> Header:
         """The header's date, version and time scale."""
         if self._header is None:
-            made = Made("cut", (*self._options, "--from", "0", "--to", "0"), (self._text,))
-            with _opened(made) as out:  # a fault of the body comes after what is read of it
+            with self._head() as out:
                 self._header = _body.header(out)
         return self._header
 
+    def _head(self) -> ContextManager[BinaryIO]:
+        """Opens a text with this header; a fault of the body comes after it."""
+        return _opened(Made("cut", (*self._options, "--from", "0", "--to", "0"), (self._text,)))
+
     @property
     def timescale(self) -> Optional[Timescale]:
-        """How long a tick is, as str() shows it: `100ps`. None where the header does not say."""
+        """How long a tick is, as str() shows it: `100ps`. `None` if the header does not say."""
         return self.header.timescale
 
     def ticks(self, time: Time) -> int:
-        """Returns a time in ticks; one between two ticks is the earlier one. NoTimescale where it
-        has a unit and the dump has no time scale."""
+        """Returns a time in ticks; one between two ticks is the earlier one. NoTimescale if it has
+        a unit and the dump has no time scale."""
         text = word(time)
         if text.isdigit():
             return int(text)
@@ -174,139 +205,186 @@ class Dump:
 
     def time(self, ticks: int, unit: str = "") -> str:
         """Returns ticks with a unit, as `115ns`: the largest in which they are a whole number, or
-        the one that is given. Without a time scale, the number alone."""
+        the one that is given. Without a time scale, only the number."""
         return self.timescale.text(ticks, unit) if self.timescale else str(ticks)
 
     # The body.
 
     def check(self) -> Report:
-        """Reads the whole dump, and returns what it counts. DumpFault where it has a fault."""
-        words = self._words("check")
-        return Report(**{key: None if number == "-" else int(number)
-                         for key, number in zip(words[0::2], words[1::2])})
+        """Reads the whole dump, and returns what it counts. DumpFault if it has a fault."""
+        return Report._make(None if number == "-" else int(number)
+                            for number in self._words("check")[1::2])
+
+    def value(self, name: str, time: Time) -> Cell:
+        """Returns the value of one signal at the end of a time; `None` if it has none yet, or is an
+        event."""
+        signal, ticks = self[name], self.ticks(time)
+        found = self._sampled([ticks], [name])[ticks]
+        return next((found[place] for place, one in self._places([name]).items()
+                     if place in found and one.code == signal.code), None)
 
     def sample(self, times: Union[Time, Iterable[Time]], names: Names = ()
-               ) -> Dict[Time, Dict[str, Any]]:
+               ) -> Dict[Time, Dict[str, Cell]]:
         """Returns of each time, as it was given, the value of each path at its end.
 
-        A value is a Value; a float of a real number, or its text where that is none; None where
-        there is none yet. Times may come in any order. Without names all signals are sampled;
-        events have no value. Of variables with one path the last one counts."""
-        asked = self._asked(times)
-        found = {ticks: {path: values[-1] for path, values in every.items()}
-                 for ticks, every in self._sampled(asked.values(), names).items()}
-        return {time: found[ticks] for time, ticks in asked.items()}
+        A value is a Value; a float of a real number, or its text if that is none; `None` if there
+        is none yet. Times may come in any order. Without names all signals are sampled; events have
+        no value."""
+        asked, its = _ticks_of(self, times), _list(names)
+        chosen = _states(self._places(its))
+        keys = dict(zip(chosen, _rows.keys_of(chosen.values())))
+        found = self._sampled(asked.values(), its)
+        return {time: {keys[place]: value for place, value in found[ticks].items() if place in keys}
+                for time, ticks in asked.items()}
 
-    def _asked(self, times: Union[Time, Iterable[Time]]) -> Dict[Time, int]:
-        """Returns the ticks of each time, as it was given."""
-        alone = isinstance(times, (numbers.Number, str))
-        return {time: self.ticks(time) for time in ([times] if alone else times)}
-
-    def _sampled(self, times: Iterable[int], names: Names) -> Dict[int, Dict[str, List[Any]]]:
-        """Returns of each time, in ticks, the values of the variables of each path."""
+    def _sampled(self, times: Iterable[int], names: List[str]) -> Dict[int, Dict[int, Cell]]:
+        """Returns of each time, in ticks, the values of the signals that names select, and maybe of
+        others, by their places."""
+        words = _words_for(names)
+        places = sorted(_states(self._places(words)))
         every = sorted(set(times))
-        found: Dict[int, Dict[str, List[Any]]] = {time: {} for time in every}
+        found: Dict[int, Dict[int, Cell]] = {}
         for begin in range(0, len(every), TIMES_OF_A_CALL):
-            at = ",".join(map(str, every[begin:begin + TIMES_OF_A_CALL]))
-            words = self._words("sample", ["--at", at, "--", *_list(names)])
-            for time, path, value in zip(words[0::3], words[1::3], words[2::3]):
-                found[int(time)].setdefault(path, []).append(value_of(value))
+            some = every[begin:begin + TIMES_OF_A_CALL]
+            values = map(value_of, self._words(
+                "sample", ["--at", ",".join(map(str, some)), "--", *words])[2::3])
+            found.update((time, {place: next(values) for place in places}) for time in some)
         return found
 
     def edges(self, names: Names = ()) -> Dict[str, Edges]:
         """Returns of each path how often its value changes, and its least significant bit rises and
         falls; of an event its triggers. Without names of all signals."""
-        return _rows.counts_of(self._answer("edges", ["--", *_list(names)]))
+        its = _list(names)
+        words = _words_for(its)
+        counts = dict(zip(sorted(self._places(words)),
+                          _rows.counts_of(self._answer("edges", ["--", *words]))))
+        chosen = dict(sorted(self._places(its).items()))
+        return dict(zip(_rows.keys_of(chosen.values()), map(counts.__getitem__, chosen)))
 
-    def changes(self, name: str, digits: bool = False) -> Tuple[Any, Any]:
-        """Returns the times, in ticks, and the values of one signal: one for each value that the
-        dump writes, also where it is the same again.
+    def changes(self, name: str) -> Iterator[Tuple[int, Cell]]:
+        """Returns the times, in ticks, and the values of one signal, as they come: one for each
+        value that the dump writes, also if it is the same again. Of an event each trigger is a 1.
+        UnknownName if the name selects nothing, UsageError if it selects several."""
+        signal = self[name]
+        return self._changes(name, signal)
 
-        With numpy: an array of uint64, and a masked array of uint64, masked where a value has an
-        x or a z. Without: a list of int, and one of int or None. Of a real number: floats. Of more
-        than 64 bits, or with `digits`: a list of Values. Of an event each trigger is a 1.
-        UnknownName where the name selects nothing, UsageError where it selects several."""
-        chosen = self.select(name)
-        if len({one.code for one in chosen}) > 1:
-            raise UsageError("%s: selects %d signals, and changes() takes one: %s, .."
-                             % (name, len(chosen), chosen[0].path))
-        signal = chosen[0]
-        if (way() is _library and not digits and not signal.is_real and signal.size <= 64
-                and signal.type != "event"):
+    def _changes(self, name: str, signal: Signal) -> Iterator[Tuple[int, Cell]]:
+        with self._part([name]).open() as out:
+            _body.skip_header(out)
+            yield from _body.changes(out, signal)
+
+    def arrays(self, name: str) -> Tuple[Any, Any]:
+        """Returns the changes of one signal as arrays of numpy: the times as uint64, and the values
+        as a masked array of uint64, masked if a value has an x or a z. Of a real number they are
+        floats, of more than 64 bits Values."""
+        try:
+            numpy = importlib.import_module("numpy")
+        except ImportError as error:
+            raise RunFailed("arrays() needs numpy: %s" % error) from error
+        signal = self[name]
+        if way() is _library and not signal.is_real and signal.size <= 64 and (
+                signal.type != "event"):
             found = _library.changes(self._text, signal.code.encode())
             if found is not None:
-                return _columns(found)
-        with self.pick(name).open() as out:
-            return _body.changes(out, signal, digits, numpy)
+                return _columns(found, numpy)
+        with self._part([name]).open() as out:
+            _body.skip_header(out)
+            return _body.arrays(out, signal, _words_for([name]) == [name], numpy)
 
     def rows(self, names: Names, at: Optional[Iterable[Time]] = None, rise: Optional[str] = None,
-             fall: Optional[str] = None) -> Iterator[Tuple[int, List[Any]]]:
-        """Returns rows of a table: a time in ticks, and the value of each signal of names (select),
-        as sample() has it; events are left out.
+             fall: Optional[str] = None) -> Iterator[Row]:
+        """Returns rows of a table, as they come: a time in ticks, and the value of each signal of
+        names (select), as sample() has it; events are left out.
 
-        By default a row for each time at which one of them changes, with the values at its end, and
-        of a cut its begin; what is written again, or comes and goes within a time, is no change.
-        With `rise` or `fall`, the path of a clock of one bit, a row for each time at which it rises
-        or falls, with the values just before that time, as a flip-flop takes them; those of the
-        `$dumpvars` that begins the dump, or a cut, are from before its time. UsageError where that
-        path is no such clock. With `at`, a row for each of these times."""
-        columns = [one for one in self.select(names) if one.type != "event"]
-        clock = self._clock(rise or fall) if at is None and (rise or fall) else None
-        return self._rows(names, columns, at, clock, (b"0", b"1") if rise else (b"1", b"0"))
-
-    def _rows(self, names: Names, columns: List[Signal], at: Optional[Iterable[Time]],
-              clock: Optional[Signal], edge: Tuple[bytes, bytes]
-              ) -> Iterator[Tuple[int, List[Any]]]:
+        By default there is a row for each time at which one of them changes, with the values at its
+        end, and of a cut for its begin; what is written again, or comes and goes within a time, is
+        no change. With `rise` or `fall`, the path of a clock of one bit, there is one for each time
+        at which that rises or falls, with the values just before that time, as a flip-flop takes
+        them; with both for each of these edges, of one clock or of two. Values of the `$dumpvars`
+        that begins the dump, or a cut, are from before its time. UsageError if that path is no such
+        clock. With `at` there is a row for each of these times."""
+        its = _list(names)
+        if not its:
+            raise UsageError("rows() needs a name")
+        columns = _states(self._places(its))
+        clocks = {name: self._clock(name) for name in (rise, fall) if name is not None}
+        if at is not None and clocks:
+            raise UsageError("rows are at times or at edges: give `at`, or `rise` and `fall`")
         if at is not None:
-            ticks = self._asked(at).values()
-            paths: Dict[str, List[int]] = {}
-            for place, one in enumerate(columns):
-                paths.setdefault(one.path, []).append(place)
-            found = self._sampled(ticks, paths) if paths else {}
-            for time in ticks:
-                row: List[Any] = [None] * len(columns)
-                for path, places in paths.items():
-                    for place, value in zip(places, found[time][path]):
-                        row[place] = value
-                yield time, row
-            return
-        with self.pick([*_list(names), *([clock.path] if clock else [])]).open() as out:
+            return self._rows_at(columns, list(_ticks_of(self, at).values()), its)
+        edges = {(clocks[name].code.encode(), *edge)
+                 for name, edge in ((rise, RISE), (fall, FALL)) if name is not None}
+        return self._rows([*its, *clocks], list(columns.values()), edges)
+
+    def _rows_at(self, columns: Collection[int], times: List[int], names: List[str]
+                 ) -> Iterator[Row]:
+        found = self._sampled(times, names) if columns else {}
+        for time in times:
+            yield Row(time, [found[time][place] for place in columns])
+
+    def _rows(self, names: List[str], columns: List[Signal], edges: Set[_body.Edge]
+              ) -> Iterator[Row]:
+        lead = self._lead({*(code for code, _, _ in edges), *(one.code.encode() for one in columns)}
+                          if edges else ())
+        with self._part(names).open() as out:
             _body.skip_header(out)
-            if clock:
-                yield from _rows.at_edges(out, columns, clock, edge)
+            if edges:
+                yield from _rows.at_edges(out, columns, edges, lead)
             else:
                 yield from _rows.at_changes(out, columns)
 
+    def _lead(self, codes: Collection[bytes]) -> Set[bytes]:
+        """Returns those of some codes of a merge whose values begin with a `$dumpvars`, as a merge
+        writes no sections; its codes are those of its dumps, anew, in the order of declaration."""
+        text, found = self._text, set()
+        while isinstance(text, Made) and text.command in ("pick", "cut"):
+            text = text.of[0]
+        if not codes or not isinstance(text, Made) or text.command != "merge":
+            return set()
+        made = iter(dict.fromkeys(_dump_of(text).signals.columns()[3]))
+        for dump in map(_dump_of, text.of):
+            its = {code.encode(): new.encode()
+                   for code, new in zip(dict.fromkeys(dump.signals.columns()[3]), made)
+                   if new.encode() in codes}
+            paths = [one.path for one in dump.signals if one.code.encode() in its]
+            if paths:
+                with dump._part(paths).open() as out:
+                    _body.skip_header(out)
+                    found |= {its[code] for code in _body.lead_of(out, its)}
+                found |= {its[code] for code in dump._lead(its)}
+        return found
+
     def _clock(self, name: str) -> Signal:
-        """Returns the signal of one bit that a name selects; UsageError where it is none."""
-        chosen = self.select(name)
-        clock = chosen[0]
-        is_what = ("it selects %d signals" % len(chosen) if len({one.code for one in chosen}) > 1
-                   else "it is an event" if clock.type == "event"
+        """Returns the signal of one bit that a name selects; UsageError if it is none."""
+        clock = self[name]
+        is_what = ("it is an event" if clock.type == "event"
                    else "it is a real number" if clock.is_real
                    else "it has %d bits" % clock.size if clock.size != 1 else "")
         if is_what:
             raise UsageError("%s: is no clock of one bit: %s" % (name, is_what))
         return clock
 
-    def table(self, names: Names, digits: bool = False, **which) -> Dict[str, List[Any]]:
-        """Returns the rows() as columns: "time", in ticks, and each path. Values are numbers, None
-        where they have an x or a z, or Values with `digits`. pandas.DataFrame() takes it.
+    def table(self, names: Names, at: Optional[Iterable[Time]] = None, rise: Optional[str] = None,
+              fall: Optional[str] = None) -> Dict[str, List[Any]]:
+        """Returns the rows() as columns of numbers: "time", in ticks, and each path; `None` if a
+        value has an x or a z. pandas.DataFrame() takes it."""
+        its = _list(names)
+        rows = list(self.rows(its, at, rise, fall))
+        keys = _rows.keys_of(_states(self._places(its)).values(), ["time"])
+        columns = zip(*(row.values for row in rows)) if rows else ([] for _ in keys)
+        return {"time": [row.time for row in rows],
+                **{key: [_number(one) for one in column] for key, column in zip(keys, columns)}}
 
-        Where variables that are not one value have one path, their columns are the path, a blank
-        and the code each; so is that of a path `time`."""
-        chosen = [one for one in self.select(names) if one.type != "event"]
-        codes: Dict[str, Set[str]] = {"time": {""}}
-        for one in chosen:
-            codes.setdefault(one.path, set()).add(one.code)
-        keys = [one.path if len(codes[one.path]) == 1 else one.path + " " + one.code
-                for one in chosen]
-        rows = list(self.rows(names, **which))
-        columns = [list(column) for column in zip(*(values for _, values in rows))] or [
-            [] for _ in keys]
-        if not digits:
-            columns = [[_body.number(one) for one in column] for column in columns]
-        return {"time": [time for time, _ in rows], **dict(zip(keys, columns))}
+    def when(self, condition: str, rise: Optional[str] = None, fall: Optional[str] = None,
+             every: bool = False) -> Iterator[int]:
+        """Returns the times, in ticks, at which a condition begins to hold, as `vcdkit-when` takes
+        it: "tb.bus == 0xff & !tb.reset".
+
+        It is looked at at the end of each time; of a cut, one that holds at its begin begins there.
+        With `rise` or `fall`, the path of a clock of one bit, it is looked at where that rises or
+        falls, with the values just before that time; with `every`, each such time counts at which
+        it holds. UsageError if it is no condition, UnknownName if a name of it selects nothing."""
+        return _when.when(self, condition, rise, fall, every)
 
     # Dumps of it.
 
@@ -315,7 +393,15 @@ class Dump:
         chosen = _list(names)
         if not chosen:
             raise UsageError("pick() needs a name")
+        if _words_for(chosen) != chosen:
+            raise UsageError("pick() takes names of UTF-8: name a scope around others")
         return self._made("pick", ["--", *chosen])
+
+    def _part(self, names: List[str]) -> "Dump":
+        """Returns a dump that has all that some names select, all without names. It has more if a
+        name is not UTF-8."""
+        words = _words_for(names)
+        return self.pick(words) if words else self.cut()
 
     def cut(self, begin: Time = 0, end: Time = LAST_TICK) -> "Dump":
         """Returns the dump from one time to another: the values just before `begin`, and what
@@ -342,16 +428,51 @@ def _list(names: Names) -> List[str]:
     return [names] if isinstance(names, str) else list(names)
 
 
-def _columns(found):
-    """Returns the changes of the library as changes() gives them."""
-    every = 2**64 - 1
-    if numpy is None:
-        return list(found[0::3]), [value if known == every else None
-                                   for value, known in zip(found[1::3], found[2::3])]
+def _words_for(names: List[str]) -> List[str]:
+    """Returns names that select all that some names do, and that are UTF-8, as only such words can
+    be given to vcdkit: scopes for others, or no names, which means all."""
+    words = []
+    for name in names:
+        scope = name
+        while re.search("[\udc80-\udcff]", scope):  # bytes that are not UTF-8
+            scope = scope.rpartition(".")[0]
+        if name and not scope:
+            return []
+        words.append(scope)
+    return words
+
+
+def _states(places: Dict[int, Signal]) -> Dict[int, Signal]:
+    """Returns the signals that are no events."""
+    return {place: one for place, one in places.items() if one.type != "event"}
+
+
+def _ticks_of(dump: Dump, times: Union[Time, Iterable[Time]]) -> Dict[Time, int]:
+    """Returns the ticks of each time, as it was given."""
+    every = [times] if isinstance(times, str) or not isinstance(times, Iterable) else times
+    return {time: dump.ticks(time) for time in every}
+
+
+def _number(one: Cell) -> Union[int, float, str, None]:
+    """Returns a Value as an int, `None` if it has x or z; other values as they are."""
+    if isinstance(one, Value):
+        return int(one) if one.is_known else None
+    return one
+
+
+def _columns(found: Any, numpy: Any) -> Tuple[Any, Any]:
+    """Returns the changes of the library as arrays() gives them."""
     times, values, known = numpy.array(found, dtype=numpy.uint64).reshape(-1, 3).T.copy()
-    unknown = known != numpy.uint64(every)
+    unknown = known != numpy.uint64(2**64 - 1)
     values[unknown] = 0
     return times, numpy.ma.masked_array(values, mask=unknown)
+
+
+def _dump_of(text: Text) -> Dump:
+    """Returns the dump of a text."""
+    dump = Dump(b"")
+    dump._text = text
+    return dump
 
 
 @contextlib.contextmanager
@@ -361,12 +482,9 @@ def _opened(text: Text) -> Iterator[BinaryIO]:
         with way().opened(text) as file:
             yield file
     except UnknownName as error:
-        of = getattr(error, "text", None)
-        if of is None:
+        if error.of is None:
             raise
-        base = Dump(b"")
-        base._text = of
-        raise UnknownName(error.name, _hint(error.name, base.signals)) from None
+        raise UnknownName(error.name, _hint(error.name, _dump_of(error.of).signals)) from None
 
 
 def _hint(name: str, signals: _rows.Signals) -> str:

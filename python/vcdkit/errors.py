@@ -1,6 +1,6 @@
 """What can go wrong: a class for each cause, whose `status` is the exit status of the program."""
 import re
-from typing import Dict
+from typing import Any, Dict, Tuple
 
 
 class VcdkitError(Exception):
@@ -18,7 +18,7 @@ class DumpFault(VcdkitError, ValueError):
         super().__init__("%s:%d: %s" % (file, line, fault))
         self.file, self.line, self.fault = file, line, fault
 
-    def __reduce__(self):  # else pickle and copy give the message alone to a class of three words
+    def __reduce__(self) -> Tuple[Any, ...]:  # else pickle and copy give the message alone to a class of three words
         return type(self), (self.file, self.line, self.fault)
 
 
@@ -30,8 +30,9 @@ class UnknownName(VcdkitError, LookupError):
     def __init__(self, name: str, hint: str = ""):
         super().__init__("%s: selects nothing%s" % (name, hint))
         self.name, self._hint = name, hint
+        self.of: Any = None  # the text that was asked, until the message has its hint
 
-    def __reduce__(self):
+    def __reduce__(self) -> Tuple[Any, ...]:
         return type(self), (self.name, self._hint)
 
 

@@ -77,4 +77,4 @@ class Timescale(NamedTuple):
 
 def _per(unit: str) -> int:
     """Returns how many femtoseconds a unit has."""
-    return 1000 ** (len(UNITS) - 1 - UNITS.index(unit))
+    return int(1000 ** (len(UNITS) - 1 - UNITS.index(unit)))

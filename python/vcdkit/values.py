@@ -1,5 +1,10 @@
 """What answers are made of."""
-from typing import NamedTuple, Optional, Union
+import numbers
+import operator
+import re
+from typing import Any, Callable, Iterator, List, NamedTuple, Optional, Union
+
+NUMBER_FORMAT = re.compile(r"(?:(.?)([<>=^]))?[-+ ]?#?(0?)(\d*)[_,]?([bdnoxX])\Z", re.DOTALL)
 
 
 class Signal(NamedTuple):
@@ -17,9 +22,28 @@ class Signal(NamedTuple):
         return self.type in ("real", "realtime")
 
 
+class Scope(NamedTuple):
+    """A scope of a header that has signals, maybe in scopes below: its name, its path, its type
+    (`module`, `task`, ..), and the scopes and the signals in it, in the order of declaration. The
+    tree begins with one that has no name."""
+
+    name: str
+    path: str
+    type: str
+    scopes: List["Scope"]
+    signals: List[Signal]
+
+    def walk(self) -> Iterator["Scope"]:
+        """Returns the scope and all that are below it, each before those in it."""
+        waiting = [self]
+        while waiting:
+            scope = waiting.pop()
+            yield scope
+            waiting += reversed(scope.scopes)
+
+
 class Report(NamedTuple):
-    """How many a dump has of each; `last` is its last timestamp in ticks, None where there is
-    none."""
+    """How many a dump has of each; `last` is its last timestamp in ticks, `None` if it has none."""
 
     scopes: int
     variables: int
@@ -39,13 +63,16 @@ class Edges(NamedTuple):
 
 
 class Value(str):
-    """All digits of a value, each 0, 1, x or z, the most significant first. int() of one with an x
-    or a z raises ValueError."""
+    """All digits of a value, each 0, 1, x or z, the most significant first: a text that is a number
+    as well.
+
+    It compares with numbers (`value == 5`, `0 < value <= 9`) and formats as one (`f"{value:x}"`).
+    As in Verilog, a value is true if one of its digits is 1. One with an x or a z equals no number,
+    is neither less nor greater than any, and int() of it raises ValueError. Of two Values the
+    shorter one is extended as in a dump. As a key of a dictionary a Value is its text: use int()
+    for its number."""
 
     __slots__ = ()
-
-    def __int__(self) -> int:
-        return int(str(self), 2)
 
     @property
     def is_known(self) -> bool:
@@ -55,15 +82,94 @@ class Value(str):
     def hex(self) -> str:
         """Returns it as viewers show it: a digit for four bits, x or z where all four are, else
         X."""
-        bits = self.rjust(-len(self) // 4 * -4, extension(self))
-        return "".join("%x" % int(four, 2) if not four.strip("01")
-                       else four[0] if len(set(four)) == 1 else "X"
-                       for four in (bits[at:at + 4] for at in range(0, len(bits), 4)))
+        return self._in_groups(4)
+
+    def signed(self) -> int:
+        """Returns the number that it is in two's complement."""
+        return int(self) - (str(self)[:1] == "1") * (1 << len(self))
+
+    def __int__(self) -> int:
+        return int(str(self), 2)
+
+    __index__ = __int__
+
+    def __bool__(self) -> bool:
+        return "1" in str(self)
+
+    def __getitem__(self, at: Any) -> "Value":
+        return Value(str.__getitem__(self, at))
+
+    def __format__(self, form: str) -> str:
+        number = NUMBER_FORMAT.match(form)
+        if not number:
+            return format(str(self), form)
+        if self.is_known:
+            return format(int(self), form)
+        fill, place, zero, width, base = number.groups()
+        text = self._in_groups({"x": 4, "X": 4, "o": 3}.get(base, 1)).lstrip("0")
+        place = ">" if place in (None, "=") else place
+        return format(text, (fill or zero or " ") + place + width)
+
+    def __eq__(self, other: object) -> bool:
+        return self._compares(operator.eq, other)
+
+    def __ne__(self, other: object) -> bool:
+        return self._compares(operator.ne, other)
+
+    def __lt__(self, other: Any) -> bool:
+        return self._compares(operator.lt, other)
+
+    def __le__(self, other: Any) -> bool:
+        return self._compares(operator.le, other)
+
+    def __gt__(self, other: Any) -> bool:
+        return self._compares(operator.gt, other)
+
+    def __ge__(self, other: Any) -> bool:
+        return self._compares(operator.ge, other)
+
+    __hash__ = str.__hash__
+
+    def _compares(self, are: Callable[[Any, Any], bool], other: object) -> bool:
+        """Compares it with a Value, a number or a text."""
+        if isinstance(other, Value):
+            width = max(len(self), len(other))
+            return bool(are(full(self, width), full(other, width)))
+        if isinstance(other, numbers.Real):
+            return bool(are(int(self) if self.is_known else float("nan"), other))
+        if isinstance(other, str):
+            return bool(are(str(self), other))
+        return NotImplemented
+
+    def _in_groups(self, size: int) -> str:
+        """Returns a digit for each so many bits: x or z if all of them are, else X for those that
+        are not known."""
+        bits = full(self, -len(self) // size * -size)
+        return "".join("%x" % int(some, 2) if not some.strip("01")
+                       else some[0] if len(set(some)) == 1 else "X"
+                       for some in (bits[at:at + size] for at in range(0, len(bits), size)))
+
+
+# What a sample or a row has of a signal: the text of a real number that is none is a str, and
+# `None` is no value yet.
+Cell = Union[Value, float, str, None]
+
+
+class Row(NamedTuple):
+    """A row of a table: its time in ticks, and a value of each signal."""
+
+    time: int
+    values: List[Cell]
 
 
 def extension(digits: str) -> str:
     """Returns the digit that fills a value to the left of its digits."""
-    return "0" if digits[0] == "1" else digits[0]
+    return digits[0] if digits[0] in "xz" else "0"
+
+
+def full(digits: str, size: int) -> str:
+    """Returns digits, extended to a size."""
+    return str(digits).rjust(size, extension(str(digits)))
 
 
 def real(text: str) -> Union[float, str]:
@@ -75,6 +181,6 @@ def real(text: str) -> Union[float, str]:
         return text
 
 
-def value_of(text: str) -> Union[Value, float, str, None]:
+def value_of(text: str) -> Cell:
     """Returns the value that `sample` writes: digits, `r` and a real number, or `-`."""
     return None if text == "-" else real(text[1:]) if text[0] == "r" else Value(text)

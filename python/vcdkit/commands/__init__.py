@@ -1,11 +1,12 @@
 """The commands vcdkit-diff, vcdkit-explain, .. : a module each, whose main() the shell calls."""
 import argparse
 import functools
+import io
 import os
 import sys
-from typing import Callable, List, Optional
+from typing import Callable, List, Optional, TextIO
 
-from .. import __version__, _program
+from .. import Dump, Value, __version__, _program
 from ..errors import RunFailed, VcdkitError
 from ..times import UNITS
 
@@ -13,12 +14,12 @@ STATUSES = """
 exit status:
   0  %s
   1  %s
-  2  usage error
+  2  %s
   3  I/O error, out of memory, or no vcdkit
 
 A dump may be packed (gzip, xz, bzip2, zstd; FST where fst2vcd is on the PATH), a pipe, or - for
 standard input. A pipe is stored in a temporary file, in TMPDIR or /tmp, as it is read more than
-once. VCDKIT names the program, else it is vcdkit on the PATH.
+once. VCDKIT names the program, else it is the vcdkit beside the command, or that on the PATH.
 """
 STATUSES_OF_A_FILTER = """
 exit status:
@@ -26,7 +27,11 @@ exit status:
   2  usage error
   3  I/O error
 """
+FAULT = "a name selects nothing, or not a valid dump"
 TIMES = "TIME is a number of ticks, or has a unit, as 115ns or 1.5us.\n"
+BROKEN_PIPE = 128 + 13  # the status that a shell shows of a program that SIGPIPE ended
+FORMS = {"hex": "hex", "decimal": "decimal", "signed": "decimal, of two's complement",
+         "ascii": "text, a letter for eight bits", "binary": "all digits"}
 
 
 class _Parser(argparse.ArgumentParser):
@@ -35,12 +40,12 @@ class _Parser(argparse.ArgumentParser):
         return text + TIMES if "TIME" in text else text
 
 
-def parser(name: str, text: str, done: str = "all was written",
-           failed: str = "a name selects nothing, or not a valid dump") -> argparse.ArgumentParser:
-    """Returns a parser of words, whose help has the text of a command and its exit statuses, those
-    of a filter where nothing is said of status 1."""
+def parser(name: str, text: str, done: str = "all was written", failed: str = FAULT,
+           wrong: str = "usage error") -> argparse.ArgumentParser:
+    """Returns a parser of words, whose help has the text of a command and its exit statuses 0, 1
+    and 2, those of a filter if nothing is said of status 1."""
     first, _, rest = text.partition("\n")
-    statuses = STATUSES % (done, failed) if failed else STATUSES_OF_A_FILTER
+    statuses = STATUSES % (done, failed, wrong) if failed else STATUSES_OF_A_FILTER
     made = _Parser(
         prog=name, description=first, epilog=rest.strip("\n") + "\n" + statuses,
         formatter_class=argparse.RawDescriptionHelpFormatter, allow_abbrev=False)
@@ -49,10 +54,22 @@ def parser(name: str, text: str, done: str = "all was written",
 
 
 def add_file(to: argparse.ArgumentParser, names: str = "") -> None:
-    """Adds FILE, and NAMEs, whose count is as of argparse: + or *."""
+    """Adds FILE, which dump_of opens, and NAMEs, whose count is as of argparse: + or *."""
+    add_four_state(to)
     to.add_argument("file", metavar="FILE", help="the dump")
     if names:
         add_names(to, names)
+
+
+def add_four_state(to: argparse.ArgumentParser) -> None:
+    """Adds --four-state."""
+    to.add_argument("--four-state", action="store_true",
+                    help="make four states of VHDL's nine, as vcdkit-four-state does")
+
+
+def dump_of(asked: argparse.Namespace, file: str = "", **options) -> Dump:
+    """Returns the dump of FILE, or of another file that is asked for."""
+    return Dump(file or asked.file, four_state=asked.four_state, **options)
 
 
 def add_names(to: argparse.ArgumentParser, count: str) -> None:
@@ -69,10 +86,35 @@ def add_window(to: argparse.ArgumentParser) -> None:
 
 
 def add_form(to: argparse.ArgumentParser) -> None:
-    """Adds --hex, --decimal and --binary."""
-    for form in "hex", "decimal", "binary":
-        to.add_argument("--" + form, dest="form", action="store_const", const=form,
-                        help="values as %s" % ("all digits" if form == "binary" else form))
+    """Adds --hex and the other forms of a value, of which one may be taken."""
+    of = to.add_mutually_exclusive_group()
+    for form, what in FORMS.items():
+        of.add_argument("--" + form, dest="form", action="store_const", const=form,
+                        help="values as " + what)
+
+
+def shown(value, form: Optional[str]) -> str:
+    """Returns a value as a reader sees it: `-` if there is none, a real number as 1.5 or 3."""
+    if value is None:
+        return "-"
+    if isinstance(value, float):
+        return repr(value)[:-2] if repr(value).endswith(".0") else repr(value)
+    if form == "hex" and isinstance(value, Value):
+        return value.hex()
+    if form in (None, "binary") or len(value) == 1 or not isinstance(value, Value) or (
+            not value.is_known):
+        return value
+    if form == "ascii":
+        return text_of(int(value))
+    return str(int(value) - (form == "signed" and value[0] == "1") * 2**len(value))
+
+
+def text_of(number: int) -> str:
+    """Returns the letters that the bytes of a number are, the highest first: \\xNN for a byte that
+    is none."""
+    text = number.to_bytes(max((number.bit_length() + 7) // 8, 1), "big").decode("latin-1")
+    return "".join(one if " " <= one <= "~" and one != "\\" else "\\x%02x" % ord(one)
+                   for one in text)
 
 
 def unit(text: str) -> str:
@@ -83,39 +125,73 @@ def unit(text: str) -> str:
 
 
 def command(function: Callable[[List[str]], int]) -> Callable[[Optional[List[str]]], int]:
-    """Makes main() of what takes words and returns a status: errors become a line and a status."""
-    name = "vcdkit-" + function.__module__.rpartition(".")[2].replace("_", "-")
+    """Makes main() of what takes words and returns a status: errors become a line and a status. It
+    ends without a line if the reader of its output has gone."""
+    module = function.__module__.rpartition(".")[2]
+    name = "vcdkit" if module == "__main__" else "vcdkit-" + module.replace("_", "-")
 
     @functools.wraps(function)
     def main(words: Optional[List[str]] = None) -> int:
+        if hasattr(sys, "set_int_max_str_digits"):
+            sys.set_int_max_str_digits(0)  # vectors and times may be longer
         # Pipes to the program hold no output in memory, so they come first here.
         if _program.path():
             os.environ.setdefault("VCDKIT_WAY", "program")
         sys.stderr = sys.stderr or open(os.devnull, "w")  # None where it was closed
-        sys.stderr.reconfigure(encoding="utf-8", errors="surrogateescape")
+        _write_bytes(sys.stderr)
         if sys.stdout is None:
             return _said(name, "write failed", RunFailed.status)
-        sys.stdout.reconfigure(encoding="utf-8", errors="surrogateescape", newline="\n")
+        _write_bytes(sys.stdout)
         try:
-            status = function(sys.argv[1:] if words is None else words)
-            sys.stdout.flush()
-            return status
+            try:
+                return function(sys.argv[1:] if words is None else words)
+            finally:
+                sys.stdout.flush()
         except VcdkitError as error:
             return _said(name, str(error), error.status)
-        except (OSError, KeyboardInterrupt) as error:
-            if isinstance(error, KeyboardInterrupt):
-                return 130
-            os.dup2(os.open(os.devnull, os.O_WRONLY), 1)  # what is left goes nowhere
+        except BrokenPipeError:
+            _drop(sys.stdout)
+            return BROKEN_PIPE
+        except KeyboardInterrupt:
+            return 130
+        except MemoryError:
+            return _said(name, "out of memory", RunFailed.status)
+        except OSError:
+            _drop(sys.stdout)
             return _said(name, "write failed", RunFailed.status)
 
     return main
 
 
+def _write_bytes(stream: TextIO) -> None:
+    """Lets a stream write the bytes of names as they are."""
+    if isinstance(stream, io.TextIOWrapper):
+        stream.reconfigure(encoding="utf-8", errors="surrogateescape", newline="\n")
+
+
+def _drop(stream: TextIO) -> None:
+    """Lets what is left in a stream go nowhere, so that the end of Python does not write it."""
+    os.dup2(os.open(os.devnull, os.O_WRONLY), stream.fileno())
+
+
+def question(function: Callable[[List[str]], int]) -> Callable[[List[str]], int]:
+    """Makes the function of a command that answers yes or no by its status, as cmp and grep do: a
+    fault of a dump and an unknown name have status 2, and not that of an answer."""
+    @functools.wraps(function)
+    def asked(words: List[str]) -> int:
+        try:
+            return function(words)
+        except VcdkitError as error:
+            error.status = max(error.status, 2)
+            raise
+
+    return asked
+
+
 def _said(name: str, text: str, status: int) -> int:
+    """Writes a message, if there is somewhere to write it, and returns the status."""
     try:
-        if sys.stdout:
-            sys.stdout.flush()
+        print("%s: %s" % (name, text), file=sys.stderr, flush=True)
     except OSError:
-        os.dup2(os.open(os.devnull, os.O_WRONLY), 1)
-    print("%s: %s" % (name, text), file=sys.stderr)
+        _drop(sys.stderr)
     return status

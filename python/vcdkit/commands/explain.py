@@ -1,18 +1,23 @@
 """Checks a dump; at a fault it shows the lines around it, the usual cause and a command that helps
 
 The report or the fault is that of vcdkit check, and so is the status. Bytes that are no text are
-shown as \\xNN, and long lines are cut off. Where no cause is known, the lines are shown alone.
+shown as \\xNN, and long lines are cut off. If no cause is known, only the lines are shown.
+
+--salvage writes the part of a faulty dump that is good: a dump up to the tick before its last
+timestamp before the fault, as what follows that timestamp may not be whole. The line `good until`
+says up to which time it has all values. No file is written if there is no fault.
 
 examples:
   vcdkit-explain sim.vcd
+  vcdkit-explain --salvage good.vcd sim.vcd
   ssh lab cat sim.vcd.gz | vcdkit-explain -"""
 import itertools
 import re
 import shlex
 import sys
 
-from .. import Dump, DumpFault
-from . import add_file, command, parser
+from .. import DumpFault
+from . import add_file, command, dump_of, parser
 
 WIDTH = 100
 FRONT = 1 << 16  # how much before a fault is looked at
@@ -22,7 +27,7 @@ STRING = ("a string, which four-state VCD does not have",
           "vcdkit-four-state < FILE | vcdkit check    (it leaves strings out)")
 PORTS = ("extended VCD, of $dumpports",
          "evcd2vcd FILE | vcdkit check    (of GTKWave; or take $dumpvars in its place)")
-CUT_OFF = "vcdkit cut < FILE | vcdkit-endmend > LEFT.vcd    (all before the fault)"
+CUT_OFF = "vcdkit-explain --salvage LEFT.vcd FILE    (what is before the fault)"
 NO_HEADER = "run again, or mend the header by hand: without a whole header no value can be read"
 PRODUCER = "let the producer write it anew, or mend the line by hand"
 SECTION = ("a section ($dumpvars, $dumpall, $dumpoff, $dumpon) whose $end is missing",
@@ -137,7 +142,8 @@ def printable(line):
 def with_file(remedy, name, unpacker):
     """Returns a remedy with the file in it, or with what unpacks it, or with a pipe."""
     file = shlex.quote(name)
-    source = [".."] if name.startswith(("(stdin)", "/dev/")) else []
+    is_pipe = name.startswith(("(stdin)", "/dev/"))
+    source = [".."] if is_pipe else []
     if unpacker:
         source.append(" ".join(unpacker) if source else
                       " ".join([word for word in unpacker if word[0] != "/"] + [file]))
@@ -145,6 +151,8 @@ def with_file(remedy, name, unpacker):
         remedy = re.sub(r"\A(run again, or )?(.*?) < FILE",
                         lambda found: "%s%s | %s" % (found.group(1) or "", " | ".join(source),
                                                      found.group(2)), remedy)
+    if is_pipe:
+        remedy = re.sub(r"(vcdkit-explain .*) FILE", r".. | \1 -", remedy)
     return remedy.replace("FILE", file)
 
 
@@ -170,14 +178,40 @@ def explain(dump, fault, unpacker):
         print("help:  " + with_file(remedy, dump.name, unpacker))
 
 
+def last_time(dump):
+    """Returns the last timestamp before the fault; `None` if there is none."""
+    last, rest = None, b"\n"
+    try:
+        with dump.cut().open() as text:
+            for block in iter(lambda: text.read(1 << 20), b""):
+                rest = rest[-32:] + block
+                found = re.findall(rb"\n#(\d+)(?=\n)", rest)
+                last = int(found[-1]) if found else last
+    except DumpFault:
+        pass
+    return last
+
+
+def salvage(dump, path):
+    """Writes what is good of a faulty dump, and says until which time it is."""
+    last = last_time(dump)
+    if not last:
+        print("vcdkit-explain: nothing is good: the fault comes too early",
+              file=sys.stderr)
+        return
+    dump.cut(0, last - 1).save(path)
+    print("wrote: %s, good until %s" % (path, dump.time(last - 1)))
+
+
 @command
 def main(words):
     of = parser("vcdkit-explain", __doc__, "a valid dump, as far as it goes", "not a valid dump")
+    of.add_argument("--salvage", metavar="OUT", help="write what is before the fault")
     of.add_argument("--token-limit", type=int, metavar="N",
                     help="how long a token may be, in bytes")
     add_file(of)
     asked = of.parse_args(words)
-    dump = Dump(asked.file, token_limit=asked.token_limit)
+    dump = dump_of(asked, token_limit=asked.token_limit)
     unpacker = dump.unpacker()
     if unpacker:
         print("packed: " + with_file("vcdkit check < FILE", dump.name, unpacker), flush=True)
@@ -186,6 +220,8 @@ def main(words):
     except DumpFault as fault:
         print("vcdkit: %s" % fault, file=sys.stderr, flush=True)
         explain(dump, fault, unpacker)
+        if asked.salvage is not None:
+            salvage(dump, asked.salvage)
         return fault.status
     for key, value in report._asdict().items():
         print(key, "-" if value is None else value)

@@ -2,23 +2,28 @@
 
 With no REGEX all variables match. The expressions are Python's, and are looked for anywhere in a
 path: 'count$', '^tb\\.cpu\\.', '(?i)clk'. A row has path, type, size and code, as of vcdkit list.
+With --tree a row has a scope, indented below the one that it is in, and how many of the variables
+are in it and in the scopes below it.
 
 examples:
   vcdkit-find sim.vcd 'count$'
   vcdkit-find --pick sim.vcd.gz 'clk$' '\\.state$' > some.vcd
-  vcdkit-find --json sim.vcd"""
+  vcdkit-find --json sim.vcd
+  vcdkit-find --tree sim.vcd | head -n 20"""
 import csv
 import json
 import re
 import shutil
 import sys
 import warnings
+from collections import Counter, defaultdict
+from typing import Dict, Iterable, List, Sequence
 
-from .. import Dump, UsageError
-from . import add_file, command, parser
+from .. import Signal, UsageError
+from . import add_file, command, dump_of, parser
 
 
-def names_for(chosen, signals):
+def names_for(chosen: Sequence[str], signals: Iterable[Signal]) -> List[str]:
     """Returns as few names as select these paths and no other: a scope where all in it are
     chosen."""
     others = {one.path for one in signals} - set(chosen)
@@ -27,7 +32,7 @@ def names_for(chosen, signals):
         while path and path not in mixed:
             mixed.add(path)
             path = path.rpartition(".")[0]
-    names = {}
+    names: Dict[str, bool] = {}
     for path in chosen:
         scope = path.rpartition(".")[0]
         while scope and scope not in mixed:
@@ -36,23 +41,66 @@ def names_for(chosen, signals):
     return list(names)
 
 
+def tree_of(paths):
+    """Returns how many paths are in each scope and below it, and the scopes that are in each; the
+    scope of all is empty."""
+    counts, inner, seen = Counter(), defaultdict(list), {""}
+    for scope, count in Counter(path.rpartition(".")[0] for path in paths).items():
+        while scope:
+            above = scope.rpartition(".")[0]
+            counts[scope] += count
+            if scope not in seen:
+                seen.add(scope)
+                inner[above].append(scope)
+            scope = above
+    return counts, inner
+
+
+def write_tree(paths):
+    """Writes the scopes of some paths, each above those in it."""
+    top = sum("." not in path for path in paths)
+    if top:
+        print("(top) %d" % top)
+    counts, inner = tree_of(paths)
+    scopes = inner[""][::-1]
+    while scopes:
+        scope = scopes.pop()
+        print("%s%s %d" % ("  " * scope.count("."), scope.rpartition(".")[2], counts[scope]))
+        scopes += inner[scope][::-1]
+
+
+def write_json(found):
+    """Writes rows as JSON; a byte that is no UTF-8 as \\xNN."""
+    texts = [{key: getattr(one, key).encode("utf-8", "surrogateescape").decode(
+        "utf-8", "backslashreplace") for key in ("path", "type")} for one in found]
+    json.dump([{**one._asdict(), **its} for one, its in zip(found, texts)], sys.stdout, indent=1)
+    print()
+
+
+def patterns_of(texts):
+    """Returns the regular expressions of some texts."""
+    warnings.simplefilter("ignore", FutureWarning)  # of [[ in an expression
+    patterns = []
+    for text in texts:
+        try:
+            patterns.append(re.compile(text))
+        except (re.error, RecursionError, OverflowError) as error:
+            raise UsageError("bad expression: %s: %s" % (text[:100], error)) from None
+    return patterns
+
+
 @command
 def main(words):
     of = parser("vcdkit-find", __doc__, failed="no path matches, or not a valid dump")
     form = of.add_mutually_exclusive_group()
     for name, what in (("pick", "write the dump of these variables"), ("json", "rows as JSON"),
-                       ("csv", "rows as CSV")):
+                       ("csv", "rows as CSV"), ("tree", "scopes, with how many are in each")):
         form.add_argument("--" + name, dest="form", action="store_const", const=name, help=what)
     add_file(of)
     of.add_argument("patterns", metavar="REGEX", nargs="*", default=[],
                     help="what a path has to match")
     asked = of.parse_args(words)
-    dump = Dump(asked.file)
-    warnings.simplefilter("ignore", FutureWarning)  # of [[ in an expression
-    try:
-        patterns = [re.compile(pattern) for pattern in asked.patterns]
-    except re.error as error:
-        raise UsageError("bad expression: %s: %s" % (error.pattern, error)) from None
+    dump, patterns = dump_of(asked), patterns_of(asked.patterns)
     found = [one for one in dump.signals
              if not patterns or any(pattern.search(one.path) for pattern in patterns)]
     if patterns and not found:
@@ -63,13 +111,12 @@ def main(words):
         with dump.pick(names_for([one.path for one in found], dump.signals)).open() as text:
             shutil.copyfileobj(text, sys.stdout.buffer, 1 << 18)
     elif asked.form == "json":
-        json.dump([{**one._asdict(), **{key: getattr(one, key).encode(
-            "utf-8", "surrogateescape").decode("utf-8", "backslashreplace")
-            for key in ("path", "type")}} for one in found], sys.stdout, indent=1)
-        print()
+        write_json(found)
     elif asked.form == "csv":
         out = csv.writer(sys.stdout, lineterminator="\n")
         out.writerows([("path", "type", "size", "code"), *found])
+    elif asked.form == "tree":
+        write_tree([one.path for one in found])
     else:
         for one in found:
             print(*one)

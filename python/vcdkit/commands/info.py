@@ -11,8 +11,8 @@ examples:
 import json
 from collections import Counter
 
-from .. import Dump, _body
-from . import add_file, command, parser
+from .. import _body
+from . import add_file, command, dump_of, parser
 
 
 def first_tick(dump):
@@ -56,7 +56,7 @@ def main(words):
                     help="how many of the largest scopes (5)")
     add_file(of)
     asked = of.parse_args(words)
-    dump = Dump(asked.file)
+    dump = dump_of(asked)
     facts = {"file": dump.name, **dict(of_header(dump, asked.scopes))}
     if not asked.json:
         for key, value in facts.items():

@@ -1,65 +1,58 @@
 """Writes the values of several signals as CSV, a column for each
 
-A row for each time at which one of them changed, with their values at its end, and one for --from,
-where they have values. With --rise or --fall, a row for each time at which a clock of one bit rises
-or falls, with the values just before that time, as a flip-flop takes them. With --at, a row for
-each of these times. So what comes and goes within one time, or is written again, is not seen, and
-events have no column.
+There is a row for each time at which one of them changed, with their values at its end, and one for
+--from, if they have values. With --rise or --fall there is one for each time at which a clock of
+one bit rises or falls, with the values just before that time, as a flip-flop takes them; with both
+for each edge. With --at there is one for each of these times. What comes and goes within one time,
+or is written again, is not seen, and events have no column. The rows of a pipe come as it does.
 
-Values have all their digits, or are numbers (--hex, --decimal). Where a value has an x or a z,
---hex writes x or z for four such digits and X for a mixture, and --decimal leaves all digits. `-`
-is no value yet. Real numbers are as 1.5, 3, 1e-09, nan or inf. Times are whole numbers of the unit
-of the time scale, or exact ones of --unit.
+Values have all their digits, or are numbers (--hex, --decimal, --signed), or text (--ascii). Where
+a value has an x or a z, --hex writes x or z for four such digits and X for a mixture, and the
+others leave all digits. `-` is no value yet. Real numbers are as 1.5, 3, 1e-09, nan or inf. Times
+are whole numbers of the unit of the time scale, or exact ones of --unit.
 
 examples:
   vcdkit-table --hex --at 10ns,20ns,30ns sim.vcd tb.pc tb.bus
   vcdkit-table --decimal --rise tb.clk --from 1us sim.vcd.gz tb.cpu
   vcdkit-table --unit tick sim.vcd tb.count"""
 import csv
+import io
+import os
 import sys
+from typing import List
 
-from .. import Dump, Value
-from . import add_file, add_form, add_window, command, parser, unit
-
-
-def shown(value, size, form):
-    """Returns a value as a cell has it."""
-    if value is None:
-        return "-"
-    if isinstance(value, float):
-        return repr(value)[:-2] if repr(value).endswith(".0") else repr(value)
-    if not isinstance(value, Value):  # no number
-        return value
-    if form == "hex":
-        return value.hex()
-    return int(value) if form == "decimal" and value.is_known else value
+from . import add_file, add_form, add_window, command, dump_of, parser, shown, unit
 
 
 @command
-def main(words):
+def main(words: List[str]) -> int:
     of = parser("vcdkit-table", __doc__)
     add_form(of)
-    which = of.add_mutually_exclusive_group()
-    which.add_argument("--rise", metavar="CLOCK", help="a row where this signal rises")
-    which.add_argument("--fall", metavar="CLOCK", help="a row where this signal falls")
-    which.add_argument("--at", metavar="TIME,..", help="a row at each of these times")
+    of.add_argument("--rise", metavar="CLOCK", help="a row where this signal rises")
+    of.add_argument("--fall", metavar="CLOCK", help="a row where this signal falls")
+    of.add_argument("--at", metavar="TIME,..", help="a row at each of these times")
     add_window(of)
     of.add_argument("--unit", type=unit, help="the unit of the times: tick, s, ms, us, ns, ps, fs")
     add_file(of, "+")
     asked = of.parse_args(words)
-    whole = Dump(asked.file)
+    is_part = (asked.begin, asked.end) != (of.get_default("begin"), of.get_default("end"))
+    if asked.at is not None and (is_part or asked.rise is not None or asked.fall is not None):
+        of.error("--at goes with none of --rise, --fall, --from and --to")
+    whole = dump_of(asked)
     columns = [one for one in whole.select(asked.names) if one.type != "event"]
     scale = whole.timescale
     in_unit = asked.unit or (scale.unit if scale else "tick")
     whole.ticks("0" if in_unit == "tick" else "0" + in_unit)  # a unit needs a time scale
-    is_part = (asked.begin, asked.end) != (of.get_default("begin"), of.get_default("end"))
     # Values at the begin of a cut are a section, and none that changed.
-    dump = whole.cut(asked.begin, asked.end) if is_part and not asked.at else whole
-    at = asked.at.split(",") if asked.at else None
-    rows = dump.rows(asked.names, at, asked.rise, asked.fall)
+    dump = whole.cut(asked.begin, asked.end) if is_part else whole
+    rows = dump.rows(asked.names, None if asked.at is None else asked.at.split(","), asked.rise,
+                     asked.fall)
+    is_file = os.path.isfile("/dev/stdin" if asked.file == "-" else asked.file)
+    if not is_file and isinstance(sys.stdout, io.TextIOWrapper):
+        sys.stdout.reconfigure(line_buffering=True)  # the rows of a pipe are seen as they come
     out = csv.writer(sys.stdout, lineterminator="\n")
     out.writerow(["time (%s)" % in_unit] + [one.path for one in columns])
     for time, values in rows:
-        out.writerow([time if in_unit == "tick" else scale.decimal(time, in_unit)] + [
-            shown(value, one.size, asked.form) for value, one in zip(values, columns)])
+        out.writerow([scale.decimal(time, in_unit) if scale and in_unit != "tick" else time] + [
+            shown(value, asked.form) for value in values])
     return 0

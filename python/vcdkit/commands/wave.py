@@ -1,194 +1,317 @@
 """Draws the waveforms of some signals in a window of time, as SVG on standard output
 
-Signals of one bit are lines, vectors are lanes with their values, real numbers are lanes too, and
-events are ticks; x is red, z is orange. What changes more often than the picture has room for is a
-grey block. --mark draws a line at a time, that of a failure for one.
+Signals of one bit are lines, vectors are lanes with their values, real numbers are curves between
+their least and largest value, and events are ticks; x is red, z is orange. What changes more often
+than the picture has room for is a grey block. The scope that all names have in common is above
+them. --mark draws a line at a time, that of a failure for one.
 
 examples:
   vcdkit-wave --from 100ns --to 200ns --mark 158ns sim.vcd tb.clk tb.bus > failure.svg
-  vcdkit-wave --around 158ns --span 20ns sim.vcd.gz tb.cpu > failure.svg"""
+  vcdkit-wave --light --around 158ns --span 20ns sim.vcd.gz tb.cpu > failure.svg"""
 import argparse
 import math
+import os
 import re
+import sys
+import threading
 from xml.sax.saxutils import escape
 
-from .. import Dump, UsageError, Value, _body
-from ..times import UNITS
-from . import add_file, add_form, add_window, command, parser
+from .. import UsageError, Value, _body
+from .._lanes import Lanes, Several
+from ..times import LAST_TICK, UNITS
+from . import add_file, add_form, add_window, command, dump_of, parser, shown
 
 ROW, HIGH, PAD, TOP, CHAR = 26, 16, 10, 34, 6.7  # pixels
-LEAST_WIDTH = 100  # pixels: room for a time of the axis
+CURVE = 3 * HIGH  # pixels: how high a curve is
+LEAST_WIDTH, MAX_WIDTH = 100, 20000  # pixels: room for a time of the axis; that of bins
+MAX_SIGNALS, MAX_NAME = 200, 40  # rows; letters
 NOT_OF_XML = re.compile("[^\t\n\r -\ud7ff\ue000-\ufffd\U00010000-\U0010ffff]")
-X, Z, GREEN, LANE, BLOCK, BACK = "#ff4040", "#ffa020", "#3fd07f", "#58a6ff", "#5b6570", "#10161d"
-STYLE = """text{font:11px 'DejaVu Sans Mono',Menlo,Consolas,monospace;fill:#d8dee4}
-.axis{fill:#8b98a5}.name{fill:#e6edf3}.mark{stroke:#ff6060;stroke-dasharray:4 3}
-.grid{stroke:#2b3540}.trace{fill:none;stroke-width:1.4}"""
+DARK = {"back": "#10161d", "text": "#d8dee4", "axis": "#8b98a5", "grid": "#2b3540",
+        "bit": "#3fd07f", "lane": "#58a6ff", "curve": "#d2a8ff", "x": "#ff4040", "z": "#ffa020",
+        "several": "#5b6570", "mark": "#ff6060"}
+LIGHT = {"back": "#ffffff", "text": "#1f2328", "axis": "#59636e", "grid": "#d8dee4",
+         "bit": "#1a7f37", "lane": "#0969da", "curve": "#8250df", "x": "#cf222e", "z": "#bc4c00",
+         "several": "#afb8c1", "mark": "#cf222e"}
+STYLE = """text{font:11px 'DejaVu Sans Mono',Menlo,Consolas,monospace;fill:%(text)s}
+.axis{fill:%(axis)s}.marked{fill:%(mark)s}
+.mark{stroke:%(mark)s;stroke-dasharray:4 3}.grid{stroke:%(grid)s}
+path{fill:none;stroke-width:1.4}.bit{stroke:%(bit)s}.lane{stroke:%(lane)s;fill:%(lane)s22}
+.curve{stroke:%(curve)s}.x{stroke:%(x)s;fill:%(x)s33}.z{stroke:%(z)s}
+.several{fill:%(several)s}"""
 
 
-class Window:
-    """The signals between two times, and of each code its changes: pairs of a time and a value."""
+class Progress:
+    """Says on a terminal how far the work is, if it takes longer than a second."""
 
-    def __init__(self, dump, names, begin, end):
-        self.dump, self.changes, self.begin, self.end = dump, {}, None, 0
-        signals = {one.code.encode(): one for one in dump.select(names)}
-        with dump.pick(names).cut(begin, end).open() as out:
-            _body.skip_header(out)
-            for line in out:
-                if line[:1] == b"#":
-                    self.end = int(line[1:])
-                    self.begin = self.end if self.begin is None else self.begin
-                elif line[:1] != b"$":
-                    value, code = line.split() if line[:1] in b"br" else (line[:1], line[1:-1])
-                    value = _body.value(value.lstrip(b"b"), signals[code])
-                    self.changes.setdefault(code, []).append((self.end, value))
+    def __init__(self):
+        self.text, self.ended = "reads the dump", threading.Event()
+        self.thread = threading.Thread(target=self.run, daemon=True)
 
-    def unit(self, ticks):
-        """Returns the unit in which a span of ticks is a handy number, and its ticks."""
-        scale = self.dump.timescale
-        if not scale:
-            return "ticks", 1
-        at = UNITS.index(scale.unit)
-        while at and ticks * scale.number >= 5 * 1000 ** (UNITS.index(scale.unit) - at + 1):
-            at -= 1
-        return UNITS[at], 1000 ** (UNITS.index(scale.unit) - at) / scale.number
+    def run(self):
+        while not self.ended.wait(1):
+            print("\r\033[Kvcdkit-wave: " + self.text, end="", file=sys.stderr, flush=True)
+
+    def now(self, part):
+        self.text = "%d%%" % (100 * part)
+
+    def __enter__(self):
+        if sys.stderr.isatty():
+            self.thread.start()
+        return self
+
+    def __exit__(self, *_):
+        self.ended.set()
+        if self.thread.ident:
+            self.thread.join()
+            print("\r\033[K", end="", file=sys.stderr, flush=True)
 
 
-def shown(value, form):
+def unit_of(scale, ticks):
+    """Returns the unit in which a span of ticks is a handy number, and its ticks."""
+    if not scale:
+        return "ticks", 1
+    at = UNITS.index(scale.unit)
+    while at and ticks * scale.number >= 5 * 1000 ** (UNITS.index(scale.unit) - at + 1):
+        at -= 1
+    return UNITS[at], 1000 ** (UNITS.index(scale.unit) - at) / scale.number
+
+
+def value_text(value, form):
     """Returns a value as a lane has it."""
-    if not isinstance(value, Value):
-        return "%g" % value if isinstance(value, float) else value
-    if form == "binary":
-        return value
-    return str(int(value)) if form == "decimal" and value.is_known else value.hex().upper().replace(
-        "X", "x" if value.strip("x") == "" else "X").replace("Z", "z")
+    return "%g" % value if isinstance(value, float) else shown(value, form or "hex")
 
 
-def colour(value, known):
-    """Returns the colour of a value."""
+def kind_of(value, known):
+    """Returns the class of a value: x, z, or that of known ones."""
     if not isinstance(value, Value):
-        return known if isinstance(value, float) and value == value else X  # no number
-    return X if "x" in value else Z if "z" in value else known
+        return known if isinstance(value, float) and math.isfinite(value) else "x"
+    return "x" if "x" in value else "z" if "z" in value else known
+
+
+def common_scope(paths):
+    """Returns the scope that some paths have in common, with its dot."""
+    scopes = [path.split(".")[:-1] for path in paths]
+    common = os.path.commonprefix(scopes)
+    return ".".join(common) + "." if common else ""
+
+
+def short(name):
+    """Returns the end of a name that is too long."""
+    return name if len(name) <= MAX_NAME else ".." + name[2 - MAX_NAME:]
 
 
 class Picture:
     """The shapes of an SVG, and where a time is in it."""
 
-    def __init__(self, window, left, width):
-        self.window, self.left, self.right, self.out = window, left, left + width, []
-        self.span = max(window.end - window.begin, 1)
+    def __init__(self, begin, end, left, width):
+        self.begin, self.end, self.left, self.right = begin, end, left, left + width
+        self.out = []
 
     def x(self, time):
         """Returns where a time is, in pixels from the left."""
-        return self.left + (time - self.window.begin) * (self.right - self.left) / self.span
+        return self.left + (time - self.begin) * (self.right - self.left) / (self.end - self.begin)
 
     def add(self, form, *parts):
         self.out.append(form % parts)
 
-    def text(self, x, y, text, kind="", anchor="start"):
-        self.add('<text x="%.1f" y="%.1f" class="%s" text-anchor="%s">%s</text>', x, y, kind,
-                 anchor, escape(NOT_OF_XML.sub("\ufffd", text)))
+    def text(self, x, y, text, kind="", anchor="start", title=""):
+        """Writes a text, and a longer one where the mouse is over it."""
+        text, title = (escape(NOT_OF_XML.sub("\ufffd", one)) for one in (text, title))
+        self.add('<text x="%.1f" y="%.1f" class="%s" text-anchor="%s">%s%s</text>', x, y, kind,
+                 anchor, "<title>%s</title>" % title if title else "", text)
 
-    def axis(self, bottom):
+    def shapes(self, of_kind):
+        """Draws a path of each class."""
+        for kind, parts in of_kind.items():
+            self.add('<path class="%s" d="%s"/>', kind, "".join(parts))
+
+    def axis(self, scale, bottom):
         """Draws a grid with times, which are 1, 2 or 5 of a power of ten apart."""
-        unit, ticks = self.window.unit(self.span)
+        span, pixels = self.end - self.begin, self.right - self.left
+        unit, ticks = unit_of(scale, span)
         step = next(one * 10**power for power in range(-3, 24) for one in (1, 2, 5)
-                    if one * 10**power * ticks * (self.right - self.left) / self.span >= 90)
-        number = math.ceil(self.window.begin / (step * ticks))
-        while number * step * ticks <= self.window.end:
+                    if one * 10**power * ticks * pixels / span >= 90)
+        number = math.ceil(self.begin / (step * ticks))
+        while number * step * ticks <= self.end:
             x = self.x(number * step * ticks)
             self.add('<path class="grid" d="M%.1f %dV%d"/>', x, TOP - 6, bottom)
             self.text(x, TOP - 12, "%s %s" % (("%.3f" % (number * step)).rstrip("0").rstrip("."),
                                               unit), "axis", "middle")
             number += 1
 
-    def pieces(self, changes):
-        """Returns runs [from, to, value] in pixels; value None: more changes than there is room
-        for."""
-        runs = []
-        for at, (time, value) in enumerate(changes):
-            is_last = at + 1 == len(changes)
-            end = self.window.end if is_last else changes[at + 1][0]
-            if end == time and not is_last:
-                continue  # it comes and goes within a time
-            x, to = self.x(time), self.x(end)
-            if to - x < 1 and not is_last:
-                if runs and runs[-1][2] is None and x - runs[-1][1] < 1:
-                    runs[-1][1] = to
-                else:
-                    runs.append([x, max(to, x + 0.5), None])
-            elif runs and runs[-1][2] == value:
-                runs[-1][1] = to
-            else:
-                runs.append([x, to, value])
-        return runs
+    def pieces(self, points):
+        """Returns of each point where it begins and ends, and the value; the same value only
+        once."""
+        points = [point for at, point in enumerate(points)
+                  if not at or point[1] != points[at - 1][1]]
+        ends = [time for time, _ in points[1:]] + [self.end]
+        return [(self.x(time), self.x(end), value) for (time, value), end in zip(points, ends)]
 
-    def block(self, x, to, y, fill):
-        self.add('<rect x="%.1f" y="%.1f" width="%.1f" height="%d" %s/>', x, y, to - x, HIGH, fill)
-
-    def bit(self, y, changes):
+    def bit(self, y, points):
         """Draws a line, high or low; z in the middle."""
-        height, last = {"0": y + HIGH, "1": y, "z": y + HIGH / 2}, None
-        for x, to, value in self.pieces(changes):
-            if value is None:
-                self.block(x, to, y, 'fill="%s"' % BLOCK)
+        height, of_kind, last = {"0": y + HIGH, "1": y, "z": y + HIGH / 2}, {}, None
+        for x, to, value in self.pieces(points):
+            if isinstance(value, Several):
+                of_kind.setdefault("several", []).append(box(x, to, y, HIGH))
             elif value == "x":
-                self.block(x, to, y, 'fill="%s33" stroke="%s"' % (X, X))
+                of_kind.setdefault("x", []).append(box(x, to, y, HIGH))
             else:
-                edge = "M%.1f %.1fV" % (x, height[last]) if last in height else "M%.1f " % x
-                self.add('<path class="trace" stroke="%s" d="%s%.1fH%.1f"/>', colour(value, GREEN),
-                         edge, height[value], to)
+                edge = "M%.1f %.1fV%.1f" % (x, height.get(last, height[value]), height[value])
+                of_kind.setdefault(kind_of(value, "bit"), []).append(edge + "H%.1f" % to)
             last = value
+        self.shapes(of_kind)
 
-    def lane(self, y, changes, form):
+    def lane(self, y, points, form):
         """Draws a lane with slanted ends, and the values that fit."""
-        for x, to, value in self.pieces(changes):
-            if value is None:
-                self.block(x, to, y, 'fill="%s"' % BLOCK)
+        of_kind, texts = {}, []
+        for x, to, value in self.pieces(points):
+            if isinstance(value, Several):
+                of_kind.setdefault("several", []).append(box(x, to, y, HIGH))
                 continue
-            slant, its, middle = min(3, (to - x) / 2), colour(value, LANE), y + HIGH / 2
-            self.add('<path class="trace" stroke="%s" style="fill:%s22" d="M%.1f %.1fL%.1f %.1f'
-                     'H%.1fL%.1f %.1fL%.1f %.1fH%.1fZ"/>', its, its, x, middle, x + slant, y,
-                     to - slant, to, middle, to - slant, y + HIGH, x + slant)
-            text, room = shown(value, form), int((to - x - 2 * slant - 2) / CHAR)
+            slant, middle = min(3, (to - x) / 2), y + HIGH / 2
+            of_kind.setdefault(kind_of(value, "lane"), []).append(
+                "M%.1f %.1fL%.1f %.1fH%.1fL%.1f %.1fL%.1f %.1fH%.1fZ"
+                % (x, middle, x + slant, y, to - slant, to, middle, to - slant, y + HIGH, x + slant))
+            text, room = value_text(value, form), int((to - x - 2 * slant - 2) / CHAR)
             if room >= len(text) or room >= 3:
                 text = text if room >= len(text) else text[:room - 1] + "+"
-                self.text((x + to) / 2, y + HIGH - 4, text, "", "middle")
+                texts.append(((x + to) / 2, y + HIGH - 4, text, "", "middle"))
+        self.shapes(of_kind)
+        for text in texts:
+            self.text(*text)
 
-    def row(self, y, signal, form):
+    def curve(self, y, points):
+        """Draws real numbers as steps between the least and the largest one, which it names."""
+        pieces, of_kind, last = self.pieces(points), {}, None
+        least, largest = bounds([value for _, _, value in pieces])
+
+        def height(number):  # halves, as a difference may be infinite
+            part = (number / 2 - least / 2) / ((largest / 2 - least / 2) or 1)
+            return y + CURVE * (1 - part)
+
+        for x, to, value in pieces:
+            if isinstance(value, Several):
+                part = "M%.1f %.1fV%.1f" % (x, height(value.least), height(value.largest))
+            elif kind_of(value, "curve") == "x":
+                part = box(x, to, y, CURVE)
+            else:
+                at = height(value)
+                part = "M%.1f %.1fV%.1fH%.1f" % (x, at if last is None else last, at, to)
+            is_number = isinstance(value, float) and math.isfinite(value)
+            last = at if is_number else None
+            of_kind.setdefault("curve" if is_number or isinstance(value, Several) else "x",
+                               []).append(part)
+        self.shapes(of_kind)
+        for number, at in (largest, y + 9), (least, y + CURVE + 9):
+            self.text(self.left + 3, at, "%g" % number, "axis")
+
+    def events(self, y, points):
+        """Draws a tick for each time, a block for several."""
+        of_kind = {}
+        for (time, value), (end, _) in zip(points, [*points[1:], (self.end, None)]):
+            is_block = isinstance(value, Several)
+            part = box(self.x(time), self.x(end), y, HIGH) if is_block else "M%.1f %.1fv%d" % (
+                self.x(time), y, HIGH)
+            of_kind.setdefault("several" if is_block else "bit", []).append(part)
+        self.shapes(of_kind)
+
+    def row(self, y, signal, points, name, form):
         """Draws a signal."""
-        changes = self.window.changes.get(signal.code.encode(), [])
-        self.text(self.left - PAD, y + HIGH - 4, signal.path, "name", "end")
+        self.text(self.left - PAD, y + HIGH - 4, name, anchor="end", title=signal.path)
         if signal.type == "event":
-            for time, _ in changes:
-                self.add('<path class="trace" stroke="%s" d="M%.1f %.1fv%d"/>', GREEN,
-                         self.x(time), y, HIGH)
-        elif signal.size == 1 and not signal.is_real:
-            self.bit(y, changes)
+            self.events(y, points)
+        elif signal.is_real:
+            self.curve(y, points)
+        elif signal.size == 1:
+            self.bit(y, points)
         else:
-            self.lane(y, changes, form)
+            self.lane(y, points, form)
 
-    def write(self, bottom):
-        print('<svg xmlns="http://www.w3.org/2000/svg" width="%d" height="%d"><style>%s</style>'
-              '<rect width="100%%" height="100%%" fill="%s"/>'
-              % (self.right + 3 * PAD, bottom + PAD, STYLE, BACK))
+    def mark(self, time, text, bottom):
+        """Draws a line at a time, with a label."""
+        x = self.x(time)
+        self.add('<path class="mark" d="M%.1f %dV%d"/>', x, TOP - 6, bottom)
+        self.text(x, bottom + 11, text, "marked", "middle")
+
+    def write(self, bottom, colours):
+        """Writes the SVG."""
+        size = self.right + 3 * PAD, bottom + 2 * PAD
+        print('<svg xmlns="http://www.w3.org/2000/svg" width="%d" height="%d" viewBox="0 0 %d %d">'
+              % (*size, *size))
+        print('<style>%s</style><rect width="100%%" height="100%%" fill="%s"/>'
+              % (STYLE % colours, colours["back"]))
         print("\n".join(self.out) + "\n</svg>")
+
+
+def box(x, to, y, high):
+    """Returns a rectangle as a part of a path."""
+    return "M%.1f %.1fH%.1fv%dH%.1fZ" % (x, y, max(to, x + 0.5), high, x)
+
+
+def bounds(values):
+    """Returns the least and the largest number of a curve."""
+    numbers = [value for value in values if isinstance(value, float) and math.isfinite(value)]
+    several = [value for value in values if isinstance(value, Several)]
+    return (min([*numbers, *(one.least for one in several)], default=0.0),
+            max([*numbers, *(one.largest for one in several)], default=0.0))
 
 
 def window_of(dump, asked):
     """Returns the window that the words ask for, begin and end."""
     if asked.around is None:
-        return asked.begin, asked.end
+        return dump.ticks(asked.begin), dump.ticks(asked.end)
     at, span = dump.ticks(asked.around), dump.ticks(asked.span or "0")
     if not span:
         raise UsageError("--around needs --span TIME, how much before and after it")
-    return max(at - span, 0), at + span
+    return max(at - span, 0), min(at + span, LAST_TICK)
 
 
 def width(text):
     """Reads the word of --width."""
-    if not text.isascii() or not text.isdigit() or int(text) < LEAST_WIDTH:
-        raise argparse.ArgumentTypeError("it is a number of pixels, at least %d" % LEAST_WIDTH)
+    if not text.isascii() or not text.isdigit() or not LEAST_WIDTH <= int(text) <= MAX_WIDTH:
+        raise argparse.ArgumentTypeError("it is a number of pixels, %d to %d"
+                                         % (LEAST_WIDTH, MAX_WIDTH))
     return int(text)
+
+
+def lanes_of(dump, chosen, names, window, count):
+    """Returns the lanes of a window, which ends with the dump if that is earlier."""
+    begin, end = window
+    with Progress() as progress:
+        part = dump.pick(names).cut(begin, end)
+        last = part.check().last
+        if last is None or last <= begin:
+            raise UsageError("the dump has nothing between these times")
+        lanes = Lanes(chosen, begin, last, count)
+        with part.open() as out:
+            _body.skip_header(out)
+            lanes.read(out, progress.now)
+    return lanes
+
+
+def draw(dump, chosen, lanes, asked):
+    """Draws and writes the picture."""
+    scope = common_scope([one.path for one in chosen])
+    names = [short(one.path[len(scope):]) for one in chosen]
+    left = PAD * 2 + CHAR * max(map(len, [short(scope), *names]))
+    picture, bottom = Picture(lanes.begin, lanes.end, left, asked.width), TOP
+    rows = []
+    for signal in chosen:
+        rows.append(bottom)
+        bottom += ROW + (CURVE - HIGH) * signal.is_real
+    picture.axis(dump.timescale, bottom)
+    if scope:
+        picture.text(PAD, TOP - 12, short(scope), "axis", title=scope)
+    for y, signal, name in zip(rows, chosen, names):
+        picture.row(y, signal, lanes.of_code[signal.code.encode()].points, name, asked.form)
+    mark = asked.mark or asked.around
+    if mark is not None:
+        time = dump.ticks(mark)
+        if not lanes.begin <= time <= lanes.end:
+            raise UsageError("%s is not in the window, %s to %s" % (
+                mark, dump.time(lanes.begin), dump.time(lanes.end)))
+        picture.mark(time, dump.time(time), bottom)
+    picture.write(bottom, LIGHT if asked.light else DARK)
 
 
 @command
@@ -199,24 +322,17 @@ def main(words):
     of.add_argument("--span", metavar="TIME", help="how much before and after it, each")
     of.add_argument("--mark", metavar="TIME", help="draw a line at this time")
     of.add_argument("--width", type=width, default=1000, metavar="N",
-                    help="width of the traces, in pixels (1000; at least %d)" % LEAST_WIDTH)
+                    help="width of the traces, in pixels (1000; %d to %d)"
+                    % (LEAST_WIDTH, MAX_WIDTH))
+    of.add_argument("--light", action="store_true", help="dark lines on a white ground")
     add_form(of)
     add_file(of, "+")
     asked = of.parse_args(words)
-    dump = Dump(asked.file)
+    dump = dump_of(asked)
     chosen = dump.select(asked.names)
-    begin, end = window_of(dump, asked)
-    window = Window(dump, asked.names, begin, end)
-    if window.begin is None or window.end == window.begin:
-        raise UsageError("the dump has nothing between these times")
-    left = PAD * 2 + CHAR * max(len(one.path) for one in chosen)
-    picture, bottom = Picture(window, left, asked.width), TOP + ROW * len(chosen)
-    picture.axis(bottom)
-    for at, signal in enumerate(chosen):
-        picture.row(TOP + ROW * at, signal, asked.form)
-    mark = asked.mark or asked.around
-    if mark is not None:
-        x = picture.x(dump.ticks(mark))
-        picture.add('<path class="mark" d="M%.1f %dV%d"/>', x, TOP - 6, bottom)
-    picture.write(bottom)
+    if len(chosen) > MAX_SIGNALS:
+        raise UsageError("the names select %d signals, and a picture has at most %d: name fewer"
+                         % (len(chosen), MAX_SIGNALS))
+    lanes = lanes_of(dump, chosen, asked.names, window_of(dump, asked), asked.width)
+    draw(dump, chosen, lanes, asked)
     return 0

@@ -1,0 +1,314 @@
+#!/usr/bin/env python3
+"""Tests of the scripts as a whole: none shows a traceback, whatever its arguments, files and
+streams are, and none says anything if the reader of its output has gone. Then what vcdkit-stats,
+vcdkit-values, vcdkit-find and vcdkit-explain say of small dumps, worked out by hand, and the lanes
+of vcdkit-wave against a plain reader.
+
+VCDKIT names the program, else it is ./vcdkit of the repository.
+"""
+import io
+import os
+import random
+import re
+import subprocess
+import sys
+import tempfile
+import unittest
+from concurrent.futures import ThreadPoolExecutor
+
+HERE = os.path.dirname(os.path.abspath(__file__))
+TOP = os.path.dirname(os.path.dirname(HERE))
+EXTRAS = os.path.join(TOP, "extras")
+sys.path.insert(0, os.path.dirname(HERE))
+os.environ.setdefault("VCDKIT", os.path.join(TOP, "vcdkit"))
+os.environ["PYTHONDONTWRITEBYTECODE"] = "1"
+
+from vcdkit import Signal, _lanes
+from vcdkit._lanes import Lanes, Several
+
+NESTED = os.path.join(TOP, "samples", "nested.vcd")
+SCRIPTS = sorted(name for name in os.listdir(EXTRAS) if name.startswith("vcdkit-"))
+FILTERS = ("vcdkit-four-state", "vcdkit-endmend", "vcdkit-join-bits")
+# What a script takes after its options: each FILE is a file to be read.
+ARGUMENTS = {"vcdkit-diff": ["FILE", NESTED], "vcdkit-table": ["FILE", "bench.slow"],
+             "vcdkit-wave": ["FILE", "bench.slow"], "vcdkit-stats": ["FILE", "bench.slow"],
+             "vcdkit-when": ["FILE", "bench.clock"], "vcdkit-x": ["FILE", "bench.slow"],
+             "vcdkit-values": ["FILE", "bench.slow"], "vcdkit-find": ["FILE", "slow"]}
+HUGE = "9" * 100_000
+SECONDS = 60
+
+
+def arguments(name, file=NESTED):
+    """Returns the words of a script after its options."""
+    if name in FILTERS:
+        return []
+    return [file if word == "FILE" else word for word in ARGUMENTS.get(name, ["FILE"])]
+
+
+def run(name, words, **streams):
+    """Runs a script; returns its status, its output and its messages."""
+    given = dict(stdin=subprocess.DEVNULL, stdout=subprocess.PIPE, stderr=subprocess.PIPE)
+    done = subprocess.run([os.path.join(EXTRAS, name), *words], timeout=SECONDS,
+                          **{**given, **streams})
+    return done.returncode, done.stdout or b"", done.stderr or b""
+
+
+def said(name, *words):
+    """Returns the lines that a script writes, and its status."""
+    status, out, _ = run(name, words)
+    return out.decode().splitlines() + ["status %d" % status]
+
+
+def options(name):
+    """Returns the options of a script, and of each whether it takes a word, as its help says."""
+    _, out, _ = run(name, ["--help"])
+    found = re.findall(r"(?m)^  (?:-\w, )?(--[a-z-]+)( [A-Z])?", out.decode())
+    return {option: bool(word) for option, word in found if option not in ("--help", "--version")}
+
+
+class Case(unittest.TestCase):
+    """A case that writes files."""
+
+    def setUp(self):
+        self.folder = tempfile.TemporaryDirectory()
+        self.addCleanup(self.folder.cleanup)
+
+    def file(self, name, data):
+        """Returns the path of a new file."""
+        path = os.path.join(self.folder.name, name)
+        with open(path, "wb") as file:
+            file.write(data)
+        return path
+
+
+class Scripts(Case):
+    """Each script at bad arguments, files and streams."""
+
+    def no_traceback(self, cases):
+        """Runs scripts with words, and looks at what they say."""
+        with ThreadPoolExecutor(os.cpu_count()) as pool:
+            found = list(pool.map(lambda case: run(*case), cases))
+        for (name, words), (status, _, messages) in zip(cases, found):
+            short = [word[:40] for word in words]
+            with self.subTest(script=name, words=short):
+                self.assertNotIn(b"Traceback", messages)
+                self.assertIn(status, (0, 1, 2, 3), messages[-300:])
+                self.assertTrue(status < 2 or messages, "a status without a message")
+
+    def bad_files(self):
+        """Returns files that are none, or are no dumps."""
+        return [os.path.join(self.folder.name, "missing"), self.folder.name, HUGE[:5000],
+                self.file("empty", b""), self.file("binary", bytes(range(256)) * 40),
+                self.file("torn", b"\x1f\x8b\x08\0torn")]
+
+    def test_files(self):
+        cases = []
+        for file in self.bad_files():
+            for name in set(SCRIPTS) - set(FILTERS):
+                cases.append((name, arguments(name, file)))
+                cases.append((name, ["--four-state", *arguments(name, file)]))
+            cases.append(("vcdkit-join-bits", [file]))
+        self.no_traceback(cases)
+
+    def test_options(self):
+        words = ["", HUGE, "-1", "\udcff\udc01", self.folder.name, "1e9"]
+        cases = []
+        for name in SCRIPTS:
+            for option, has_word in options(name).items():
+                for word in words if has_word else [None]:
+                    given = [option] if word is None else [option + "=" + word]
+                    cases.append((name, [*given, *arguments(name)]))
+        self.no_traceback(cases)
+
+    def test_names(self):
+        words = ["", HUGE, "(" * 20_000, "x{9999999999}", "\udcff", "a[", "bench.slow.count[99:0]"]
+        names = set(SCRIPTS) - set(FILTERS)
+        self.no_traceback([(name, ["--", *arguments(name)[:1], *[word] * bool(arguments(name)[1:])])
+                           for name in names for word in words])
+
+    def test_streams(self):
+        for name in SCRIPTS:
+            words = [*arguments(name)]
+            for closed in "<&-", ">&-", "2>&-", "<&- >&- 2>&-", "2>/dev/full", ">/dev/full":
+                with self.subTest(script=name, closed=closed):
+                    done = subprocess.run(
+                        ["bash", "-c", '"$@" ' + closed, "-", os.path.join(EXTRAS, name), *words],
+                        stdin=subprocess.DEVNULL, stdout=subprocess.PIPE, stderr=subprocess.PIPE,
+                        timeout=SECONDS)
+                    self.assertNotIn(b"Traceback", done.stderr)
+                    self.assertNotIn(b"Exception ignored", done.stderr)
+
+    def test_a_reader_that_has_gone(self):
+        whole = {"vcdkit-explain": [NESTED], "vcdkit-find": ["--pick", NESTED],
+                 "vcdkit-diff": [NESTED, os.path.join(TOP, "samples", "counter.vcd")]}
+        for name in SCRIPTS:
+            for words, statuses in ((whole.get(name, arguments(name)), (141, -13, 2)),
+                                    (["--help"], (141, -13, 0))):
+                with self.subTest(script=name, words=words):
+                    ends = os.pipe()
+                    os.close(ends[0])
+                    with open(NESTED, "rb") as dump:
+                        status, _, messages = run(name, words, stdin=dump, stdout=ends[1])
+                    os.close(ends[1])
+                    self.assertEqual(messages, b"")
+                    self.assertIn(status, statuses)
+
+    def test_the_program_beside(self):
+        for place in "", "extras":
+            folder = os.path.join(self.folder.name, "tree" + place, place)
+            os.makedirs(folder)
+            for name in "launch", "vcdkit-find":
+                os.symlink(os.path.join(EXTRAS, name), os.path.join(folder, name))
+        program = self.file("vcdkit", b"#!/bin/sh\necho a wire 1 !\n")
+        os.chmod(program, 0o755)
+        for place in os.path.join("treeextras", "extras"), "tree":
+            near = os.path.join(self.folder.name, place.split(os.sep)[0])
+            os.replace(program, os.path.join(near, "vcdkit"))
+            program = os.path.join(near, "vcdkit")
+            copy = os.path.join(self.folder.name, place, "vcdkit-find")
+            os.unlink(copy)
+            with open(copy, "w") as file:  # as an installation has it
+                file.write(open(os.path.join(EXTRAS, "launch")).read())
+            os.chmod(copy, 0o755)
+            words = {key: value for key, value in os.environ.items() if key != "VCDKIT"}
+            words["PYTHONPATH"] = os.path.dirname(HERE)
+            done = subprocess.run([copy, NESTED], stdout=subprocess.PIPE, env=words,
+                                  timeout=SECONDS)
+            self.assertEqual(done.stdout, b"a wire 1 !\n", place)
+
+
+HAND = b"""$timescale 1ns $end
+$scope module tb $end
+$var wire 1 ! clk $end
+$var wire 8 " sum $end
+$var real 64 # level $end
+$var event 1 $ go $end
+$scope module deep $end
+$var wire 16 % word $end
+$upscope $end
+$upscope $end
+$enddefinitions $end
+#0
+$dumpvars
+0!
+b11111111 "
+r1 #
+b0100100001101001 %
+$end
+#5
+1!
+#8
+0!
+1$
+#15
+1!
+b1 "
+r3 #
+#18
+0!
+1$
+#30
+"""
+
+
+class Answers(Case):
+    """What the scripts say of a dump that was worked out by hand."""
+
+    def test_stats(self):
+        dump = self.file("hand.vcd", HAND)
+        self.assertEqual(said("vcdkit-stats", dump, "tb.clk", "tb.sum", "tb.level", "tb.go"), [
+            "tb.clk wire 1", "  changes 4", "  period 10ns to 10ns, mean 10ns, 1 times",
+            "  duty 30%", "  value 0 24ns 80%, 3 times, 7ns to 7ns",
+            "  value 1 6ns 20%, 2 times, 3ns to 3ns",
+            "tb.sum wire 8", "  changes 1", "  value 11111111 15ns 50%, 1 times",
+            "  value 00000001 15ns 50%, 1 times",
+            "tb.level real 64", "  changes 1", "  range 1 to 3, mean 2",
+            "  value 1 15ns 50%, 1 times", "  value 3 15ns 50%, 1 times",
+            "tb.go event 1", "  changes 2", "  period 10ns to 10ns, mean 10ns, 1 times",
+            "status 0"])
+
+    def test_stats_of_a_window(self):
+        dump = self.file("hand.vcd", HAND)
+        self.assertEqual(said("vcdkit-stats", "--from", "15ns", "--to", "20ns", dump, "tb.clk"), [
+            "tb.clk wire 1", "  changes 2", "  value 1 3ns 60%, 1 times, 3ns to 3ns",
+            "  value 0 2ns 40%, 1 times", "status 0"])
+
+    def test_values(self):
+        dump = self.file("hand.vcd", HAND)
+        for form, word, number in (("--signed", "18537", "-1"), ("--ascii", "Hi", "\\xff"),
+                                   ("--hex", "4869", "ff"), ("--decimal", "18537", "255"),
+                                   ("--binary", "0100100001101001", "11111111")):
+            self.assertEqual(said("vcdkit-values", "--at", "14", form, dump, "tb"), [
+                "tb.clk 0", "tb.sum " + number, "tb.level 1", "tb.deep.word " + word, "status 0"])
+        self.assertEqual(said("vcdkit-values", dump)[1], "tb.sum 00000001")
+
+    def test_tree(self):
+        dump = self.file("hand.vcd", HAND)
+        self.assertEqual(said("vcdkit-find", "--tree", dump), ["tb 5", "  deep 1", "status 0"])
+
+    def test_salvage(self):
+        dump = self.file("torn.vcd", HAND[:HAND.index(b"r3 #") + 2])
+        good = os.path.join(self.folder.name, "good.vcd")
+        lines = said("vcdkit-explain", "--salvage", good, dump)
+        self.assertEqual(lines[-2:], ["wrote: %s, good until 14ns" % good, "status 1"])
+        self.assertEqual(said("vcdkit-values", good, "tb.clk", "tb.sum"),
+                         ["tb.clk 0", "tb.sum 11111111", "status 0"])
+        self.assertIn("last 14", said("vcdkit-explain", good))
+
+    def test_four_state(self):
+        dump = self.file("nine.vcd", HAND.replace(b"b1 \"", b"bUH \""))
+        self.assertEqual(said("vcdkit-values", dump, "tb.sum"), ["status 1"])
+        self.assertEqual(said("vcdkit-values", "--four-state", dump, "tb.sum"),
+                         ["tb.sum xxxxxxx1", "status 0"])
+
+
+def random_dump(rnd, sizes):
+    """Returns a body, its changes of each code, and its last time."""
+    time, lines, changes = rnd.choice([0, 7]), [], {code: [] for code in sizes}
+    often = {code: rnd.choice([0.01, 0.1, 0.5, 0.9]) for code in sizes}
+    for _ in range(rnd.choice([5, 400, 2000])):
+        lines.append("#%d" % time)
+        for code, size in sizes.items():
+            if rnd.random() < often[code]:
+                digits = "".join(rnd.choice("01xz" if size == 1 else "01") for _ in range(size))
+                lines.append(digits + code if size == 1 else "b%s %s" % (digits, code))
+                if not changes[code] or changes[code][-1][1] != digits:
+                    changes[code].append((time, digits))
+        if rnd.random() < 0.02:
+            often = {code: rnd.choice([0, 0.1, 0.5, 0.9]) for code in sizes}
+        last, time = time, time + rnd.choice([1, 1, 5])
+    return ("\n".join(lines) + "\n").encode(), changes, last
+
+
+class Pictures(unittest.TestCase):
+    """The lanes of vcdkit-wave."""
+
+    def test_bins(self):
+        sizes = {"!": 1, "0": 1, "1": 8, "b!": 3, "#": 1}
+        _lanes.SMALL, _lanes.BLOCK = 64, 4096
+        for seed in range(40):
+            rnd = random.Random(seed)
+            body, changes, last = random_dump(rnd, sizes)
+            begin = int(body[1:body.index(b"\n")])
+            signals = [Signal("s" + code, "wire", size, code) for code, size in sizes.items()]
+            lanes = Lanes(signals, begin, last, rnd.choice([3, 10, 50, 100_000]))
+            lanes.read(io.BytesIO(body), lambda part: None)
+            for code in sizes:
+                with self.subTest(seed=seed, code=code):
+                    self.compare(lanes, lanes.of_code[code.encode()].points, changes[code])
+
+    def compare(self, lanes, points, changes):
+        """A bin has its one change, or Several and then the last value, or nothing."""
+        bins, wanted = {}, []
+        for one in changes:
+            bins.setdefault((one[0] - lanes.begin) * lanes.count // lanes.span, []).append(one)
+        for number, its in bins.items():
+            begin, end = lanes.edge(number), min(lanes.edge(number + 1), lanes.end)
+            self.assertTrue(begin <= its[0][0] and its[-1][0] <= end)
+            wanted += its if len(its) < 2 else [(begin, None), (end, its[-1][1])]
+        self.assertEqual([(time, None if isinstance(value, Several) else value)
+                          for time, value in points], wanted)
+
+
+if __name__ == "__main__":
+    unittest.main()

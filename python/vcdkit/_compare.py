@@ -1,0 +1,366 @@
+"""Two dumps side by side, for vcdkit-diff: which signals both have, and where their values differ.
+
+A value is as a body has it: the fewest digits, or r and a real number. So equal values of one size
+have equal digits."""
+import contextlib
+from math import gcd, isclose, isnan
+from typing import (BinaryIO, Callable, Dict, Iterator, List, NamedTuple, Optional, Sequence,
+                    Set, Tuple, Union)
+
+from . import _body, _rows
+from ._condition import RANGE
+from .commands.find import names_for
+from .dump import Dump, _hint, merge
+from .errors import UnknownName, UsageError
+from .times import Timescale
+from .values import Signal
+
+BLOCK = 1 << 16
+MAX_NAMES = 1 << 17  # bytes of names on a command line
+Values = Tuple[Optional[bytes], Optional[bytes]]
+Same = Callable[[Optional[bytes], Optional[bytes]], bool]
+
+
+class Pair(NamedTuple):
+    """A signal that both have: its name, the two, and their places among all of their dumps."""
+
+    name: str
+    signals: Tuple[Signal, Signal]
+    places: Tuple[int, int]
+
+    @property
+    def codes(self) -> Tuple[bytes, bytes]:
+        return self.signals[0].code.encode(), self.signals[1].code.encode()
+
+
+class Difference(NamedTuple):
+    """The values of a pair, None if there is none yet, and the time of each dump, in ticks."""
+
+    times: Tuple[int, int]
+    pair: Pair
+    values: Values
+
+
+class Step(NamedTuple):
+    """The changes that count as one: a number that both dumps have in common, and the time."""
+
+    at: int
+    time: int
+    changes: Dict[bytes, bytes]
+
+
+def bare(path: str) -> str:
+    """Returns a path without the range, as tb.q of tb.q[3:0]."""
+    return RANGE.sub("", path) if path[-1:] == "]" else path
+
+
+def kind(signal: Signal) -> Union[str, int]:
+    """Returns what values of two signals have to have in common."""
+    return "event" if signal.type == "event" else "real" if signal.is_real else signal.size
+
+
+def _around(path: str) -> Iterator[str]:
+    """Returns a path without its range, and the scopes around it."""
+    path = bare(path)
+    while path:
+        yield path
+        path = path.rpartition(".")[0]
+
+
+class Side:
+    """One of the dumps. Its names are the paths, of which maps replace the front; `found` has what
+    of all that was asked for is in it."""
+
+    def __init__(self, dump: Dump, maps: Sequence[Tuple[str, str]]):
+        self.dump = dump
+        self.report, self.scale = self.dump.check(), self.dump.timescale
+        self.signals = list(self.dump.signals)
+        self.found: Set[str] = set()
+        self.names = [self._mapped(one.path, maps) for one in self.signals]
+        self.of_name: Dict[str, List[int]] = {}
+        self.common: Set[str] = set()
+
+    def _mapped(self, path: str, maps: Sequence[Tuple[str, str]]) -> str:
+        for front, new in maps:
+            if path == front or path.startswith(front + "."):
+                self.found.add(front)
+                return new + path[len(front):] if new else path[len(front) + 1:]
+        return path
+
+    def choose(self, names: Set[str], exceptions: Set[str]) -> None:
+        """Takes the signals that names select, all without names, but for the exceptions."""
+        asked = names | exceptions
+        for at, name in enumerate(self.names):
+            its = asked.intersection(_around(name)) if asked else asked
+            self.found |= its
+            if (not names or its & names) and not its & exceptions:
+                self.of_name.setdefault(name, []).append(at)
+
+    def unknown(self, name: str) -> UnknownName:
+        """Returns the exception for a name that is not there."""
+        rows = "".join("%s - 1 -\n" % one for one in self.names)
+        return UnknownName("%s: %s" % (self.dump.name, name), _hint(name, _rows.Signals(rows)))
+
+    def clock(self, name: str) -> Signal:
+        """Returns the signal of one bit that has a name."""
+        its = [signal for signal, its in zip(self.signals, self.names) if bare(its) == bare(name)]
+        if not its:
+            raise self.unknown(name)
+        if len({one.code for one in its}) > 1 or kind(its[0]) != 1:
+            raise UsageError("%s: %s is no clock of one bit" % (self.dump.name, name))
+        return its[0]
+
+    def alone(self) -> List[Tuple[str, int]]:
+        """Returns the names of what the other does not have, and how many signals each has."""
+        paths = [name for name in self.of_name if name not in self.common]
+        if not paths:
+            return []
+        every = [one._replace(path=name) for one, name in zip(self.signals, self.names)]
+        count = dict.fromkeys(names_for(paths, every), 0)
+        for path in paths:
+            while path not in count:
+                path = path.rpartition(".")[0]
+            count[path] += 1
+        return list(count.items())
+
+    def picked(self, paths: Sequence[str]) -> Optional[Dump]:
+        """Returns the dump of these paths; None if a command line has no room for their names."""
+        if len(set(paths)) == len({one.path for one in self.signals}):
+            return self.dump
+        names = names_for(paths, self.signals)
+        return self.dump.pick(names) if sum(map(len, names)) <= MAX_NAMES else None
+
+
+Sides = Tuple[Side, Side]
+
+
+def _groups(sides: Sides) -> Iterator[Tuple[str, str]]:
+    """Returns the names that both have; of those that one alone has, names that differ by a range
+    alone."""
+    yield from ((name, name) for name in sides[0].of_name if name in sides[1].of_name)
+    loose: List[Dict[str, List[str]]] = [{}, {}]
+    for found, side, other in zip(loose, sides, sides[::-1]):
+        for name in side.of_name:
+            if name not in other.of_name:
+                found.setdefault(bare(name), []).append(name)
+    for name, mine in loose[0].items():
+        its = loose[1].get(name, [])
+        if len(mine) == len(its) == 1:
+            yield mine[0], its[0]
+
+
+def in_common(sides: Sides) -> Tuple[List[Pair], List[Pair]]:
+    """Returns the signals that both have, and those that cannot be compared."""
+    pairs, apart = [], []
+    for name, other in _groups(sides):
+        sides[0].common.add(name)
+        sides[1].common.add(other)
+        mine, its = sides[0].of_name[name], sides[1].of_name[other]
+        made = [Pair(name, (sides[0].signals[a], sides[1].signals[b]), (a, b))
+                for a, b in zip(mine, its)]
+        fit = len(mine) == len(its) and all(kind(a) == kind(b) for _, (a, b), _ in made)
+        if fit:
+            pairs += made
+        else:
+            apart.append(made[0])
+    return pairs, apart
+
+
+def factors_of(scales: Sequence[Optional[Timescale]]) -> Tuple[int, int]:
+    """Returns by what to multiply the ticks of each, so that they are those of both."""
+    if scales[0] is None or scales[1] is None:
+        return 1, 1
+    one, other = scales[0].femtoseconds, scales[1].femtoseconds
+    return one // gcd(one, other), other // gcd(one, other)
+
+
+def same_within(tolerance: float) -> Same:
+    """Returns whether two values are the same. Real numbers are if they differ by at most the
+    tolerance, or the tolerance times the larger one; NaN is NaN."""
+    def same(one: Optional[bytes], other: Optional[bytes]) -> bool:
+        if one == other or one is None or other is None or not one[:1] == other[:1] == b"r":
+            return one == other
+        try:
+            mine, its = float(one[1:]), float(other[1:])
+        except ValueError:  # a text that is no number
+            return False
+        return isclose(mine, its, rel_tol=tolerance, abs_tol=tolerance) or (
+            isnan(mine) and isnan(its))
+    return same
+
+
+# Texts that are alike are read at the speed of `cut`.
+
+def _last_time(text: bytes) -> Optional[int]:
+    """Returns the last timestamp of a text that has its whole line."""
+    at = text.rfind(b"\n#", 0, max(text.rfind(b"\n"), 0))
+    return int(text[at + 2:text.index(b"\n", at + 1)]) if at >= 0 else None
+
+
+def _count_alike(one: bytes, other: bytes) -> int:
+    """Returns how many bytes two texts have alike at their begin."""
+    pairs = enumerate(zip(one, other))
+    return next((at for at, (mine, its) in pairs if mine != its), min(len(one), len(other)))
+
+
+def _alike_until(dumps: Sequence[Dump]) -> Optional[int]:
+    """Returns the last timestamp before the bodies of two dumps differ; None if they do not."""
+    time, tail = 0, b"\n"
+    with dumps[0].open() as one, dumps[1].open() as other:
+        _body.skip_header(one)
+        _body.skip_header(other)
+        while True:
+            mine, its = one.read(BLOCK), other.read(BLOCK)
+            is_alike = mine == its
+            if is_alike and not mine:
+                return None
+            text = tail + (mine if is_alike else mine[:_count_alike(mine, its)])
+            found = _last_time(text)
+            time = time if found is None else found
+            if not is_alike:
+                return time
+            tail = text[-32:]  # longer than a timestamp
+
+
+def _of_one_code(sides: Sides, pairs: Sequence[Pair]) -> Optional[List[Dump]]:
+    """Returns dumps of the pairs in which both signals of each have one code; None if there are
+    none, as the order of declaration differs."""
+    counts = {len(pairs), *(len(side.signals) for side in sides)}
+    if len(counts) == 1 and all(a == b for a, b in (pair.codes for pair in pairs)):
+        return [side.dump.cut() for side in sides]
+    orders = [sorted(pairs, key=lambda pair: pair.places[side]) for side in (0, 1)]
+    if orders[0] != orders[1]:
+        return None
+    parts = [side.picked([pair.signals[at].path for pair in pairs])
+             for at, side in enumerate(sides)]
+    made = [merge(part) for part in parts if part]  # it gives codes anew
+    if len(made) < 2:
+        return None
+    codes = []
+    for at, dump in enumerate(made):
+        paths, _, _, its = dump.signals.columns()
+        if paths != ["in1." + pair.signals[at].path for pair in orders[at]]:
+            return None
+        codes.append(its)
+    return made if codes[0] == codes[1] else None
+
+
+# Bodies that are not alike.
+
+def _steps(out: BinaryIO, codes: Set[bytes], factor: int) -> Iterator[Step]:
+    """Returns the changes of each time."""
+    for time, before, changes in _body.steps(out, codes):
+        yield Step(time * factor, time, dict(before + changes))
+
+
+def _edges(out: BinaryIO, codes: Set[bytes], clock: bytes, edge: Tuple[bytes, bytes]
+           ) -> Iterator[Step]:
+    """Returns the changes from one edge of a clock to the time before the next."""
+    number = 0
+    changed: Dict[bytes, bytes] = {}
+    for time, before, changes, is_edge in _body.edge_steps(out, {clock, *codes}, [(clock, *edge)]):
+        changed.update(before)
+        if is_edge:
+            yield Step(number, time, changed)
+            number, changed = number + 1, {}
+        changed.update(changes)
+
+
+def _together(steps: Sequence[Iterator[Step]]) -> Iterator[List[Optional[Step]]]:
+    """Returns the steps of two dumps in order; None for one that has no step with this number."""
+    heads = [next(step, None) for step in steps]
+    while any(heads):
+        now = min(head.at for head in heads if head)
+        taken = [head if head and head.at == now else None for head in heads]
+        yield taken
+        heads = [next(step, None) if one else head
+                 for step, one, head in zip(steps, taken, heads)]
+
+
+class Comparison:
+    """The comparison of pairs: at each time, or at the edges of a clock that both have."""
+
+    def __init__(self, sides: Sides, pairs: List[Pair], same: Same,
+                 clocks: Sequence[Signal] = (), edge: Tuple[bytes, bytes] = (b"", b"")):
+        self._sides, self._pairs, self._same = sides, pairs, same
+        self._clocks, self._edge = clocks, edge
+        self.factors = factors_of([side.scale for side in sides])
+        self.counts = [0, 0]  # of edges, up to now
+        self._tables: List[Dict[bytes, List[int]]] = [{}, {}]  # of each code its pairs
+        for number, pair in enumerate(pairs):
+            for table, code in zip(self._tables, pair.codes):
+                table.setdefault(code, []).append(number)
+        self._codes = [pair.codes for pair in pairs]
+        self._events = {number for number, pair in enumerate(pairs)
+                        if kind(pair.signals[0]) == "event"}
+
+    def differences(self) -> Iterator[List[Difference]]:
+        """Returns the first difference of each pair, those of one time together."""
+        begin: Optional[int] = 0
+        if not self._clocks and self.factors[0] == self.factors[1]:
+            alike = _of_one_code(self._sides, self._pairs)
+            begin = _alike_until(alike) if alike else 0
+        if begin is not None:
+            with contextlib.ExitStack() as stack:
+                yield from self._compared([self._opened(stack, at, begin) for at in (0, 1)])
+
+    def _opened(self, stack: contextlib.ExitStack, at: int, begin: int) -> Iterator[Step]:
+        """Opens one side, and returns its steps."""
+        side, factor, clock = self._sides[at], self.factors[at], None
+        paths = [pair.signals[at].path for pair in self._pairs]
+        if self._clocks:
+            clock = self._clocks[at]
+            paths.append(clock.path)
+        part = side.picked(paths) or side.dump
+        out = stack.enter_context(
+            (part.cut() if clock else part.cut(begin, self._end() // factor)).open())
+        _body.skip_header(out)
+        codes = set(self._tables[at])
+        return (_edges(out, codes, clock.code.encode(), self._edge) if clock
+                else _steps(out, codes, factor))
+
+    def _end(self) -> int:
+        """Returns the last time that both have, in ticks of both."""
+        return min((side.report.last or 0) * factor
+                   for side, factor in zip(self._sides, self.factors))
+
+    def _compared(self, steps: Sequence[Iterator[Step]]) -> Iterator[List[Difference]]:
+        left = set(range(len(self._pairs)))
+        states: List[Dict[bytes, bytes]] = [{}, {}]
+        for taken in _together(steps):
+            self.counts = [count + bool(one) for count, one in zip(self.counts, taken)]
+            if self._clocks and None in taken:
+                continue
+            touched: Set[int] = set()
+            for step, table, state in zip(taken, self._tables, states):
+                if step:
+                    state.update(step.changes)
+                    touched.update(*(table.get(code, ()) for code in step.changes))
+            found = self._differing(touched & left, taken, states)
+            if found:
+                left.difference_update(number for number, _ in found)
+                times = self._times(taken)
+                yield [Difference(times, self._pairs[number], values) for number, values in found]
+
+    def _differing(self, numbers: Set[int], taken: Sequence[Optional[Step]],
+                   states: Sequence[Dict[bytes, bytes]]) -> List[Tuple[int, Values]]:
+        """Returns those of the pairs whose values differ, with these; of events whether they are
+        triggered."""
+        found = []
+        mine, its = states
+        triggered = [step.changes if step else {} for step in taken]
+        for number in numbers:
+            one, other = self._codes[number]
+            values = mine.get(one), its.get(other)
+            if number in self._events:
+                values = triggered[0].get(one), triggered[1].get(other)
+            if values[0] != values[1] and not self._same(*values):
+                found.append((number, values))
+        return found
+
+    def _times(self, taken: Sequence[Optional[Step]]) -> Tuple[int, int]:
+        """Returns the time of a step in the ticks of each."""
+        at = next(step.at for step in taken if step)
+        one, other = (step.time if step else at // factor
+                      for step, factor in zip(taken, self.factors))
+        return one, other

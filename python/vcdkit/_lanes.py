@@ -1,0 +1,187 @@
+"""What a picture has room for: of each signal its changes in a window, which is parted into bins as
+wide as a pixel. Of a bin with several changes of a signal only that is kept, and not each of them,
+so the work for a long dump is that of its text, and not that of its changes."""
+import functools
+import re
+from typing import BinaryIO, Callable, Dict, FrozenSet, Iterator, List, Optional, Tuple
+
+from . import _body
+from .values import Signal
+
+BLOCK = 1 << 20
+SMALL = 1 << 11  # bytes of the begin of a bin, in which most signals change
+Point = Tuple[int, object]
+
+
+class Several:
+    """What a bin has in place of a value if the signal changes several times in it: of a real
+    signal its least and largest number."""
+
+    def __init__(self, least: float = 0.0, largest: float = 0.0):
+        self.least, self.largest = least, largest
+
+
+class Lane:
+    """The points of a signal: pairs of a time, and the value from then on or Several."""
+
+    def __init__(self, signal: Signal):
+        self.signal = signal
+        self.points: List[Point] = []
+        self.text: Optional[bytes] = None  # the value now
+        self.is_event, self.is_real = signal.type == "event", signal.is_real
+        # Of the bin: its first changes, and all numbers of a real signal.
+        self.first: List[Tuple[int, bytes]] = []
+        self.numbers: List[float] = []
+
+    @property
+    def is_full(self) -> bool:
+        """Whether further changes in the bin say nothing new, but for the last value."""
+        return len(self.first) > 1 and not self.is_real
+
+    def note(self, time: int, text: bytes) -> None:
+        """Takes a value from a time on."""
+        if text == self.text and not self.is_event:
+            return
+        self.text = text
+        if self.first and self.first[-1][0] == time:
+            self.first[-1] = time, text
+        elif len(self.first) < 2:
+            self.first.append((time, text))
+        if self.is_real:
+            number = self.value(text)
+            if isinstance(number, float):
+                self.numbers.append(number)
+
+    def value(self, text: bytes) -> object:
+        """Returns the value that a text of the body has."""
+        return _body.value(text, self.signal)
+
+    def close(self, begin: int, end: int) -> None:
+        """Ends a bin, which goes from one time to just before another."""
+        if self.text is not None and len(self.first) > 1:
+            self.points.append((begin, Several(min(self.numbers, default=0.0),
+                                               max(self.numbers, default=0.0))))
+            self.points.append((end, self.value(self.text)))
+        else:
+            self.points += [(time, self.value(text)) for time, text in self.first]
+        self.first, self.numbers = [], []
+
+
+class Lanes:
+    """The lanes of some signals from one time to another, with at most so many bins."""
+
+    def __init__(self, signals: List[Signal], begin: int, end: int, count: int):
+        self.begin, self.end, self.span = begin, end, end - begin + 1
+        self.count = min(count, self.span)
+        self.of_code: Dict[bytes, Lane] = {one.code.encode(): Lane(one) for one in signals}
+        self.time, self.bin = begin, 0
+
+    def read(self, out: BinaryIO, progress: Callable[[float], None]) -> None:
+        """Takes the text of a body, which begins with a timestamp."""
+        for block in iter(lambda: out.read(BLOCK) + out.readline(), b""):
+            text = b"\n" + block[:-1]
+            while text:
+                at = _place_after(text, self.edge(self.bin + 1) - 1)
+                self.take(text[:at])
+                text = text[at:]
+                if text:
+                    self.go_to(_time_at(text, 0))
+            progress(self.bin / self.count)
+        self.close()
+
+    def edge(self, number: int) -> int:
+        """Returns the first time of a bin."""
+        return self.begin - (-number * self.span // self.count)
+
+    def go_to(self, time: int) -> None:
+        """Ends the bin, and goes to that of a time."""
+        self.close()
+        self.bin = (time - self.begin) * self.count // self.span
+
+    def close(self) -> None:
+        """Ends the bin."""
+        begin, end = self.edge(self.bin), min(self.edge(self.bin + 1), self.end)
+        for lane in self.of_code.values():
+            if lane.first:
+                lane.close(begin, end)
+
+    def take(self, text: bytes) -> None:
+        """Takes a part of the bin: each line of its begin, and then only the changes of signals that
+        say something new, and the last values of the others."""
+        begin = text.find(b"\n#", SMALL)
+        if len(text) <= 8 * SMALL or begin < 0:
+            self.take_lines(text[1:].split(b"\n"))
+            return
+        self.take_lines(text[1:begin].split(b"\n"))
+        for piece in _pieces(text, begin):
+            for code, value, at in _changes(text, *piece, self.codes(False)):
+                self.of_code[code].note(_time_at(text, text.rfind(b"\n#", 0, at + 1)), value)
+        self.take_last(text, begin)
+
+    def take_last(self, text: bytes, begin: int) -> None:
+        """Takes the last values of the signals whose lanes are full, and the last time."""
+        codes, end, size = self.codes(True), len(text), SMALL
+        while codes and end > begin:
+            middle = max(text.rfind(b"\n#", begin, max(end - size, begin)), begin)
+            last = {code: value for code, value, _ in _changes(text, middle, end, codes)}
+            for code, value in last.items():
+                self.of_code[code].text = value
+            codes, end, size = codes.difference(last), middle, 4 * size
+        self.time = _time_at(text, text.rfind(b"\n#"))
+
+    def codes(self, is_full: bool) -> FrozenSet[bytes]:
+        """Returns the codes whose lanes are full in this bin, or those that are not."""
+        return frozenset(code for code, lane in self.of_code.items() if lane.is_full == is_full)
+
+    def take_lines(self, lines: List[bytes]) -> None:
+        """Takes each of some lines."""
+        for line in lines:
+            if line[:1] == b"#":
+                self.time = int(line[1:])
+            elif line[:1] != b"$" and line:
+                value, _, code = line.rpartition(b" ") if line[:1] in b"br" else (
+                    line[:1], b"", line[1:])
+                self.of_code[code].note(self.time, value.lstrip(b"b"))
+
+
+@functools.lru_cache(maxsize=1 << 10)
+def _pattern(codes: FrozenSet[bytes]) -> "re.Pattern[bytes]":
+    """Returns the pattern of the changes of some codes."""
+    return re.compile(rb"\n(?:([01xz])|b([01xz]*) |(r[^ \n]*) )(" + b"|".join(
+        map(re.escape, sorted(codes))) + rb")(?=\n|\Z)")
+
+
+def _changes(text: bytes, begin: int, end: int, codes: FrozenSet[bytes]
+             ) -> Iterator[Tuple[bytes, bytes, int]]:
+    """Returns the changes of some codes in a part of a text: code, value, and where its line is."""
+    for found in _pattern(codes).finditer(text, begin, end) if codes else ():
+        scalar, vector, real, code = found.groups()
+        yield code, scalar or vector or real or b"", found.start()
+
+
+def _time_at(text: bytes, at: int) -> int:
+    """Returns the time of a timestamp, which a line feed is before."""
+    end = text.find(b"\n", at + 1)
+    return int(text[at + 2:end if end > 0 else len(text)])
+
+
+def _place_after(text: bytes, time: int) -> int:
+    """Returns where the first timestamp above a time is; the length if there is none."""
+    found, low, high = len(text), 0, len(text)
+    while low < high:
+        middle = (low + high) // 2
+        at = text.find(b"\n#", middle, high + 1)
+        if at >= 0 and _time_at(text, at) <= time:
+            low = at + 1
+        else:
+            found, high = at if at >= 0 else found, middle
+    return found
+
+
+def _pieces(text: bytes, begin: int) -> Iterator[Tuple[int, int]]:
+    """Returns the ends of pieces of a text, each of which begins with a timestamp."""
+    while begin < len(text):
+        end = text.find(b"\n#", begin + 4 * SMALL)
+        end = end if end > 0 else len(text)
+        yield begin, end
+        begin = end

@@ -1,0 +1,243 @@
+"""Says how signals change: period, duty cycle, shortest and longest pulse, time of each value
+
+Of each signal the first line has its path, type and size; then there are, if the signal has them:
+  changes 20                    how often its value changes, or an event is triggered
+  period 10ns to 12ns, mean 10.2ns, 9 times
+                                from rise to rise of one bit, with no x or z between, or from
+                                trigger to trigger of an event
+  duty 50%                      how much of these periods one bit is 1
+  range -1.5 to 3, mean 0.25    of a real number, the mean over time
+  value 1 60ns 49.2%, 10 times, 5ns to 7ns
+                                how long it has this value, how often, and its shortest and longest
+                                pulse; one that begins or ends outside the window does not count
+The values with most time come first. Values count at the end of each time: what comes and goes
+within one is not seen. The window ends with the dump, if that is earlier.
+
+examples:
+  vcdkit-stats sim.vcd tb.clk
+  vcdkit-stats --hex --from 1us sim.vcd.gz tb.cpu.state
+  vcdkit-stats --json sim.vcd tb.clk | jq '.[0].period'"""
+import argparse
+import json
+import math
+
+from .. import _body
+from ..times import UNITS
+from . import add_file, add_form, add_window, command, dump_of, parser, shown
+
+MAX_VALUES = 1 << 16  # of one signal; further ones count as one
+OTHERS = b"others"
+
+
+class Lengths:
+    """How many lengths of time there are, the shortest, the longest and their sum, in ticks."""
+
+    def __init__(self):
+        self.count, self.shortest, self.longest, self.sum = 0, None, None, 0
+
+    def add(self, length):
+        """Counts a length."""
+        self.count += 1
+        self.shortest = length if self.shortest is None else min(self.shortest, length)
+        self.longest = length if self.longest is None else max(self.longest, length)
+        self.sum += length
+
+
+class Value:
+    """A value of a signal: its time in ticks, how often the signal takes it, and its pulses."""
+
+    def __init__(self, text):
+        self.text, self.ticks, self.times, self.pulses = text, 0, 0, Lengths()
+
+
+class Statistics:
+    """What is counted of the values of one code, as they come."""
+
+    def __init__(self, signal):
+        self.signal, self.values = signal, {}
+        self.changes, self.periods = 0, Lengths()
+        # The value now, since when, and whether a change in the window began it.
+        self.text, self.begin, self.is_whole = None, 0, False
+        # The last rise or trigger, the ticks of 1 since then, and those of all whole periods.
+        self.edge, self.high, self.high_of_periods = None, 0, 0
+
+    def value(self, text):
+        """Returns what is counted of a value."""
+        if text not in self.values and len(self.values) >= MAX_VALUES:
+            text = OTHERS
+        return self.values.setdefault(text, Value(text))
+
+    def leave(self, time, is_whole):
+        """Counts the value that ends at a time, or with the window."""
+        length = time - self.begin
+        if not length:
+            return
+        value = self.value(self.text)
+        value.ticks += length
+        value.times += 1
+        if is_whole:
+            value.pulses.add(length)
+        if self.text == b"1":
+            self.high += length
+
+    def note_edge(self, time):
+        """Counts a rise or a trigger."""
+        if self.edge is not None:
+            self.periods.add(time - self.edge)
+            self.high_of_periods += self.high
+        self.edge, self.high = time, 0
+
+    def start(self, time, text):
+        """Takes a value from before the window, or the first one."""
+        self.text, self.begin = text, time
+
+    def change(self, time, text):
+        """Takes the value at the end of a time."""
+        if self.signal.type == "event":
+            self.changes += 1
+            self.note_edge(time)
+        elif self.text is None:
+            self.start(time, text)
+        elif text != self.text:
+            self.changes += 1
+            self.leave(time, self.is_whole)
+            if self.signal.size == 1 and (self.text, text) == (b"0", b"1"):
+                self.note_edge(time)
+            elif text not in (b"0", b"1"):
+                self.edge = None  # a period with an x or a z is none
+            self.text, self.begin, self.is_whole = text, time, True
+
+    def end(self, time):
+        """Takes the end of the window."""
+        if self.text is not None:
+            self.leave(time, False)
+
+
+class Lines:
+    """The lines of a text, and the time of the last timestamp of those that were read."""
+
+    def __init__(self, out):
+        self.out, self.time = out, 0
+
+    def __iter__(self):
+        for line in self.out:
+            if line[:1] == b"#":
+                self.time = int(line[1:])
+            yield line
+
+
+def statistics_of(dump, asked):
+    """Returns the signals, and of each code what is counted."""
+    signals = dump.select(asked.names)
+    found = {one.code.encode(): Statistics(one) for one in signals}
+    with dump.pick(asked.names).cut(asked.begin, asked.end).open() as out:
+        _body.skip_header(out)
+        lines = Lines(out)
+        for time, before, changes in _body.steps(lines, found):
+            for code, text in before:
+                found[code].start(time, text)
+            for code, text in dict(changes).items():
+                found[code].change(time, text)
+    for one in found.values():
+        one.end(lines.time)
+    return [(one, found[one.code.encode()]) for one in signals]
+
+
+def of_lengths(lengths):
+    """Returns the facts of lengths of time."""
+    return {"times": lengths.count, "shortest": lengths.shortest, "longest": lengths.longest,
+            "mean": lengths.sum / lengths.count}
+
+
+def of_reals(of):
+    """Returns the facts of the numbers of a real signal; `None` if there is none."""
+    numbers = [(_body.value(text, of.signal), value.ticks) for text, value in of.values.items()]
+    numbers = [pair for pair in numbers if isinstance(pair[0], float) and math.isfinite(pair[0])]
+    span = sum(ticks for _, ticks in numbers)
+    if not of.signal.is_real or not span:
+        return None
+    return {"least": min(numbers)[0], "largest": max(numbers)[0],
+            "mean": sum(number * ticks for number, ticks in numbers) / span}
+
+
+def of_values(of, form):
+    """Returns the facts of each value, those with most time first."""
+    every = sorted(of.values.values(), key=lambda value: -value.ticks)
+    span = sum(value.ticks for value in every)
+    return [{"value": "others" if value.text == OTHERS
+             else shown(_body.value(value.text, of.signal), form),
+             "ticks": value.ticks, "share": value.ticks / span, "times": value.times,
+             "shortest": value.pulses.shortest, "longest": value.pulses.longest}
+            for value in every]
+
+
+def facts_of(signal, of, form):
+    """Returns what is counted of a signal, with times in ticks; what it does not have is `None`."""
+    is_event = signal.type == "event"
+    periods = of.periods
+    duty = of.high_of_periods / periods.sum if periods.count and not is_event else None
+    return {"path": signal.path, "type": signal.type, "size": signal.size, "changes": of.changes,
+            "period": of_lengths(periods) if periods.count else None, "duty": duty,
+            "range": of_reals(of), "values": of_values(of, form)}
+
+
+def length_text(dump, ticks):
+    """Returns a mean length of time, to six digits of the largest unit of which it has one."""
+    scale = dump.timescale
+    if scale is None:
+        return "%.6g" % ticks
+    lengths = [(scale.seconds(ticks) * 1000**power, unit) for power, unit in enumerate(UNITS)]
+    return "%.6g%s" % next((pair for pair in lengths if pair[0] >= 1), lengths[-1])
+
+
+def lines_of(dump, facts, most):
+    """Returns the lines of a signal, with at most so many values."""
+    yield "%(path)s %(type)s %(size)d" % facts
+    yield "  changes %d" % facts["changes"]
+    period, of = facts["period"], facts["range"]
+    if period:
+        yield "  period %s to %s, mean %s, %d times" % (
+            dump.time(period["shortest"]), dump.time(period["longest"]),
+            length_text(dump, period["mean"]), period["times"])
+    if facts["duty"] is not None:
+        yield "  duty %.4g%%" % (100 * facts["duty"])
+    if of:
+        yield "  range %s to %s, mean %.6g" % (shown(of["least"], None), shown(of["largest"], None),
+                                               of["mean"])
+    for value in facts["values"][:most]:
+        pulses = "" if value["shortest"] is None else ", %s to %s" % (
+            dump.time(value["shortest"]), dump.time(value["longest"]))
+        yield "  value %s %s %.4g%%, %d times%s" % (
+            value["value"], dump.time(value["ticks"]), 100 * value["share"], value["times"], pulses)
+    if len(facts["values"]) > most:
+        yield "  and %d other values" % (len(facts["values"]) - most)
+
+
+def natural(text):
+    """Reads the word of --values."""
+    if not text.isascii() or not text.isdigit():
+        raise argparse.ArgumentTypeError("it is a number")
+    return int(text)
+
+
+@command
+def main(words):
+    of = parser("vcdkit-stats", __doc__)
+    of.add_argument("--json", action="store_true",
+                    help="an array of objects; times are in ticks, and all values are there")
+    of.add_argument("--values", type=natural, default=10, metavar="N",
+                    help="how many values of a signal (10)")
+    add_window(of)
+    add_form(of)
+    add_file(of, "+")
+    asked = of.parse_args(words)
+    dump = dump_of(asked)
+    found = [facts_of(signal, counted, asked.form)
+             for signal, counted in statistics_of(dump, asked)]
+    if asked.json:
+        print(json.dumps(found, indent=1))
+        return 0
+    for facts in found:
+        for line in lines_of(dump, facts, asked.values):
+            print(line)
+    return 0

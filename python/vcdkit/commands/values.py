@@ -1,0 +1,27 @@
+"""Writes the values of signals at a time, a line each: the path and the value
+
+The values are those at the end of the time of --at, without it at the end of the dump. Without
+names all signals are written; events have no value. `-` is no value yet. --hex writes x or z for
+four such digits and X for a mixture; the other forms leave the digits of a value with an x or a z.
+
+examples:
+  vcdkit-values --at 115ns --hex sim.vcd tb.cpu
+  vcdkit-values --signed sim.vcd.gz tb.dut.sum"""
+from . import add_file, add_form, command, dump_of, parser, shown
+
+
+@command
+def main(words):
+    of = parser("vcdkit-values", __doc__)
+    of.add_argument("--at", metavar="TIME", help="the time (the end of the dump)")
+    add_form(of)
+    add_file(of, "*")
+    asked = of.parse_args(words)
+    dump = dump_of(asked)
+    at = asked.at if asked.at is not None else dump.check().last or 0
+    names = asked.names or sorted({one.path.partition(".")[0] for one in dump.signals})
+    signals = [one for one in dump.select(names) if one.type != "event"]
+    for _, values in dump.rows(names, at=[at]):
+        for one, value in zip(signals, values):
+            print(one.path, shown(value, asked.form))
+    return 0
