@@ -34,7 +34,7 @@ const INSTEAD: [(&str, &str); 6] = [
 ];
 
 /// The scripts that are installed beside the program, without the `vcdkit-` of their names.
-const SCRIPTS: [&str; 11] = [
+const SCRIPTS: [&str; 13] = [
     "diff",
     "endmend",
     "explain",
@@ -42,7 +42,9 @@ const SCRIPTS: [&str; 11] = [
     "four-state",
     "info",
     "join-bits",
+    "stats",
     "table",
+    "values",
     "wave",
     "when",
     "x",

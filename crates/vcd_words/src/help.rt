@@ -142,9 +142,9 @@ take the file without -i too, and merge reads the files that it names. Output go
 output. Each command has its own help, with examples: vcdkit check --help
 
 Scripts, each with its own --help: vcdkit-info, -find and -explain sum a dump up, find names and
-explain faults; -table, -wave, -x and -when show values, waveforms, unknown values and when a
-condition holds; -diff compares two dumps; -four-state, -endmend and -join-bits mend dumps. If they
-are not installed, they are in extras/ of the sources and of the tarball.
+explain faults; -values, -table, -stats, -wave, -x and -when show values, periods, waveforms,
+unknown values and when a condition holds; -diff compares two dumps; -four-state, -endmend and
+-join-bits mend dumps. If they are not installed: extras/ of the sources and of the tarball.
 
 Man page: man vcdkit. Manual, recipes and what producers write: share/doc/vcdkit, below the prefix
 of the installation (/usr/local/share/doc/vcdkit), or docs/ of the sources.",
