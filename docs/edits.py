@@ -10,7 +10,7 @@ CRATES = Path(__file__).resolve().parent.parent / "crates"
 
 
 def lines_of(crate: str) -> "list[str]":
-    """Returns a line for each edit of a crate (a pattern, such as *), in the order of their paths."""
+    """Returns a line for each edit of a crate, or of all if it is "*", in the order of paths."""
     lines = []
     for edit in sorted(CRATES.glob(crate + "/must-fail/*.edit")):
         mistake = edit.stem.replace("_", " ")
