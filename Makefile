@@ -6,8 +6,8 @@
 #     tests, the program as two compilers build it
 # make hostile runs the program where memory, reads and writes fail, where streams are closed, and
 #     on dumps that are cut off, crafted or made at random: some minutes
-# make docs-check runs the commands that the pages show, over ./vcdkit, and compares what they print.
-#     It looks for links that lead nowhere: seconds
+# make docs-check runs the commands that the pages show, over ./vcdkit, and compares what they
+#     print. It looks for links that lead nowhere: seconds
 # make static  links ./vcdkit-static, the program without any shared library: seconds after make
 # make dist    a tarball, Debian packages and a wheel of it in dist/, with documents, man page,
 #     completions, scripts and the Python package; with ./libvcdkit.so too, where it is
