@@ -111,7 +111,7 @@ class Scripts(Case):
         self.no_traceback(cases)
 
     def test_options(self):
-        words = ["", HUGE, "-1", "\udcff\udc01", self.folder.name, "1e9"]
+        words = ["", HUGE, "-1", "\udcff\x01", self.folder.name, "1e9"]
         cases = []
         for name in SCRIPTS:
             for option, has_word in options(name).items():
