@@ -8,7 +8,7 @@ from typing import (BinaryIO, Callable, Dict, Iterator, List, NamedTuple, Option
                     Set, Tuple, Union)
 
 from . import _body, _rows
-from ._condition import RANGE
+from ._condition import bare
 from .commands.find import names_for
 from .dump import Dump, _hint, merge
 from .errors import UnknownName, UsageError
@@ -47,11 +47,6 @@ class Step(NamedTuple):
     at: int
     time: int
     changes: Dict[bytes, bytes]
-
-
-def bare(path: str) -> str:
-    """Returns a path without the range, as tb.q of tb.q[3:0]."""
-    return RANGE.sub("", path) if path[-1:] == "]" else path
 
 
 def kind(signal: Signal) -> Union[str, int]:
