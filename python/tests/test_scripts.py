@@ -10,6 +10,7 @@ import io
 import os
 import random
 import re
+import shutil
 import subprocess
 import sys
 import tempfile
@@ -167,9 +168,7 @@ class Scripts(Case):
             program = os.path.join(near, "vcdkit")
             copy = os.path.join(self.folder.name, place, "vcdkit-find")
             os.unlink(copy)
-            with open(copy, "w") as file:  # as an installation has it
-                file.write(open(os.path.join(EXTRAS, "launch")).read())
-            os.chmod(copy, 0o755)
+            shutil.copy(os.path.join(EXTRAS, "launch"), copy)  # as an installation has it
             words = {key: value for key, value in os.environ.items() if key != "VCDKIT"}
             words["PYTHONPATH"] = os.path.dirname(HERE)
             done = subprocess.run([copy, NESTED], stdout=subprocess.PIPE, env=words,
