@@ -342,6 +342,7 @@ class Questions:
             self.assertEqual(list(both.rows(name + ".q", rise=name + ".c")), wanted)
             self.assertEqual(list(merge(both).rows("in1.%s.q" % name, rise="in1.%s.c" % name)),
                              wanted)
+            self.assertEqual(list(both.when(name + ".q == 2", rise=name + ".c")), [30])
             for part in both.cut(30, 49), both.pick(["in1", "in2", "in3"]).cut(30, 49):
                 self.assertEqual(list(part.rows(name + ".q", rise=name + ".c")), [
                     row for row in wanted if 30 <= row[0] <= 49])

@@ -153,8 +153,9 @@ class Dump:
         """Returns the signals that names select, by their places among all; all without names."""
         if not names:
             return dict(enumerate(self.signals))
-        if names == self._last[0]:
-            return self._last[1]
+        last_names, last = self._last
+        if names == last_names:
+            return last
         found: Dict[str, Dict[int, Signal]] = {name: {} for name in names}
         for at, path in enumerate(self.signals.columns()[0]):
             while path:
