@@ -409,8 +409,8 @@ class Dump:
         return self._made("cut", ["--from", word(begin), "--to", word(end)])
 
     def around(self, time: Time, before: Time, after: Optional[Time] = None) -> "Dump":
-        """Returns the dump from so much before a time to so much after it, as much if `after` is not
-        given."""
+        """Returns the dump from so much before a time to so much after it: as much if `after` is
+        not given."""
         at, early = self.ticks(time), self.ticks(before)
         late = early if after is None else self.ticks(after)
         return self.cut(max(at - early, 0), min(at + late, LAST_TICK))
