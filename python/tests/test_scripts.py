@@ -37,6 +37,7 @@ ARGUMENTS = {"vcdkit-diff": ["FILE", NESTED], "vcdkit-table": ["FILE", "bench.sl
              "vcdkit-values": ["FILE", "bench.slow"], "vcdkit-find": ["FILE", "slow"]}
 HUGE = "9" * 100_000
 SECONDS = 60
+SCRATCH = tempfile.TemporaryDirectory()  # where scripts write files of bad names
 
 
 def arguments(name, file=NESTED):
@@ -48,7 +49,8 @@ def arguments(name, file=NESTED):
 
 def run(name, words, **streams):
     """Runs a script; returns its status, its output and its messages."""
-    given = dict(stdin=subprocess.DEVNULL, stdout=subprocess.PIPE, stderr=subprocess.PIPE)
+    given = dict(stdin=subprocess.DEVNULL, stdout=subprocess.PIPE, stderr=subprocess.PIPE,
+                 cwd=SCRATCH.name)
     done = subprocess.run([os.path.join(EXTRAS, name), *words], timeout=SECONDS,
                           **{**given, **streams})
     return done.returncode, done.stdout or b"", done.stderr or b""
