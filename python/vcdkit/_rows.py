@@ -33,7 +33,7 @@ def tuples(kind: Type[Tuples], *columns: Iterable[Any]) -> List[Tuples]:
             gc.enable()
 
 
-class Signals(Sequence[Signal]):
+class Signals(Sequence[Any]):  # of Signals, but mypy is to take a path as what may be in it
     """The variables of a header, in the order of declaration. The rows of `list` are taken apart
     when the first one is asked for; a Signal is made each time it is asked for."""
 
