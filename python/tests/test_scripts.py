@@ -114,7 +114,7 @@ class Scripts(Case):
         self.no_traceback(cases)
 
     def test_options(self):
-        words = ["", HUGE, "-1", "\udcff\x01", self.folder.name, "1e9"]
+        words = ["", HUGE, "-1", "\udcff\x01", self.folder.name]
         cases = []
         for name in SCRIPTS:
             for option, has_word in options(name).items():
@@ -130,16 +130,20 @@ class Scripts(Case):
                            for name in names for word in words])
 
     def test_streams(self):
-        for name in SCRIPTS:
-            words = [*arguments(name)]
-            for closed in "<&-", ">&-", "2>&-", "<&- >&- 2>&-", "2>/dev/full", ">/dev/full":
-                with self.subTest(script=name, closed=closed):
-                    done = subprocess.run(
-                        ["bash", "-c", '"$@" ' + closed, "-", os.path.join(EXTRAS, name), *words],
-                        stdin=subprocess.DEVNULL, stdout=subprocess.PIPE, stderr=subprocess.PIPE,
-                        timeout=SECONDS)
-                    self.assertNotIn(b"Traceback", done.stderr)
-                    self.assertNotIn(b"Exception ignored", done.stderr)
+        def messages_of(case):
+            name, closed = case
+            return subprocess.run(
+                ["bash", "-c", '"$@" ' + closed, "-", os.path.join(EXTRAS, name), *arguments(name)],
+                stdin=subprocess.DEVNULL, stdout=subprocess.PIPE, stderr=subprocess.PIPE,
+                timeout=SECONDS).stderr
+
+        cases = [(name, closed) for name in SCRIPTS for closed in (
+            "<&-", ">&-", "2>&-", "<&- >&- 2>&-", "2>/dev/full", ">/dev/full")]
+        with ThreadPoolExecutor(os.cpu_count()) as pool:
+            for case, messages in zip(cases, pool.map(messages_of, cases)):
+                with self.subTest(script=case[0], closed=case[1]):
+                    self.assertNotIn(b"Traceback", messages)
+                    self.assertNotIn(b"Exception ignored", messages)
 
     def test_a_reader_that_has_gone(self):
         whole = {"vcdkit-explain": [NESTED], "vcdkit-find": ["--pick", NESTED],
