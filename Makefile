@@ -22,7 +22,8 @@
 # make uninstall [PREFIX=..] [DESTDIR=..]        takes them away again
 # make completions-check    compares the completions and the man page with the help of ./vcdkit: a
 #     second
-# make extras-check         tries extras/ and python/ with ./vcdkit: half a minute
+# make extras-check         tries extras/ and python/ with ./vcdkit, also on thousands of random
+#     dumps that other readers read too: two minutes
 
 sample := samples/counter.vcd
 
