@@ -14,33 +14,8 @@ use vcd_text::doubles::Narrow;
 use vcd_text::{Feed, Sink, Source, Watch};
 use vcd_tools::{Done, Room, Stop, Task, cut, edges, pick, sample};
 
-// Calls the function of a task. A check has no room: its tests call it themselves, and nothing is
-// run for it here.
-fn dispatch<S: Source, W: Sink>(
-    view: HeadView<'_>,
-    feed: &mut Feed<'_, '_, '_, '_, S>,
-    room: Room<'_>,
-    task: Task<'_>,
-    out: &mut W,
-) -> Result<Done, Stop>
-    requires feed_failures { S.failures (source_of feed.old) < 2 ^ 64 - 1 }
-    requires out_failures { (W.device out.old).failures < 2 ^ 64 - 1 }
-    requires open { HasNotFailed feed.old }
-    requires valid { IsValid (request_of task) }
-    requires room { HasRoomFor task view room }
-    requires bound { AreWithinBound (limit_of feed.old) (chunk_len_of feed.old) view
-        (room_size room) }
-{
-    match task {
-        Task::Check => Ok(Done::Early),
-        Task::Pick(names) => pick(view, feed, room, names, out),
-        Task::Cut { from, to } => cut(view, feed, room, from, to, out),
-        Task::Sample { times, names } => sample(view, feed, room, times, names, out),
-        Task::Edges(names) => edges(view, feed, room, names, out),
-    }
-}
-
-// Runs a task after a header, in the room that it needs.
+// Runs a task after a header, by its function, in the room that it needs. A check has no room: its
+// tests call it themselves, and nothing is run for it here.
 fn run_behind<S: Source, W: Sink>(
     alloc: Global,
     view: HeadView<'_>,
@@ -65,7 +40,13 @@ fn run_behind<S: Source, W: Sink>(
         shares: &mut shares,
         marks: &mut marks,
     };
-    Ok(dispatch(view, feed, room, task, out))
+    Ok(match task {
+        Task::Check => Ok(Done::Early),
+        Task::Pick(names) => pick(view, feed, room, names, out),
+        Task::Cut { from, to } => cut(view, feed, room, from, to, out),
+        Task::Sample { times, names } => sample(view, feed, room, times, names, out),
+        Task::Edges(names) => edges(view, feed, room, names, out),
+    })
 }
 
 // Runs a task over a source.
