@@ -144,7 +144,8 @@ same 'brackets' 'bench.lane\[0\].fast. (nospace)' \
 
 # The scripts.
 scripts=$(cd extras && ls -d vcdkit-* | sorted)
-same 'scripts, bash' "$scripts" "$(complete -p | sed -n 's/^complete -F _vcdkit_script //p' | sorted)"
+same 'scripts, bash' "$scripts" \
+    "$(complete -p | sed -n 's/^complete -F _vcdkit_script //p' | sorted)"
 same 'scripts, zsh' "vcdkit $scripts" "$(sed -n '1s/^#compdef //p' completions/_vcdkit)"
 for script in $scripts; do
     same "$script in the man page" 1 "$(in_manual "^\.B[RI]* $script( |\*|\$)")"
@@ -158,7 +159,8 @@ same 'the file of a script' ' (default)' "$(completed extras/vcdkit-x sam)"
 same 'both files of vcdkit-diff' ' (default)' "$(completed extras/vcdkit-diff $dump '')"
 same 'a file of an option' ' (default)' "$(completed extras/vcdkit-explain --salvage '')"
 same 'a time' '' "$(completed extras/vcdkit-table --from '')"
-same 'names of a script' 'bench.steps bench.step.' "$(completed extras/vcdkit-table $dump bench.step)"
+same 'names of a script' 'bench.steps bench.step.' \
+    "$(completed extras/vcdkit-table $dump bench.step)"
 same 'a clock' 'bench.clock' "$(completed extras/vcdkit-table $dump --rise bench.cl)"
 
 # A header with 200,000 variables in a scope: what the names have in common, and soon.

@@ -3,7 +3,8 @@ wide as a pixel. Of a bin with several changes of a signal only that is kept, an
 so the work for a long dump is that of its text, and not that of its changes."""
 import functools
 import re
-from typing import BinaryIO, Callable, Dict, FrozenSet, Iterator, List, Optional, Tuple
+from typing import (BinaryIO, Callable, Dict, FrozenSet, Iterator, List, NamedTuple, Optional,
+                    Tuple)
 
 from . import _body
 from .values import Signal
@@ -13,12 +14,12 @@ SMALL = 1 << 11  # bytes of the begin of a bin, in which most signals change
 Point = Tuple[int, object]
 
 
-class Several:
+class Several(NamedTuple):
     """What a bin has in place of a value if the signal changes several times in it: of a real
     signal its least and largest number."""
 
-    def __init__(self, least: float = 0.0, largest: float = 0.0):
-        self.least, self.largest = least, largest
+    least: float
+    largest: float
 
 
 class Lane:
@@ -104,8 +105,8 @@ class Lanes:
                 lane.close(begin, end)
 
     def take(self, text: bytes) -> None:
-        """Takes a part of the bin: each line of its begin, and then only the changes of signals that
-        say something new, and the last values of the others."""
+        """Takes a part of the bin: each line of its begin, and then only the changes of signals
+        that say something new, and the last values of the others."""
         begin = text.find(b"\n#", SMALL)
         if len(text) <= 8 * SMALL or begin < 0:
             self.take_lines(text[1:].split(b"\n"))

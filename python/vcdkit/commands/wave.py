@@ -140,8 +140,10 @@ class Picture:
             number += 1
 
     def pieces(self, points):
-        """Returns of each point where it begins and ends, and the value; the same value only
-        once."""
+        """Returns of each value where it begins and ends, and the value; none that ends where it
+        begins."""
+        ends = [time for time, _ in points[1:]] + [None]
+        points = [point for point, end in zip(points, ends) if point[0] != end]
         points = [point for at, point in enumerate(points)
                   if not at or point[1] != points[at - 1][1]]
         ends = [time for time, _ in points[1:]] + [self.end]
@@ -169,9 +171,9 @@ class Picture:
                 of_kind.setdefault("several", []).append(box(x, to, y, HIGH))
                 continue
             slant, middle = min(3, (to - x) / 2), y + HIGH / 2
-            of_kind.setdefault(kind_of(value, "lane"), []).append(
-                "M%.1f %.1fL%.1f %.1fH%.1fL%.1f %.1fL%.1f %.1fH%.1fZ"
-                % (x, middle, x + slant, y, to - slant, to, middle, to - slant, y + HIGH, x + slant))
+            shape = "M%.1f %.1fL%.1f %.1fH%.1fL%.1f %.1fL%.1f %.1fH%.1fZ" % (
+                x, middle, x + slant, y, to - slant, to, middle, to - slant, y + HIGH, x + slant)
+            of_kind.setdefault(kind_of(value, "lane"), []).append(shape)
             text, room = value_text(value, form), int((to - x - 2 * slant - 2) / CHAR)
             if room >= len(text) or room >= 3:
                 text = text if room >= len(text) else text[:room - 1] + "+"
@@ -293,7 +295,8 @@ def draw(dump, chosen, lanes, asked):
     """Draws and writes the picture."""
     scope = common_scope([one.path for one in chosen])
     names = [short(one.path[len(scope):]) for one in chosen]
-    left = PAD * 2 + CHAR * max(map(len, [short(scope), *names]))
+    # A time of the axis begins before the traces.
+    left = PAD * 2 + CHAR * max(map(len, [short(scope) + "0 ns", *names]))
     picture, bottom = Picture(lanes.begin, lanes.end, left, asked.width), TOP
     rows = []
     for signal in chosen:
