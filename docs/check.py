@@ -20,8 +20,8 @@ import sys
 import tempfile
 
 TOP = os.path.dirname(os.path.dirname(os.path.abspath(__file__)))
-DOCUMENTS = ["README.md", "docs/MANUAL.md", "docs/RECIPES.md", "docs/PRODUCERS.md",
-             "extras/README.md", "python/README.md"]
+DOCUMENTS = ["README.md", "docs/TUTORIAL.md", "docs/FAQ.md", "docs/MANUAL.md", "docs/RECIPES.md",
+             "docs/PRODUCERS.md", "extras/README.md", "python/README.md"]
 SECONDS = 60
 
 

@@ -538,7 +538,7 @@ for script in extras/vcdkit-*; do
         vcdkit-four-state | vcdkit-endmend) continue ;;
         vcdkit-join-bits) words=() ;;
         vcdkit-diff) words=(samples/counter.vcd samples/counter.vcd) ;;
-        vcdkit-table | vcdkit-wave | vcdkit-stats) words=(samples/counter.vcd clk) ;;
+        vcdkit-table | vcdkit-wave | vcdkit-stats | vcdkit-when) words=(samples/counter.vcd clk) ;;
         *) words=(samples/counter.vcd) ;;
     esac
     cp extras/launch "$folder/$name"

@@ -104,7 +104,7 @@ def codes_in(dump):
 def differs(program, library, folder, seed):
     """What is not the same, in words; none where all is."""
     r = random.Random(seed)
-    words, given, _ = case(seed, COMMANDS, folder)
+    words, given, _, _ = case(seed, COMMANDS, folder)
     files = {}
     for name in words:
         if name.endswith(".vcd") and os.path.exists(os.path.join(folder, name)):

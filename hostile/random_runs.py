@@ -10,6 +10,10 @@ import evaluator
 
 COMMANDS = ["check", "list", "pick", "cut", "sample", "edges", "merge"]
 
+# About these lengths reading changes: the shortest window, a chunk, and the longest file that is
+# read only up to the length that it had when it was opened.
+LENGTHS = [64, 64, 65_536, 1_048_576]
+
 
 def asked(d, text):
     """Names of the dump's own variables and scopes, or some others."""
@@ -49,6 +53,16 @@ def times_of_cut(r, a, b):
     return [a, b], words
 
 
+def padded(r, text):
+    """The text, one time in ten with white space before its last token, so that its length is about
+    one of LENGTHS."""
+    more = r.choice(LENGTHS) + r.randrange(-2, 3) - len(text)
+    at = max(text.rfind(b" "), text.rfind(b"\n"))
+    if r.random() < 0.9 or at < 0 or more < 0:
+        return text
+    return text[:at] + b" " * more + text[at:]
+
+
 def put_input(r, folder, seed, command, text):
     """The name of the input, the words that ask for it, and the bytes of standard input."""
     ways = [[], [], ["-i", "-"], ["-i", "FILE"]]
@@ -64,14 +78,15 @@ def put_input(r, folder, seed, command, text):
 
 
 def case(seed, commands, folder):
-    """Arguments, input, and what the evaluator says; none where the words are refused."""
+    """Arguments, the bytes of standard input and whether they come from a file, and what the
+    evaluator says."""
     d = Dumps(seed)
     r = d.r
     command = r.choice(commands)
     limit = r.choice([1_048_576, 1_048_576, 1_048_576, 64, 65, 100])
     arguments, options, names, given = [], [], [], b""
     if command == "merge":
-        inputs = [(b"%d_%d.vcd" % (seed, k), d.dump())
+        inputs = [(b"%d_%d.vcd" % (seed, k), padded(r, d.dump()))
                   for k in range(r.choice([1, 1, 2, 2, 2, 3, 5, 64] if r.random() < 0.1
                                           else [1, 2, 2, 2, 3]))]
         if r.random() < 0.2 and len(inputs) < 64:
@@ -80,8 +95,12 @@ def case(seed, commands, folder):
             with open(os.path.join(folder, name.decode()), "wb") as f:
                 f.write(text)
         arguments = [name.decode() for name, _ in inputs]
+        if r.random() < 0.2:
+            k = r.randrange(len(inputs))
+            arguments[k], given = "-", inputs[k][1]
+            inputs[k] = (b"(stdin)", given)
     else:
-        text = d.dump()
+        text = padded(r, d.dump())
         name, arguments, given = put_input(r, folder, seed, command, text)
         inputs = [(name, text)]
     if command in ("pick", "sample", "edges"):
@@ -103,21 +122,31 @@ def case(seed, commands, folder):
     else:
         arguments = ["--token-limit", str(limit), "--"] + arguments
     want = evaluator.run(command, [model(m) for m in options], names, inputs, limit)
-    return [command] + arguments, given, want
+    return [command] + arguments, given, r.random() < 0.3, want
+
+
+def run(words, given, is_file, folder):
+    """Output, message and status of a run whose standard input is a pipe or a file."""
+    if not is_file:
+        p = subprocess.run(words, input=given, capture_output=True, cwd=folder, timeout=60)
+    else:
+        with tempfile.TemporaryFile(dir=folder) as file:
+            file.write(given)
+            file.seek(0)
+            p = subprocess.run(words, stdin=file, capture_output=True, cwd=folder, timeout=60)
+    return p.stdout, p.stderr, p.returncode
 
 
 def differs(program, folder, commands, seed):
-    arguments, given, want = case(seed, commands, folder)
-    p = subprocess.run([program] + arguments, input=given, capture_output=True, cwd=folder,
-                       timeout=60)
-    got = (p.stdout, p.stderr, p.returncode)
+    arguments, given, is_file, want = case(seed, commands, folder)
+    got = run([program] + arguments, given, is_file, folder)
     for name in arguments:
         if name.endswith(".vcd") and os.path.exists(os.path.join(folder, name)):
             os.remove(os.path.join(folder, name))
     if got == want:
         return None
-    return "seed %d: vcdkit %s\n input %r\n want  %r\n got   %r" % (seed, " ".join(arguments),
-                                                                    given, want, got)
+    return "seed %d: vcdkit %s\n input %.3000r\n want  %.3000r\n got   %.3000r" % (
+        seed, " ".join(arguments), given, want, got)
 
 
 def main():

@@ -53,7 +53,7 @@ name=vcdkit-$version-x86_64-linux
 mkdir "$folder/$name"
 cp -r Makefile man completions samples extras packaging python "$folder/$name"
 mkdir "$folder/$name/docs"
-cp docs/check.py docs/edits.py "$folder/$name/docs"
+cp docs/check.py "$folder/$name/docs"
 packaging/pages.sh "$folder/$name"
 find "$folder/$name" -name __pycache__ -exec rm -rf {} +
 install -m 755 "$program" "$folder/$name/vcdkit"

@@ -10,6 +10,7 @@ import io
 import os
 import random
 import re
+import shutil
 import subprocess
 import sys
 import tempfile
@@ -36,6 +37,7 @@ ARGUMENTS = {"vcdkit-diff": ["FILE", NESTED], "vcdkit-table": ["FILE", "bench.sl
              "vcdkit-values": ["FILE", "bench.slow"], "vcdkit-find": ["FILE", "slow"]}
 HUGE = "9" * 100_000
 SECONDS = 60
+SCRATCH = tempfile.TemporaryDirectory()  # where scripts write files of bad names
 
 
 def arguments(name, file=NESTED):
@@ -47,7 +49,8 @@ def arguments(name, file=NESTED):
 
 def run(name, words, **streams):
     """Runs a script; returns its status, its output and its messages."""
-    given = dict(stdin=subprocess.DEVNULL, stdout=subprocess.PIPE, stderr=subprocess.PIPE)
+    given = dict(stdin=subprocess.DEVNULL, stdout=subprocess.PIPE, stderr=subprocess.PIPE,
+                 cwd=SCRATCH.name)
     done = subprocess.run([os.path.join(EXTRAS, name), *words], timeout=SECONDS,
                           **{**given, **streams})
     return done.returncode, done.stdout or b"", done.stderr or b""
@@ -111,7 +114,7 @@ class Scripts(Case):
         self.no_traceback(cases)
 
     def test_options(self):
-        words = ["", HUGE, "-1", "\udcff\udc01", self.folder.name, "1e9"]
+        words = ["", HUGE, "-1", "\udcff\x01", self.folder.name]
         cases = []
         for name in SCRIPTS:
             for option, has_word in options(name).items():
@@ -127,16 +130,20 @@ class Scripts(Case):
                            for name in names for word in words])
 
     def test_streams(self):
-        for name in SCRIPTS:
-            words = [*arguments(name)]
-            for closed in "<&-", ">&-", "2>&-", "<&- >&- 2>&-", "2>/dev/full", ">/dev/full":
-                with self.subTest(script=name, closed=closed):
-                    done = subprocess.run(
-                        ["bash", "-c", '"$@" ' + closed, "-", os.path.join(EXTRAS, name), *words],
-                        stdin=subprocess.DEVNULL, stdout=subprocess.PIPE, stderr=subprocess.PIPE,
-                        timeout=SECONDS)
-                    self.assertNotIn(b"Traceback", done.stderr)
-                    self.assertNotIn(b"Exception ignored", done.stderr)
+        def messages_of(case):
+            name, closed = case
+            return subprocess.run(
+                ["bash", "-c", '"$@" ' + closed, "-", os.path.join(EXTRAS, name), *arguments(name)],
+                stdin=subprocess.DEVNULL, stdout=subprocess.PIPE, stderr=subprocess.PIPE,
+                timeout=SECONDS).stderr
+
+        cases = [(name, closed) for name in SCRIPTS for closed in (
+            "<&-", ">&-", "2>&-", "<&- >&- 2>&-", "2>/dev/full", ">/dev/full")]
+        with ThreadPoolExecutor(os.cpu_count()) as pool:
+            for case, messages in zip(cases, pool.map(messages_of, cases)):
+                with self.subTest(script=case[0], closed=case[1]):
+                    self.assertNotIn(b"Traceback", messages)
+                    self.assertNotIn(b"Exception ignored", messages)
 
     def test_a_reader_that_has_gone(self):
         whole = {"vcdkit-explain": [NESTED], "vcdkit-find": ["--pick", NESTED],
@@ -167,9 +174,7 @@ class Scripts(Case):
             program = os.path.join(near, "vcdkit")
             copy = os.path.join(self.folder.name, place, "vcdkit-find")
             os.unlink(copy)
-            with open(copy, "w") as file:  # as an installation has it
-                file.write(open(os.path.join(EXTRAS, "launch")).read())
-            os.chmod(copy, 0o755)
+            shutil.copy(os.path.join(EXTRAS, "launch"), copy)  # as an installation has it
             words = {key: value for key, value in os.environ.items() if key != "VCDKIT"}
             words["PYTHONPATH"] = os.path.dirname(HERE)
             done = subprocess.run([copy, NESTED], stdout=subprocess.PIPE, env=words,

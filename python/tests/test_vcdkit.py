@@ -342,6 +342,7 @@ class Questions:
             self.assertEqual(list(both.rows(name + ".q", rise=name + ".c")), wanted)
             self.assertEqual(list(merge(both).rows("in1.%s.q" % name, rise="in1.%s.c" % name)),
                              wanted)
+            self.assertEqual(list(both.when(name + ".q == 2", rise=name + ".c")), [30])
             for part in both.cut(30, 49), both.pick(["in1", "in2", "in3"]).cut(30, 49):
                 self.assertEqual(list(part.rows(name + ".q", rise=name + ".c")), [
                     row for row in wanted if 30 <= row[0] <= 49])
@@ -588,8 +589,9 @@ class Values(unittest.TestCase):
             self.assertTrue(value != other and other != value)
         self.assertTrue(4 < value < 6 and value > Value("11") and Value("11") < value)
         self.assertTrue(value in (1, 5) and value in range(6) and value not in range(5))
-        self.assertEqual((int(value), float(value), "abcdef"[value], value.signed()), (5, 5, "f", 5))
-        self.assertEqual([Value(one).signed() for one in ("1", "1111", "1000")], [-1, -1, -8])
+        self.assertEqual((int(value), float(value), "abcdef"[value]), (5, 5, "f"))
+        self.assertEqual([Value(one).signed() for one in ("0101", "1", "1111", "1000")],
+                         [5, -1, -1, -8])
         self.assertRaises(TypeError, lambda: value < None)
 
     def test_values_that_are_not_known(self):
@@ -603,8 +605,8 @@ class Values(unittest.TestCase):
         self.assertNotEqual(Value("x"), Value("0x"))
 
     def test_truth_and_digits(self):
-        for digits, wanted in (("0", False), ("1", True), ("0x", False), ("1x", True), ("z", False)):
-            self.assertIs(bool(Value(digits)), wanted)
+        for digits, is_true in (("0", False), ("1", True), ("0x", False), ("1x", True)):
+            self.assertIs(bool(Value(digits)), is_true)
         self.assertEqual((Value("1010")[0], Value("1010")[1:3], list(Value("10"))),
                          (1, 1, ["1", "0"]))
         self.assertEqual({Value("01"): 1}, {"01": 1})

@@ -6,7 +6,7 @@ from typing import (Any, BinaryIO, Collection, Dict, Iterator, List, NamedTuple,
                     Tuple)
 
 from .times import Timescale
-from .values import Cell, Scope, Signal, Value, full, real
+from .values import Cell, Scope, Signal, Value, extension, real
 
 BLOCK = 1 << 22
 BODY = b"$enddefinitions $end\n"
@@ -113,9 +113,12 @@ def steps(out: BinaryIO, codes: Collection[bytes], lead: Collection[bytes] = ()
         else:
             one = change(line)
             if one[0] in codes:
-                (before if is_begin or one[0] in left else found).append(one)
                 has_begun = True
-                left.discard(one[0])
+                if is_begin or one[0] in left:
+                    before.append(one)
+                    left.discard(one[0])
+                else:
+                    found.append(one)
     if before or found:
         yield time, before, found
 
@@ -155,7 +158,8 @@ def edge_steps(out: BinaryIO, codes: Collection[bytes], edges: Collection[Edge],
 
 @functools.lru_cache(maxsize=MAX_SEEN)
 def _digits(text: bytes, size: int) -> Value:
-    return Value(full(text.decode(), size))
+    digits = text.decode()
+    return Value(digits.rjust(size, extension(digits)))
 
 
 def value(text: bytes, signal: Signal) -> Cell:
@@ -167,8 +171,7 @@ def value(text: bytes, signal: Signal) -> Cell:
 
 def changes(out: BinaryIO, signal: Signal) -> Iterator[Tuple[int, Cell]]:
     """Returns the times and the values of a signal, from a dump in which it may be one of many."""
-    code, size = signal.code.encode(), signal.size
-    now = 0
+    code, now = signal.code.encode(), 0
     seen: Dict[bytes, Any] = {}  # of a line its value; `code` of one of another signal
     get = seen.get
     for line in out:
@@ -178,8 +181,7 @@ def changes(out: BinaryIO, signal: Signal) -> Iterator[Tuple[int, Cell]]:
             its: Any = get(line)
             if its is None:
                 its_code, text = change(line)
-                its = code if its_code != code else (
-                    value(text, signal) if text[:1] == b"r" else Value(full(text.decode(), size)))
+                its = value(text, signal) if its_code == code else code
                 if len(seen) >= MAX_SEEN:
                     seen.clear()
                 seen[line] = its

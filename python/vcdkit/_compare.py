@@ -8,7 +8,7 @@ from typing import (BinaryIO, Callable, Dict, Iterator, List, NamedTuple, Option
                     Set, Tuple, Union)
 
 from . import _body, _rows
-from ._condition import RANGE
+from ._condition import bare
 from .commands.find import names_for
 from .dump import Dump, _hint, merge
 from .errors import UnknownName, UsageError
@@ -47,11 +47,6 @@ class Step(NamedTuple):
     at: int
     time: int
     changes: Dict[bytes, bytes]
-
-
-def bare(path: str) -> str:
-    """Returns a path without the range, as tb.q of tb.q[3:0]."""
-    return RANGE.sub("", path) if path[-1:] == "]" else path
 
 
 def kind(signal: Signal) -> Union[str, int]:
@@ -103,7 +98,8 @@ class Side:
 
     def clock(self, name: str) -> Signal:
         """Returns the signal of one bit that has a name."""
-        its = [signal for signal, its in zip(self.signals, self.names) if bare(its) == bare(name)]
+        its: List[Signal] = [signal for signal, its in zip(self.signals, self.names)
+                             if bare(its) == bare(name)]
         if not its:
             raise self.unknown(name)
         if len({one.code for one in its}) > 1 or kind(its[0]) != 1:
@@ -290,7 +286,7 @@ class Comparison:
         for number, pair in enumerate(pairs):
             for table, code in zip(self._tables, pair.codes):
                 table.setdefault(code, []).append(number)
-        self._codes = [pair.codes for pair in pairs]
+        self._codes = [pair.codes[0] for pair in pairs], [pair.codes[1] for pair in pairs]
         self._events = {number for number, pair in enumerate(pairs)
                         if kind(pair.signals[0]) == "event"}
 
@@ -346,15 +342,16 @@ class Comparison:
                    states: Sequence[Dict[bytes, bytes]]) -> List[Tuple[int, Values]]:
         """Returns those of the pairs whose values differ, with these; of events whether they are
         triggered."""
-        found = []
         mine, its = states
         triggered = [step.changes if step else {} for step in taken]
-        for number in numbers:
-            one, other = self._codes[number]
-            values = mine.get(one), its.get(other)
-            if number in self._events:
-                values = triggered[0].get(one), triggered[1].get(other)
-            if values[0] != values[1] and not self._same(*values):
+        codes, others = self._codes
+        found = []
+        suspects = {number for number in numbers
+                    if mine.get(codes[number]) != its.get(others[number])}
+        for number in suspects | numbers & self._events:
+            one, other = triggered if number in self._events else states
+            values = one.get(codes[number]), other.get(others[number])
+            if not self._same(*values):
                 found.append((number, values))
         return found
 

@@ -83,6 +83,11 @@ class _Name(NamedTuple):
 Word = Union[str, _Number, Span]
 
 
+def bare(path: str) -> str:
+    """Returns a path without the range, as tb.q of tb.q[3:0]."""
+    return RANGE.sub("", path) if path[-1:] == "]" else path
+
+
 def _bad(why: str) -> UsageError:
     """Returns the exception for a condition that is none."""
     return UsageError("bad condition: " + why)
@@ -174,8 +179,8 @@ def _found(dump: "Dump", names: Iterable[str]) -> Dict[str, List[Signal]]:
     for at, path in enumerate(dump.signals.columns()[0]):
         if path in exact:
             exact[path].append(dump.signals[at])
-        if path[-1:] == "]" and RANGE.sub("", path) in loose:
-            loose[RANGE.sub("", path)].append(dump.signals[at])
+        if path[-1:] == "]" and bare(path) in loose:
+            loose[bare(path)].append(dump.signals[at])
     return {name: exact[name] or loose[name] for name in exact}
 
 

@@ -31,12 +31,9 @@ class Lane:
         self.is_event, self.is_real = signal.type == "event", signal.is_real
         # Of the bin: its first changes, and all numbers of a real signal.
         self.first: List[Tuple[int, bytes]] = []
+        # Whether further changes in the bin say nothing new, but for the last value.
+        self.is_full = False
         self.numbers: List[float] = []
-
-    @property
-    def is_full(self) -> bool:
-        """Whether further changes in the bin say nothing new, but for the last value."""
-        return len(self.first) > 1 and not self.is_real
 
     def note(self, time: int, text: bytes) -> None:
         """Takes a value from a time on."""
@@ -47,6 +44,7 @@ class Lane:
             self.first[-1] = time, text
         elif len(self.first) < 2:
             self.first.append((time, text))
+            self.is_full = len(self.first) == 2 and not self.is_real
         if self.is_real:
             number = self.value(text)
             if isinstance(number, float):
@@ -64,7 +62,7 @@ class Lane:
             self.points.append((end, self.value(self.text)))
         else:
             self.points += [(time, self.value(text)) for time, text in self.first]
-        self.first, self.numbers = [], []
+        self.first, self.numbers, self.is_full = [], [], False
 
 
 class Lanes:
@@ -114,7 +112,10 @@ class Lanes:
             return
         self.take_lines(text[1:begin].split(b"\n"))
         for piece in _pieces(text, begin):
-            for code, value, at in _changes(text, *piece, self.codes(False)):
+            codes = self.codes(False)
+            if not codes:
+                break
+            for code, value, at in _changes(text, *piece, codes):
                 self.of_code[code].note(_time_at(text, text.rfind(b"\n#", 0, at + 1)), value)
         self.take_last(text, begin)
 

@@ -53,18 +53,21 @@ class _Part:
     def __init__(self, words: Sequence[str], stdin: Union[BinaryIO, int], names: Dict[str, str],
                  of: Optional[Text], pass_fds: Sequence[int] = ()):
         self.words, self.names, self.of = words, names, of
+        # A file, as a pipe holds only some of a message that nobody reads before the output.
+        self.messages = tempfile.TemporaryFile()
         try:
             self.process = subprocess.Popen(words, stdin=stdin, stdout=subprocess.PIPE,
-                                            stderr=subprocess.PIPE, pass_fds=pass_fds)
+                                            stderr=self.messages, pass_fds=pass_fds)
         except OSError as error:
             raise not_started(words[0], error) from error
         self.out = cast(BinaryIO, self.process.stdout)
 
     def finish(self) -> None:
         """Waits for it, and keeps what it says."""
-        with cast(BinaryIO, self.process.stderr) as said:
-            self.said = said.read().decode(errors="backslashreplace").strip()
         self.status = self.process.wait()
+        with self.messages as said:
+            said.seek(0)
+            self.said = said.read().decode(errors="backslashreplace").strip()
 
     def ended_early(self) -> bool:
         """Whether the next program did not read on."""

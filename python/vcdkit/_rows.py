@@ -33,7 +33,7 @@ def tuples(kind: Type[Tuples], *columns: Iterable[Any]) -> List[Tuples]:
             gc.enable()
 
 
-class Signals(Sequence[Signal]):
+class Signals(Sequence[Any]):  # of Signals, but mypy is to take a path as what may be in it
     """The variables of a header, in the order of declaration. The rows of `list` are taken apart
     when the first one is asked for; a Signal is made each time it is asked for."""
 
@@ -116,11 +116,11 @@ class _Values:
         """Takes changes, of which some may be of other signals; whether one of the values is
         another one after them."""
         is_other = False
-        for code, text in dict(changes).items():
+        for code, text in changes if len(changes) < 2 else dict(changes).items():
             if code in self.signals and self._texts.get(code) != text:
                 now, was = _body.value(text, self.signals[code]), self._values.get(code)
                 self._texts[code], self._values[code] = text, now
-                is_other = is_other or not _is_same(now, was)
+                is_other = is_other or not isinstance(now, float) or not _is_same(now, was)
         return is_other
 
     def row(self) -> List[Cell]:
@@ -128,9 +128,9 @@ class _Values:
         return [self._values.get(code) for code in self.codes]
 
 
-def _is_same(now: Cell, was: Cell) -> bool:
-    """Whether two values are the same: real numbers as numbers, and NaN is NaN."""
-    return type(now) is type(was) and (now == was or now != now and was != was)
+def _is_same(now: float, was: Cell) -> bool:
+    """Whether a real number is the one that was: NaN is NaN."""
+    return isinstance(was, float) and (now == was or now != now and was != was)
 
 
 def at_changes(text: BinaryIO, columns: Sequence[Signal]) -> Iterator[Row]:

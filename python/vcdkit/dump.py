@@ -53,7 +53,8 @@ class Dump:
         self._text: Text = (
             Bytes(bytes(source), name or "(bytes)")
             if isinstance(source, (bytes, bytearray, memoryview)) else File(source, four_state))
-        self._options = () if token_limit is None else ("--token-limit", str(token_limit))
+        self._options: Tuple[str, ...] = (
+            () if token_limit is None else ("--token-limit", str(token_limit)))
         self._signals: Optional[_rows.Signals] = None
         self._header: Optional[Header] = None
         self._last: Tuple[List[str], Dict[int, Signal]] = [], {}  # names, and what they select
@@ -61,9 +62,7 @@ class Dump:
     __iter__ = None  # else Python would look for [0], [1], ..
 
     def _made(self, command: str, words: Sequence[str], of: Tuple[Text, ...] = ()) -> "Dump":
-        made = _dump_of(Made(command, (*self._options, *words), of or (self._text,)))
-        made._options = self._options
-        return made
+        return _dump_of(Made(command, (*self._options, *words), of or (self._text,)), self._options)
 
     @property
     def name(self) -> str:
@@ -93,8 +92,8 @@ class Dump:
             return file.read()
 
     def save(self, path: Union[str, "os.PathLike[str]"]) -> "Dump":
-        """Writes the text to a file, and returns the Dump of that. Where this fails, the file is
-        as it was."""
+        """Writes the text to a file, and returns the Dump of that. If this fails, the file is as
+        it was."""
         part = "%s.%d.part" % (os.fspath(path), os.getpid())
         try:
             with self.open() as text, open(part, "wb") as file:
@@ -153,8 +152,9 @@ class Dump:
         """Returns the signals that names select, by their places among all; all without names."""
         if not names:
             return dict(enumerate(self.signals))
-        if names == self._last[0]:
-            return self._last[1]
+        last_names, last = self._last
+        if names == last_names:
+            return last
         found: Dict[str, Dict[int, Signal]] = {name: {} for name in names}
         for at, path in enumerate(self.signals.columns()[0]):
             while path:
@@ -341,8 +341,8 @@ class Dump:
             text = text.of[0]
         if not codes or not isinstance(text, Made) or text.command != "merge":
             return set()
-        made = iter(dict.fromkeys(_dump_of(text).signals.columns()[3]))
-        for dump in map(_dump_of, text.of):
+        made = iter(dict.fromkeys(_dump_of(text, self._options).signals.columns()[3]))
+        for dump in [_dump_of(one, self._options) for one in text.of]:
             its = {code.encode(): new.encode()
                    for code, new in zip(dict.fromkeys(dump.signals.columns()[3]), made)
                    if new.encode() in codes}
@@ -409,7 +409,7 @@ class Dump:
         return self._made("cut", ["--from", word(begin), "--to", word(end)])
 
     def around(self, time: Time, before: Time, after: Optional[Time] = None) -> "Dump":
-        """Returns the dump from so much before a time to so much after it, as much where `after` is
+        """Returns the dump from so much before a time to so much after it: as much if `after` is
         not given."""
         at, early = self.ticks(time), self.ticks(before)
         late = early if after is None else self.ticks(after)
@@ -468,10 +468,10 @@ def _columns(found: Any, numpy: Any) -> Tuple[Any, Any]:
     return times, numpy.ma.masked_array(values, mask=unknown)
 
 
-def _dump_of(text: Text) -> Dump:
-    """Returns the dump of a text."""
+def _dump_of(text: Text, options: Tuple[str, ...]) -> Dump:
+    """Returns the dump of a text, which is read with these options."""
     dump = Dump(b"")
-    dump._text = text
+    dump._text, dump._options = text, options
     return dump
 
 
@@ -484,7 +484,8 @@ def _opened(text: Text) -> Iterator[BinaryIO]:
     except UnknownName as error:
         if error.of is None:
             raise
-        raise UnknownName(error.name, _hint(error.name, _dump_of(error.of).signals)) from None
+        hint = _hint(error.name, _dump_of(error.of, ()).signals)
+        raise UnknownName(error.name, hint) from None
 
 
 def _hint(name: str, signals: _rows.Signals) -> str:

@@ -18,7 +18,8 @@ class DumpFault(VcdkitError, ValueError):
         super().__init__("%s:%d: %s" % (file, line, fault))
         self.file, self.line, self.fault = file, line, fault
 
-    def __reduce__(self) -> Tuple[Any, ...]:  # else pickle and copy give the message alone to a class of three words
+    # Without it, pickle and copy make it anew of only its message.
+    def __reduce__(self) -> Tuple[Any, ...]:
         return type(self), (self.file, self.line, self.fault)
 
 

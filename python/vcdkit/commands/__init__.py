@@ -67,9 +67,9 @@ def add_four_state(to: argparse.ArgumentParser) -> None:
                     help="make four states of VHDL's nine, as vcdkit-four-state does")
 
 
-def dump_of(asked: argparse.Namespace, file: str = "", **options) -> Dump:
+def dump_of(asked: argparse.Namespace, file: Optional[str] = None, **options) -> Dump:
     """Returns the dump of FILE, or of another file that is asked for."""
-    return Dump(file or asked.file, four_state=asked.four_state, **options)
+    return Dump(asked.file if file is None else file, four_state=asked.four_state, **options)
 
 
 def add_names(to: argparse.ArgumentParser, count: str) -> None:

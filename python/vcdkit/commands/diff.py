@@ -30,8 +30,8 @@ from concurrent.futures import ThreadPoolExecutor
 from typing import Dict, Iterable, Iterator, List, Optional, Sequence, Tuple
 
 from .. import RunFailed, UsageError, VcdkitError, _body
-from .._compare import (Comparison, Difference, Pair, Side, Sides, bare, in_common, kind,
-                        same_within)
+from .._compare import (Comparison, Difference, Pair, Side, Sides, in_common, kind, same_within)
+from .._condition import bare
 from ..times import word
 from ..values import Signal
 from . import FAULT, add_four_state, add_names, command, dump_of, parser, question

@@ -278,12 +278,12 @@ def lanes_of(dump, chosen, names, window, count):
     """Returns the lanes of a window, which ends with the dump if that is earlier."""
     begin, end = window
     with Progress() as progress:
-        part = dump.pick(names).cut(begin, end)
-        last = part.check().last
+        is_part = window != (0, LAST_TICK)
+        last = (dump.cut(begin, end) if is_part else dump).check().last
         if last is None or last <= begin:
             raise UsageError("the dump has nothing between these times")
-        lanes = Lanes(chosen, begin, last, count)
-        with part.open() as out:
+        lanes, part = Lanes(chosen, begin, last, count), dump.pick(names)
+        with (part.cut(begin, end) if is_part else part).open() as out:
             _body.skip_header(out)
             lanes.read(out, progress.now)
     return lanes
