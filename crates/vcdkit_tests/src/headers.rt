@@ -1,6 +1,6 @@
 // Faults of headers, and limits.
-use super::runs::{Case, Input, LIMIT, give};
-use super::written::give_again;
+use super::runs::{Case, Input, LIMIT, give, run_on};
+use super::written::{MERGE, is_read_again};
 use std::alloc::{AllocError, Global};
 use std::test::Fail;
 use vcd_words::Words;
@@ -154,36 +154,37 @@ const TOO_DEEP: &[u8] = b"vcdkit: (stdin):1001: scopes too deep\n";
 
 const TOO_DEEP_MERGED: &[u8] = b"vcdkit: (stdin):1004: scopes too deep\n";
 
+// Whether a run over this input leaves this output, message and status.
+fn is_left(
+    alloc: Global,
+    words: Words<'_, '_>,
+    input: Input<'_>,
+    wanted: (&[u8], &[u8], u8),
+) -> Result<bool, AllocError> {
+    let left = run_on(alloc, words, input, 64, 65_536)?;
+    Ok(left.parts() == wanted)
+}
+
 // A merge puts a scope of its own around those of an input: it takes a thousand, and writes one
 // more. Four lines of what it writes come before them.
 #[test]
 fn a_thousand_scopes_may_be_open(rt: HostRuntime) -> Result<(), Fail> {
-    let most = open_scopes(rt.alloc(), 1000)?;
-    let more = open_scopes(rt.alloc(), 1001)?;
+    let alloc = rt.alloc();
+    let most = open_scopes(alloc, 1000)?;
+    let more = open_scopes(alloc, 1001)?;
+    let deep = Input::Whole(more.as_bytes());
     let merged = [most.as_bytes()];
-    let cases = [
-        (
+    assert!(rt;
+        is_left(
+            alloc,
             Words::Check,
             Input::Whole(most.as_bytes()),
-            (DEEPEST, b"".as_slice(), 0),
-        ),
-        (
-            Words::Check,
-            Input::Whole(more.as_bytes()),
-            (b"".as_slice(), TOO_DEEP, 1),
-        ),
-        (
-            Words::List,
-            Input::Whole(more.as_bytes()),
-            (b"".as_slice(), TOO_DEEP, 1),
-        ),
-    ];
-    give(&rt, 64, &cases);
-    give_again(
-        &rt,
-        Input::All(&merged),
-        (Words::Merge(&[]), Words::Check),
-        (b"", TOO_DEEP_MERGED, 1),
+            (DEEPEST, b"", 0)
+        )?
     );
+    assert!(rt; is_left(alloc, Words::Check, deep, (b"", TOO_DEEP, 1))?);
+    assert!(rt; is_left(alloc, Words::List, deep, (b"", TOO_DEEP, 1))?);
+    let wanted: (&[u8], &[u8], u8) = (b"", TOO_DEEP_MERGED, 1);
+    assert!(rt; is_read_again(alloc, Input::All(&merged), MERGE, Words::Check, wanted)?);
     Ok(())
 }

@@ -2,32 +2,32 @@
 use super::produced::{GHDL, ICARUS, VERILATOR};
 use super::runs::{ALIASES, Input, LIMIT, Left, MIXED, TENS, run_on};
 use std::alloc::{AllocError, Global};
-use std::process::Abort;
+use std::test::Fail;
 use vcd_words::Words;
 
 // What the second words leave over the output of a run of the first.
 fn run_again(
     alloc: Global,
     input: Input<'_>,
-    (first, second): (Words<'_, '_>, Words<'_, '_>),
+    first: Words<'_, '_>,
+    second: Words<'_, '_>,
 ) -> Result<Left, AllocError> {
     let left = run_on(alloc, first, input, LIMIT, 65_536)?;
     let (dump, _, _) = left.parts();
     run_on(alloc, second, Input::Whole(dump), LIMIT, 65_536)
 }
 
-// The second words leave this output, message and status over the output of a run of the first.
-pub(crate) fn give_again<R: Abort + AllocGlobal>(
-    rt: &R,
+// Whether the second words leave this output, message and status over the output of a run of the
+// first.
+pub(crate) fn is_read_again(
+    alloc: Global,
     input: Input<'_>,
-    words: (Words<'_, '_>, Words<'_, '_>),
+    first: Words<'_, '_>,
+    second: Words<'_, '_>,
     wanted: (&[u8], &[u8], u8),
-) {
-    let Ok(left) = run_again(rt.alloc(), input, words) else {
-        assert!(rt; false, "out of memory");
-        return;
-    };
-    assert_eq!(rt; left.parts(), wanted, "of {words:?}");
+) -> Result<bool, AllocError> {
+    let left = run_again(alloc, input, first, second)?;
+    Ok(left.parts() == wanted)
 }
 
 // What readers give, the words of a run, and of one over its output, and the output of this. The
@@ -68,7 +68,8 @@ const WRITTEN: [(
 #[test]
 fn an_output_is_read_again(rt: HostRuntime) {
     for (input, first, second, output) in &WRITTEN {
-        give_again(&rt, *input, (*first, *second), (*output, b"", 0));
+        let is = is_read_again(rt.alloc(), *input, *first, *second, (*output, b"", 0));
+        assert_eq!(rt; is, Ok(true), "of {second:?} after {first:?}");
     }
 }
 
@@ -87,14 +88,28 @@ const SCALED: &[u8] = b"0 in2.a 0\n99 in2.a 0\n100 in2.a 1\n200 in2.a 0\n300 in2
 const COUNTS: &[u8] =
     b"scopes 16\nvariables 55\ncodes 39\ntimes 55\nsections 0\nchanges 358\nlast 122000000\n";
 
+pub(crate) const MERGE: Words<'static, 'static> = Words::Merge(&[]);
+
+const PICKED: Words<'static, 'static> = Words::Pick(&["bench.lane[0]", "bench.level"]);
+
+const SAMPLED: Words<'static, 'static> = Words::Sample("0,99,100,200,300", Some(&["in2"]));
+
 #[test]
-fn an_output_from_simulators_is_read_again(rt: HostRuntime) {
-    let words = (Words::Pick(&["bench.lane[0]", "bench.level"]), Words::List);
-    give_again(&rt, Input::Whole(ICARUS), words, (PICKED_LIST, b"", 0));
-    let at = "0,99,100,200,300";
-    let words = (Words::Merge(&[]), Words::Sample(at, Some(&["in2"])));
-    give_again(&rt, Input::All(&[ICARUS, TENS]), words, (SCALED, b"", 0));
-    let words = (Words::Merge(&[]), Words::Check);
-    let all = Input::All(&[ICARUS, VERILATOR, GHDL]);
-    give_again(&rt, all, words, (COUNTS, b"", 0));
+fn an_output_from_simulators_is_read_again(rt: HostRuntime) -> Result<(), Fail> {
+    let alloc = rt.alloc();
+    let icarus = Input::Whole(ICARUS);
+    assert!(rt; is_read_again(alloc, icarus, PICKED, Words::List, (PICKED_LIST, b"", 0))?);
+    let two = [ICARUS, TENS];
+    assert!(rt; is_read_again(alloc, Input::All(&two), MERGE, SAMPLED, (SCALED, b"", 0))?);
+    let three = [ICARUS, VERILATOR, GHDL];
+    assert!(rt;
+        is_read_again(
+            alloc,
+            Input::All(&three),
+            MERGE,
+            Words::Check,
+            (COUNTS, b"", 0)
+        )?
+    );
+    Ok(())
 }
