@@ -125,14 +125,13 @@ def memory(place, case):
     # The last three are for the code as a key, for the variable's type, and for the key again.
     if case.known_code and not got[-3] == got[-1] == whole:
         yield say(case, "the key of a known code refused", [whole, whole], [got[-3], got[-1]])
-    # How the last variable of a header is read, and so what it asks for, depends on whether 64
-    # bytes come after it in the chunk: five comments are more. The names of the files are as long,
-    # since they are copied too.
+    # The body is longer than the longest file that is read with windows no longer than it is. The
+    # names of the files are as long, since they are copied too.
     few, many = [place.counts(case,
                               place.files_of(case,
                                              [text + b"\n$comment x $end" * n
                                               for text in case.inputs], mark))
-                 for n, mark in ((5, ".few"), (5000, ".all"))]
+                 for n, mark in ((66_000, ".few"), (132_000, ".all"))]
     if whole[2] == 0 and (few[0], few[2]) != (many[0], many[2]):
         yield say(case, "a longer body", few, many)
     yield requests + 1
