@@ -91,14 +91,15 @@ def case(seed, commands, folder):
                                           else [1, 2, 2, 2, 3]))]
         if r.random() < 0.2 and len(inputs) < 64:
             inputs.append(inputs[0])
-        for name, text in inputs:
-            with open(os.path.join(folder, name.decode()), "wb") as f:
-                f.write(text)
         arguments = [name.decode() for name, _ in inputs]
         if r.random() < 0.2:
             k = r.randrange(len(inputs))
             arguments[k], given = "-", inputs[k][1]
             inputs[k] = (b"(stdin)", given)
+        for file, (_, text) in zip(arguments, inputs):
+            if file != "-":
+                with open(os.path.join(folder, file), "wb") as f:
+                    f.write(text)
     else:
         text = padded(r, d.dump())
         name, arguments, given = put_input(r, folder, seed, command, text)
