@@ -21,7 +21,7 @@ import tempfile
 
 TOP = os.path.dirname(os.path.dirname(os.path.abspath(__file__)))
 DOCUMENTS = ["README.md", "docs/TUTORIAL.md", "docs/FAQ.md", "docs/MANUAL.md", "docs/RECIPES.md",
-             "docs/PRODUCERS.md", "extras/README.md", "python/README.md"]
+             "docs/PRODUCERS.md", "extras/README.md"]
 SECONDS = 60
 
 

@@ -4,11 +4,11 @@
 set -eu
 [ $# = 1 ] || { sed -n '2,/^set/s/^# //p' "$0"; exit 2; }
 cd "$(dirname "$0")/.."
-mkdir -p "$1/docs" "$1/samples" "$1/extras" "$1/python"
+mkdir -p "$1/docs" "$1/samples" "$1/extras"
 inner='ARCHITECTURE|AUDIT|DEFINITIONS|PROOFS|DECISIONS|PERFORMANCE|OWN_CRATES|CONTRIBUTING|STYLE'
 inner="$inner|bench/README|hostile/README|crates/[a-z_]*/README"
 for page in README.md CHANGELOG.md NOTICE.md docs/TUTORIAL.md docs/FAQ.md docs/MANUAL.md \
-    docs/RECIPES.md docs/PRODUCERS.md extras/README.md python/README.md; do
+    docs/RECIPES.md docs/PRODUCERS.md extras/README.md; do
     sed -E "s,\[([^][]+)\]\([^()]*($inner)\.md[^()]*\),\1,g" "$page" > "$1/$page"
     chmod 644 "$1/$page"
 done

@@ -50,7 +50,7 @@ def files_of(version, program, library):
     commands = sorted(name[:-3] for name in os.listdir(os.path.join(PACKAGE, "commands"))
                       if name.endswith(".py") and name != "__init__.py")
     about = "vcdkit-%s.dist-info/" % version
-    yield about + "METADATA", (METADATA % (version, read(TOP, "python", "README.md").decode(
+    yield about + "METADATA", (METADATA % (version, read(TOP, "extras", "README.md").decode(
         ))).encode(), False
     yield about + "WHEEL", ("Wheel-Version: 1.0\nGenerator: wheel.py\nRoot-Is-Purelib: false\n"
                             "Tag: %s\n" % TAG).encode(), False
