@@ -1,8 +1,8 @@
 #!/usr/bin/env bash
-# Compares the commands and options that both completions name with those that the help of the
-# program prints, looks for them in the man page, and tries the completion of bash on words; the
-# same for the names of the scripts, whose options come from their help. Nothing is built: VCDKIT
-# names the program, else ./vcdkit.
+# Compares the commands and options in both completions with those in the help of the program, looks
+# for them in the man page, and tries the completion of bash. It does the same with the names of the
+# scripts; their options come from their help. It builds nothing: it uses the program that VCDKIT
+# names, or ./vcdkit.
 set -u
 cd "$(dirname "$0")/.."
 program=${VCDKIT:-./vcdkit}

@@ -1,16 +1,16 @@
 #!/usr/bin/env bash
-# dist.sh PROGRAM FOLDER [LIBRARY]: packs a program, with documents, man page, completions, samples,
-# extras and the Python package, into the folder:
+# dist.sh PROGRAM FOLDER [LIBRARY]: packs a program with documents, man page, completions, samples,
+# scripts and the Python package, and writes to the folder:
 #   vcdkit-VERSION-x86_64-linux.tar.gz   to unpack and run, or `make install` in it
-#   vcdkit_VERSION_amd64.deb             a Debian package of the program, where there is dpkg-deb
+#   vcdkit_VERSION_amd64.deb             a Debian package of the program, if there is dpkg-deb
 #   python3-vcdkit_VERSION_*.deb         one of the Python package and of vcdkit-diff, ..
 #   vcdkit-VERSION-py3-none-linux_x86_64.whl    all of it for pip, the program too
-#   vcdkit-VERSION-relink.tar.gz         the object files, for who wants to link the program with
+#   vcdkit-VERSION-relink.tar.gz         the object files, for linking the program again with
 #                                        another C library (NOTICE.md)
-# LIBRARY is libvcdkit.so, which goes into the Python packages, and with what `make library` left
-# beside it into the tarball. The same files give the same bytes: names are sorted, owner and
-# modes fixed, and all times are SOURCE_DATE_EPOCH, else that of the last commit. MAINTAINER is who
-# is named in the Debian packages, else the author of that commit.
+# LIBRARY is libvcdkit.so. It goes into the Python packages, and, with what `make library` left beside
+# it, into the tarball. The same files give the same bytes: names are sorted, owner and modes are
+# fixed, and all times are SOURCE_DATE_EPOCH, or the time of the last commit. MAINTAINER is the name
+# in the Debian packages; without it, the author of that commit is named.
 set -eu
 [[ $# == 2 || $# == 3 ]] || { sed -n '2,/^set/s/^# //p' "$0"; exit 2; }
 top=$(cd "$(dirname "$0")/.." && pwd)

@@ -2,17 +2,17 @@
 """prove.py CRATE COMMAND [WORD ..]: proves each crate below crates/CRATE, runs
 `rt COMMAND WORD ..` in it, and shows how far it is.
 
-Crates that do not need each other are proved at the same time, on as many processors as there are,
-and as 4 GB of available memory for each allow. A processor that would be idle proves a crate of the
-library meanwhile (BESIDE). rt locks the folders of a crate and of those below it while it works. So
-what is proved beside another crate is proved in a copy in the temporary folder (TMPDIR), most of it
+Crates that do not need each other are proved at the same time: one for each processor, if there are
+4 GB of available memory for each. An idle processor proves a crate of the library (BESIDE). While
+rt works, it locks the folders of a crate and of those below it. So a crate that is proved at the
+same time as another one is proved in a copy in the temporary folder (TMPDIR). Most of the copy is
 links, and what rt built and kept there is moved back.
 
-What rt and the prover write goes to the file make.log of the top folder, with what the program
-writes, each line after its crate's name. The screen has a line for each crate that was proved:
-'crate k of n, NAME: so many functions proved, so many minutes'; on a terminal also a line that says
-what is being proved. Standard input is handed on. The first failure ends the other proofs: the exit
-status is that of rt, and the last lines of that crate are shown."""
+What rt, the prover and the program write goes to the file make.log in the top folder; each line
+begins with the name of its crate. The screen shows a line for each crate that was proved: 'crate k
+of n, NAME: so many functions proved, so many minutes'. A terminal also shows what is being proved.
+The program gets the standard input. The first failure ends the other proofs: then the last lines of
+that crate are shown, and the exit status is that of rt."""
 import collections
 import os
 import queue
