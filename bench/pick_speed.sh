@@ -5,9 +5,9 @@
 #
 # `pick one` selects the variable in the middle of `list`, so what it writes depends on how often
 # that one changes; `pick all` names all scopes at the top. `pick` does what `check` does and also
-# writes, so the additional time is the cost of writing. Before the measurement, each pick is written
-# to a file, in which `check` has to find the last timestamp of the dump. TMPDIR needs the size of
-# the dump, and twice that for a plain one.
+# writes, so the additional time is the cost of writing. Before the measurement, each pick is
+# written to a file, in which `check` has to find the last timestamp of the dump. TMPDIR needs the
+# size of the dump, and twice that for a plain one.
 set -eu -o pipefail
 here=$(cd "$(dirname "$0")" && pwd)
 programs=(check 'pick one' 'pick all' 'wc -l')

@@ -1,8 +1,8 @@
 #!/usr/bin/env python3
 """check.py [PAGE..]: runs the commands that the pages show, and compares what they print.
 
-In each ```console block of the pages for users (DOCUMENTS), bash runs each line that begins with
-`$ ` in the top folder of the repository. The lines below it, up to the next command, have to be what
+In each ```console block of the pages for users (DOCUMENTS), bash runs each line that begins with `$
+` in the top folder of the repository. The lines below it, up to the next command, have to be what
 it prints, standard output and standard error together. If the line of a command ends in `\\`, the
 command continues in the next line; if it contains << 'END', the command ends with the line END. The
 variable T names an empty folder for the files that a page writes; it is removed at the end. If a

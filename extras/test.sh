@@ -1,8 +1,8 @@
 #!/usr/bin/env bash
-# Tests the Python package and the scripts on samples/ and on small dumps. It builds nothing: it uses
-# the program that VCDKIT names, or ./vcdkit. extras/test.sh DUMP.. also checks on these dumps what
-# must hold for any dump. If `make library` has left ./libvcdkit.so, it tests the package with that
-# as well.
+# Tests the Python package and the scripts on samples/ and on small dumps. It builds nothing: it
+# uses the program that VCDKIT names, or ./vcdkit. extras/test.sh DUMP.. also checks on these dumps
+# what must hold for any dump. If `make library` has left ./libvcdkit.so, it tests the package with
+# that as well.
 set -u
 cd "$(dirname "$0")/.."
 export VCDKIT=${VCDKIT:-./vcdkit} LC_ALL=C PYTHONDONTWRITEBYTECODE=1

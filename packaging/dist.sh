@@ -7,10 +7,10 @@
 #   vcdkit-VERSION-py3-none-linux_x86_64.whl    all of it for pip, the program too
 #   vcdkit-VERSION-relink.tar.gz         the object files, for linking the program again with
 #                                        another C library (NOTICE.md)
-# LIBRARY is libvcdkit.so. It goes into the Python packages, and, with what `make library` left beside
-# it, into the tarball. The same files give the same bytes: names are sorted, owner and modes are
-# fixed, and all times are SOURCE_DATE_EPOCH, or the time of the last commit. MAINTAINER is the name
-# in the Debian packages; without it, the author of that commit is named.
+# LIBRARY is libvcdkit.so. It goes into the Python packages, and, with what `make library` left
+# beside it, into the tarball. The same files give the same bytes: names are sorted, owner and modes
+# are fixed, and all times are SOURCE_DATE_EPOCH, or the time of the last commit. MAINTAINER is the
+# name in the Debian packages; without it, the author of that commit is named.
 set -eu
 [[ $# == 2 || $# == 3 ]] || { sed -n '2,/^set/s/^# //p' "$0"; exit 2; }
 top=$(cd "$(dirname "$0")/.." && pwd)
