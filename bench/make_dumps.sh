@@ -1,11 +1,11 @@
 #!/usr/bin/env bash
 # make_dumps.sh FOLDER [MB] [KIND ..]   writes the dumps of the figures (docs/PERFORMANCE.md) to
-# FOLDER/KIND.vcd, each of about MB megabytes (5). It takes a minute or two.
+# FOLDER/KIND.vcd, each of about MB megabytes (5). It takes some minutes.
 #
-# KIND is scalars, many, wide or cpus; without one it makes all four. designs/ has their sources,
-# which say what they are. Icarus Verilog simulates the first three and Verilator the last one
-# (Debian: iverilog, verilator, g++, make). A dump that is already there stays. Two runs of one
-# simulator write the same body; only the date in the header differs.
+# KIND is scalars, many, wide or cpus; without one it makes all four. A fifth one, header, has a
+# large header and nearly no body. designs/ has the sources, which say what they are. Verilator
+# simulates cpus, and Icarus Verilog the others (Debian: iverilog, verilator, g++, make). A dump
+# that is already there stays. Two runs of one simulator write the same; only the date differs.
 set -eu
 [ $# -ge 1 ] || { sed -n '2,/^set/s/^# //p' "$0" >&2; exit 2; }
 here=$(cd "$(dirname "$0")" && pwd)
@@ -25,6 +25,7 @@ cycles_of() {
         many) echo $(((size * 1000 - 1253) * 1000 / 22953)) ;;
         wide) echo $((size * 592)) ;;
         cpus) echo $((size * 121)) ;;
+        header) echo 0 ;;
     esac
 }
 
