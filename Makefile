@@ -7,7 +7,7 @@
 # make hostile runs the program while memory, reads and writes fail, with closed streams, and on
 #     dumps that are truncated, crafted or random: some minutes
 # make docs-check runs the commands on the pages with ./vcdkit, and compares what they print with
-#     the pages. It also looks for links that lead nowhere: a minute
+#     the pages. It also looks for links that lead nowhere: seconds
 # make static  links ./vcdkit-static, a program that needs no shared library: seconds after make
 # make dist    packs it in dist/ as a tarball, Debian packages and a wheel, with documents, man
 #     page, completions, scripts and the Python package, and with ./libvcdkit.so if it is there
