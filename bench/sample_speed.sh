@@ -14,8 +14,8 @@ programs=(check 'sample one' 'sample all' 'sample end' 'wc -l')
 . "$here/common.sh"
 need_files "$@"
 
-# This many times with commas between them, from 0 to near the last timestamp, or past it where
-# there are fewer.
+# Prints this many times with commas between them, from 0 to near the last timestamp. If the dump
+# has fewer ticks, the times go past it.
 times_over() {
     local step=$((last / $1))
     [ "$step" -gt 0 ] || step=1
@@ -33,8 +33,7 @@ find_command() {
     esac
 }
 
-# How many variables with values the name `one` selects: more than one where names are declared
-# twice.
+# Counts the variables with values that the name `one` selects: several if a name is declared twice.
 count_one() {
     one=$one LC_ALL=C awk '
         BEGIN { one = ENVIRON["one"] }

@@ -66,7 +66,7 @@ zsh_options() {
     } | sorted
 }
 manual=$(sed 's/\\-/-/g; s/\\f[A-Z]//g' man/vcdkit.1)
-# 1 where a line of the man page matches this pattern.
+# Prints 1 if a line of the man page matches this pattern.
 in_manual() { grep -qE -- "$1" <<< "$manual" && echo 1; }
 
 same 'commands, bash' "$help_commands" "$(completed "$program" '' | sorted)"

@@ -1,9 +1,9 @@
-# Completion of vcdkit and its scripts for bash: commands, options, files, and the names of a dump
-# where its file comes before. Source this file, or let `make install` put it where bash-completion
-# finds it.
+# Completion of vcdkit and its scripts for bash: commands, options and files, and the names of a
+# dump if its file comes before them. Source this file, or let `make install` put it where
+# bash-completion finds it.
 
-# What a command takes: its options, and whether it takes names (`name`), files (`file`), or
-# one file where none comes after `-i` (`dump`).
+# Prints what a command takes: its options, and `name` if it takes names, `file` if it takes files,
+# or `dump` if it takes one file unless there is one after `-i`.
 _vcdkit_words() {
     case $1 in
         '') echo '-h --help -V --version' ;;
