@@ -209,8 +209,8 @@ CutOffMergeIsAPrefix = (limit : ℕ) (names : List (List ℕ)) (cuts inputs : Li
     (outcome Want.Merge limit names inputs).output
 
 -- A text begins the output over every input that begins with these bytes if and only if it begins
--- the output of a run whose source gives only them and then fails. So such a run leaves all that was
--- known of the output once they were read, and no more.
+-- the output of a run whose source gives only them and then fails. So such a run leaves all that
+-- was known of the output once they were read, and no more.
 abbrev pub CutOffIsAllThatIsKnown : Type 0
 CutOffIsAllThatIsKnown = (want : Want) (limit : ℕ) (name text : List ℕ) (cut : Input)
     → IsOverOne want → cut.mark ≡ Mark.Failed
@@ -218,7 +218,7 @@ CutOffIsAllThatIsKnown = (want : Want) (limit : ℕ) (name text : List ℕ) (cut
     → IsPrefixOf text (run_of want limit name input).output)
     ↔ IsPrefixOf text (run_of want limit name cut).output
 
--- so it is for a merge, of whose inputs some may have been read to their end
+-- the same for a merge, some of whose inputs may have been read to their end
 abbrev pub CutOffMergeIsAllThatIsKnown : Type 0
 CutOffMergeIsAllThatIsKnown = (limit : ℕ) (names : List (List ℕ)) (text : List ℕ)
     (cuts : List Input)
