@@ -19,7 +19,7 @@ use vcd_body::{BodyFault, Form, Item, Regs, next_item};
 use vcd_head::{HeadFault, HeadView, read_head};
 use vcd_text::{Feed, Source, Watch, text_of};
 
-/// The most bytes that a token may have.
+/// How many bytes a token may have.
 const LIMIT: usize = 65_536;
 
 /// How many changes there were, by how they are written.
@@ -30,7 +30,7 @@ struct Forms {
     reals: u64,
 }
 
-/// Returns these counts after one item more.
+/// Returns these counts after one more item.
 fn with(forms: Forms, item: Item) -> Forms
     requires { forms.scalars + forms.vectors + forms.reals < 2 ^ 63 }
     ensures { result ≡ counted forms item }

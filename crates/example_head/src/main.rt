@@ -17,7 +17,7 @@ use std::process::ExitCode;
 use vcd_head::{HeadFault, HeadView, Kind, Row, read_head};
 use vcd_text::{Feed, Source, Watch, text_of};
 
-/// The most bytes that a token may have.
+/// How many bytes a token may have.
 const LIMIT: usize = 65_536;
 
 /// The most declarations that `read_head` takes.

@@ -42,7 +42,7 @@ abbrev pub goes_on : Result More Stop → Bool
 goes_on (Ok Again) = true
 goes_on result = false
 
--- what is left of an input: all of it; or, where a read failed, what its source gave until then,
--- which has the others still
+-- what is left of an input: all of it; or, if a read failed, what its source gave until then, which
+-- has the others still
 abbrev pub IsLeft : Input → (old new : Supply) → Input → Type 0
 IsLeft i old new left = ((new.failures ≡ old.failures) × (left ≡ i)) ⊎ ((new.failures ≡ old.failures + 1) × (n : ℕ) × (left ≡ failed_after n i) × (i.mark ≡ Clean → HasRest new.rest n i))

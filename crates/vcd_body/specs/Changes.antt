@@ -36,7 +36,7 @@ IsLowerAt bytes at = to_ascii_lowercase (slice_index bytes at) ≡ slice_index b
 abbrev pub IsBinaryAt : List ℕ → ℕ → Type 0
 IsBinaryAt bytes at = slice_index bytes at ≡ byte "0" + bit_of (slice_index bytes at)
 
--- these digits are binary; they are where that is known
+-- these digits are binary; they are if that is known
 abbrev pub AreBinary : List ℕ → Type 0
 AreBinary digits = (k : ℕ) → k < length digits → IsBinaryAt digits k
 

@@ -25,7 +25,7 @@ text_of Scalar f = take 1 (token_of f).bytes
 text_of Vector f = drop 1 (value_of f)
 text_of RealText f = drop 1 (value_of f)
 
--- one item more was given; at the end the body has all of them, and no fault
+-- one more item was given; at the end the body has all of them, and no fault
 abbrev pub GivesItem : {X : Type 0} {g : Ghosts X} → List IdCode → Input → List Token → List BodyItem → Feed X g → Regs → Item → Type 0
 GivesItem codes i front items f r (Time t) = GaveItem codes i front items (BodyItem.Time t) f r
 GivesItem codes i front items f r (Begin s) = GaveItem codes i front items (BodyItem.Begin (model_section s)) f r

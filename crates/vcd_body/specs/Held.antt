@@ -4,7 +4,7 @@ use Rattle.vcd_body.specs.Kept.{Held}
 use Rattle.vcd_body.specs.Stored.{digits_with, held_with}
 use Rattle.vcd_body.specs.declared.slot.HeldValue.{HeldValue}
 
--- what is held, and its digits, none where it has none
+-- what is held, and its digits, none if it has none
 abbrev pub held_in : HeldValue → Held
 held_in v = held_with v.holding v.bytes.now
 
@@ -15,7 +15,7 @@ digits_of v = digits_with v.holding v.bytes.now
 abbrev pub HasDigits : HeldValue → Type 0
 HasDigits v = held_in v ≡ Held.Digits (digits_of v)
 
--- what is held, nothing where there is no value
+-- what is held, nothing if there is no value
 abbrev pub held_or : Option HeldValue → Held
 held_or None = Held.Unset
 held_or (Some v) = held_in v

@@ -41,7 +41,7 @@ pub record AcceptsTimestamp (r : Regs) (time : ℕ) : Type 0 where
 abbrev pub RefusesTimestamp : Regs → ℕ → BodyFault → Type 0
 RefusesTimestamp r time fault = ((fault ≡ TimeInSection) × (is_some r.section ≡ true)) ⊎ ((fault ≡ TimeBack) × (is_some r.section ≡ false) × (time < r.time))
 
--- the registers after one item more
+-- the registers after one more item
 abbrev pub regs_after : Regs → Item → Regs
 regs_after r (Time t) = record { time = t; marked = true; section = r.section }
 regs_after r (Begin s) = record { time = r.time; marked = r.marked; section = Some s }
@@ -49,6 +49,6 @@ regs_after r End = record { time = r.time; marked = r.marked; section = None }
 regs_after r (Change code form) = r
 regs_after r Finish = r
 
--- the registers are those after the item of what was read, and as before where nothing was
+-- the registers are those after the item of what was read, and as before if nothing was
 abbrev pub AreRegsWith : {A E : Type 0} → (A → Item) → Regs → Regs → Result A E → Type 0
 AreRegsWith item old new result = MatchResult result (λ x. new ≡ regs_after old (item x)) (λ _. new ≡ old)

@@ -23,7 +23,7 @@ IsTextLine bytes from to first text code_at = (code : List ℕ) → HasChange by
 abbrev pub MayBe : Option Bits → List ℕ → Type 0
 MayBe bits digits = IfSome bits (λ b. digits ≡ binary_digits b.len b.number)
 
--- without this many, the digits are the shortest, where they are binary if that is known
+-- without this many, the digits are the shortest, if they are binary if that is known
 abbrev pub LeavesShortest : List ℕ → Bool → ℕ → Type 0
 LeavesShortest digits binary k = (k ≤ length digits) × (AreBinaryIf binary digits → (size : ℕ) → drop k digits ≡ short (extend (str_to_ascii_lowercase digits) size))
 

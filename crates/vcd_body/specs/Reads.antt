@@ -46,7 +46,7 @@ module _ {X : Type 0} {g : Ghosts X} (codes : List IdCode) (i : Input) (front : 
     pub last : gave.placed ≡ before ++ record { phrase = BodyPhrase.Gives x; line = (token_of f).line } ∷ []
     pub near : HasReadTo i (front ++ gave.given) f
 
-  -- these are all tokens, and the body has just these items and no fault
+  -- these are all tokens, and the body has exactly these items and no fault
   pub record GaveAll (items : List BodyItem) (f : Feed X g) (r : Regs) : Type 0 where
     pub gave : GaveItems items f r
     pub all : (stream_of (limit_of f) i).tokens ≡ front ++ gave.given
@@ -79,7 +79,7 @@ module _ {X : Type 0} {g : Ghosts X} (codes : List IdCode) (i : Input) (front : 
     pub reads : Reads placed before f
     pub all : (stream_of (limit_of f) i).tokens ≡ front ++ reads.given
 
-  -- and one phrase more, which ends with the feed's last token; at most a chunk was read past it
+  -- and one more phrase, which ends with the feed's last token; at most a chunk was read past it
   pub record ReadsPhrase (placed : List (Placed BodyPhrase)) (f : Feed X g) (p : BodyPhrase) : Type 0 where
     pub reads : Reads (placed ++ record { phrase = p; line = (token_of f).line } ∷ []) [] f
     pub near : HasReadTo i (front ++ reads.given) f
@@ -103,7 +103,7 @@ pub record Begun {X : Type 0} {g : Ghosts X} (codes : List IdCode) (i : Input) (
 abbrev pub FailsOver : {X : Type 0} {g : Ghosts X} → List IdCode → Input → List Token → List BodyItem → ℕ → Feed X g → Type 0
 FailsOver codes i front items number f = BodyHas codes i front (limit_of f) items (Some (record { number = number; line = (token_of f).line })) × StopsAt codes i front items f
 
--- why a body is refused: its fault; where the source failed, that of what it gave until then
+-- why a body is refused: its fault; if the source failed, that of what it gave until then
 abbrev pub Fails : {X : Type 0} {g : Ghosts X} → List IdCode → Input → List Token → List BodyItem → BodyFault → Feed X g → Type 0
 Fails codes i front items ReadFailed f = FailsOver codes (failed_after (seen f) i) front items 31 f × GaveOnlySeen i f
 Fails codes i front items fault f = FailsOver codes i front items (fault_number fault) f

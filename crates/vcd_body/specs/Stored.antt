@@ -63,7 +63,7 @@ held_by state.Packed len bytes = Held.Digits (digits_in len bytes)
 held_by state.Bits len bytes = Held.Digits (binary_digits (count_in len) (number_in len))
 held_by state.Real len bytes = Held.Text bytes
 
--- the digits, none where there are none
+-- the digits, none if there are none
 abbrev pub digits_held : Held → List ℕ
 digits_held Held.Unset = []
 digits_held (Held.Digits ds) = ds

@@ -22,7 +22,7 @@ text_in (Bits bits) = binary_digits bits.len bits.number
 abbrev pub by_text : (Form → List ℕ → Kept → Kept) → Value → Kept → Kept
 by_text does value = does (form_in value) (text_in value)
 
--- it is set: by its text, where that has room; binary digits need none
+-- it is set: by its text, if that has room; binary digits need none
 abbrev pub with_value : Value → Kept → Kept
 with_value (Digits text) k = with_text form.Vector text.now k
 with_value (Real text) k = with_text form.RealText text.now k

@@ -1,4 +1,4 @@
-// Items whose tokens are whole ahead in the chunk: most cost no change of the feed.
+// Items whose tokens lie completely in the chunk: most cost no change of the feed.
 ghost use Rattle.std.specs.Prelude.{◌≡◌, ◌⊎◌, ℕ, ◌+◌, ◌-◌, ◌^◌, ◌<◌, ◌≤◌, List, [], drop, length, slice_get, slice_range, false, true, is_some, None, Some, IfOk, IfSome};
 ghost use Rattle.vcd_body.specs.Names.{Advances, AreBinaryIf, AreWhite, Begins, CallEnd, GivesAhead, GivesToLast, HasTimestamp, HasTime, HoldsItem, IsChangeBy, IsFound, IsFoundScalar, IsPrompt, IsRun, IsScalar, LeavesRegs, MayBe, Opens, OpensVector, Passed, Puts, TakesItem, TakesOpened, TakesOpenedTimestamp, Token, ahead_of, binary_digits, byte, bytes_of, limit_of, lines_of, longest_of, passed_of, seen, source_of};
 ghost use Rattle.vcd_body.specs.declared.item.Form.TheVariants as form;
@@ -34,9 +34,9 @@ pub struct ScannedItem<'a> {
     pub at: usize,
     /// Where a change's code begins; it ends one byte before the last one that is passed.
     pub code_at: usize,
-    /// The digits of a vector as a number, where they are few, and `0` and `1` alone.
+    /// The digits of a vector as a number, if they are few, and only `0` and `1`.
     pub bits: Option<Bits>,
-    /// Whether the digits of a vector are known to be `0` and `1` alone.
+    /// Whether the digits of a vector are known to be only `0` and `1`.
     pub binary: bool,
 }
 
@@ -155,9 +155,9 @@ pub(crate) struct Opening<'a> {
     pub(crate) from_lines: bool,
 }
 
-/// Returns the next token ahead, with what it begins; none where the look-ahead gives none.
+/// Returns the next token ahead, with what it begins; `None` if the look-ahead gives none.
 // Inlined to the end of each arm of `take_next`, so the compiler drops what cannot be, such as the
-// digits of a vector where a digit was taken.
+// digits of a vector if a digit was taken.
 #[inline(always)]
 pub(crate) fn opening_ahead<'a>(ahead: &mut Ahead<'a>) -> Option<Opening<'a>>
     ensures opens { IfSome result (λ o. Opens ahead.old ahead.new o) }
@@ -171,8 +171,8 @@ pub(crate) fn opening_ahead<'a>(ahead: &mut Ahead<'a>) -> Option<Opening<'a>>
     })
 }
 
-/// Returns the next token ahead, with what it begins, where it begins right here, has two bytes and
-/// a line feed after them.
+/// Returns the next token ahead, with what it begins, if it begins at the next byte, has two bytes
+/// and a line feed after them.
 #[inline(always)]
 fn short_opening<'a>(ahead: &mut Ahead<'a>) -> Option<Opening<'a>>
     ensures opens { IfSome result (λ o. Opens ahead.old ahead.new o) }
@@ -186,8 +186,9 @@ fn short_opening<'a>(ahead: &mut Ahead<'a>) -> Option<Opening<'a>>
     })
 }
 
-/// Returns the next token ahead where it begins a timestamp, if it begins right here, has at most
-/// 15 bytes and a line feed after them. Else `opening_ahead` may give one, and nothing has changed.
+/// Returns the next token ahead if it begins a timestamp, if it begins at the next byte, has at
+/// most 15 bytes and a line feed after them. Otherwise `opening_ahead` may give one, and nothing
+/// has changed.
 #[inline(always)]
 pub(crate) fn line_timestamp<'a>(ahead: &mut Ahead<'a>) -> Option<Opening<'a>>
     ensures opens { IfSome result (λ o. Opens ahead.old ahead.new o) }
@@ -217,8 +218,8 @@ fn begin_of(token: &[u8], ahead: Ahead<'_>) -> usize
     ahead.passed() - 1 - token.len()
 }
 
-/// Returns the change whose token the look-ahead is right after: a digit and its code. None where
-/// no code comes after the digit, and where the header has no such code.
+/// Returns the change whose token the look-ahead is right after: a digit and its code. `None` if no
+/// code comes after the digit, and if the header has no such code.
 #[inline(always)]
 pub(crate) fn scalar_ahead<'a>(
     opening: Opening<'a>,
@@ -237,7 +238,7 @@ pub(crate) fn scalar_ahead<'a>(
     Some(change_of(found, Form::Scalar, text, at, at, at + 1))
 }
 
-/// Returns the code after a digit, where a look at one entry finds it.
+/// Returns the code after a digit, if a look at one entry finds it.
 #[inline(always)]
 fn short_code(token: &[u8], view: HeadView<'_>) -> Option<Found>
     requires begins { IsScalar token.now }
@@ -251,9 +252,9 @@ fn short_code(token: &[u8], view: HeadView<'_>) -> Option<Found>
     Some(found)
 }
 
-/// Returns the change that a `0` or a `1` begins, where its token begins right here, has two bytes
-/// and a line feed after them, and a look at one entry finds its code. None for any other item;
-/// then nothing has changed.
+/// Returns the change that a `0` or a `1` begins, if its token begins at the next byte, has two
+/// bytes and a line feed after them, and a look at one entry finds its code. None for any other
+/// item; then nothing has changed.
 // No call is made, so that a loop over such changes keeps all that it needs in registers.
 #[inline(always)]
 pub(crate) fn short_ahead<'a>(ahead: &mut Ahead<'a>, view: HeadView<'_>) -> Option<ScannedItem<'a>>
@@ -275,7 +276,8 @@ pub(crate) fn short_ahead<'a>(ahead: &mut Ahead<'a>, view: HeadView<'_>) -> Opti
     Some(change_of(found, Form::Scalar, text, at, at, at + 1))
 }
 
-/// Returns whether two lines of two bytes come right here: the begin of a run for `short_ahead`.
+/// Returns whether two lines of two bytes come at the next byte: the begin of a run for
+/// `short_ahead`.
 #[inline(always)]
 pub(crate) fn two_short_lines_come(ahead: Ahead<'_>) -> bool
     ensures { result ≡ true
@@ -303,8 +305,8 @@ pub fn keyword_comes(ahead: Ahead<'_>) -> bool
     ahead.first_byte() == Some(b'$')
 }
 
-/// Returns whether the next item lies whole ahead, so that `next_item` reads nothing for it. Before
-/// a comment this is not known, since the item comes after that.
+/// Returns whether the next item lies completely in the chunk, so that `next_item` reads nothing
+/// for it. Before a comment this is not known, since the item comes after that.
 // It looks at one byte after the other: it is asked at the end of a chunk, and at keywords.
 #[inline(never)]
 pub fn item_comes(ahead: Ahead<'_>) -> bool
@@ -322,8 +324,8 @@ pub fn item_comes(ahead: Ahead<'_>) -> bool
     }
 }
 
-/// Passes on what the output keeps back, before a read may wait: unless the next item lies whole
-/// ahead.
+/// Passes on what the output keeps back, before a read may wait: unless the next item lies
+/// completely in the chunk.
 #[inline(always)]
 pub fn pass_on<S: Source, W: Sink>(
     feed: &Feed<'_, '_, '_, '_, S>,
@@ -351,7 +353,7 @@ pub(crate) struct VectorTokens<'a> {
 }
 
 /// Returns the tokens of a vector's change: that of the digits, which is given, and the next one,
-/// its code. The look-ahead is moved from after the first to after the second. None where it gives
+/// its code. The look-ahead is moved from after the first to after the second. `None` if it gives
 /// no second one.
 #[inline(always)]
 pub(crate) fn vector_tokens_ahead<'a>(
@@ -389,8 +391,8 @@ pub(crate) fn vector_bits(tokens: VectorTokens<'_>, bytes: &[u8]) -> Option<Bits
     bits_at(bytes, tokens.at + 1, after_first(tokens.token))
 }
 
-/// Returns the change that these tokens are, with the number of the digits where it is known. The
-/// look-ahead is that after the tokens; none where they are no such change.
+/// Returns the change that these tokens are, with the number of the digits if it is known. The
+/// look-ahead is that after the tokens; `None` if they are no such change.
 #[inline(always)]
 pub(crate) fn vector_ahead<'a>(
     tokens: VectorTokens<'a>,
@@ -443,7 +445,7 @@ pub(crate) fn real_ahead<'a>(
     Some(change_of(found, Form::RealText, text, at, at + 1, code_at))
 }
 
-/// Returns the time of the timestamp that a token is; none where it spells none. The look-ahead is
+/// Returns the time of the timestamp that a token is; `None` if it spells none. The look-ahead is
 /// right after the token.
 #[inline(always)]
 pub(crate) fn time_ahead<'a>(opening: Opening<'a>, ahead: Ahead<'a>) -> Option<u64>
@@ -455,7 +457,7 @@ pub(crate) fn time_ahead<'a>(opening: Opening<'a>, ahead: Ahead<'a>) -> Option<u
     decimal_at(ahead.bytes(), at, ahead.passed() - 1)
 }
 
-/// Returns the timestamp that a token spells, and sets the registers to those after it. None where
+/// Returns the timestamp that a token spells, and sets the registers to those after it. `None` if
 /// no such timestamp may come here; then nothing has changed.
 #[inline(always)]
 pub(crate) fn timestamp_ahead<'a>(

@@ -7,7 +7,7 @@ use crate::words::{clear_bits, others_32, rest_of};
 use vcd_text::{Sink, WriteFailed, put};
 
 // Returns the digit by which digits that begin with `digit`, in lower case, are extended on the
-// left: `0` for a `1`, else the same digit.
+// left: `0` for a `1`, otherwise the same digit.
 pub(crate) fn extension_of(digit: u8) -> u8
     ensures { result ≡ extension (digit ∷ []) }
 {
@@ -172,7 +172,7 @@ pub(crate) fn put_shortest<W: Sink>(w: &mut W, digits: &[u8]) -> Result<(), Writ
 }
 
 // Writes the line of a change that is rare: of an event, of a real number, or of digits after `b`
-// for a code of one bit. Where a write fails, a prefix was written.
+// for a code of one bit. If a write fails, a prefix was written.
 pub(crate) fn put_rare<W: Sink>(
     event: bool,
     form: Form,

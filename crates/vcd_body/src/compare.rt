@@ -19,7 +19,7 @@ fn extension_of_text(text: &[u8]) -> u8
     }
 }
 
-// Returns the digit at an index of a text that is extended to a size; 0 where there is none.
+// Returns the digit at an index of a text that is extended to a size; 0 if there is none.
 #[inline(always)]
 fn text_digit(text: &[u8], size: usize, index: usize) -> u8
     ensures { result ≡ get_or (extend (str_to_ascii_lowercase text.now) size) index 0 }
@@ -34,7 +34,7 @@ fn text_digit(text: &[u8], size: usize, index: usize) -> u8
     }
 }
 
-// Returns the digit at an index of the held digits, which are extended to a size; 0 where there is
+// Returns the digit at an index of the held digits, which are extended to a size; 0 if there is
 // none.
 #[inline(always)]
 fn shown_digit(held: HeldValue<'_>, size: usize, index: usize) -> u8
@@ -62,8 +62,8 @@ fn are_same(held: HeldValue<'_>, text: &[u8], size: usize) -> bool
     true
 }
 
-// Returns whether digits that are held a byte each and a text of as many are the same. Where they are
-// written in the same way all are looked at together, else from the right too.
+// Returns whether digits that are held a byte each and a text of as many are the same. If they are
+// written in the same way all are looked at together, otherwise from the right too.
 fn are_same_unpacked(bytes: &[u8], text: &[u8]) -> bool
     requires { length bytes.now ≡ length text.now }
     ensures { Decides result (map held_digit bytes.now ≡ str_to_ascii_lowercase text.now) }
@@ -112,7 +112,7 @@ fn digits_differ(held: HeldValue<'_>, size: usize, text: &[u8]) -> bool
     }
 }
 
-/// Returns whether a text gives a code of this size another value than it has; false where it has
+/// Returns whether a text gives a code of this size another value than it has; false if it has
 /// none.
 #[inline(always)]
 pub(crate) fn value_differs(held: HeldValue<'_>, size: usize, form: Form, text: &[u8]) -> bool

@@ -18,7 +18,7 @@ pub(crate) fn counts_of(steps: [u8; 3], counts: [u64; 3]) -> [u64; 3]
     ]
 }
 
-/// How many steps a counter of a slot has counted where it begins again at 0.
+/// How many steps a counter of a slot has counted if it begins again at 0.
 // The byte is added to in place, and the sum says whether it was full: with a test before it is
 // written, and without `flipped`, `edges` of scalars takes 58.3 an item, as it is 53.7.
 pub(crate) const CARRY: u64 = 256;
@@ -34,7 +34,7 @@ pub(crate) fn count_more(counts: &mut [u64; 3], which: usize, more: u64)
     }
 }
 
-/// Adds `more` to a counter of a share where a test holds. A full one stays.
+/// Adds `more` to a counter of a share if a test holds. A full one stays.
 #[inline(always)]
 fn count_more_if(counts: &mut [u64; 3], which: usize, more: u64, test: bool)
     ensures { (steps : List ℕ)
@@ -45,7 +45,7 @@ fn count_more_if(counts: &mut [u64; 3], which: usize, more: u64, test: bool)
     }
 }
 
-/// Adds `more` to the first counter of a share, and to the others where the tests hold. A full one
+/// Adds `more` to the first counter of a share, and to the others if the tests hold. A full one
 /// stays.
 pub(crate) fn count_steps(counts: &mut [u64; 3], more: u64, rises: bool, falls: bool)
     ensures { (steps : List ℕ) → counts_of steps counts.new
@@ -56,7 +56,7 @@ pub(crate) fn count_steps(counts: &mut [u64; 3], more: u64, rises: bool, falls: 
     count_more_if(counts, 2, more, falls);
 }
 
-/// Counts a step that goes this way in a slot. Returns whether that had room for it; else its
+/// Counts a step that goes this way in a slot. Returns whether that had room for it; otherwise its
 /// counter begins again, and 256 steps are left to count.
 // A step touches one byte, whose index is the difference of the last digits, without a branch:
 // with counters of changes, rises and falls in the slot `edges` of scalars takes 22 % more.

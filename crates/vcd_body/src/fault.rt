@@ -16,8 +16,8 @@ pub enum BodyFault {
     BadTime,
     /// A timestamp below one that was read (fault 14).
     TimeBack,
-    /// No digits `0 1 x X z Z` where there should be some, or no code after a digit, or no text
-    /// after `r` (fault 15).
+    /// No digits `0 1 x X z Z` if there should be some, or no code after a digit, or no text after
+    /// `r` (fault 15).
     BadValue,
     /// No variable has this code (fault 16).
     UnknownCode,

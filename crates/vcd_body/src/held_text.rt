@@ -26,7 +26,7 @@ fn put_repeated<W: Sink>(digit: u8, count: usize, w: &mut W) -> Result<(), Write
 }
 
 // Returns the digit at an index of those that are held, as a byte (`b'0'`, `b'1'`, `b'x'` or
-// `b'z'`), and the number 0 where the index is past them.
+// `b'z'`), and the number 0 if the index is past them.
 #[inline(always)]
 fn digit_or(held: HeldValue<'_>, index: usize) -> u8
     ensures { result ≡ get_or (digits_of held.entry) index 0 }
@@ -100,7 +100,7 @@ fn put_short_held<W: Sink>(held: HeldValue<'_>, id: &[u8], w: &mut W) -> Result<
     put_end(w, b' ', id)
 }
 
-/// Writes the line that gives a code of this size its value; nothing where it has none.
+/// Writes the line that gives a code of this size its value; nothing if it has none.
 pub(crate) fn put_value_line<W: Sink>(
     held: HeldValue<'_>,
     size: usize,
@@ -142,7 +142,7 @@ fn put_real_text<W: Sink>(text: &[u8], w: &mut W) -> Result<(), WriteFailed>
     put(w, text)
 }
 
-/// Writes the value at a size in full, `-` where there is none.
+/// Writes the value at a size in full, `-` if there is none.
 pub(crate) fn put_value<W: Sink>(
     held: HeldValue<'_>,
     size: usize,

@@ -16,7 +16,7 @@ pub enum Id<'a> {
 }
 
 /// Writes a change of a code of this size, or of an event, as its line. A bad text of an event is
-/// not looked at. Where a write fails, a prefix was written.
+/// not looked at. If a write fails, a prefix was written.
 #[inline(never)]
 pub fn put_change<W: Sink>(
     size: usize,

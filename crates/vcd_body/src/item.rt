@@ -44,7 +44,7 @@ pub enum Item {
 /// What is known after the items read so far.
 #[derive(Clone, Copy, PartialEq, Eq, Debug)]
 pub struct Regs {
-    /// The last timestamp, which is the greatest; 0 where there was none.
+    /// The last timestamp, which is the greatest; 0 if there was none.
     pub time: u64,
     /// Whether there was a timestamp.
     pub marked: bool,
@@ -68,8 +68,8 @@ impl Regs {
         }
     }
 
-    /// Takes a timestamp, where one may come: outside a section, and at no time before the last
-    /// one. Else returns its fault, and nothing changes.
+    /// Takes a timestamp, if one may come: outside a section, and at no time before the last one.
+    /// Otherwise returns its fault, and nothing changes.
     // Not inlined, so that a loop over items keeps neither time nor timestamp in a register for it:
     // so `cut` of scalars before its window takes 6 % less. `take_lines` does not call it: with a
     // call `check` takes 5 % more.
@@ -81,7 +81,7 @@ impl Regs {
         self.accept_timestamp_here(time)
     }
 
-    /// Takes a timestamp as `accept_timestamp` does, in a call where `call` says so.
+    /// Takes a timestamp as `accept_timestamp` does, in a call if `call` says so.
     #[inline(always)]
     pub(crate) fn accept_timestamp_by(&mut self, time: u64, call: bool) -> Result<(), BodyFault>
         ensures may { MatchResult result (λ _. AcceptsTimestamp self.old time) (RefusesTimestamp self.old time) }

@@ -8,8 +8,8 @@ use crate::item::{Form, Item};
 use crate::words::{clear_bits, others_32};
 use std::simd::prelude::*;
 
-/// Returns a mask: bit k is set where byte `at + k` may be a capital letter: of letters and digits
-/// just the capital letters have bit 5 clear.
+/// Returns a mask whose bit k is set if byte `at + k` may be a capital letter: of letters and
+/// digits just the capital letters have bit 5 clear.
 #[inline(always)]
 fn capitals_32(bytes: &[u8], at: usize) -> u64
     requires { at + 32 ≤ length bytes.now }
@@ -29,8 +29,8 @@ fn are_lower_at(bytes: &[u8], at: usize, n: usize) -> bool
     capitals_32(bytes, at) & ((1 << n) - 1) == 0
 }
 
-// Returns true only where all of these digits are in lower case. Not inlined, so that the short way
-// of `are_lower` stays small.
+// Returns true only if all of these digits are in lower case. Not inlined, so that the short way of
+// `are_lower` stays small.
 #[inline(never)]
 fn are_all_lower(digits: &[u8]) -> bool
     ensures { result ≡ true → str_to_ascii_lowercase digits.now ≡ digits.now }
@@ -52,7 +52,7 @@ fn are_lower(bytes: &[u8], at: usize, digits: &[u8]) -> bool
     are_all_lower(digits)
 }
 
-/// Returns true only where there are digits, and none can be left out on the left.
+/// Returns true only if there are digits, and none can be left out on the left.
 #[inline(always)]
 fn are_shortest(digits: &[u8]) -> bool
     ensures { result ≡ true → (size : ℕ) → digits.now ≡ short (extend digits.now size) }
@@ -103,7 +103,7 @@ fn has_one_blank(
     (text_end + 1 == code_at) & (bytes[from] == first) & (bytes[text_end] == b' ')
 }
 
-/// Returns a mask: bit k is set where byte `at + k` is not `0`.
+/// Returns a mask whose bit k is set if byte `at + k` is not `0`.
 #[inline(always)]
 fn nonzero_64(bytes: &[u8], at: usize) -> u64
     requires { at + 64 ≤ length bytes.now }
@@ -126,8 +126,8 @@ fn needless(digits: &[u8]) -> usize
     digits.len() - shortest(digits).len()
 }
 
-/// Returns how many digits on the left the shortest ones leave out, or `None` where these are not
-/// in lower case or there is no digit. The digits begin at this offset of the bytes.
+/// Returns how many digits on the left the shortest ones leave out, or `None` if these are not in
+/// lower case or there is no digit. The digits begin at this offset of the bytes.
 #[inline(never)]
 fn needless_before_lower(bytes: &[u8], at: usize, digits: &[u8]) -> Option<usize>
     requires { StandsAt bytes.now at digits.now }
@@ -143,8 +143,8 @@ fn needless_before_lower(bytes: &[u8], at: usize, digits: &[u8]) -> Option<usize
     Some(k)
 }
 
-/// Returns how many digits on the left the shortest ones leave out, where all are known to be `0`
-/// and `1`: the zeros that lead. None says nothing.
+/// Returns how many digits on the left the shortest ones leave out, if all are known to be `0` and
+/// `1`: the zeros that lead. None says nothing.
 // Zeros that lead are counted in the bytes: by the number `pick` of five of 27,505 codes takes 8 %
 // more, of all 1.6 % less.
 #[inline(always)]
@@ -168,8 +168,8 @@ fn left_out_of_binary(bytes: &[u8], at: usize, digits: &[u8]) -> Option<usize>
     Some(needless(digits))
 }
 
-/// Returns how many digits on the left the shortest ones leave out, or `None` where these are not
-/// in lower case. That the digits are `0` and `1` alone may be known. Most values need all of their
+/// Returns how many digits on the left the shortest ones leave out, or `None` if these are not in
+/// lower case. That the digits are only `0` and `1` may be known. Most values need all of their
 /// digits.
 // Digits that are known so are not asked for capital letters: without this `pick` of all of wide
 // vectors takes 15 % more.
@@ -190,7 +190,7 @@ fn left_out_of(bytes: &[u8], at: usize, digits: &[u8], binary: bool) -> Option<u
     Some(0)
 }
 
-/// Returns how many digits after a `b` are left out, where the rest is the line with the code that
+/// Returns how many digits after a `b` are left out, if the rest is the line with the code that
 /// begins at this offset.
 #[inline(always)]
 fn left_out_of_vector(
@@ -245,7 +245,7 @@ fn left_out_of_text(
 /// Returns how many bytes of a change that was taken ahead to leave out after its first one, so
 /// that the others but the last, and a line feed, are the line that would be written. The change
 /// has the bytes from `from` up to `to`: the last one is that after its code. None for a timestamp,
-/// and where the size is not known. None for a change does not say that its bytes are not the line.
+/// and if the size is not known. None for a change does not say that its bytes are not the line.
 #[inline(always)]
 pub fn left_out(scanned: ScannedItem<'_>, bytes: &[u8], from: usize, to: usize) -> Option<usize>
     requires { (v : HeadView) × SpellsScanned v bytes.now from to scanned }
@@ -269,7 +269,7 @@ pub fn left_out(scanned: ScannedItem<'_>, bytes: &[u8], from: usize, to: usize) 
 
 /// Returns how many bytes after the first one to leave out of the bytes of a vector or a real
 /// number that was taken ahead, so that the others before the blank before its code are what its
-/// line begins with under any code. Where the result is none, they may be it all the same.
+/// line begins with under any code. If the result is none, they may be it all the same.
 #[inline(always)]
 pub(crate) fn left_out_of_front(
     scanned: ScannedItem<'_>,

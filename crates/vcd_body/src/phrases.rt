@@ -50,8 +50,8 @@ pub(crate) fn scalar_code(token: &[u8], view: HeadView<'_>) -> Result<Found, Bod
     }
 }
 
-/// Returns the digits of a vector's change: one or more. Where they are known to be `0` and `1`
-/// alone, none is looked at.
+/// Returns the digits of a vector's change: one or more. If they are known to be only `0` and `1`,
+/// none is looked at.
 #[inline(always)]
 pub(crate) fn vector_text(token: &[u8], binary: bool) -> Result<&[u8], BodyFault>
     requires begins { Begins token.now PhraseKind.Vector }
@@ -88,8 +88,8 @@ pub(crate) fn real_text(token: &[u8]) -> Result<&[u8], BodyFault>
     Ok(text)
 }
 
-/// Passes over a comment, after its keyword, up to its `$end`. Fails where a token cannot be read,
-/// or the input ends before `$end`.
+/// Skips a comment, after its keyword, up to its `$end`. Fails if a token cannot be read, or the
+/// input ends before `$end`.
 // Without `pass_words` a comment of tokens of one byte takes 5 times as many instructions.
 pub(crate) fn skip_comment<S: Source>(feed: &mut Feed<'_, '_, '_, '_, S>) -> Result<(), BodyFault>
     requires { S.failures (source_of feed.old) < 2 ^ 64 - 1 }
@@ -106,7 +106,7 @@ pub(crate) fn skip_comment<S: Source>(feed: &mut Feed<'_, '_, '_, '_, S>) -> Res
 }
 
 /// Keeps the token as the value of the feed, reads the next one, and returns the code that it is.
-/// Fails where it cannot be read, or is no code of the header.
+/// Fails if it cannot be read, or is no code of the header.
 #[inline(always)]
 fn read_code<S: Source>(
     feed: &mut Feed<'_, '_, '_, '_, S>,
@@ -128,7 +128,7 @@ fn read_code<S: Source>(
 }
 
 /// Returns whether the code that was found has room for this many digits, or is an event. The size
-/// found with it is mostly enough; the code is read only where it is not.
+/// found with it is mostly enough; the code is read only if it is not.
 #[inline(always)]
 pub(crate) fn has_room(codes: &[Code], found: Found, digits: usize) -> bool
     requires { IsSized codes.now found }
@@ -141,9 +141,9 @@ pub(crate) fn has_room(codes: &[Code], found: Found, digits: usize) -> bool
 }
 
 /// Reads the rest of a vector's change, of which the feed shows the first token, `b` and the
-/// digits: returns its code's index. Fails where there are no digits, where they are more than the
-/// size, and where the code is none of the header. Then the feed's value is that first token, and
-/// its token is the code.
+/// digits: returns its code's index. Fails if there are no digits, if they are more than the size,
+/// and if the code is none of the header. Then the feed's value is that first token, and its token
+/// is the code.
 #[inline(always)]
 pub(crate) fn read_vector<S: Source>(
     feed: &mut Feed<'_, '_, '_, '_, S>,

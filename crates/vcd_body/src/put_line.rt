@@ -71,8 +71,8 @@ fn is_vector(size: usize, event: bool, form: Form) -> bool
     (size != 1) & !event & (form != Form::RealText)
 }
 
-/// Writes a change of a code of this size, or of an event, as its line. Where a write fails, a
-/// prefix was written.
+/// Writes a change of a code of this size, or of an event, as its line. If a write fails, a prefix
+/// was written.
 #[inline(always)]
 pub(crate) fn put_line<W: Sink>(
     size: usize,

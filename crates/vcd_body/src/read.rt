@@ -111,7 +111,7 @@ pub fn next_item<S: Source>(
     // A change is of one of the view's codes, and its text is one that this code may have.
     ensures sound { IfOk result (IsGoodChange view.entry.codes.now feed.new) }
 
-    // An item that lies whole ahead is taken without a read.
+    // An item that lies completely in the chunk is taken without a read.
     ensures ahead { HoldsItem (limit_of feed.old) (ahead_of feed.old)
         → source_of feed.new ≡ source_of feed.old }
     ensures regs { AreRegsWith (λ item. item) regs.old regs.new result }

@@ -65,7 +65,7 @@ fn short_end(first: u8, number: u64) -> Option<End>
 }
 
 /// Writes a byte, the code of a number, of any length, and a line feed.
-// Not inlined: the bytes of a code would be cleared where the other codes are written.
+// Not inlined: the bytes of a code would be cleared if the other codes are written.
 #[cold]
 #[inline(never)]
 fn put_any_code<W: Sink>(first: u8, number: u64, w: &mut W) -> Result<(), WriteFailed>
@@ -88,7 +88,7 @@ pub(crate) fn put_code_line<W: Sink>(first: u8, number: u64, w: &mut W) -> Resul
     }
 }
 
-/// Writes a change as `put_change` does, under the new code of this number. Where a write fails, a
+/// Writes a change as `put_change` does, under the new code of this number. If a write fails, a
 /// prefix was written.
 #[inline(always)]
 pub fn put_renamed<W: Sink>(
@@ -164,7 +164,7 @@ fn put_copied<W: Sink>(
 
 /// Writes a change of a code of this size, which is no event's, under the new code of a number.
 /// Each digit is looked at.
-// Not inlined, and it takes no struct: one would be cleared for each change, also where this is not
+// Not inlined, and it takes no struct: one would be cleared for each change, also if this is not
 // called.
 #[cold]
 #[inline(never)]
@@ -184,8 +184,8 @@ fn put_renamed_text<W: Sink>(
 }
 
 /// Writes a change that was taken ahead under the new code of this number. The bytes from `from` up
-/// to `to` spell it. Those before its code are copied where they are what its line begins with.
-/// Where a write fails, a prefix was written.
+/// to `to` spell it. Those before its code are copied if they are what its line begins with. If a
+/// write fails, a prefix was written.
 // Digits are copied and not looked at one by one: without this `merge` of Verilator's takes 12 %
 // more.
 #[inline(always)]

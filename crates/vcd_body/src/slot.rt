@@ -17,10 +17,10 @@ pub(crate) enum State {
     Unknown,
     /// By the digit z.
     High,
-    /// By several digits as they were written, a byte each, where its share of the values has room
-    /// for them.
+    /// By several digits as they were written, a byte each, if its share of the values has room for
+    /// them.
     Unpacked,
-    /// By several digits, packed four to a byte, where its share has no room for a byte each.
+    /// By several digits, packed four to a byte, if its share has no room for a byte each.
     Packed,
     /// By the text of a real number, in its share of the values.
     Real,
@@ -31,14 +31,14 @@ pub(crate) enum State {
 /// The number of `State::Bits` with no digit. The number of a state with n digits is n more.
 pub(crate) const BITS: u8 = 8;
 
-/// What each change of a code looks at: its value where it is short, and how it is held. It is
-/// split from what few changes look at, and takes 8 bytes, so that many slots fit in the L1 cache.
+/// What each change of a code looks at: its value if it is short, and how it is held. It is split
+/// from what few changes look at, and takes 8 bytes, so that many slots fit in the L1 cache.
 // With one record of 48 bytes instead of slots of 8 and shares `cut` of 27,505 codes before its
 // window takes 16 % more time.
 #[derive(Clone, Copy, PartialEq, Eq, Debug)]
 pub struct Slot {
-    // The number of the binary digits; else the lowest 32 bits of how many digits, or bytes of a
-    // text, are held in the share.
+    // The number of the binary digits; otherwise the lowest 32 bits of how many digits, or bytes of
+    // a text, are held in the share.
     pub(crate) number: u32,
     // The number of the state that holds the value; from `BITS` on it is more by as many as the
     // binary digits are.

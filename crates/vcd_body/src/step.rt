@@ -56,8 +56,8 @@ pub(crate) fn step_to_text(differs: bool, before: Option<u8>, form: Form, text: 
     }
 }
 
-/// Returns the way that a step goes, as a slot counts it: 0 where it falls, 2 where it rises, and
-/// else 1.
+/// Returns the way that a step goes, as a slot counts it: 0 if it falls, 2 if it rises, and
+/// otherwise 1.
 #[inline(always)]
 pub(crate) fn way_of(rises: bool, falls: bool) -> usize
     ensures within { result < 3 }

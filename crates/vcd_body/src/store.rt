@@ -14,7 +14,7 @@ use crate::step::{way_between, way_to};
 use crate::table::Table;
 use vcd_view::Code;
 
-/// Returns how many bytes of its share a value uses: 0 where the slot alone holds it.
+/// Returns how many bytes of its share a value uses: 0 if the slot alone holds it.
 #[inline(always)]
 fn used_by(holding: Holding) -> usize
     ensures { result ≡ used holding }
@@ -41,7 +41,7 @@ fn holds_some(holding: Holding) -> bool
 }
 
 impl<'a> Table<'a> {
-    /// Returns the value of the code at an index as it is held. None where there is no such code;
+    /// Returns the value of the code at an index as it is held. `None` if there is no such code;
     /// and where its share would not lie within the values, or would hold no digits where it should
     /// hold several. No code of a table that is laid out is so.
     #[inline(always)]
@@ -75,8 +75,8 @@ pub(crate) fn set_tag(slots: &mut [Slot], code: usize, tag: u8)
     }
 }
 
-/// Holds a text in a share: digits a byte each where it has room for them, and else four to a byte.
-/// Says how it is held.
+/// Holds a text in a share: digits a byte each if it has room for them, and otherwise four to a
+/// byte. Says how it is held.
 #[inline(always)]
 fn hold(bytes: &mut [u8], form: Form, text: &[u8]) -> State
     requires room { least_bytes form (length text.now) ≤ length bytes.old }
@@ -118,7 +118,7 @@ fn hold_text(slot: &mut Slot, share: &mut Share, state: State, len: usize)
 }
 
 /// Returns how many bytes of a share a text needs: one for each byte of a real number, one for four
-/// digits. `hold` takes one for each digit where there is room.
+/// digits. `hold` takes one for each digit if there is room.
 #[inline(always)]
 fn least_bytes(form: Form, len: usize) -> usize
     ensures { result ≡ least_bytes form len }
@@ -143,7 +143,7 @@ impl<'a> Table<'a> {
         }
     }
 
-    /// Sets the value of the code at an index to a text, where it fits its share, which ends here.
+    /// Sets the value of the code at an index to a text, if it fits its share, which ends here.
     #[inline(always)]
     pub(crate) fn set_text_in(&mut self, code: usize, end: usize, form: Form, text: &[u8])
         requires several { form ≢ Form.RealText → length text.now ≢ 1 }
@@ -165,8 +165,8 @@ impl<'a> Table<'a> {
         hold_text(&mut slots[code], &mut shares[code], state, text.len());
     }
 
-    /// Sets the value of the code at an index to a text. Nothing changes where there is no such
-    /// code, and where the text is empty or does not fit the code's share. A single digit is set by
+    /// Sets the value of the code at an index to a text. Nothing changes if there is no such code,
+    /// and if the text is empty or does not fit the code's share. A single digit is set by
     /// `set_tag`, unless it is the text of a real number.
     #[inline(never)]
     pub(crate) fn set_text(&mut self, code: usize, form: Form, text: &[u8])
@@ -178,9 +178,9 @@ impl<'a> Table<'a> {
         }
     }
 
-    /// Adds `more` to the first counter of the code at an index, and to the others where the tests
+    /// Adds `more` to the first counter of the code at an index, and to the others if the tests
     /// hold, in its share. A full one stays.
-    // It is given the table, and no parts of it, so that none is made ready for it where it is not
+    // It is given the table, and no parts of it, so that none is made ready for it if it is not
     // called. Called once in 256 steps: handed the shares for each change, `edges` takes 2 to 5 %
     // more.
     #[cold]
@@ -212,7 +212,7 @@ pub(crate) fn set_bits(slots: &mut [Slot], code: usize, bits: Bits)
 }
 
 /// Counts a step of the value of a code that goes this way in its slot. Returns whether that had
-/// room for it; else 256 steps are left to count.
+/// room for it; otherwise 256 steps are left to count.
 #[inline(always)]
 pub(crate) fn count_in_slot(slots: &mut [Slot], code: usize, way: usize) -> bool
     requires { way < 3 }
@@ -233,10 +233,10 @@ pub(crate) fn count_in_slot(slots: &mut [Slot], code: usize, way: usize) -> bool
 pub(crate) enum Stepped {
     /// The slot alone is not enough, and nothing changed.
     Not,
-    /// The value was set, and its step was counted where it differs.
+    /// The value was set, and its step was counted if it differs.
     Counted,
-    /// The value was set. Of its step, which rises or falls where a test holds, 256 are left to
-    /// count, since the slot had no room for one more.
+    /// The value was set. Of its step, which rises or falls if a test holds, 256 are left to count,
+    /// since the slot had no room for one more.
     Uncounted { rises: bool, falls: bool },
 }
 
@@ -274,8 +274,8 @@ pub(crate) fn flip_at(slots: &mut [Slot], code: usize, digit: u8) -> Stepped
     }
 }
 
-/// Sets the value of a code from one binary number to another, and counts the step. Nothing
-/// changes where the slot holds no such number, or one of both has more than `size` digits.
+/// Sets the value of a code from one binary number to another, and counts the step. Nothing changes
+/// if the slot holds no such number, or one of both has more than `size` digits.
 #[inline(always)]
 pub(crate) fn step_at(slots: &mut [Slot], code: usize, size: usize, bits: Bits) -> Stepped
     ensures counted { result ≡ Stepped.Counted → StepsTo code size bits slots.old slots.new }
@@ -311,8 +311,8 @@ fn share_of(size: usize) -> usize
     size.div_ceil(4).max(LEAST_SHARE)
 }
 
-/// Gives each code its share of the values, one after the other, and unsets all. Where the values
-/// have no room for all shares, the last ones are cut. Returns where the last share ends.
+/// Gives each code its share of the values, one after the other, and unsets all. If the values have
+/// no room for all shares, the last ones are cut. Returns where the last share ends.
 pub(crate) fn lay_out(
     codes: &[Code],
     slots: &mut [Slot],

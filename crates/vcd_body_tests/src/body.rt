@@ -424,7 +424,7 @@ fn real_numbers_taken_ahead(rt: HostRuntime) -> Result<(), Fail> {
     Ok(())
 }
 
-// A change of digits, of which there is at least one, is written so, where the code is no event.
+// A change of digits, of which there is at least one, is written so, if the code is no event.
 fn writes(size: usize, form: Form, text: &[u8], line: &[u8]) -> bool {
     let mut page = Watch::new(Narrow::new(80));
     !text.is_empty()

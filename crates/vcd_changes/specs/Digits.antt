@@ -13,7 +13,7 @@ is_one d = d == byte "1"
 abbrev pub is_known : ℕ → Bool
 is_known d = d == byte "0" || d == byte "1"
 
--- the number whose binary digits are 1 where these pass the test, and 0 elsewhere
+-- the number whose binary digits are 1 if these pass the test, and 0 elsewhere
 abbrev pub number_where : (ℕ → Bool) → List ℕ → ℕ
 number_where test digits = number_from_digits 2 (map (λ d. cond (test d) 1 0) digits)
 
@@ -25,7 +25,7 @@ last_of most digits = drop (length digits - most) digits
 abbrev pub digits_in : List ℕ → Digits
 digits_in digits = record { value = number_where is_one digits; known = number_where is_known digits }
 
--- the last 64 digits of a value, which is extended on the left where it is shorter (clause 18, left
+-- the last 64 digits of a value, which is extended on the left if it is shorter (clause 18, left
 -- extension)
 abbrev pub digits_of : List ℕ → Digits
 digits_of text = digits_in (extend (last_of 64 text) 64)

@@ -1,4 +1,4 @@
--- Where a reading of changes resumes, and what a call of it finds.
+-- If a reading of changes resumes, and what a call of it finds.
 use Rattle.std.specs.Prelude.{◌≡◌, ◌≢◌, ◌⊎◌, ℕ, ◌≤◌, ◌==◌, not, cond, find, List, [], ◌++◌, length, take, Option, Some, None}
 use Rattle.vcd_model.specs.BodyPhrases.{BodyPhrase, items_of}
 use Rattle.vcd_model.specs.BodyReading.{body_grammar}
@@ -55,8 +55,8 @@ regs_of p = record { time = p.time; marked = not (p.marked == 0); section = sect
 -- ---- in a dump
 
 -- Under a token limit the body continues at this `Place`, after these tokens of the header, these
--- items and no others. Where the `Place` says that they were read under the lower limit, no token
--- is longer.
+-- items and no others. If the `Place` says that they were read under the lower limit, no token is
+-- longer.
 pub record IsAfter (limit : ℕ) (codes : List IdCode) (i : Input) (front : List Token) (items : List BodyItem) (p : Place) : Type 0 where
   pub given : List Token
   pub placed : List (Placed BodyPhrase)
@@ -76,13 +76,13 @@ pub record HasCodes (limit : ℕ) (dump : List ℕ) (front : List Token) (codes 
   pub codes_are : codes ≡ (header_of (phrases_of placed)).codes
 
 -- a reading of this dump resumes at this `Place`, after these items: at the begin of the body, or
--- where a call has left it
+-- if a call has left it
 pub data GoesOnUnder (limit : ℕ) (dump : List ℕ) (items : List BodyItem) (p : Place) : Type 0 where
   AtBegin : (new : p.limit ≡ 0) (none : items ≡ []) → GoesOnUnder limit dump items p
   Behind : (front : List Token) (codes : List IdCode) (has : HasCodes limit dump front codes) (after : IsAfter limit codes (whole dump) front items p) → GoesOnUnder limit dump items p
 
--- the header was refused, and there are no rows: where memory ran out the status says so, else the
--- fault and its line are noted
+-- the header was refused, and there are no rows: if memory ran out the status says so, otherwise
+-- the fault and its line are noted
 abbrev pub Refused : HeadFault → (line : ℕ) → Reading → (status : ℕ) → Type 0
 Refused fault line r status = (r.count ≡ 0) × (((fault ≡ OutOfMemory) × (status ≡ 3)) ⊎ ((fault ≡ OutOfMemory → ⊥) × (status ≡ 1) × (r.fault ≡ fault_number fault) × (r.line ≡ line)))
 
@@ -92,7 +92,7 @@ status_of filled.All = 0
 status_of filled.Full = 4
 
 -- the next call resumes where this one did, unless the body has no others or the rows are full: so
--- after a fault, or where memory ran out, the same call may be made again
+-- after a fault, or if memory ran out, the same call may be made again
 abbrev pub StaysAt : (old new : Reading) → (status : ℕ) → Type 0
 StaysAt old new status = status ≢ 0 → status ≢ 4 → new.place ≡ old.place
 
@@ -119,7 +119,7 @@ pub data FindsUnder (limit : ℕ) (dump : List ℕ) (items : List BodyItem) (cod
   NoMemory : (count_is : r.count ≡ 0) (status_is : status ≡ 3) → FindsUnder limit dump items code r rows status
 
 -- What a call under a lower limit found is what it finds under the limit of callers: its fault is
--- not that a token is too long, and no halt is noted where the next call resumes.
+-- not that a token is too long, and no halt is noted if the next call resumes.
 pub record IsEnough (r : Reading) (status : ℕ) : Type 0 where
   pub fits : status ≡ 1 → r.fault ≢ 1
   pub «open» : r.place.offset.answer ≤ 1

@@ -20,7 +20,7 @@ use vcd_head::{HeadFault, HeadView, read_head_with_hasher};
 use vcd_text::{Bytes, Feed};
 use vcd_view::find;
 
-/// The most bytes that a token may have: as many as where the program is given no `--token-limit`.
+/// How many bytes a token may have: as many as if the program is given no `--token-limit`.
 const LIMIT: usize = 1_048_576;
 
 /// The limit under which a call reads a dump as long as no token is longer. It takes two windows as
@@ -29,7 +29,7 @@ const LIMIT: usize = 1_048_576;
 const LOWER_LIMIT: usize = 65_536;
 
 /// The most bytes that are read in one call. Few, since each call of `changes` reads so many of the
-/// header and of the body, also where its rows are full long before their end.
+/// header and of the body, also if its rows are full long before their end.
 const CHUNK: usize = 8_192;
 
 /// The most scopes, variables and `$upscope` that a header may have.
@@ -38,22 +38,22 @@ const MOST: u64 = 16_777_216;
 /// The number of the fault that a token is too long.
 const TOKEN_TOO_LONG: u64 = 1;
 
-/// The status where the dump has no further change of the code, and no fault.
+/// The status if the dump has no further change of the code, and no fault.
 pub const DONE: u8 = 0;
 
-/// The status where the dump has a fault.
+/// The status if the dump has a fault.
 pub const FAULT: u8 = 1;
 
-/// The status where no variable has the code.
+/// The status if no variable has the code.
 pub const NO_CODE: u8 = 2;
 
-/// The status where memory ran out.
+/// The status if memory ran out.
 pub const NO_MEMORY: u8 = 3;
 
-/// The status where the rows are full, and the next call continues.
+/// The status if the rows are full, and the next call continues.
 pub const FULL: u8 = 4;
 
-/// The status where no call can have left this `Place`.
+/// The status if no call can have left this `Place`.
 pub const BAD_PLACE: u8 = 5;
 
 /// Returns the status of a reading that has met no fault.
@@ -104,7 +104,7 @@ fn read_on(
     }
 }
 
-/// Returns the bytes after the first `n`: none where there are fewer.
+/// Returns the bytes after the first `n`: none if there are fewer.
 fn after(dump: &[u8], n: u64) -> &[u8]
     ensures { result.now ≡ drop n dump.now }
 {
@@ -129,7 +129,7 @@ fn refused(fault: HeadFault, line: u64, reading: &mut Reading) -> u8
 }
 
 /// Reads the header of a dump under this token limit, fills the rows from the reading's `Place` on,
-/// and returns the status. Fails where memory runs out.
+/// and returns the status. Fails if memory runs out.
 fn read_changes<B: BuildHasher>(
     alloc: Global,
     limit: usize,
@@ -208,7 +208,7 @@ fn is_enough(status: u8, reading: Reading) -> bool
 /// on, and returns the status: `DONE`, `FAULT`, `NO_CODE`, `NO_MEMORY`, `FULL` or `BAD_PLACE`. Each
 /// call reads the header anew, and then continues in the body. Identifier codes are hashed by
 /// numbers that the hasher gives; the rows are the same by each. `reading.count` is at most the
-/// number of rows; 0 with `NO_CODE`, `NO_MEMORY` and `BAD_PLACE`, and where the header has a fault.
+/// number of rows; 0 with `NO_CODE`, `NO_MEMORY` and `BAD_PLACE`, and if the header has a fault.
 /// `reading.place` moves on with `DONE` and `FULL` alone.
 pub fn changes<B: BuildHasher>(
     alloc: Global,

@@ -8,7 +8,7 @@
 //!
 //! - `dump`: from a dump to rows and a status
 //! - `rows`: the loop over the items of the body
-//! - `walk`: the items that are whole in the chunk
+//! - `walk`: the items that lie completely in the chunk
 //! - `row`: `ChangeRow`, a change as numbers
 //! - `reading`: where the next call continues, as numbers
 //! - `digits`: the digits of a value as numbers

@@ -15,7 +15,7 @@ pub struct ChangeRow {
     pub time: u64,
     /// Which digits are 1.
     pub value: u64,
-    /// Which digits are 0 or 1: all where the whole value is known, none of a real number.
+    /// Which digits are 0 or 1: all if the whole value is known, none of a real number.
     pub known: u64,
 }
 

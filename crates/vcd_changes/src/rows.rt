@@ -29,7 +29,7 @@ pub(crate) enum Filled {
 }
 
 /// Returns how many rows are filled once the item that was read last is added to the first `count`:
-/// it is, where it is a change of the code at `index`.
+/// it is, if it is a change of the code at `index`.
 fn put_row<S: Source>(
     feed: &Feed<'_, '_, '_, '_, S>,
     item: Item,

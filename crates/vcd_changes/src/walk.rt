@@ -46,7 +46,7 @@ struct Collecting {
     room: usize,
     // The index of the code among the header's.
     index: usize,
-    // How many bytes of the chunk are passed where the change of the last row ends.
+    // How many bytes of the chunk are passed if the change of the last row ends.
     end: usize,
 }
 
@@ -61,8 +61,8 @@ impl Collecting {
         self.room <= self.count
     }
 
-    /// Returns how many bytes of the chunk are passed: where the rows are full, those up to the end
-    /// of the last row's change, else all that the walk took.
+    /// Returns how many bytes of the chunk are passed: if the rows are full, those up to the end of
+    /// the last row's change, otherwise all that the walk took.
     #[inline(always)]
     fn passed(&self, ahead: Ahead<'_>) -> usize
         ensures { result ≡ passed_with ahead.entry self.now }
@@ -134,8 +134,8 @@ impl<'r> Visit<Rows<'r>> for Collecting {
     }
 }
 
-/// Takes the items that are whole in the chunk, and fills the rows with the changes of the code,
-/// until they are full.
+/// Takes the items that lie completely in the chunk, and fills the rows with the changes of the
+/// code, until they are full.
 // Not inlined, so that the loop has all registers.
 #[inline(never)]
 fn walk_rows<'a>(
@@ -157,8 +157,8 @@ fn walk_rows<'a>(
 }
 
 /// Returns how many rows are filled once the items that are whole in the feed's chunk are taken:
-/// those after the first `count` get the changes of the code at `index`, until all are full. Where
-/// a keyword is next, no item is taken.
+/// those after the first `count` get the changes of the code at `index`, until all are full. If a
+/// keyword is next, no item is taken.
 pub(crate) fn take_ahead<S: Source>(
     feed: &mut Feed<'_, '_, '_, '_, S>,
     view: HeadView<'_>,

@@ -43,12 +43,12 @@ module _ (task : Request) (h : Header) (limit lines : ℕ) (bytes : List ℕ) (b
   EndsAhead n m r out out' (Ok v) items = StandsAhead n items m r × Grows out out' (open_text task h before) (open_text task h (before ++ items))
   EndsAhead n m r out out' (Err e) items = (x : BodyItem) × GaveOneAhead n items x r × GrowsSome out out' (open_text task h before) (open_text task h ((before ++ items) ++ x ∷ []))
 
-  -- some of the items were taken, and what is due with them was written, or a prefix of it where a
+  -- some of the items were taken, and what is due with them was written, or a prefix of it if a
   -- write failed
   abbrev pub RunsAhead : {A E : Type 0} → ℕ → TaskState → Regs → Device → Device → Result A E → Type 0
   RunsAhead n m r out out' result = TakesSeveral task before (EndsAhead n m r out out' result)
 
--- what a task leaves that takes the items which are whole in the chunk from a position on
+-- what a task leaves that takes the items which lie completely in the chunk from a position on
 pub record RunsOver (v : HeadView) (a : Ahead) (r : Regs) (m m' : TaskState) (out out' : Device) (t : WalkEnd) : Type 0 where
   pub gives : (h : Header) (lines : ℕ) (before : List BodyItem) → IsViewOf v h → length before + length (bytes_of a) < 2 ^ 63 → StandsAhead (request_in m) h (longest_of a) lines (bytes_of a) before (passed_of a) [] m r
       → RunsAhead (request_in m) h (longest_of a) lines (bytes_of a) before t.passed m' t.regs out out' t.written

@@ -62,7 +62,7 @@ pub record HasNone (time : ℕ) (m m' : Cut) (out out' : Device) : Type 0 where
   pub same : m' ≡ m
   pub nothing : out' ≡ out
 
--- the start section was written, where it was due; or a prefix of it where a write failed
+-- the start section was written, if it was due; or a prefix of it if a write failed
 abbrev pub BeginsBy : {A E : Type 0} → Header → List BodyItem → ℕ → Cut → Cut → Device → Device → Result A E → Type 0
 BeginsBy h items time m m' out out' (Ok a) = HasBegun h items time m m' out out' ⊎ HasNone time m m' out out'
 BeginsBy h items time m m' out out' (Err e) = (m.started ≡ false) × (m.from ≤ time) × WritesSome out out' (start_section h m.from items)

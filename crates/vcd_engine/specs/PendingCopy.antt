@@ -13,7 +13,7 @@ use Rattle.vcd_engine.specs.Cut.{IsNoTimestamp}
 use Rattle.vcd_engine.specs.declared.pending.SpannedItem.{SpannedItem}
 use Rattle.vcd_engine.specs.declared.pending.PendingCopy.{PendingCopy}
 
--- an item that is no timestamp; where its size is known, it lies at an offset of these bytes
+-- an item that is no timestamp; if its size is known, it lies at an offset of these bytes
 pub record IsSpanned (v : HeadView) (l : SpannedItem) : Type 0 where
   pub none : IsNoTimestamp l.scanned.item
   pub within : (l.from ≤ l.to) × (l.to ≤ length l.bytes.now)
@@ -45,12 +45,12 @@ pending_in bytes p = slice_range bytes p.from p.to
 abbrev pub PutsAll : List ℕ → List ℕ → Device → Device → List ℕ → Type 0
 PutsAll pending pending' out out' due = (written : List ℕ) × (pending ++ due ≡ written ++ pending') × Writes out out' written
 
--- so it is; or, where a write failed, a prefix of that text was written
+-- so it is; or, if a write failed, a prefix of that text was written
 abbrev pub PutsOn : {A E : Type 0} → List ℕ → List ℕ → Device → Device → List ℕ → Result A E → Type 0
 PutsOn pending pending' out out' due (Ok v) = PutsAll pending pending' out out' due
 PutsOn pending pending' out out' due (Err e) = WritesSome out out' (pending ++ due)
 
--- so, where what is pending are the pending of these bytes
+-- so, if what is pending are the pending of these bytes
 abbrev pub PutsCopy : {A E : Type 0} → List ℕ → PendingCopy → PendingCopy → Device → Device → List ℕ → Result A E → Type 0
 PutsCopy bytes p p' out out' due result = PutsOn (pending_in bytes p) (pending_in bytes p') out out' due result
 

@@ -116,7 +116,7 @@ AreWithinBound limit chunk v r = (h : Header) → IsViewOf v h → FitsInput lim
 abbrev pub FitsBound : {X : Type 0} {g : Ghosts X} → Feed X g → HeadView → RoomSize → Type 0
 FitsBound f v r = AreWithinBound (limit_of f) (chunk_len_of f) v r
 
--- so it is for every token limit, where no chunk is lent: of what begins, or reads no body
+-- so it is for every token limit, if no chunk is lent: of what begins, or reads no body
 abbrev pub IsWithinEachBound : HeadView → RoomSize → Type 0
 IsWithinEachBound v r = (limit : ℕ) → AreWithinBound limit 0 v r
 

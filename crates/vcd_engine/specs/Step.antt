@@ -42,8 +42,8 @@ StepGives task h i front items e f out out' (Err Write) =
 StepGives task h i front items e f out out' (Err (Unmatched name)) = ⊥
 
 -- What several steps leave after these items and some more, by all that they wrote: the last one is
--- a step after those. Where it takes an item after which the run is over, it is not said on which
--- line that is; and a write that failed may be of any item that was not there before.
+-- a step after those. If it takes an item after which the run is over, it is not said on which line
+-- that is; and a write that failed may be of any item that was not there before.
 abbrev pub LastGives : {X : Type 0} {g : Ghosts X} → Request → Header → Input → List Token → List BodyItem → Engine → Feed X g → Device → Device → Result More Stop → List BodyItem → Type 0
 LastGives task h i front items e f out out' (Ok (Ended Early)) more =
     (x : BodyItem) × (ends_early task x ≡ true) × GaveLast h.codes i front (items ++ more) x f e.regs × Grows out out' (open_text task h items) (open_text task h ((items ++ more) ++ x ∷ []))
@@ -76,7 +76,7 @@ StepsOn e e' f f' out out' result = (h : Header) (i : Input) (front : List Token
 abbrev pub StepsAhead : {X A E : Type 0} {g : Ghosts X} → Engine → Engine → Feed X g → Feed X g → Device → Device → Result A E → Type 0
 StepsAhead e e' f f' out out' result = (h : Header) (i : Input) (front : List Token) (items : List BodyItem) → Runs e h i front items f → TakesAhead (request_of_engine e) h i front items e' f' out out' result
 
--- a step ends the run early only where a timestamp may end it
+-- a step ends the run early only if a timestamp may end it
 abbrev pub MayEnd : Request → Result More Stop → Type 0
 MayEnd task result = IfOk result (λ more. more ≡ Ended Early → may_end_early task ≡ true)
 
@@ -97,7 +97,7 @@ pub record MayStep {X : Type 0} {g : Ghosts X} (failures : X → ℕ) (e : Engin
   pub bound : FitsBound f (view_in e) (room_in e)
 
 -- what a step leaves beside items and output: the feed has advanced, a write that failed is
--- counted, and the engine has the same task, view and room, and has not ended where the answer is
+-- counted, and the engine has the same task, view and room, and has not ended if the answer is
 -- `Again`
 pub record StepsOver {X : Type 0} {g : Ghosts X} (failures : X → ℕ) (e e' : Engine) (f f' : Feed X g) (out out' : Device) (result : Result More Stop) : Type 0 where
   pub advances : Advances failures f f' (step_end result)

@@ -55,7 +55,7 @@ pub record Follows (task : Request) (limit chunk : ℕ) (i : Input) (front : Lis
   pub belongs : Belongs task (over_dump task name (record { header = h; stream = stream_of limit left; rest = rest })) name out out' result
   -- no more was read than what settles the task
   pub read : ReadsAsNeeded limit chunk old new left front (is_settled_behind task h)
-  -- it ended early exactly where an item ends it
+  -- it ended early if and only if an item ends it
   pub early : IfOk result (λ done. is_early done ≡ list_any (ends_early task) (body_items (read_body h.codes rest)))
   pub refused : IfErr result (IsRefused task h)
 
@@ -68,11 +68,11 @@ abbrev pub Finishes : {X W : Type 0} {g : Ghosts X} → (W → Device) → Engin
 Finishes device e old new out out' result = (h : Header) (i : Input) (front : List Token) (name : List ℕ) (begin : Device) → Holds e h [] → HasGiven i front old → Writes begin (device out) (open_text (request_of_engine e) h [])
     → Follows (request_of_engine e) (limit_of old) (chunk_len_of old) i front h name (supply_of old) (supply_of new) begin (device out') result
 
--- it ends early only where a timestamp may end it
+-- it ends early only if a timestamp may end it
 abbrev pub EndsAsAsked : Request → Result Done Stop → Type 0
 EndsAsAsked task result = IfOk result (λ done. done ≡ Early → may_end_early task ≡ true)
 
--- one failed read or write is counted where the answer is that, and none where it is not
+-- one failed read or write is counted if the answer is that, and none if it is not
 abbrev pub CountsBoth : {X A : Type 0} {g : Ghosts X} → (X → ℕ) → (old new : Feed X g) → (out out' : Device) → Result A Stop → Type 0
 CountsBoth failures old new out out' result = (failures (source_of new) ≡ failures (source_of old) + reads_failed result) × CountsStop out out' result
 
@@ -100,7 +100,7 @@ pub record RunsTask {X : Type 0} {g : Ghosts X} (failures : X → ℕ) (task : R
   pub last : EndsAtRead (g.last_failed (source_of new)) result
   pub windows : SameWindows old new
 
--- so it does, and where it is done the body was read to its end
+-- so it does, and if it is done the body was read to its end
 pub record RunsWhole {X : Type 0} {g : Ghosts X} (failures : X → ℕ) (task : Request) (v : HeadView) (old new : Feed X g) (out out' : Device) (result : Result Done Stop) : Type 0 where
   pub runs : RunsTask failures task v old new out out' result
   pub answer : IfOk result (λ done. done ≡ Whole)

@@ -9,7 +9,7 @@ use vcd_text::{Feed, Sink, Source};
 use vcd_view::HeadView;
 
 /// Reads the body after the header that is shown, and writes the seven lines of its report. Fails
-/// at the first fault of the body, at a failed read, and where a write failed.
+/// at the first fault of the body, at a failed read, and if a write failed.
 pub fn check<S: Source, W: Sink>(
     view: HeadView<'_>,
     feed: &mut Feed<'_, '_, '_, '_, S>,
@@ -31,7 +31,7 @@ pub fn check<S: Source, W: Sink>(
 /// Writes the header of the variables that the names select and of the scopes around them, and then
 /// reads the body after the header that is shown, and writes its sections and the changes of these
 /// variables, each after the line of its time. A name that selects nothing is refused before
-/// anything is read or written. Fails at the first fault of the body, at a failed read, and where a
+/// anything is read or written. Fails at the first fault of the body, at a failed read, and if a
 /// write failed.
 pub fn pick<S: Source, W: Sink>(
     view: HeadView<'_>,
@@ -51,7 +51,7 @@ pub fn pick<S: Source, W: Sink>(
 /// Reads the body after the header that is shown, and then writes a row for each variable that the
 /// names select: its path, and how often its value changes, rises and falls. A name that selects
 /// nothing is refused before anything is read. Fails at the first fault of the body, at a failed
-/// read, and where a write failed. At a fault nothing is written.
+/// read, and if a write failed. At a fault nothing is written.
 pub fn edges<S: Source, W: Sink>(
     view: HeadView<'_>,
     feed: &mut Feed<'_, '_, '_, '_, S>,
@@ -70,7 +70,7 @@ pub fn edges<S: Source, W: Sink>(
 /// Writes the header of all variables and, from the first timestamp of at least `from` on, a
 /// section with the values just before `from`, and the items from then up to `to`, each after the
 /// line of its time. Times are in ticks. A timestamp above `to` ends the run. Fails at the first
-/// fault of the body, at a failed read, and where a write failed.
+/// fault of the body, at a failed read, and if a write failed.
 pub fn cut<S: Source, W: Sink>(
     view: HeadView<'_>,
     feed: &mut Feed<'_, '_, '_, '_, S>,
@@ -91,7 +91,7 @@ pub fn cut<S: Source, W: Sink>(
 /// Writes, for each of the times, the lines of the variables that the names select: the time, the
 /// path and the value, in full. There is a time, in ticks, and each is above the one before it. A
 /// name that selects nothing is refused before anything is read or written. Fails at the first
-/// fault of the body, at a failed read, and where a write failed. A timestamp above the last of the
+/// fault of the body, at a failed read, and if a write failed. A timestamp above the last of the
 /// times ends the run.
 pub fn sample<S: Source, W: Sink>(
     view: HeadView<'_>,

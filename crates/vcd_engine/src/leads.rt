@@ -38,7 +38,7 @@ pub(crate) fn rows_on(flag: u8) -> usize
     1 << flag.saturating_sub(2).min(63)
 }
 
-/// Turns the flags of selected rows into flags that lead on: 1 where a row has a line in a sample,
+/// Turns the flags of selected rows into flags that lead on: 1 if a row has a line in a sample,
 /// elsewhere how many rows without one to skip (`rows_on`).
 // Against a look at each row it saves a `sample` of one variable of 200,000 at 20,000 times 99 % of
 // its time.

@@ -31,7 +31,7 @@ pub(crate) fn declared_in(rows: &[Row]) -> Declared
     Declared { scopes, variables }
 }
 
-/// Writes a line with a name and a number. Fails where a write does.
+/// Writes a line with a name and a number. Fails if a write does.
 fn put_count<W: Sink>(out: &mut W, name: &str, number: u64) -> Result<(), WriteFailed>
     requires { (W.device out.old).failures < 2 ^ 64 - 1 }
     ensures { PutsTo W.device out.old out.new (count_line name.now (decimal number)) result }
@@ -42,7 +42,7 @@ fn put_count<W: Sink>(out: &mut W, name: &str, number: u64) -> Result<(), WriteF
     put(out, b"\n")
 }
 
-/// Writes a line for each name and its number. Fails where a write does.
+/// Writes a line for each name and its number. Fails if a write does.
 fn put_counts<W: Sink>(out: &mut W, counts: &[(&str, u64)]) -> Result<(), WriteFailed>
     requires { (W.device out.old).failures < 2 ^ 64 - 1 }
     ensures { Puts (W.device out.old) (W.device out.new) (flat_map named_line counts.now) result }
@@ -53,8 +53,8 @@ fn put_counts<W: Sink>(out: &mut W, counts: &[(&str, u64)]) -> Result<(), WriteF
     Ok(())
 }
 
-/// Writes the report: these counts, and the last timestamp, `-` where there is none. Fails where a
-/// write does.
+/// Writes the report: these counts, and the last timestamp, `-` if there is none. Fails if a write
+/// does.
 pub(crate) fn put_report<W: Sink>(
     out: &mut W,
     counts: &[(&str, u64)],

@@ -18,8 +18,8 @@ pub enum Task<'n> {
         from: u64,
         to: u64,
     },
-    /// Writes the values of the variables that these names select, all where there is none, at
-    /// these times, in ticks.
+    /// Writes the values of the variables that these names select, all if there is none, at these
+    /// times, in ticks.
     Sample {
         times: &'n [u64],
         names: &'n [String],

@@ -25,7 +25,7 @@ RisesFrom n (x ∷ xs) = (n < x) × RisesFrom x xs
 abbrev pub Rises : List ℕ → Type 0
 Rises xs = RisesFrom 0 xs
 
--- the keys of codes, where those of the first ones are these numbers
+-- the keys of codes, if those of the first ones are these numbers
 abbrev pub keys_behind : List ℕ → List CodeKey → List CodeKey
 keys_behind rising keys = map (λ n. key.Short n) rising ++ keys
 

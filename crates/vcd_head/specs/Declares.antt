@@ -22,7 +22,7 @@ keyword_for kind.Scope = Keyword.Scope
 keyword_for kind.Up = Keyword.Upscope
 keyword_for kind.Var = Keyword.Var
 
--- after these phrases a declaration of this kind may come, where `most` are allowed
+-- after these phrases a declaration of this kind may come, if `most` are allowed
 abbrev pub MayStart : ℕ → List HeaderPhrase → Kind → Type 0
 MayStart most ps k = first_failed (start_checks most (declarations_of ps) (keyword_for k)) ≡ None
 
@@ -33,11 +33,11 @@ IsBarred most ps k TooDeep = first_failed (start_checks most (declarations_of ps
 IsBarred most ps k NoScope = first_failed (start_checks most (declarations_of ps) (keyword_for k)) ≡ Some 9
 IsBarred most ps k fault = ⊥
 
--- where a declaration of this kind may come, the draft now holds this one too
+-- if a declaration of this kind may come, the draft now holds this one too
 abbrev pub Takes : Kind → Declaration → Draft → Draft → Type 0
 Takes k x old new = (most : ℕ) (ps : List HeaderPhrase) → IsDraftOf most old ps → MayStart most ps k → IsDraftOf most new (ps ++ HeaderPhrase.Declares x ∷ [])
 
--- so it does of a variable that agrees with those before it; it holds the same where one does not
+-- so it does of a variable that agrees with those before it; it holds the same if one does not
 abbrev pub TakesVariable : Variable → Draft → Draft → Bool → Type 0
 TakesVariable v old new taken = (most : ℕ) (ps : List HeaderPhrase) → IsDraftOf most old ps → MayStart most ps kind.Var
     → (taken ≡ agrees (declarations_of ps) v) × MatchBool taken (IsDraftOf most new (ps ++ HeaderPhrase.Declares (Declaration.Var v) ∷ [])) (IsDraftOf most new ps)

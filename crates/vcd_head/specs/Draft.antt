@@ -60,8 +60,8 @@ pub record CodeHeld (old new : List ℕ) (codes : Codes) (ds : List Declaration)
   pub grown : new ≡ old ++ more
   pub short : length more ≤ length v.code
 
--- the code of a variable is held at the index given; none is given where it does not agree with
--- those of other variables, and the text is then the same
+-- the code of a variable is held at the index given; none is given if it does not agree with those
+-- of other variables, and the text is then the same
 abbrev pub IsEntered : (old new : List ℕ) → Codes → List Declaration → Variable → Option ℕ → Type 0
 IsEntered old new codes ds v (Some position) = (agrees ds v ≡ true) × CodeHeld old new codes ds v position
 IsEntered old new codes ds v None = (agrees ds v ≡ false) × (new ≡ old) × HasCodes new codes ds

@@ -42,7 +42,7 @@ pub record HasEntered (h : Header) (names : List (List ℕ)) (order : List ℕ) 
   pub open_scopes : AreOpen h names order new_flags new
   pub notes : Notes names front old_flags new_flags
 
--- so it is where what was held before was right
+-- so it is if what was held before was right
 abbrev pub Enters : Header → Group → (front : List ℕ) → (old_flags new_flags : List Bool) → (old new : Open) → Type 0
 Enters h g front old_flags new_flags old new = IsOpen h g old_flags old → HasEntered h (names_of g) g.order.now front old_flags new_flags new
 
@@ -51,7 +51,7 @@ pub record HasSelected (h : Header) (g : Group) (path : List ℕ) (old_flags new
   pub open_scopes : IsOpen h g new_flags new
   pub matches : Matches (selects_path path) (names_of g) old_flags new_flags some
 
--- this holds of the declaration at a row, where what is held is right
+-- this holds of the declaration at a row, if what is held is right
 abbrev pub AnyOpen : HeadView → ℕ → Group → List Bool → Open → (Header → Declaration → Type 0) → Type 0
 AnyOpen view row g flags o Holds = AnyDeclared view row (λ h d. IsOpen h g flags o → Holds h d)
 
@@ -59,7 +59,7 @@ AnyOpen view row g flags o Holds = AnyDeclared view row (λ h d. IsOpen h g flag
 abbrev pub FlagsSelected : Group → List Declaration → Declaration → (old_flags new_flags : List Bool) → Type 0
 FlagsSelected g earlier d old_flags new_flags = Matched (λ name. is_selected (name ∷ []) earlier d) (names_of g) old_flags new_flags
 
--- where a variable is declared at a row, the names that select it were flagged
+-- if a variable is declared at a row, the names that select it were flagged
 abbrev pub SelectsAt : HeadView → ℕ → Group → (old_flags new_flags : List Bool) → (old new : Open) → Bool → Type 0
 SelectsAt view row g old_flags new_flags old new some = AnyDeclared view row (λ h d. is_variable d ≡ true → IsOpen h g old_flags old → HasSelected h g (path_of (take row h.declarations) d) old_flags new_flags new some)
 
@@ -67,7 +67,7 @@ SelectsAt view row g old_flags new_flags old new some = AnyDeclared view row (λ
 abbrev pub ComparesAt : HeadView → ℕ → Group → (old_flags new_flags : List Bool) → Open → Bool → Type 0
 ComparesAt view row g old_flags new_flags o some = AnyDeclared view row (λ h d. is_variable d ≡ true → IsOpen h g old_flags o → Matches (selects_path (path_of (take row h.declarations) d)) (names_of g) old_flags new_flags some)
 
--- where what is inside one more scope is right, what is held is
+-- if what is inside one more scope is right, what is held is
 abbrev pub StaysOpen : Inside → (old new : Open) → Type 0
 StaysOpen inner old new = (h : Header) (names : List (List ℕ)) (order : List ℕ) (flags : List Bool) → AreOpen h names order flags old → Follows names order flags (front h.declarations inner.scope) inner.run → AreOpen h names order flags new
 

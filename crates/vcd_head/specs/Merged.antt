@@ -45,7 +45,7 @@ closing zero zero = []
 closing zero (suc written) = up_line
 closing (suc pending) written = []
 
--- what is written at a declaration that has these before it, where this many scopes around it, the
+-- what is written at a declaration that has these before it, if this many scopes around it, the
 -- innermost, are pending, and this many are written
 abbrev pub due : Header → (first pending written : ℕ) → List Declaration → Declaration → List ℕ
 due h first pending written earlier (Declaration.Scope type name) = []

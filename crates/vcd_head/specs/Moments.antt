@@ -11,7 +11,7 @@ use Rattle.vcd_head.specs.declared.moment.TickFault.TheVariants.{NoTimescale, Ou
 abbrev pub asked : Moment → model.Moment
 asked m = record { number = m.number; unit = m.unit }
 
--- this many units of this name, or ticks where it is empty
+-- this many units of this name, or ticks if it is empty
 abbrev pub with_unit : ℕ → List ℕ → Option model.Moment
 with_unit number unit =
     cond (is_empty unit) (Some (record { number = number; unit = None }))

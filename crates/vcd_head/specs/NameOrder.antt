@@ -27,7 +27,7 @@ pub record IsOrder (names : List (List ℕ)) (order : List ℕ) : Type 0 where
   pub within : (i : ℕ) → get_or order i 0 < 16384
   pub rising : (i j : ℕ) → i ≤ j → j < length names → comes_before names (get_or order j 0) (get_or order i 0) ≡ false
 
--- 1 plus the first byte, 0 where there is none
+-- 1 plus the first byte, 0 if there is none
 abbrev pub first_of : List ℕ → ℕ
 first_of [] = 0
 first_of (byte ∷ bytes) = suc byte
@@ -36,7 +36,7 @@ first_of (byte ∷ bytes) = suc byte
 abbrev pub next_bytes : List (List ℕ) → List ℕ → ℕ → ℕ → List ℕ
 next_bytes names order passed i = drop passed (text_at names order i)
 
--- 1 plus the first byte of it, 0 where there is none
+-- 1 plus the first byte of it, 0 if there is none
 abbrev pub next_in : List (List ℕ) → List ℕ → ℕ → ℕ → ℕ
 next_in names order passed i = first_of (next_bytes names order passed i)
 

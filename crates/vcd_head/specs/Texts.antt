@@ -63,8 +63,8 @@ pub record RunsPast {X : Type 0} {g : Ghosts X} (most : ℕ) (i : Input) (placed
   pub so_far : IsSoFar (header_grammar most) given placed (before ++ inner)
   pub grows : Grows inner
 
--- where none was passed before, this many bytes are those of some tokens before the first `$end`,
--- and the text has grown by them, a space before each
+-- if none was passed before, this many bytes are those of some tokens before the first `$end`, and
+-- the text has grown by them, a space before each
 abbrev pub AppendsAhead : Ahead → (old new : List ℕ) → Result ℕ HeadFault → Type 0
 AppendsAhead a old new r = (limit lines : ℕ) (bytes : List ℕ) → LooksOver limit bytes a → Passed limit lines bytes (passed_of a) []
     → IfOk r (λ n. (ts : List Token) × Passed limit lines bytes n ts × NoEnds (texts_of ts) × (new ≡ old ++ spaced (texts_of ts)))

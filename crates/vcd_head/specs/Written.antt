@@ -6,7 +6,7 @@ use Rattle.vcd_text.specs.Device.{Device, Takes}
 use Rattle.vcd_view.specs.Views.{IsViewOf}
 use Rattle.vcd_view.specs.declared.view.HeadView.{HeadView}
 
--- the sink took this text of the header that the view shows, or a prefix where a write failed
+-- the sink took this text of the header that the view shows, or a prefix if a write failed
 abbrev pub TakesHeader : {A E : Type 0} → HeadView → Device → Device → (Header → List ℕ) → Result A E → Type 0
 TakesHeader view old new text result = (h : Header) → IsViewOf view h → Takes old new (text h) result
 

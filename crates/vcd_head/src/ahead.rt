@@ -1,4 +1,4 @@
-// Variables and scopes whose phrases are whole ahead in the chunk: their tokens cost no change of
+// Variables and scopes whose phrases lie completely in the chunk: their tokens cost no change of
 // the feed.
 ghost use Rattle.std.specs.Prelude.{◌≡◌, IfSome, IfErr};
 ghost use Rattle.vcd_head.specs.Names.{DraftsAhead, DraftsNext, Gives, GivesToken, GoesOnWithin, IsReference, IsScope, IsUpscope, IsVariable, LooksOn, MovesAhead, MovesOn, PassesOn, PassesTokens, ReadsAhead, TakesNext};
@@ -14,7 +14,7 @@ use std::alloc::Global;
 use vcd_text::{Ahead, Feed, Source};
 use vcd_view::Kind;
 
-/// Returns the next token, if it lies whole ahead.
+/// Returns the next token, if it lies completely in the chunk.
 #[inline(always)]
 pub(crate) fn token_ahead<'a>(ahead: &mut Ahead<'a>) -> Option<&'a [u8]>
     ensures one { IfSome result (λ token. GivesToken ahead.old ahead.new token.now) }
@@ -48,8 +48,8 @@ fn reference_ahead<'a>(ahead: &mut Ahead<'a>) -> Option<Reference<'a>>
     })
 }
 
-/// Returns the variable whose phrase comes next, if that lies whole ahead and its reference has at
-/// most two tokens.
+/// Returns the variable whose phrase comes next, if that lies completely in the chunk and its
+/// reference has at most two tokens.
 #[inline(always)]
 fn variable_ahead<'a>(ahead: &mut Ahead<'a>) -> Option<VariablePhrase<'a>>
     ensures gives { Gives IsVariable ahead.old ahead.new result }
@@ -155,8 +155,8 @@ fn declare_next(
     Ok(false)
 }
 
-/// Declares the variables and scopes that come next and lie whole ahead, and returns how many bytes
-/// were passed.
+/// Declares the variables and scopes that come next and lie completely in the chunk, and returns
+/// how many bytes were passed.
 fn declare_ahead(
     alloc: Global,
     ahead: Ahead<'_>,
@@ -177,8 +177,8 @@ fn declare_ahead(
     }
 }
 
-/// Reads the variables and scopes that come next, after a phrase, and are whole in the chunk. The
-/// feed then shows no token.
+/// Reads the variables and scopes that come next, after a phrase, and lie completely in the chunk.
+/// The feed then shows no token.
 pub(crate) fn read_ahead<S: Source>(
     alloc: Global,
     feed: &mut Feed<'_, '_, '_, '_, S>,

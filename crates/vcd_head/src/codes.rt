@@ -61,7 +61,7 @@ impl Codes {
     }
 
     /// Returns the index in the set of the key of the code with these bytes. It takes memory for
-    /// the key of a long one; where that is refused, all keys are looked through.
+    /// the key of a long one; if that is refused, all keys are looked through.
     fn find_key(&self, alloc: Global, bytes: &[u8]) -> Option<usize>
         ensures { result ≡ position (is_key bytes.now) self.now.keys.keys }
     {

@@ -28,7 +28,7 @@ pub(crate) struct VariablePhrase<'a> {
 pub(crate) struct Reference<'a> {
     // Its first token.
     pub(crate) name: &'a [u8],
-    // The tokens after that, with a space between; `None` where it has no others.
+    // The tokens after that, with a space between; `None` if it has no others.
     pub(crate) more: Option<&'a [u8]>,
 }
 
@@ -68,8 +68,8 @@ pub(crate) fn check_start(draft: &Draft, most: u64, kind: Kind) -> Result<(), He
     }
 }
 
-/// Declares a variable, and returns whether its code allows that: not where it was declared with
-/// another size, or where one of the two is an event and the other is not.
+/// Declares a variable, and returns whether its code allows that: not if it was declared with
+/// another size, or if one of the two is an event and the other is not.
 #[inline(always)]
 pub(crate) fn declare(
     alloc: Global,
@@ -150,7 +150,7 @@ pub(crate) fn open_scope(draft: &mut Draft, scope: ScopePhrase<'_>) -> Result<()
     Ok(())
 }
 
-/// Closes the innermost open scope; one is open where this may come.
+/// Closes the innermost open scope; one is open if this may come.
 #[inline(always)]
 pub(crate) fn close_scope(draft: &mut Draft) -> Result<(), HeadFault>
     ensures closes { IfOk result (λ _. TakesPhrase Kind.Up Declaration.Up draft.old draft.new) }

@@ -10,9 +10,9 @@ const SCOPES_HELD: usize = 128;
 /// The scopes around the declaration of a row, given outermost first.
 ///
 /// A row has only the scope just around it. So it walks outwards, holds the last rows that it
-/// passes, gives them, and walks again where more are left: once where at most 128 scopes enclose
-/// the declaration, at most eight times in a header. It takes 1 KB of stack, whatever the depth,
-/// and no memory.
+/// passes, gives them, and walks again if more are left: once if at most 128 scopes enclose the
+/// declaration, at most eight times in a header. It takes 1 KB of stack, whatever the depth, and no
+/// memory.
 #[derive(Drop)]
 pub(crate) struct Enclosing {
     row: usize,
@@ -35,7 +35,7 @@ impl Enclosing {
         Self::innermost(row, row)
     }
 
-    /// Returns the innermost `most` scopes around a row, or all where there are fewer.
+    /// Returns the innermost `most` scopes around a row, or all if there are fewer.
     #[inline(always)]
     pub(crate) fn innermost(row: usize, most: usize) -> Self
         ensures { (h : Header) → row < length h.declarations

@@ -17,7 +17,7 @@ const EMPTY: Entry = Entry {
 };
 
 /// Returns the entries of these codes, whose bytes lie in the text: a power of two of them, at most
-/// three for each code. Fewer suffice where the codes are in the order of their numbers.
+/// three for each code. Fewer suffice if the codes are in the order of their numbers.
 pub(crate) fn entries_of(
     alloc: Global,
     text: &[u8],
@@ -37,7 +37,7 @@ pub(crate) fn entries_of(
     Ok(entries)
 }
 
-/// Returns the greatest number of a code where they are in the order of their numbers, else the
+/// Returns the greatest number of a code if they are in the order of their numbers, otherwise the
 /// greatest that there is.
 fn greatest_of(text: &[u8], codes: &[Code], in_order: bool) -> usize
     ensures { in_order ≡ false → result ≡ 2 ^ 64 - 1 }
@@ -49,8 +49,8 @@ fn greatest_of(text: &[u8], codes: &[Code], in_order: bool) -> usize
 }
 
 /// Returns how many entries this many codes get, whose greatest number is `greatest`: the least
-/// power of two that has one for each code, and twice as many if three for each code allow that.
-/// Where each number is that of an entry, no two codes have the same one, so no more are needed.
+/// power of two that has one for each code, and twice as many if three for each code allow that. If
+/// each number is that of an entry, no two codes have the same one, so no more are needed.
 // With 1.5 to 3 entries for each code the header of 184,002 codes in order takes 2 % more
 // instructions and 16 % more page faults.
 fn count_for(codes: usize, greatest: usize) -> usize
@@ -77,8 +77,8 @@ fn fill(entries: &mut [Entry], text: &[u8], codes: &[Code], seed: CodeSeed)
 }
 
 /// Writes the entry of the code at index `position`, which has these bytes: over its own entry or
-/// one beside it, if one of them is free, else where its hash leads. Where all of these are taken,
-/// the code gets no entry, and only a binary search finds it.
+/// one beside it, if one of them is free, otherwise where its hash leads. Where all of these are
+/// taken, the code gets no entry, and only a binary search finds it.
 #[inline(always)]
 fn enter(entries: &mut [Entry], position: usize, code: Code, bytes: &[u8], seed: CodeSeed)
     ensures right { (text : List ℕ) (codes : List Code) → slice_get codes position ≡ Some code
@@ -111,8 +111,8 @@ fn free_near(entries: &[Entry], own: usize) -> Option<usize>
     None
 }
 
-/// Writes an entry to the first free one to which the hash leads; to none where all that are
-/// looked at are taken.
+/// Writes an entry to the first free one to which the hash leads; to none if all that are looked at
+/// are taken.
 fn put_hashed(entries: &mut [Entry], hash: u64, entry: Entry)
     ensures right { (text : List ℕ) (codes : List Code) → is_right text codes entry ≡ true
         → KeepsRight text codes entries.old entries.new }
@@ -138,8 +138,8 @@ fn is_free(entries: &[Entry], at: usize) -> bool
     }
 }
 
-/// Returns the entry of the code at index `position`, which has this key; an empty one where 32
-/// bits do not hold the index.
+/// Returns the entry of the code at index `position`, which has this key; an empty one if 32 bits
+/// do not hold the index.
 #[inline(always)]
 fn entry_with(position: usize, code: Code, key: u64) -> Entry
     ensures short { (text : List ℕ) (codes : List Code) → slice_get codes position ≡ Some code
@@ -157,7 +157,7 @@ fn entry_with(position: usize, code: Code, key: u64) -> Entry
     }
 }
 
-/// Writes the entry at `at`; nothing where that is out of range.
+/// Writes the entry at `at`; nothing if that is out of range.
 #[inline(always)]
 fn put(entries: &mut [Entry], at: usize, entry: Entry)
     ensures { entries.new ≡ set entries.old at entry }

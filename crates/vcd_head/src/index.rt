@@ -15,8 +15,7 @@ const RANK_BYTES: usize = 4;
 // How many indexes a rank can distinguish.
 const PLACES: usize = 16_777_216;
 
-// The first bytes of a code as a number, which is less where they come before others, and its
-// index.
+// The first bytes of a code as a number, which is less if they come before others, and its index.
 #[derive(Clone, Copy)]
 pub(crate) struct Prefix {
     pub(crate) number: u64,
@@ -33,8 +32,8 @@ pub(crate) fn index_of(alloc: Global, text: &[u8], codes: &[Code]) -> Result<Vec
     }
 }
 
-/// Returns the indexes of short codes in the order of their bytes; none where some are long. Ranks
-/// are sorted, and then reduced to the indexes in the same memory.
+/// Returns the indexes of short codes in the order of their bytes; none if some are long. Ranks are
+/// sorted, and then reduced to the indexes in the same memory.
 fn index_by_ranks(
     alloc: Global,
     text: &[u8],
@@ -71,7 +70,7 @@ fn ranks_of(alloc: Global, text: &[u8], codes: &[Code]) -> Result<Option<Vec<usi
     Ok(Some(ranks))
 }
 
-/// Returns the bytes of a code, their number and its index as one number, which is less where the
+/// Returns the bytes of a code, their number and its index as one number, which is less if the
 /// bytes come before others.
 // Two ranks are compared as numbers, and the codes themselves are not read.
 #[inline(always)]
@@ -125,7 +124,7 @@ fn places_of(alloc: Global, prefixes: &[Prefix]) -> Result<Vec<usize>, AllocErro
     Ok(positions)
 }
 
-/// Returns the order of two codes by their bytes, which are looked at only where their prefixes are
+/// Returns the order of two codes by their bytes, which are looked at only if their prefixes are
 /// the same.
 #[inline(always)]
 fn order_of(text: &[u8], codes: &[Code], a: Prefix, b: Prefix) -> Ordering
@@ -164,7 +163,7 @@ fn prefix_of(bytes: &[u8], count: usize) -> u64
     number
 }
 
-/// Returns the byte at an index, zero where there is none.
+/// Returns the byte at an index, zero if there is none.
 #[inline(always)]
 fn byte_at(bytes: &[u8], position: usize) -> u64
     ensures byte { result ≡ get_or bytes.now position 0 }

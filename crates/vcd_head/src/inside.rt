@@ -35,7 +35,7 @@ impl Inside {
 
 // The scopes that are open, the innermost last. A scope is entered at the first variable in it, so
 // that a name that selects all in it selects something. What is held of a scope is right whatever
-// order rows are taken in, and is looked at where it is of the scope around a row. So a name that
+// order rows are taken in, and is looked at if it is of the scope around a row. So a name that
 // selects a whole scope costs nothing at its other rows.
 #[derive(Drop)]
 pub(crate) struct Open<'o> {
@@ -62,7 +62,7 @@ impl<'o> Open<'o> {
     }
 
     /// Takes the next row. Returns whether it is a variable's that some name selects, or any
-    /// variable's where there are no names, and notes which names select it, beside those that had
+    /// variable's if there are no names, and notes which names select it, beside those that had
     /// matched before.
     #[inline(always)]
     pub(crate) fn take(
@@ -130,7 +130,7 @@ impl<'o> Open<'o> {
         }
     }
 
-    /// Enters the scope of a row, where it is in the innermost one that was entered.
+    /// Enters the scope of a row, if it is in the innermost one that was entered.
     fn enter(
         &mut self,
         view: HeadView<'_>,
@@ -151,8 +151,8 @@ impl<'o> Open<'o> {
         });
     }
 
-    /// Keeps the names that continue in one more scope, now the innermost one entered. Where 1,000
-    /// are entered nothing changes, and `compare` looks at each name by itself.
+    /// Keeps the names that continue in one more scope, now the innermost one entered. If 1,000 are
+    /// entered nothing changes, and `compare` looks at each name by itself.
     fn hold(&mut self, inner: Inside)
         ensures { StaysOpen inner self.old self.new }
     {
@@ -180,8 +180,7 @@ impl<'o> Open<'o> {
         }
     }
 
-    /// Returns what is inside the scope around a row, where it is the innermost one that was
-    /// entered.
+    /// Returns what is inside the scope around a row, if it is the innermost one that was entered.
     #[inline(always)]
     fn around(&self, view: HeadView<'_>, row: usize) -> Option<Inside>
         ensures row { IfSome result (λ _. row < length view.entry.rows.now) }

@@ -14,11 +14,11 @@
 //!
 //! While a header is read, `Reads most input placed before feed` says how far: the tokens given are
 //! these good phrases, and then these first tokens of the next one. In the end `GivesHead`: the
-//! tokens of a whole header were given, and the head shows it. Else `Fails`: the header's fault, at
-//! its line; out of memory, that no token given so far has a fault.
+//! tokens of a whole header were given, and the head shows it. Otherwise `Fails`: the header's
+//! fault, at its line; out of memory, that no token given so far has a fault.
 //!
-//! Each function over a view takes any view, and its result is that of the definitions where the
-//! view is of a header of them (`IsViewOf view h`). What the entries of a head say of its codes is
+//! Each function over a view takes any view, and its result is that of the definitions if the view
+//! is of a header of them (`IsViewOf view h`). What the entries of a head say of its codes is
 //! always so (`right`).
 //!
 //! # The modules
@@ -26,7 +26,7 @@
 //! - `read`, `phrases`: the whole header; one phrase of it
 //! - `tokens`, `texts`, `words`: the next token; texts up to `$end`; tests of tokens
 //! - `scopes`, `variable`, `scale`: what a phrase says
-//! - `ahead`, `ahead_scopes`: variables and scopes whose phrases are whole in the chunk
+//! - `ahead`, `ahead_scopes`: variables and scopes whose phrases lie completely in the chunk
 //! - `declarations`, `rows`, `code_place`: what these are checked for, however they are read; what
 //!   becomes of the head: rows, and the index of a code
 //! - `draft`, `codes`, `rising`, `code_key`, `finish`: a header while it is read, its codes, the
@@ -51,7 +51,7 @@
 //! 4,294,967,295 bytes a type, a name or a code. Memory is taken by `read_head` alone.
 //!
 //! Not promised: what a call gives over a view that is of no header, and what `select` leaves in
-//! the marks where a name selects nothing.
+//! the marks if a name selects nothing.
 #![tactic(auto)]
 
 mod ahead;

@@ -9,7 +9,7 @@ use vcd_text::{Sink, WriteFailed, put, put_number};
 use vcd_view::{HeadView, Kind, NewCode};
 
 /// Returns the least power of ten of the heads' time scales, in seconds; a missing one counts as
-/// 1s, and 0 where there is no head.
+/// 1s, and 0 if there is no head.
 pub fn least_exponent(heads: &[Head]) -> i8
     ensures { (hs : List Header) → ShowHeaders heads.now hs → result ≡ least_of hs }
 {
@@ -69,8 +69,8 @@ fn put_openings<W: Sink>(
     Ok(())
 }
 
-/// Writes the line of an `$upscope` at which these scopes are open: none where the line of the
-/// scope that it closes is not written.
+/// Writes the line of an `$upscope` at which these scopes are open: none if the line of the scope
+/// that it closes is not written.
 fn put_closing<W: Sink>(scopes: OpenScopes, w: &mut W) -> Result<(), WriteFailed>
     requires failures { (W.device w.old).failures < 2 ^ 64 - 1 }
     ensures { PutsTo W.device w.old w.new (closing scopes.pending scopes.written) result }
@@ -178,7 +178,7 @@ fn put_input_heads<W: Sink>(heads: &[Head], w: &mut W) -> Result<(), WriteFailed
 
 /// Writes the head of the merged dump of inputs with these heads, at most 64: the least of their
 /// time scales, for each input a scope with its variables and the scopes around these, and
-/// `$enddefinitions`. The codes are new ones, in the order of the inputs. Where a write fails, a
+/// `$enddefinitions`. The codes are new ones, in the order of the inputs. If a write fails, a
 /// prefix was written.
 pub fn put_merged_head<W: Sink>(heads: &[Head], w: &mut W) -> Result<(), WriteFailed>
     requires heads { length heads.now ≤ 64 }

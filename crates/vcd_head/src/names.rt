@@ -25,7 +25,7 @@ pub(crate) struct NameRun {
     // The index of the first of them in the order, and the one after that of the last.
     first: usize,
     end: usize,
-    // The bytes of the front, where there is such a name.
+    // The bytes of the front, if there is such a name.
     passed: usize,
     // Whether some name selects all paths that continue after the front.
     whole: bool,
@@ -70,8 +70,8 @@ impl<'n> Group<'n> {
         }
     }
 
-    /// Returns 1 plus the byte after the first `passed` of the name at an index of the order, 0
-    /// where the name ends before.
+    /// Returns 1 plus the byte after the first `passed` of the name at an index of the order, 0 if
+    /// the name ends before.
     #[inline(always)]
     fn next_at(&self, at: usize, passed: usize) -> usize
         ensures next { result ≡ next_in (names_of self.now) self.now.order.now passed at }
@@ -85,7 +85,7 @@ impl<'n> Group<'n> {
     }
 
     /// Returns the first index of the order between two whose next byte, plus 1, is not less than
-    /// this; the last one where all are less.
+    /// this; the last one if all are less.
     #[inline(always)]
     fn first_from(&self, first: usize, end: usize, passed: usize, least: usize) -> usize
         ensures range { first ≤ end → (first ≤ result) × (result ≤ end) }
@@ -317,7 +317,7 @@ fn order_by(names: &[String], a: u16, b: u16) -> Ordering
     name_at(names, usize::from(a)).cmp(name_at(names, usize::from(b)))
 }
 
-/// Returns the bytes of the name at an index, none where there is no such index.
+/// Returns the bytes of the name at an index, none if there is no such index.
 #[inline(always)]
 fn name_at(names: &[String], position: usize) -> &[u8]
     ensures { result.now ≡ get_or (map string_bytes names.now) position [] }

@@ -15,9 +15,9 @@ use vcd_view::CodeSeed;
 
 /// Reads a header up to the `$end` of `$enddefinitions`, with at most `most` declarations (at most
 /// 16,777,216). The feed is then after that token. After a fault nothing of the head is left, and
-/// the feed's token is the last one given: empty where the input or its source ended the reading,
-/// else the one at fault. Over windows of 4 GiB or more a type, a name or a code of as many bytes
-/// is out of memory.
+/// the feed's token is the last one given: empty if the input or its source ended the reading,
+/// otherwise the one at fault. Over windows of 4 GiB or more a type, a name or a code of as many
+/// bytes is out of memory.
 ///
 /// Codes are hashed by numbers that all may know, so that codes can be crafted which take long to
 /// find: a dump that is not trusted is read by `read_head_with_hasher`.
@@ -36,13 +36,13 @@ pub fn read_head<S: Source>(
 
 /// Reads a header up to the `$end` of `$enddefinitions`, with at most `most` declarations (at most
 /// 16,777,216). The feed is then after that token. After a fault nothing of the head is left, and
-/// the feed's token is the last one given: empty where the input or its source ended the reading,
-/// else the one at fault. Over windows of 4 GiB or more a type, a name or a code of as many bytes
-/// is out of memory.
+/// the feed's token is the last one given: empty if the input or its source ended the reading,
+/// otherwise the one at fault. Over windows of 4 GiB or more a type, a name or a code of as many
+/// bytes is out of memory.
 ///
-/// Codes are hashed by numbers that the hasher gives; what is read is the same by each. Where
-/// nobody knows these numbers who made the dump, as with `RandomState`, no choice of codes takes
-/// long to find.
+/// Codes are hashed by numbers that the hasher gives; what is read is the same by each. If nobody
+/// knows these numbers who made the dump, as with `RandomState`, no choice of codes takes long to
+/// find.
 pub fn read_head_with_hasher<S: Source, B: BuildHasher>(
     alloc: Global,
     feed: &mut Feed<'_, '_, '_, '_, S>,

@@ -2,7 +2,7 @@
 ghost use Rattle.std.specs.Prelude.{◌≡◌, ◌-◌, nat_eq, length, position, slice_get, unwrap_or};
 ghost use Rattle.vcd_head.specs.Names.{Rises};
 
-/// Returns the last of these numbers, 0 where there is none.
+/// Returns the last of these numbers, 0 if there is none.
 #[inline(always)]
 pub(crate) fn last_of(rising: &[u64]) -> u64
     ensures { result ≡ unwrap_or (slice_get rising.now (length rising.now - 1)) 0 }
@@ -10,7 +10,7 @@ pub(crate) fn last_of(rising: &[u64]) -> u64
     rising.last().copied().unwrap_or(0)
 }
 
-/// Returns the index of a number among these, which rise; `None` where it is not there.
+/// Returns the index of a number among these, which rise; `None` if it is not there.
 // A new code is known by one comparison, without a hash: with all codes in the set the header of
 // 184,002 codes takes 17 % more instructions and 26 % more page faults.
 #[inline(always)]

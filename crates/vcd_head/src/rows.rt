@@ -47,7 +47,7 @@ pub(crate) fn push(rows: &mut Vec<Row>, row: WideRow) -> Result<(), HeadFault>
 {
     let word = token_len(row.word)?;
     let name = token_len(row.name)?;
-    // A `push` would return the row where there is no memory, and be called for each.
+    // A `push` would return the row if there is no memory, and be called for each.
     rows.reserve(1)?;
     rows.push_reserved(Row {
         kind: row.kind,

@@ -93,7 +93,7 @@ fn mark_row(view: HeadView<'_>, row: usize, marked: usize, marks: &mut [u8]) -> 
     parent
 }
 
-/// Returns 1 plus the row of the scope around a row, 0 where there is none.
+/// Returns 1 plus the row of the scope around a row, 0 if there is none.
 fn parent_of(view: HeadView<'_>, row: usize) -> usize
     ensures { (h : Header) → IsViewOf view.entry h → row < length h.declarations
         → result ≡ counted_from_one (parent (take row h.declarations)) }
@@ -177,7 +177,7 @@ fn first_false(flags: &[bool], count: usize) -> Option<usize>
     None
 }
 
-/// Marks the variables that the names select, all where there are no names, and the scopes around
+/// Marks the variables that the names select, all if there are no names, and the scopes around
 /// them: a mark is 1 there and 0 elsewhere. Fails with the index of the first name that selects
 /// nothing; what the marks are then is not said.
 pub fn select(view: HeadView<'_>, names: &[String], marks: &mut [u8]) -> Result<(), usize>

@@ -43,8 +43,8 @@ pub(crate) fn append_to_end<S: Source>(
     }
 }
 
-/// Appends the tokens that come next, lie whole ahead and come before the first `$end` to the text,
-/// a space before each. Returns how many bytes were passed.
+/// Appends the tokens that come next, lie completely in the chunk and come before the first `$end`
+/// to the text, a space before each. Returns how many bytes were passed.
 // For texts of many short tokens: `check` of a date of tokens of one byte takes 2.2 times as many
 // instructions without it.
 fn append_ahead(ahead: Ahead<'_>, text: &mut Vec<u8>) -> Result<usize, HeadFault>

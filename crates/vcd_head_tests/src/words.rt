@@ -8,10 +8,10 @@ use std::alloc::{AllocError, Global};
 use std::process::Abort;
 use vcd_words::{Job, UseFault, Want, Words, command_of, input_of, job_of, parse_status, want_of};
 
-// The token limit where none is asked for.
+// The token limit if none is asked for.
 const LIMIT: usize = 1_048_576;
 
-// What the parse of these words returns: nothing where they are taken, else its kind and the exit
+// What the parse of these words returns: nothing if they are taken, otherwise its kind and the exit
 // status.
 fn answer(alloc: Global, words: &[&str]) -> Result<Option<(ErrorKind, u8)>, AllocError> {
     match command_of(alloc)?.try_get_matches_from(words) {

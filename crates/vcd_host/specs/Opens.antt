@@ -29,7 +29,7 @@ Opens {H} {I} opens host [] [] after = after ≡ host
 Opens {H} {I} opens host (name ∷ names) (input ∷ inputs) after = (next : H) × opens host name (Ok input) next × Opens opens next names inputs after
 Opens {H} {I} opens host names inputs after = ⊥
 
--- one input more was opened, of which no read has failed
+-- one more input was opened, of which no read has failed
 abbrev pub OpensOne : {H I : Type 0} → (H → Option Text → Result I OpenFault → H → Type 0) → (I → ℕ) → Option Text → (host host' : H) → (inputs inputs' : List I) → Type 0
 OpensOne {H} {I} opens failures name host host' inputs inputs' = (input : I) × opens host name (Ok input) host' × (failures input ≡ 0) × (inputs' ≡ inputs ++ input ∷ [])
 

@@ -16,7 +16,7 @@ fn input_named(word: &str) -> Option<&str>
     Some(word)
 }
 
-/// Returns the only input of a command: that of its word, standard input where it has none.
+/// Returns the only input of a command: that of its word, standard input if it has none.
 fn only_input<'a>(matches: &ArgMatches<'a>) -> Option<&'a str>
     ensures { text_of result ≡ option_and_then input_named (input_asked matches.now) }
 {

@@ -12,8 +12,8 @@ use vcd_text::{Sink, WriteFailed};
 /// A sink whose bytes wait in a buffer until it is full or flushed. It counts the writes that
 /// failed. When it is dropped, it passes on what is in the buffer.
 ///
-/// A write of the device fails where it returns any error, also that it was interrupted, and where
-/// it takes nothing. What such a write leaves stays in the buffer.
+/// A write of the device fails if it returns any error, also that it was interrupted, and if it
+/// takes nothing. What such a write leaves stays in the buffer.
 // A write that fits is an inline copy. A `BufWriter` sets pointer, length and room of its vector
 // anew: with it `merge` of 27,505 codes takes 17 % more.
 pub struct Buffered<D: Write + Drop> {
@@ -71,7 +71,7 @@ impl<D: Write + Drop> Buffered<D> {
         })
     }
 
-    /// Writes what is in the buffer to the device. Where a write fails, the rest stays.
+    /// Writes what is in the buffer to the device. If a write fails, the rest stays.
     fn write_kept(&mut self) -> Result<(), WriteFailed>
         ensures empty { OnOk result (kept self.new.buffer ≡ []) }
         ensures room { OnOk result (self.new.buffer.len ≡ 0) }
@@ -87,7 +87,7 @@ impl<D: Write + Drop> Buffered<D> {
         Ok(())
     }
 
-    /// Makes room for n bytes: writes what is in the buffer, where it has no room for them.
+    /// Makes room for n bytes: writes what is in the buffer, if it has no room for them.
     fn make_room(&mut self, n: usize) -> Result<(), WriteFailed>
         requires { n ≤ 8192 }
         ensures room { OnOk result (self.new.buffer.len + n ≤ 8192) }
@@ -120,9 +120,9 @@ impl<D: Write + Drop> Buffered<D> {
         Ok(from.len())
     }
 
-    /// Takes bytes that fill the buffer or have no room in it, and returns how many: none where the
+    /// Takes bytes that fill the buffer or have no room in it, and returns how many: none if the
     /// write failed.
-    // Not inlined, and with a number as its result, so that `write` is short where it is inlined.
+    // Not inlined, and with a number as its result, so that `write` is short if it is inlined.
     #[cold]
     #[inline(never)]
     fn write_long(&mut self, from: &[u8]) -> usize
@@ -217,7 +217,7 @@ impl<D: Write + Drop> Output for Buffered<D> {
     ghost use Rattle.std.specs.Prelude.{◌≡◌, true, []};
     ghost use Rattle.vcd_host.specs.Buffer.{kept};
 
-    // Where it is done, no byte is in the buffer.
+    // If it is done, no byte is in the buffer.
     ghost flushes = { λ _ done new. done ≡ true → kept new.buffer ≡ [] };
 
     fn flush(&mut self) -> Result<(), WriteFailed> {

@@ -13,7 +13,7 @@ pub enum OpenFault {
     OutOfMemory,
 }
 
-/// Where inputs are opened.
+/// If inputs are opened.
 pub trait Host {
     /// An input that is open.
     type Input: Source + Drop;
@@ -22,12 +22,12 @@ pub trait Host {
     // speaks of it for every host says which calls were made: there is no other way to it.
     ghost opens: { Self → Option (List ℕ) → Result Self.Input OpenFault → Self → Type 0 };
 
-    /// Opens the file of this name, or standard input where there is none.
+    /// Opens the file of this name, or standard input if there is none.
     fn open(&mut self, name: Option<&str>) -> Result<Self::Input, OpenFault>
         ensures opens { opens self.old (option_map (λ n. n.now) name.entry) result self.new }
         ensures fresh { IfOk result (λ input. Self.Input.failures input ≡ 0) };
 
-    /// Returns how many bytes the reads of an input give at most, where the host knows it. The
+    /// Returns how many bytes the reads of an input give at most, if the host knows it. The
     /// provided one knows nothing.
     fn most_of(_input: &Self::Input) -> Option<usize>
         ensures { IfSome (Self.Input.rest _input.now)
@@ -39,7 +39,7 @@ pub trait Host {
 
 /// A sink that may keep bytes in a buffer until it is flushed.
 pub trait Output: Sink {
-    // What a call of `flush` leaves the sink, where it is done and where it fails.
+    // What a call of `flush` leaves the sink, if it is done and if it fails.
     ghost flushes: { Self → Bool → Self → Type 0 };
 
     /// Passes on what is in the buffer. It is no write that is counted.

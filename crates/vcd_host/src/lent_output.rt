@@ -15,7 +15,7 @@ const UNCOUNTED: u64 = 9_223_372_036_854_775_808;
 pub struct LentOutput<'a> {
     bytes: &'a mut [u8],
     used: usize,
-    // How many bytes found no room, where they are fewer than 2^63.
+    // How many bytes found no room, if they are fewer than 2^63.
     over: u64,
     gone: Gone,
     ghost within: { used ≤ length bytes.now },
@@ -52,8 +52,8 @@ impl<'a> LentOutput<'a> {
         Some(self.used as u64 + self.over)
     }
 
-    /// Takes bytes that fill the room or more, and returns how many: from the front those
-    /// for which there is, or all of them where there is no room at all.
+    /// Takes bytes that fill the room or more, and returns how many: from the front those for which
+    /// there is, or all of them if there is no room at all.
     #[cold]
     #[inline(never)]
     fn write_over(&mut self, from: &[u8]) -> usize

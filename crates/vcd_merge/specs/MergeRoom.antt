@@ -26,7 +26,7 @@ kept_in heads = record {
 abbrev pub windows_size : Windows → WindowSize
 windows_size w = record { chunk = length w.chunks.now; token = length w.tokens.now; value = length w.values.now }
 
--- where no windows are lent
+-- if no windows are lent
 abbrev pub no_windows : WindowSize
 no_windows = record { chunk = 0; token = 0; value = 0 }
 

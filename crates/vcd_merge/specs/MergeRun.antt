@@ -91,7 +91,7 @@ pub data AreReadOnTurn (limit chunk : ℕ) (hs : List Header) (lanes : List Lane
 
 -- After these headers and their tokens, a merge over these inputs has this outcome; `old` and `new`
 -- are their sources before and after it. Of each of them no more was read than what settles the
--- merge, and a chunk: even where all of the others were known. Nor was any read before its turn.
+-- merge, and a chunk: even if all of the others were known. Nor was any read before its turn.
 pub record Follows (limit chunk : ℕ) (lanes : List Lane) (names : List (List ℕ)) (old new : List Supply) (out out' : Device) (result : Result Done Stop) : Type 0 where
   pub lefts : List Input
   pub are_left : AreLeft limit chunk lanes old new lefts

@@ -41,8 +41,8 @@ left_of seats = sum_by (λ (s : Seat). cond s.finished 0 (2 ^ 63 - parked_seen s
 abbrev pub failures_with : {A : Type 0} → List ℕ → ℕ → Result A Stop → List ℕ
 failures_with ns k result = slice_set ns k (get_or ns k 0 + reads_failed result)
 
--- a failed read was the last one of the source that it names, where these say of each source
--- whether its last one failed
+-- a failed read was the last one of the source that it names, if these say of each source whether
+-- its last one failed
 abbrev pub EndsAtReadOf : {A : Type 0} → List Bool → Result A Stop → Type 0
 EndsAtReadOf last_failed result = (input : ℕ) → result ≡ Err (Read input) → slice_get last_failed input ≡ Some true
 
@@ -75,14 +75,14 @@ pub record IsReady {X : Type 0} (s : Standing X) : Type 0 where
   pub seated : AreSeated s.chunks s.tokens s.seats
   pub some : (k : ℕ) × IsNext s.seats k
 
--- what is left of an input where a read failed after n bytes
+-- what is left of an input if a read failed after n bytes
 abbrev pub cut_at : Option ℕ → Input → Input
 cut_at None i = i
 cut_at (Some n) i = failed_after n i
 
 -- What a step from s to s' has read after these items. It is the turn of the input at this index:
--- of it alone was read, and no more than a chunk past a token that comes after its items. Where a
--- read failed after n bytes, its source has the others still. The other sources and seats stay.
+-- of it alone was read, and no more than a chunk past a token that comes after its items. If a read
+-- failed after n bytes, its source has the others still. The other sources and seats stay.
 pub record ReadsOne {X : Type 0} (rest : X → Option (List ℕ)) (lanes : List Lane) (ds : List Dump) (s s' : Standing X) (k : ℕ) (cut : Option ℕ) : Type 0 where
   pub next : IsNext s.seats k
   pub lane : Lane
@@ -139,7 +139,7 @@ module _ {X : Type 0} (rest : X → Option (List ℕ)) (hs : List Header) (lanes
   abbrev pub next_item : ℕ → Dump → BodyItem → Keyed
   next_item k d x = keyed_after (factor hs d.header) k (renamed (take k hs) d.header) d.items x
 
-  -- it is the turn of the input at this index, and after its items it has this fault; where a read
+  -- it is the turn of the input at this index, and after its items it has this fault; if a read
   -- failed, what is left of it is cut
   pub record HasFault (ds : List Dump) (s : Standing X) (input line fault : ℕ) (cut : Option ℕ) : Type 0 where
     pub next : IsNext s.seats input
@@ -187,9 +187,9 @@ module _ {X : Type 0} (rest : X → Option (List ℕ)) (hs : List Header) (lanes
     pub writes : WritesSome out out' []
     pub unread : (j : ℕ) → option_map rest (slice_get s'.sources j) ≡ option_map rest (slice_get s.sources j)
 
-  -- What a step from s after these items returns, by what it leaves. Where the merge has not ended,
-  -- an item was taken, or an input has finished that had not. A write fails with an item, at the
-  -- end, or before a read.
+  -- What a step from s after these items returns, by what it leaves. If the merge has not ended, an
+  -- item was taken, or an input has finished that had not. A write fails with an item, at the end,
+  -- or before a read.
   abbrev pub Gives : List Dump → Standing X → Standing X → Device → Device → Result More Stop → Type 0
   Gives ds s s' out out' (Ok Again) =
       ((k : ℕ) × (d : Dump) × (x : BodyItem) × Takes ds s' k d x × (s'.written ≡ last_written (merged_items (with_item ds k d x)))

@@ -42,7 +42,7 @@ spot_in rest a = record { seat = a.seat; rest = rest a.source; chunk = a.chunk; 
 abbrev pub stage_with : {X : Type 0} {g : Ghosts X} → List BodyItem → Option ℕ → Seat → Feed X g → Device → Stage X
 stage_with items written s f out = stage items written (record s { parked = f.parked }) f.source.now f.chunk.now f.token.now out
 
--- one item more, after which the time of the input is before this one
+-- one more item, after which the time of the input is before this one
 pub record TakesOn {X : Type 0} (rest : X → Option (List ℕ)) (failures : X → ℕ) (scale first : ℕ) (l : Lane) (before : ℕ) (a b : Stage X) : Type 0 where
   pub item : BodyItem
   pub items_are : b.items ≡ a.items ++ item ∷ []
@@ -164,14 +164,13 @@ pub record Touches {X A : Type 0} (rest : X → Option (List ℕ)) (failures : X
   pub writes : CountsWrites out out' result
 
 -- What a step of a merge leaves whatever the inputs are: the input whose turn it was was touched,
--- and where the merge has not ended, less is left to be looked at.
+-- and if the merge has not ended, less is left to be looked at.
 pub record RunLeaves {X : Type 0} (rest : X → Option (List ℕ)) (failures : X → ℕ) (s s' : Standing X) (out out' : Device) (k : ℕ) (result : Result More Stop) : Type 0 where
   pub ready : result ≡ Ok Again → IsReady s'
   pub touches : Touches rest failures s s' out out' k result
   pub left : result ≡ Ok Again → left_of s'.seats < left_of s.seats
 
--- What the turn of the next input gives and leaves, where each turn ends at this
--- time at the latest.
+-- What the turn of the next input gives and leaves, if each turn ends at this time at the latest.
 pub record Runs {X : Type 0} (rest : X → Option (List ℕ)) (failures : X → ℕ) (until : ℕ) (s s' : Standing X) (out out' : Device) (result : Result More Stop) : Type 0 where
   pub gives : (alone : Bool) (hs : List Header) (lanes : List Lane) (ds : List Dump) → (alone ≡ true → until ≡ 0) → Holds rest hs lanes ds s → RunGives rest failures hs lanes alone ds s s' out out' result
   pub input : ℕ

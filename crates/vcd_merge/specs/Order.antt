@@ -19,7 +19,7 @@ pub record Waits (seats : List Seat) (n out j : ℕ) : Type 0 where
   pub there : slice_get seats j ≡ Some seat
   pub unfinished : seat.finished ≡ false
 
--- in the first `len` indexes there are just these inputs, each before those in smaller indexes
+-- in the first `len` indexes there are exactly these inputs, each before those in smaller indexes
 pub record AreInOrder (In : ℕ → Type 0) (time : ℕ → ℕ) (inputs : List ℕ) (len : ℕ) : Type 0 where
   pub there : (p : ℕ) → p < len → In (get_or inputs p 0)
   pub all : (j : ℕ) → In j → (p : ℕ) × (p < len) × (get_or inputs p 0 ≡ j)

@@ -76,7 +76,7 @@ pub record AtSeat (scale first : ℕ) (l : Lane) (items : List BodyItem) (s : Sp
   pub first_is : s.seat.first ≡ first
   -- no number of a code is too great
   pub few : first + length l.header.codes < 2 ^ 64
-  -- where it has finished, these are all its items, and it has no fault
+  -- if it has finished, these are all its items, and it has no fault
   pub finished : s.seat.finished ≡ true → HasDump scale (length s.token) l.header l.front l.input items None
 
 -- whatever the input is: the parked feed fits its windows, and no failed read was returned
@@ -92,9 +92,9 @@ pub record SameSeat (old new : Seat) : Type 0 where
   pub first : new.first ≡ old.first
 
 -- Of an input, of which this is left and whose source has this rest, at most a chunk was read past
--- a token that was asked for where those before it had just these items: so no more than what
--- settles any work that such tokens do not settle, whatever the source was before, and however many
--- of its reads have failed.
+-- a token that was asked for if those before it had just these items: so no more than what settles
+-- any work that such tokens do not settle, whatever the source was before, and however many of its
+-- reads have failed.
 abbrev pub ReadsNoMore : (limit chunk : ℕ) → Lane → List BodyItem → Input → Option (List ℕ) → Type 0
 ReadsNoMore limit chunk l items left rest = (old : Supply) (failures : ℕ) (settled : List Token → Bool) → ((ts : List Token) → HaveJust l.header.codes items ts → settled ts ≡ false)
     → ReadsAsNeeded limit chunk old (record { rest = rest; failures = failures }) left l.front settled
@@ -103,7 +103,7 @@ ReadsNoMore limit chunk l items left rest = (old : Supply) (failures : ℕ) (set
 abbrev pub HasReadNoMore : Lane → List BodyItem → Input → Spot → Type 0
 HasReadNoMore l items left s = ReadsNoMore (length s.token) (length s.chunk) l items left s.rest
 
--- one item more was given, and what is due with it was written
+-- one more item was given, and what is due with it was written
 abbrev pub GivesOne : ℕ → ℕ → Lane → List BodyItem → Option ℕ → Option ℕ → Spot → BodyItem → Type 0
 GivesOne scale first l items written written' s x = (s.seat.finished ≡ false) × AtSeat scale first l (items ++ x ∷ []) s × (written' ≡ written_with written (entry_for scale first l.header items x)) × HasReadNoMore l items l.input s
 

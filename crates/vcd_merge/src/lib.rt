@@ -13,12 +13,12 @@
 //!
 //! `Follows limit chunk lanes names .. result` (`MergeRun`) says what a merge leaves: each input,
 //! whole, or what its source gave until a read failed; that no more of it was read than settles the
-//! merge, even where all others are known; and that output and result belong to the definitions'
+//! merge, even if all others are known; and that output and result belong to the definitions'
 //! outcome for all of them. Between steps a merge `Holds` the items that its inputs have given
-//! (`MergeStep`). A step `Gives` one item more, the next of the merged list, and the output grows
+//! (`MergeStep`). A step `Gives` one more item, the next of the merged list, and the output grows
 //! by exactly what is due with it; or an input has finished, and nothing is written; or all have,
 //! and what is due at the end is written. A fault is that of the input whose turn it is, and
-//! nothing is written there. Where a write fails, a prefix was written.
+//! nothing is written there. If a write fails, a prefix was written.
 //!
 //! # The modules
 //!
@@ -40,7 +40,7 @@
 //! windows within the bound of the definitions (`MergeIsWithinBound`). A time that is 2^64 or more
 //! once it is scaled is a fault.
 //!
-//! Not promised: how many bytes of the output were written where a write failed.
+//! Not promised: how many bytes of the output were written if a write failed.
 #![tactic(auto)]
 
 mod beginning;

@@ -24,7 +24,7 @@ fn is_left_out(event: bool, inside: bool) -> bool
     event && inside
 }
 
-/// Writes the line of `time`, unless it was written last. Fails where a write does.
+/// Writes the line of `time`, unless it was written last. Fails if a write does.
 #[inline(always)]
 fn put_due_time<W: Sink>(
     time: u64,
@@ -44,7 +44,7 @@ fn put_due_time<W: Sink>(
 }
 
 /// Writes a change of the code at index `code`, under its new code, after the line of its time. An
-/// event inside a section is dropped. Fails where a write does.
+/// event inside a section is dropped. Fails if a write does.
 // Cold, and not inlined, for the walk over the items in the chunk: the look-up there gives the size
 // of most codes. It takes no struct: that would be cleared for each item.
 #[cold]
@@ -166,8 +166,8 @@ impl Visit<()> for Merging {
 }
 
 /// Takes the items of an input that are whole in its feed's chunk, while its time is below
-/// `before`, and returns whether the time has reached it. The feed moves past them in one call.
-/// Where a keyword is next, none is taken. Fails where a write does.
+/// `before`, and returns whether the time has reached it. The feed moves past them in one call. If
+/// a keyword is next, none is taken. Fails if a write does.
 #[inline(never)]
 fn take_ahead<S: Source, W: Sink>(
     head: &Head,
@@ -234,7 +234,7 @@ fn time_too_large(input: usize, line: u64) -> Stop
 ///
 /// # Errors
 ///
-/// The fault of the dump, also a time that is too large; a failed read; `Stop::Write` where a write
+/// The fault of the dump, also a time that is too large; a failed read; `Stop::Write` if a write
 /// failed.
 #[inline(always)]
 fn take_item<S: Source, W: Sink>(
@@ -285,8 +285,8 @@ fn take_item<S: Source, W: Sink>(
 }
 
 /// Takes the items of a turn from its input's feed: one, and those after it while the input's time
-/// is below the turn's end. Before a read `out` passes on what it keeps back. Fails where
-/// `take_item` does.
+/// is below the turn's end. Before a read `out` passes on what it keeps back. Fails if `take_item`
+/// does.
 // So most items cost no look at the seats and no new feed.
 #[inline(always)]
 fn take_turn<S: Source, W: Sink>(
@@ -325,7 +325,7 @@ fn take_turn<S: Source, W: Sink>(
 }
 
 /// Takes the turn of an input over its source and its parts of the windows alone: resumes its feed,
-/// takes the items of the turn, and parks the feed. Fails where `take_item` does.
+/// takes the items of the turn, and parks the feed. Fails if `take_item` does.
 #[inline(always)]
 pub(crate) fn resume_turn<S: Source, W: Sink>(
     head: &Head,

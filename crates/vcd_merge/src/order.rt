@@ -154,7 +154,7 @@ impl TurnOrder {
     }
 
     /// Returns the time below which `input` comes before all of the first `count` that wait:
-    /// `u64::MAX` where that is none.
+    /// `u64::MAX` if that is none.
     #[inline(always)]
     fn end_of(&self, input: usize, count: usize, seats: &[Seat]) -> u64
         requires count { count ≤ self.now.len }
@@ -167,7 +167,7 @@ impl TurnOrder {
         end_before(seats, input, self.inputs[count - 1] as usize)
     }
 
-    /// Takes out the next input, and returns its turn. `None` where all inputs have finished.
+    /// Takes out the next input, and returns its turn. `None` if all inputs have finished.
     #[inline(always)]
     pub(crate) fn take_next(&mut self, seats: &[Seat]) -> Option<Turn>
         requires { AllWait seats.now self.old.inputs self.old.len }

@@ -17,7 +17,7 @@ use Rattle.vcd_program.specs.declared.machine.Measured.TheVariants.{AtMost, Unkn
 use Rattle.vcd_program.specs.declared.machine.Stream.{Stream}
 use Rattle.vcd_program.specs.declared.machine.Stream.TheVariants.{File, Input, Refused}
 
--- the bytes, where they are known, are at most so many, where this number is known
+-- the bytes, if they are known, are at most so many, if this number is known
 abbrev pub GivesAtMost : Option (List ℕ) → Option ℕ → Type 0
 GivesAtMost bytes most = IfSome bytes (λ text. IfSome most (λ n. length text ≤ n))
 
@@ -26,8 +26,8 @@ abbrev pub measured_left : {R : Type 0} → (R → Option (List ℕ)) → Measur
 measured_left of_reader (AtMost reader) = take_remaining of_reader reader
 measured_left of_reader (Unknown reader) = of_reader reader
 
--- the bytes that reads of an input give from here on, where those of its file or of standard input
--- are known
+-- the bytes that reads of an input give from here on, if those of its file or of standard input are
+-- known
 abbrev pub bytes_left : {F I : Type 0} → (F → Option (List ℕ)) → (I → Option (List ℕ)) → Stream F I → Option (List ℕ)
 bytes_left of_file of_input (File file) = of_file file.device
 bytes_left of_file of_input (Input input) = of_input input.device
@@ -38,8 +38,8 @@ abbrev pub read_as : {F I : Type 0} → Bool → Stream F I → Stream F I
 read_as true stream = stream
 read_as false stream = Refused
 
--- What a host returns whose machine opens files so and gives such a standard input: where there is a
--- name the file of this name, else standard input.
+-- What a host returns whose machine opens files so and gives such a standard input: if there is a
+-- name the file of this name, otherwise standard input.
 abbrev pub OpenedOn : {M F I : Type 0} → (M → List ℕ → Result F Error → Type 0) → (M → I → Type 0) → MachineHost M → Option (List ℕ) → Result (Watch (Stream F I)) OpenFault → Type 0
 OpenedOn opens gives host None (Ok watch) = (input : _) × gives host.machine.now input × (watch.device ≡ read_as host.is_seeded (Input (record { device = input })))
 OpenedOn opens gives host None (Err fault) = ⊥

@@ -11,8 +11,8 @@ use vcd_words::{Job, UseFault, answer_text, command_of, job_of, parse_status};
 use vcdkit::{open_fault, run_within, use_fault, write_fault};
 
 /// Opens the inputs that the matches of this job name, runs it over them, and returns the exit
-/// status. `out` is not flushed. Where memory runs out or an input does not open, nothing is
-/// written, and `err` gets the line. The chunk is that of every job of the command line.
+/// status. `out` is not flushed. If memory runs out or an input does not open, nothing is written,
+/// and `err` gets the line. The chunk is that of every job of the command line.
 fn run_job<H: Host, W: Sink, E: Sink, B: BuildHasher>(
     alloc: Global,
     job: Job,
@@ -122,7 +122,7 @@ fn run_words<H: Host, W: Sink, E: Sink, B: BuildHasher>(
 
 /// Runs what the words ask for, the program's name first among them, flushes the output, and
 /// returns the exit status: that of the definitions for the words and the inputs; 3 for an input
-/// that cannot be opened, where memory ran out and for a failed read or write; 0 for help and the
+/// that cannot be opened, if memory ran out and for a failed read or write; 0 for help and the
 /// version.
 pub fn run_program<H: Host, W: Output, E: Sink, B: BuildHasher>(
     alloc: Global,

@@ -169,7 +169,7 @@ impl<F: Read, I: Read> Read for Stream<F, I> {
 #[derive(Drop)]
 struct MachineHost<'r, M> {
     machine: &'r M,
-    /// Whether the machine gave random numbers. Where it gave none, each read of an input fails.
+    /// Whether the machine gave random numbers. If it gave none, each read of an input fails.
     is_seeded: bool,
 }
 
@@ -214,8 +214,7 @@ impl<M: Machine> Host for MachineHost<'_, M> {
     }
 }
 
-/// Returns the words of the command line, the program's name first. They are bad where one is no
-/// text.
+/// Returns the words of the command line, the program's name first. They are bad if one is no text.
 fn words_of<R: Env + AllocGlobal>(rt: &R) -> Result<Vec<String>, UseFault<'static>> {
     let words = env::args(rt).map_err(|error| match error.kind() {
         ErrorKind::OutOfMemory => UseFault::OutOfMemory,
@@ -225,7 +224,7 @@ fn words_of<R: Env + AllocGlobal>(rt: &R) -> Result<Vec<String>, UseFault<'stati
 }
 
 /// Runs the program on these words over the inputs of this machine, and returns the exit status, as
-/// `run_program` does. Where the machine gave no random numbers, no input can be read.
+/// `run_program` does. If the machine gave no random numbers, no input can be read.
 fn run_over<M: Machine, W: Output, E: Sink, B: BuildHasher>(
     alloc: Global,
     machine: &M,
@@ -268,7 +267,7 @@ fn run_words<E: Sink, B: BuildHasher>(
 /// on `err`.
 ///
 /// Identifier codes are hashed by random numbers of the machine, so that nobody can make a dump
-/// whose codes are slow to find. Where the machine gives none, the first input cannot be read.
+/// whose codes are slow to find. If the machine gives none, the first input cannot be read.
 pub fn run_words_on_machine<E: Sink>(rt: &HostRuntime, words: &[String], err: &mut E) -> u8
     requires { (E.device err.old).failures < 2 ^ 64 - 2 }
     ensures { result ≤ 3 }

@@ -29,7 +29,7 @@ pub struct Memory<'a> {
     pub opened: Vec<Option<String>>,
 }
 
-/// Copies a name, where there is one.
+/// Copies a name, if there is one.
 fn copied(alloc: Global, name: Option<&str>) -> Result<Option<String>, AllocError>
     ensures { IfOk result (λ copy. option_map string_bytes copy ≡ text_of name.entry) }
 {
@@ -141,12 +141,12 @@ pub fn run_in_memory(
     })
 }
 
-/// What a program left where its output and its message went to bytes that were lent.
+/// What a program left if its output and its message went to bytes that were lent.
 #[derive(Clone, Copy, PartialEq, Eq, Debug)]
 pub struct Filled {
-    /// How many bytes the output has, also where there was room for fewer.
+    /// How many bytes the output has, also if there was room for fewer.
     pub output: u64,
-    /// How many bytes the message has, also where there was room for fewer.
+    /// How many bytes the message has, also if there was room for fewer.
     pub message: u64,
     /// The exit status.
     pub status: u8,

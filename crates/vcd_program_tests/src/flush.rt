@@ -7,7 +7,7 @@ use vcd_program::{Memory, run_program};
 use vcd_text::Watch;
 use vcd_text::doubles::Narrow;
 
-// The status and the message of these words over this input, where the output cannot be flushed.
+// The status and the message of these words over this input, if the output cannot be flushed.
 fn run_unflushed(alloc: Global, word: &str, input: &[u8]) -> Result<(u8, Vec<u8>), AllocError> {
     let words = words_of(alloc, &[word])?;
     let mut memory = Memory {

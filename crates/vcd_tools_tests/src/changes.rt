@@ -48,7 +48,7 @@ const WORKED: [Worked; 16] = [
         fault: 0,
         line: 0,
     },
-    // In a section too, and where no value changes.
+    // In a section too, and if no value changes.
     Worked {
         head: HEAD_A,
         body: b"#0\n$dumpvars\n0!\nb0 \"\n$end\n#1\nx!\n#2\n1!\n#3\n0!\n#4\n1!\n1!\nb1 \"\n#5\n\

@@ -61,7 +61,7 @@ alone_app name = with_rule (one_input_app name) file_rule
 abbrev pub named_app : Text → Bool → App
 named_app name required = with_rule (one_input_app name) (names_rule required)
 
--- a time, and this word where there is none
+-- a time, and this word if there is none
 abbrev pub time_or_rule : (name word : Text) → Rule
 time_or_rule name word = record (time_rule name) { defaults = word ∷ [] }
 
@@ -110,11 +110,11 @@ word_after matches id = option_and_then (λ used. first_of id used.1) (subcomman
 abbrev pub values_after : ArgMatches → Text → List Text
 values_after matches id = unwrap_or (option_and_then (λ used. all_of id used.1) (subcommand_rows_of matches)) []
 
--- words, where there are some
+-- words, if there are some
 abbrev pub some_of : List Text → Option (List Text)
 some_of words = cond (is_empty words) None (Some words)
 
--- the word for a file that the matches have, none where standard input is read
+-- the word for a file that the matches have, none if standard input is read
 abbrev pub input_asked : ArgMatches → Option Text
 input_asked matches = word_after matches (codes "input")
 
@@ -122,7 +122,7 @@ input_asked matches = word_after matches (codes "input")
 abbrev pub files_asked : ArgMatches → List Text
 files_asked matches = values_after matches (codes "files")
 
--- a cut between these words, where there are both
+-- a cut between these words, if there are both
 abbrev pub cut_between : Option Text → Option Text → Option model.Command
 cut_between (Some from) (Some to) = Some (model.Command.Cut from to)
 cut_between (Some from) None = None
@@ -149,7 +149,7 @@ complete named = option_and_then (λ command. cond (model.has_words command) (So
 
 -- ---- what they ask for
 
--- the words that were used, where they have a command of the table
+-- the words that were used, if they have a command of the table
 abbrev pub words_used : ArgMatches → Option model.Words
 words_used matches = option_map (λ command. record { command = command; limit = word_after matches (codes "token-limit") }) (command_used matches)
 
@@ -161,7 +161,7 @@ job_asked matches = model.job_of (words_used matches)
 abbrev pub AsksFor : ArgMatches → Want → ℕ → Type 0
 AsksFor matches want limit = job_asked matches ≡ Ok (record { want = model_want want; limit = limit })
 
--- borrowed names, where there are some
+-- borrowed names, if there are some
 abbrev pub some_names : Option (Bor (List (Bor Text))) → List Text
 some_names names = unwrap_or (option_map (λ some. map (λ name. name.now) some.now) names) []
 
@@ -196,13 +196,13 @@ IsFaultIn {X} TooManyFiles asked = asked ≡ Err model.UseFault.TooManyFiles
 IsFaultIn {X} InputTwice asked = asked ≡ Err model.UseFault.InputTwice
 IsFaultIn {X} OutOfMemory asked = ⊥
 
--- that is the fault, or memory ran out, which it does only where the words have no fault
+-- that is the fault, or memory ran out, which it does only if the words have no fault
 abbrev pub IsFaultOf : {X : Type 0} → UseFault → Result X model.UseFault → Type 0
 IsFaultOf {X} OutOfMemory asked = (x : X) × (asked ≡ Ok x)
 IsFaultOf {X} fault asked = IsFaultIn fault asked
 
--- the words ask for this, which words can ask for, or have this fault; memory may run out where
--- they have none
+-- the words ask for this, which words can ask for, or have this fault; memory may run out if they
+-- have none
 pub record GivesWant (wanted : Result model_job.Want model.UseFault) (result : Result Want UseFault) : Type 0 where
   pub want : IfOk result (λ want. wanted ≡ Ok (model_want want))
   pub asked : IfOk result (λ want. is_asked want ≡ true)

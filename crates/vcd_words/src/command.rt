@@ -1,4 +1,4 @@
-//! The command line: which words it takes, and the exit status where it takes none.
+//! The command line: which words it takes, and the exit status if it takes none.
 ghost use Rattle.std.specs.Prelude.{◌≡◌, true, IfOk};
 ghost use Rattle.vcd_words.specs.Names.{alone_app, App, cut_app, IsLocal, IsWhole, kind_of, limit_rule, merge_app, named_app, new_app, one_input_app, parse_status_of, program_app, sample_app, time_rule, with_subcommand};
 
@@ -54,7 +54,7 @@ fn alone<'a>(alloc: Global, name: &'a str, help: Help<'a>) -> Result<Command<'a>
 }
 
 /// Returns a command over one input, with its options and names of variables, without which the
-/// parse fails where they are required. A word without an option is a name here, so the file comes
+/// parse fails if they are required. A word without an option is a name here, so the file comes
 /// after `-i`.
 fn named<'a>(
     alloc: Global,
@@ -146,7 +146,7 @@ fn add<'a>(
     program.subcommand(command?)
 }
 
-/// Returns the command `vcdkit` with its commands; fails where memory runs out.
+/// Returns the command `vcdkit` with its commands; fails if memory runs out.
 pub fn command_of<'a>(alloc: Global) -> Result<Command<'a>, AllocError>
     ensures { IfOk result (λ command. IsWhole command program_app) }
 {
@@ -163,7 +163,7 @@ pub fn command_of<'a>(alloc: Global) -> Result<Command<'a>, AllocError>
     add(program, merge(alloc))
 }
 
-/// Returns the exit status where a parse gave no matches.
+/// Returns the exit status if a parse gave no matches.
 pub fn parse_status(error: &Error) -> u8
     ensures { result ≡ parse_status_of (kind_of error.now) }
 {

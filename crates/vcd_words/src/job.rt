@@ -34,8 +34,8 @@ pub enum Want {
 }
 
 impl Want {
-    /// Converts the times of a sample to ticks of the header that is shown, in place. Fails where
-    /// they are refused, with the reason; what the times are then is not said.
+    /// Converts the times of a sample to ticks of the header that is shown, in place. Fails if they
+    /// are refused, with the reason; what the times are then is not said.
     pub fn write_ticks(&mut self, view: HeadView<'_>) -> Result<(), Refusal>
         requires { is_asked self.old ≡ true }
         ensures same { KeepsRequest view.entry (model_want self.old) (model_want self.new) result }
@@ -62,8 +62,8 @@ impl Want {
         matches!(self, Want::Merge)
     }
 
-    /// Returns the names that have to select something; none where the command takes no names, or
-    /// all variables.
+    /// Returns the names that have to select something; none if the command takes no names, or all
+    /// variables.
     pub fn names(&self) -> &[String]
         ensures { map string_bytes result.now ≡ names_asked self.now }
     {
@@ -117,7 +117,7 @@ impl<'a> From<AllocError> for UseFault<'a> {
     }
 }
 
-/// How long a token may be where the words say nothing of it.
+/// How long a token may be if the words say nothing of it.
 const DEFAULT_LIMIT: usize = 1_048_576;
 
 // The least and the greatest token limit.
@@ -152,8 +152,7 @@ fn limit_of<'a>(word: Option<&'a str>) -> Result<usize, UseFault<'a>>
 }
 
 /// Returns the job that the matches of the command ask for. Memory is taken for its names, once
-/// they are known to ask for a job. Fails with the first fault of the words, or where memory runs
-/// out.
+/// they are known to ask for a job. Fails with the first fault of the words, or if memory runs out.
 pub fn job_of<'a>(alloc: Global, matches: &ArgMatches<'a>) -> Result<Job, UseFault<'a>>
     ensures job { IfOk result (λ job. AsksFor matches.now job.task job.limit) }
     ensures chunk { IfOk result (λ job. job.chunk ≡ 65536) }

@@ -7,7 +7,7 @@
 //!
 //! # The modules
 //!
-//! - `command`: the words that the command line takes, and the status where it takes none
+//! - `command`: the words that the command line takes, and the status if it takes none
 //! - `help`: what `--help` says of each command
 //! - `answers`: what is said of words that it does not take
 //! - `words`: what the words ask for, borrowed from their matches

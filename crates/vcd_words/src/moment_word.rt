@@ -86,7 +86,7 @@ impl TimesOrder {
         }
     }
 
-    /// Returns the order with one time more.
+    /// Returns the order with one more time.
     fn with(self, time: Moment) -> TimesOrder
         ensures { (times : List ModelMoment) → IsOrderOf times self
             → IsOrderOf (times ++ asked time ∷ []) result }

@@ -40,7 +40,7 @@ fn write_ticks(numbers: &mut [u64], units: &[Option<i8>], view: HeadView<'_>) ->
 
 /// Writes the times of a sample, with these numbers and units, in ticks of the header that is shown
 /// over their numbers, each rounded down, and leaves them without units: they are the same times.
-/// Where they are refused it says why, and what they are then is not said.
+/// If they are refused it says why, and what they are then is not said.
 pub(crate) fn write_times(
     numbers: &mut Vec<u64>,
     units: &mut Vec<Option<i8>>,

@@ -56,7 +56,7 @@ pub record AreReaders {X : Type 0} (failures : X → ℕ) (readers : List X) : T
   pub few : length readers ≤ 64
   pub low : All (λ r. failures r < 2 ^ 64 - 1) readers
 
--- each reader gives at most so many bytes, where that is known, and its bytes are
+-- each reader gives at most so many bytes, if that is known, and its bytes are
 abbrev pub AreWithin : {X : Type 0} → (X → Option (List ℕ)) → Option ℕ → List X → Type 0
 AreWithin rest longest readers = IfSome longest (λ most. All (λ r. IfSome (rest r) (λ text. length text ≤ most)) readers)
 
@@ -90,7 +90,7 @@ EndsSo g w e job names old new out out' err err' status = (why : Option Failure)
     × (status ≡ end_status why) × Shows (e.device err) (e.device err') (end_message names (names_asked job.task) why)
     × EndsAtReadOf (map g.last_failed new) why
 
--- where the bytes of the readers are known, it ended as the definitions say
+-- if the bytes of the readers are known, it ended as the definitions say
 abbrev pub RunsJob : {X W E : Type 0} → Ghosts X → Sinks W → Sinks E → Job → List (List ℕ) → (old new : List X) → (out out' : W) → (err err' : E) → ℕ → Type 0
 RunsJob g w e job names old new out out' err err' status = (texts : List (List ℕ)) → map g.rest old ≡ map (λ text. Some text) texts
     → HasRun (model_want job.task) job.limit job.chunk names texts (supplies g old) (supplies g new) (w.device out) (w.device out') (e.device err) (e.device err') status

@@ -39,7 +39,7 @@ failure_of (Err failure) = Some failure
 
 -- ---- the devices
 
--- of the reader at this index a read failed where the failure says so, and it is this index that it
+-- of the reader at this index a read failed if the failure says so, and it is this index that it
 -- names
 abbrev pub CountsRead : (place before after : ℕ) → Option Failure → Type 0
 CountsRead place before after (Some (Stopped (Read input))) = (input ≡ place) × (after ≡ before + 1)
@@ -65,7 +65,7 @@ writes_failed why = 0
 
 -- ---- the devices themselves
 
--- a call failed with a failed read of this reader where its failure says so, as the reader at this
+-- a call failed with a failed read of this reader if its failure says so, as the reader at this
 -- index
 abbrev pub CountsAt : {X A : Type 0} → (X → ℕ) → ℕ → X → X → Result A Failure → Type 0
 CountsAt failures place old new result = CountsRead place (failures old) (failures new) (failure_of result)

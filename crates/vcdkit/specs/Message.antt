@@ -14,7 +14,7 @@ use Rattle.vcd_words.specs.Refusal.{model_refusal}
 use Rattle.vcd_words.specs.declared.job.UseFault.{UseFault}
 use Rattle.vcd_words.specs.declared.job.UseFault.TheVariants as use_fault
 
--- the stream took the whole line, or failed once after a prefix of it; a fault of it is passed over
+-- the stream took the whole line, or failed once after a prefix of it; a fault of it is ignored
 abbrev pub Shows : Device → Device → List ℕ → Type 0
 Shows old new line = Writes old new line ⊎ WritesSome old new line
 
@@ -29,7 +29,7 @@ pub record Reports {E : Type 0} (device : E → Device) (old new : E) (message :
 
 -- ---- a run
 
--- the line where a run stops whose inputs have these names, and which was asked for those
+-- the line if a run stops whose inputs have these names, and which was asked for those
 abbrev pub stop_message : (names asked : List (List ℕ)) → Stop → List ℕ
 stop_message names asked (Dump input line fault) = program_line (name_at names input ++ codes ":" ++ decimal line ++ codes ": " ++ fault_text fault)
 stop_message names asked (Read input) = program_line (name_at names input ++ codes ": read failed")
@@ -43,7 +43,7 @@ stop_status (Read input) = 3
 stop_status Write = 3
 stop_status (Unmatched place) = 1
 
--- the line and the exit status where times are refused, of inputs with these names
+-- the line and the exit status if times are refused, of inputs with these names
 abbrev pub refusal_message : (names : List (List ℕ)) → Refusal → List ℕ
 refusal_message names why = (refusal_outcome (name_at names 0) (model_refusal why)).message
 

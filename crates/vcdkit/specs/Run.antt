@@ -34,7 +34,7 @@ Leaves asked o name out out' (Err (Stopped stop)) = (task : Request) × (names_o
 Leaves asked o name out out' (Err (Refused why)) = (o ≡ model.refusal_outcome name (model_refusal why)) × Writes out out' []
 Leaves asked o name out out' (Err OutOfMemory) = Writes out out' []
 
--- which first tokens settle a run: where memory ran out those that settle the header
+-- which first tokens settle a run: if memory ran out those that settle the header
 abbrev pub settled_for : Result Done Failure → (run header : List Token → Bool) → List Token → Bool
 settled_for (Ok done) run header = run
 settled_for (Err (Stopped stop)) run header = run
@@ -68,9 +68,9 @@ IsAfter want limit front h name left o =
 abbrev pub header_behind : List Header → ℕ → Input → Header
 header_behind earlier limit i = header_of (phrases_of (read_header (allowed_after earlier) (stream_of limit i)).placed)
 
--- The inputs of readers with these texts, one by one: all of a text; or, where a read failed, what
--- the reader gave until then. No more was read of each than what settles it, where this many
--- declarations are allowed.
+-- The inputs of readers with these texts, one by one: all of a text; or, if a read failed, what the
+-- reader gave until then. No more was read of each than what settles it, if this many declarations
+-- are allowed.
 abbrev pub AreRead : (ℕ → List Token → Bool) → (limit chunk : ℕ) → List Header → List (List ℕ) → (old new : List Supply) → List Input → Type 0
 AreRead settled limit chunk earlier [] old new inputs = inputs ≡ []
 AreRead settled limit chunk earlier (text ∷ texts) [] new inputs = ⊥
@@ -97,12 +97,12 @@ LeavesAll names asked o out out' (Err OutOfMemory) = Writes out out' []
 abbrev pub known : ℕ → List Input → List Seen
 known limit inputs = map (λ (i : Input). Seen.All (stream_of limit i)) inputs
 
--- these first tokens of the input at an index settle a merge, where all of the others are known
+-- these first tokens of the input at an index settle a merge, if all of the others are known
 abbrev pub settles_among : ℕ → List Input → ℕ → List Token → Bool
 settles_among limit inputs k ts = is_settled_merge (slice_set (known limit inputs) k (Seen.First ts))
 
--- of each input of a merge no more was read than what settles the merge, and a chunk, even where
--- all of the others are known
+-- of each input of a merge no more was read than what settles the merge, and a chunk, even if all
+-- of the others are known
 abbrev pub AreNeeded : model.Want → (limit chunk : ℕ) → (old new : List Supply) → List Input → Type 0
 AreNeeded model.Want.Merge limit chunk old new inputs = (k : ℕ) (s t : Supply) (i : Input) → slice_get old k ≡ Some s → slice_get new k ≡ Some t → slice_get inputs k ≡ Some i → ReadsAsNeeded limit chunk s t i [] (settles_among limit inputs k)
 AreNeeded want limit chunk old new inputs = Unit {0}
@@ -132,7 +132,7 @@ pub record EndsAll (want : model.Want) (asked : List (List ℕ)) (limit chunk : 
 pub data IsOutcome (o : Outcome) (out out' err err' : Device) (status : ℕ) : Type 0 where
   -- all of the outcome
   Whole : (written : Writes out out' o.output) (shown : Shows err err' o.message) (status_is : status ≡ o.status) → IsOutcome o out out' err err' status
-  -- a prefix of the output, where a write of it failed
+  -- a prefix of the output, if a write of it failed
   Part : (written : WritesSome out out' o.output) (shown : Shows err err' (program_line (codes "write failed"))) (status_is : status ≡ 3) → IsOutcome o out out' err err' status
 
 -- how a job ends over readers with these texts
@@ -140,6 +140,6 @@ pub data HasRun (want : model.Want) (limit chunk : ℕ) (names texts : List (Lis
   -- with the outcome of its inputs
   WithOutcome : (inputs : List Input) (read : AreRead (is_settled want) limit chunk [] texts old new inputs) (needed : AreNeeded want limit chunk old new inputs) (in_turn : AreInTurn want limit chunk texts old new inputs out out') (leaves : IsOutcome (model.outcome want limit names inputs) out out' err err' status)
       → HasRun want limit chunk names texts old new out out' err err' status
-  -- without output, where memory ran out; no more was read than the headers
+  -- without output, if memory ran out; no more was read than the headers
   NoMemory : (inputs : List Input) (read : AreRead is_header_over limit chunk [] texts old new inputs) (written : Writes out out' []) (shown : Shows err err' (program_line (codes "out of memory"))) (status_is : status ≡ 3)
       → HasRun want limit chunk names texts old new out out' err err' status

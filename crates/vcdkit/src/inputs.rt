@@ -45,7 +45,7 @@ pub(crate) fn windows_for(
 /// How headers are read.
 #[derive(Drop)]
 pub(crate) struct Reading<'h, B> {
-    /// Where memory for them is taken.
+    /// If memory for them is taken.
     pub alloc: Global,
     /// What their codes are hashed by.
     pub hasher: &'h B,

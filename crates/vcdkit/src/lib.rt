@@ -1,11 +1,11 @@
 //! A job to its outcome: the commands of `vcdkit`, over any readers and sinks.
 //!
 //! `run` does a job, and its contract says what is left on readers and sinks: output, message and
-//! status are those of the definitions' outcome (`HasRun`), or a prefix of the output where a write
-//! failed, or none of it where out of memory. The words that are taken (`command_of`), and the
-//! `Job` that they ask for (`job_of`), are of `vcd_words`; a caller finds them here. Where words
-//! ask for no job, `use_fault` says so. The words themselves, files and devices are those of
-//! `vcdkit_main`, the program.
+//! status are those of the definitions' outcome (`HasRun`), or a prefix of the output if a write
+//! failed, or none of it if out of memory. The words that are taken (`command_of`), and the `Job`
+//! that they ask for (`job_of`), are of `vcd_words`; a caller finds them here. If words ask for no
+//! job, `use_fault` says so. The words themselves, files and devices are those of `vcdkit_main`,
+//! the program.
 //!
 //! # The modules
 //!
@@ -26,7 +26,7 @@
 //!
 //! One input a job, and 1 to 64 for a merge. `run` takes memory for the windows, for the headers
 //! and for the room of the task, all of it before the first byte of output. A fault of the error
-//! stream is passed over. `run` does not flush.
+//! stream is ignored. `run` does not flush.
 #![tactic(auto)]
 
 mod again;

@@ -35,8 +35,8 @@ fn merged(answer: Result<Done, Stop>) -> Result<Done, Failure>
     }
 }
 
-/// Runs the task over the body after the header that is shown, in this room, or writes the list
-/// where there is no task. It is given no allocator, so from here on the run takes no memory.
+/// Runs the task over the body after the header that is shown, in this room, or writes the list if
+/// there is no task. It is given no allocator, so from here on the run takes no memory.
 fn run_in<S: Source, W: Sink>(
     task: Option<Task<'_>>,
     view: HeadView<'_>,
@@ -160,7 +160,7 @@ fn run_merge<S: Source, W: Sink, B: BuildHasher>(
     merged(merge(&inputs.heads, readers, &mut windows, &mut inputs.seats, out))
 }
 
-/// Runs a job over its readers: all of them for a merge, else the one that there is.
+/// Runs a job over its readers: all of them for a merge, otherwise the one that there is.
 fn run_readers<S: Source, W: Sink, B: BuildHasher>(
     alloc: Global,
     job: &mut Job,
@@ -183,17 +183,17 @@ fn run_readers<S: Source, W: Sink, B: BuildHasher>(
     run_input(alloc, job, &mut readers[0], out, hasher)
 }
 
-/// Runs a job over the readers, whose names are said in messages, and returns the exit status: 0
-/// where it is done, 1 for a fault of an input, for a name that selects nothing and for a unit
-/// without a time scale, 2 for times that are out of range or out of order in ticks, 3 for a failed
-/// read or write and where memory ran out. A merge has 1 to 64 readers, any other job one. Output
-/// goes to `out`, the message to `err`; a fault of `err` is passed over. `out` is not flushed.
+/// Runs a job over the readers, whose names are said in messages, and returns the exit status: 0 if
+/// it is done, 1 for a fault of an input, for a name that selects nothing and for a unit without a
+/// time scale, 2 for times that are out of range or out of order in ticks, 3 for a failed read or
+/// write and if memory ran out. A merge has 1 to 64 readers, any other job one. Output goes to
+/// `out`, the message to `err`; a fault of `err` is ignored. `out` is not flushed.
 ///
 /// Memory is taken for the windows, while the headers are read, and then for what the task works
 /// in; none after that. Nothing is written on `out` before all of it was taken.
 ///
 /// The codes of a header are hashed by numbers that the hasher gives; what is written is the same
-/// by each. Where nobody knows these numbers who made the dump, as with `RandomState`, no choice of
+/// by each. If nobody knows these numbers who made the dump, as with `RandomState`, no choice of
 /// codes takes long to find.
 pub fn run_with_hasher<S: Source, W: Sink, E: Sink, B: BuildHasher>(
     alloc: Global,
@@ -210,7 +210,7 @@ pub fn run_with_hasher<S: Source, W: Sink, E: Sink, B: BuildHasher>(
     requires sinks { MayFailOnce W.Sink E.Sink out.old err.old }
     ensures failures { FailOnce W.Sink E.Sink out.old out.new err.old err.new }
 
-    // It ends done or failed, over any readers and writers: for a failed read only where one of the
+    // It ends done or failed, over any readers and writers: for a failed read only if one of the
     // reader that is named failed, its last one, and of no other, and likewise for a write.
     ensures ends { EndsSo S.Source W.Sink E.Sink job (map string_bytes names.now)
         readers.old readers.new out.old out.new err.old err.new result }
@@ -229,7 +229,7 @@ pub fn run_with_hasher<S: Source, W: Sink, E: Sink, B: BuildHasher>(
 /// The least length of a window that is shortened.
 const SHORTEST: usize = 64;
 
-/// Returns the same job, whose windows are no longer than the input that gives most, where that is
+/// Returns the same job, whose windows are no longer than the input that gives most, if that is
 /// known.
 fn narrowed(job: Job, longest: Option<usize>) -> Job
     ensures { Narrows longest job result }
@@ -245,7 +245,7 @@ fn narrowed(job: Job, longest: Option<usize>) -> Job
     }
 }
 
-/// Runs a job over the readers, as `run_with_hasher` does. Where it is known how many bytes each of
+/// Runs a job over the readers, as `run_with_hasher` does. If it is known how many bytes each of
 /// them gives at most, the windows are no longer than that: what is written is the same, and a call
 /// over small inputs takes and clears less memory.
 pub fn run_within<S: Source, W: Sink, E: Sink, B: BuildHasher>(
@@ -273,11 +273,11 @@ pub fn run_within<S: Source, W: Sink, E: Sink, B: BuildHasher>(
     run_with_hasher(alloc, narrow, names, readers, out, err, hasher)
 }
 
-/// Runs a job over the readers, whose names are said in messages, and returns the exit status: 0
-/// where it is done, 1 for a fault of an input, for a name that selects nothing and for a unit
-/// without a time scale, 2 for times that are out of range or out of order in ticks, 3 for a failed
-/// read or write and where memory ran out. A merge has 1 to 64 readers, any other job one. Output
-/// goes to `out`, the message to `err`; a fault of `err` is passed over. `out` is not flushed.
+/// Runs a job over the readers, whose names are said in messages, and returns the exit status: 0 if
+/// it is done, 1 for a fault of an input, for a name that selects nothing and for a unit without a
+/// time scale, 2 for times that are out of range or out of order in ticks, 3 for a failed read or
+/// write and if memory ran out. A merge has 1 to 64 readers, any other job one. Output goes to
+/// `out`, the message to `err`; a fault of `err` is ignored. `out` is not flushed.
 ///
 /// Memory is taken for the windows, while the headers are read, and then for what the task works
 /// in; none after that. Nothing is written on `out` before all of it was taken.
@@ -298,7 +298,7 @@ pub fn run<S: Source, W: Sink, E: Sink>(
     requires sinks { MayFailOnce W.Sink E.Sink out.old err.old }
     ensures failures { FailOnce W.Sink E.Sink out.old out.new err.old err.new }
 
-    // It ends done or failed, over any readers and writers: for a failed read only where one of the
+    // It ends done or failed, over any readers and writers: for a failed read only if one of the
     // reader that is named failed, its last one, and of no other, and likewise for a write.
     ensures ends { EndsSo S.Source W.Sink E.Sink job (map string_bytes names.now)
         readers.old readers.new out.old out.new err.old err.new result }

@@ -12,7 +12,7 @@ use Rattle.vcdkit_c.specs.declared.words.Refused.TheVariants.{BadWords, OutOfMem
 abbrev pub bytes_of : Lent → Text
 bytes_of lent = lent.bytes.now
 
--- what is said where a word is no text
+-- what is said if a word is no text
 abbrev pub bad_words : Text
 bad_words = program_line (codes "bad words")
 

@@ -22,18 +22,18 @@ use std::alloc::Global;
 use vcd_changes::{ChangeRow, Reading, changes};
 use vcd_program::{MemoryFile, run_into_memory};
 
-/// What is said where a word is no text.
+/// What is said if a word is no text.
 const BAD_WORDS: &[u8] = b"vcdkit: bad words\n";
 
-/// The status where the program did not begin, or its output cannot be counted.
+/// The status if the program did not begin, or its output cannot be counted.
 const NOT_RUN: u8 = 4;
 
 /// Runs the program on these words, which come without its name, over files in memory, and returns
-/// its exit status; or 4, where memory ran out before it began, or 2^63 bytes found no room.
+/// its exit status; or 4, if memory ran out before it began, or 2^63 bytes found no room.
 ///
 /// `input` is standard input. Identifier codes are hashed by `seed`: what is left is the same by
 /// each, and who does not know it cannot make a dump whose codes are slow to find. The output is
-/// written to `out`, as much of it as there is room for, and `out_used` says how long it is: where
+/// written to `out`, as much of it as there is room for, and `out_used` says how long it is: if
 /// that is more than `out` has, so much is wanted of `out` for all of it. The same holds of the
 /// message, `err` and `err_used`. After a 4 nothing is said of them.
 #[unsafe(no_mangle)]

@@ -76,7 +76,7 @@ fn is_cut(
     )
 }
 
-// What a command has written over a text is a dump with its declarations and values, where it has
+// What a command has written over a text is a dump with its declarations and values, if it has
 // written one.
 pub(crate) fn is_read_again(
     alloc: Global,
@@ -164,7 +164,7 @@ fn has_input(alloc: Global, scope: &str, text: &[u8], written: &[u8]) -> Result<
 }
 
 // What a merge of two texts has written is a dump with the variables, the changes and the values of
-// both, where it has written one.
+// both, if it has written one.
 pub(crate) fn is_merge_read_again(
     alloc: Global,
     first: &[u8],

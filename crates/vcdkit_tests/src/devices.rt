@@ -14,8 +14,8 @@ use vcdkit::{Job, Want, run};
 // No device is called more often in a run.
 const MAX_CALLS: u64 = 1000;
 
-// Takes this many bytes a call at most, and fails at one call alone, counted from 1; at none where
-// it is 0.
+// Takes this many bytes a call at most, and fails at one call alone, counted from 1; at none if it
+// is 0.
 #[derive(Drop)]
 struct Sparing {
     taken: Narrow,
@@ -72,7 +72,7 @@ struct Row<'a> {
 }
 
 // How many bytes a call gives or takes, and how many a chunk has; and which call of each device
-// fails, none where it is 0.
+// fails, none if it is 0.
 #[derive(Clone, Copy)]
 struct Plan {
     most: usize,

@@ -51,7 +51,7 @@ impl<'n, 'r> Edges<'n, 'r> {
 
     /// Counts a change of the code at index `code`, whose size the look-up did not give. `inside`
     /// tells whether a section is open: an event does not count there.
-    // It takes no view, which would be copied for each item, also where this is not called: with a
+    // It takes no view, which would be copied for each item, also if this is not called: with a
     // view `edges` takes 7 % more instructions an item of 27,505 codes.
     #[cold]
     #[inline(never)]
