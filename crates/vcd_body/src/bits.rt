@@ -5,8 +5,8 @@ ghost use Rattle.vcd_body.specs.Stored.{State, binary_digits, count_in, held_bit
 use crate::slot::{BITS, Holding, Slot};
 
 /// One to 32 binary digits, as the number that they write.
-// In the slot, and not as bytes of a share, which are a cache miss to set and one to compare:
-// `edges` of 27,505 vectors takes some 33 % less, of scalars 12 % more.
+// A slot holds them, not a share: `edges` of 27,505 vectors takes some 33 % less, of scalars 12 %
+// more.
 #[derive(Clone, Copy, PartialEq, Eq, Debug)]
 pub struct Bits {
     pub(crate) len: usize,

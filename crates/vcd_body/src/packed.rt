@@ -1,11 +1,11 @@
-// Digits in a share: a byte each, or four to a byte, one of each quarter of them.
+// Digits in a share: a byte each, or four to a byte, which has one of each quarter of them.
 ghost use Rattle.std.specs.Prelude.{◌≡◌, ◌≢◌, ◌≤◌, ◌<◌, ◌+◌, ◌-◌, ◌*◌, ◌/◌, ◌==◌, ℕ, Some, get_or, length, map, slice_get, false, true};
 ghost use Rattle.vcd_body.specs.Names.{ArePacked, AreTwo, HasFour, MayPack, chunk, code_among, code_of, code_or, digit_of, digits_in, four_codes, held_digit, quarter_of, str_to_ascii_lowercase};
 
 use crate::words::are_all_digits;
 use std::simd::prelude::*;
 
-/// Returns a digit as two bits. It is written so that it takes no branches.
+/// Returns a digit as two bits, without a branch.
 #[inline(always)]
 fn code_of(digit: u8) -> u8
     ensures code { result ≡ code_of digit }
@@ -169,8 +169,7 @@ fn with_4_times(low: u8x16, high: u8x16) -> u8x16
     low + (twice + twice)
 }
 
-/// Returns 16 digits of each quarter, packed.
-// Four digits a byte, one of each quarter: 16 bytes by four loads and no shuffle.
+/// Returns 16 digits of each quarter, packed: 16 bytes, by four loads and no shuffle.
 #[inline(always)]
 fn packed_16(text: &[u8], quarter: usize, at: usize) -> u8x16
     requires within { at + 16 ≤ quarter }
@@ -229,8 +228,8 @@ fn are_packed(bytes: &[u8], text: &[u8], quarter: usize) -> bool
 
 /// Returns true only if a share holds as many packed digits as the text has, and these are its
 /// digits.
-// By bytes of the share: digit by digit `edges` of vectors of 128 bits that stay the same takes 7.8
-// times as many instructions.
+// It compares bytes of the share: digit by digit, `edges` of vectors of 128 bits takes 7.8 times as
+// many instructions.
 pub(crate) fn holds_packed(bytes: &[u8], text: &[u8]) -> bool
     ensures { result ≡ true → digits_in (length text.now) bytes.now ≡ str_to_ascii_lowercase text.now }
 {
@@ -390,8 +389,8 @@ pub(crate) fn last_packed(bytes: &[u8], len: usize) -> u8
     b'0' + bytes[len.div_ceil(4) - 1] / 64
 }
 
-/// Returns the code of the digit at an index of `len` packed digits. The last quarter ends if the
-/// digits do, and may hold some of the third one again.
+/// Returns the code of the digit at an index of `len` packed digits. The last quarter ends where
+/// the digits do, so it may hold some of the third one again.
 #[inline(always)]
 fn code_among(bytes: &[u8], len: usize, index: usize) -> u8
     requires { index < len }

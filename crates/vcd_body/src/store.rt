@@ -41,9 +41,9 @@ fn holds_some(holding: Holding) -> bool
 }
 
 impl<'a> Table<'a> {
-    /// Returns the value of the code at an index as it is held. `None` if there is no such code;
-    /// and where its share would not lie within the values, or would hold no digits where it should
-    /// hold several. No code of a table that is laid out is so.
+    /// Returns the value of the code at an index as it is held. `None` if there is no such code, if
+    /// its share would not lie within the values, or if it would hold no digits although it should
+    /// hold several. A table that is laid out has no such code.
     #[inline(always)]
     pub(crate) fn held(&self, code: usize) -> Option<HeldValue<'_>>
         ensures { IsLaidOut self.now → held_at self.now code ≡ held_or result }
@@ -62,8 +62,8 @@ impl<'a> Table<'a> {
     }
 }
 
-/// Sets the value of a code to the one digit that a state holds, by its number. Its share is left
-/// alone, and need not be looked at.
+/// Sets the value of a code to the one digit that a state holds, given by its number. Its share is
+/// not changed, and need not be looked at.
 #[inline(always)]
 pub(crate) fn set_tag(slots: &mut [Slot], code: usize, tag: u8)
     ensures changes { (d : ℕ) → one_digit (state_in tag) ≡ Some d
@@ -130,8 +130,9 @@ fn least_bytes(form: Form, len: usize) -> usize
 }
 
 impl<'a> Table<'a> {
-    /// Returns where in `values` the share of the code at an index ends: where the next one begins,
-    /// or all values end. Check it: in a table not laid out it may be any number.
+    /// Returns the offset in `values` at which the share of the code at an index ends: where the
+    /// next one begins, or where the values end. In a table that is not laid out it may be any
+    /// number, so check it.
     #[inline(always)]
     pub(crate) fn end_of(&self, code: usize) -> usize
         requires { code < length self.now.shares.now }
@@ -179,10 +180,9 @@ impl<'a> Table<'a> {
     }
 
     /// Adds `more` to the first counter of the code at an index, and to the others if the tests
-    /// hold, in its share. A full one stays.
-    // It is given the table, and no parts of it, so that none is made ready for it if it is not
-    // called. Called once in 256 steps: handed the shares for each change, `edges` takes 2 to 5 %
-    // more.
+    /// hold, in its share. A full counter stays as it is.
+    // It takes the whole table, since it is called once in 256 steps: with the shares, `edges`
+    // takes 2 to 5 % more.
     #[cold]
     #[inline(never)]
     pub(crate) fn add(&mut self, code: usize, more: u64, rises: bool, falls: bool)
@@ -196,8 +196,8 @@ impl<'a> Table<'a> {
     }
 }
 
-/// Sets the value of a code to binary digits. Its slot is written alone, and neither it nor the
-/// share need be looked at.
+/// Sets the value of a code to binary digits. It writes only the slot, and reads neither it nor the
+/// share.
 #[inline(always)]
 pub(crate) fn set_bits(slots: &mut [Slot], code: usize, bits: Bits)
     ensures changes { ChangesSlot code (with_number bits.len bits.number) slots.old slots.new }
@@ -211,8 +211,9 @@ pub(crate) fn set_bits(slots: &mut [Slot], code: usize, bits: Bits)
     }
 }
 
-/// Counts a step of the value of a code that goes this way in its slot. Returns whether that had
-/// room for it; otherwise 256 steps are left to count.
+/// Counts a step of the value of a code in its slot: a fall if `way` is 0, a rise if it is 2, any
+/// other if it is 1. Returns whether the slot had room for it. If not, the caller has 256 steps to
+/// count in the share.
 #[inline(always)]
 pub(crate) fn count_in_slot(slots: &mut [Slot], code: usize, way: usize) -> bool
     requires { way < 3 }
@@ -228,22 +229,21 @@ pub(crate) fn count_in_slot(slots: &mut [Slot], code: usize, way: usize) -> bool
     count_step(&mut slots[code].steps, way)
 }
 
-/// What became of a change for which its slot alone may be enough.
+/// What became of a change that may need only its slot.
 #[derive(Clone, Copy, PartialEq, Eq, Debug)]
 pub(crate) enum Stepped {
-    /// The slot alone is not enough, and nothing changed.
+    /// The change needs more than the slot, and nothing changed.
     Not,
     /// The value was set, and its step was counted if it differs.
     Counted,
-    /// The value was set. Of its step, which rises or falls if a test holds, 256 are left to count,
-    /// since the slot had no room for one more.
+    /// The value was set. 256 of its steps are left to count, since the slot had no room for one
+    /// more. This step rises or falls if a test holds.
     Uncounted { rises: bool, falls: bool },
 }
 
-/// Sets the value of a code to the digit 0 or 1 over such a digit, and counts the step. Most
-/// changes are of this kind, and touch one slot alone.
-// A digit is a state of the slot, so no byte of values is touched: held as a number of one digit,
-// `edges` of scalars takes some 10 % more.
+/// Sets the value of a code to the digit 0 or 1 if it is such a digit, and counts the step. Most
+/// changes are of this kind, and change only one slot.
+// With the digit as a number of one digit, `edges` of scalars takes some 10 % more.
 #[inline(always)]
 pub(crate) fn flip_at(slots: &mut [Slot], code: usize, digit: u8) -> Stepped
     ensures counted { result ≡ Stepped.Counted → FlipsTo code digit slots.old slots.new }

@@ -227,7 +227,7 @@ pub struct Need {
     /// Bytes for the current values: for each code a quarter of its size, rounded up, and at least
     /// the 64 of a real text.
     pub values: usize,
-    /// Slots and cold slots: one of each for each code.
+    /// Slots, and shares: one of each for each code.
     pub slots: usize,
     /// Selection flags: one for each row.
     pub marks: usize,
