@@ -1,4 +1,4 @@
--- What the calls say that read tokens and phrases of a body, each over any input.
+-- What the calls that read tokens and phrases of a body say, each over any input.
 use Rattle.std.specs.Prelude.{◌≡◌, ℕ, ◌≤◌, List, [], ◌∷◌, drop, slice_get, Some, IsSome, Option, Bool, true, Result, Ok, IfOk, MatchBool, MatchResult}
 use Rattle.vcd_model.specs.BodyPhrases.{BodyPhrase, declared_code, items_of}
 use Rattle.vcd_model.specs.Declarations.{IdCode}
@@ -31,7 +31,7 @@ ReadsTimestamp token r result = (codes : List IdCode) (earlier : List BodyPhrase
 abbrev pub RefusesIn : HeadView → List ℕ → BodyFault → Type 0
 RefusesIn v token fault = (h : Header) (earlier : List BodyPhrase) → IsViewOf v h → Refuses h.codes earlier token fault
 
--- a token opens a phrase, or has a fault
+-- a token begins a phrase, or has a fault
 abbrev pub OpensOrRefuses : {A : Type 0} → List ℕ → Result A BodyFault → Type 0
 OpensOrRefuses token result = (codes : List IdCode) (earlier : List BodyPhrase) → MatchResult result (λ _. OpensPhrase codes earlier token) (Refuses codes earlier token)
 

@@ -28,7 +28,7 @@ pub record BodyHas (codes : List IdCode) (i : Input) (front : List Token) (limit
 
 module _ {X : Type 0} {g : Ghosts X} (codes : List IdCode) (i : Input) (front : List Token) where
   -- After these tokens, those of the header, the feed has given whole phrases with these items, and
-  -- the registers tell what is known of them.
+  -- the registers say what is known of them.
   pub record GaveItems (items : List BodyItem) (f : Feed X g) (r : Regs) : Type 0 where
     pub given : List Token
     pub placed : List (Placed BodyPhrase)
@@ -61,25 +61,26 @@ module _ {X : Type 0} {g : Ghosts X} (codes : List IdCode) (i : Input) (front : 
     pub stands : HasGiven i (front ++ given) f
     pub so_far : IsSoFar (body_grammar codes) given placed before
 
-  -- and then one token, which was not looked at
+  -- after them one more token was given, which was not looked at
   pub record Looks (placed : List (Placed BodyPhrase)) (before : List (List ℕ)) (f : Feed X g) : Type 0 where
     pub given : List Token
     pub stands : HasGiven i (front ++ given ++ token_of f ∷ []) f
     pub so_far : IsSoFar (body_grammar codes) given placed before
 
-  -- and no more, at a clean end
+  -- no other token was given, and the input has come to its clean end
   pub record ReadsAll (placed : List (Placed BodyPhrase)) (before : List (List ℕ)) (f : Feed X g) : Type 0 where
     pub given : List Token
     pub stands : HasGiven i (front ++ given) f
     pub all : Ends (limit_of f) i (front ++ given) None (token_of f).line
     pub so_far : IsSoFar (body_grammar codes) given placed before
 
-  -- and no more, where the tokens end
+  -- no other token was given, and the input has no others
   pub record ReadsToEnd (placed : List (Placed BodyPhrase)) (before : List (List ℕ)) (f : Feed X g) : Type 0 where
     pub reads : Reads placed before f
     pub all : (stream_of (limit_of f) i).tokens ≡ front ++ reads.given
 
-  -- and one more phrase, which ends with the feed's last token; at most a chunk was read past it
+  -- one more phrase was given, which ends with the feed's last token; at most a chunk was read past
+  -- it
   pub record ReadsPhrase (placed : List (Placed BodyPhrase)) (f : Feed X g) (p : BodyPhrase) : Type 0 where
     pub reads : Reads (placed ++ record { phrase = p; line = (token_of f).line } ∷ []) [] f
     pub near : HasReadTo i (front ++ reads.given) f
@@ -116,7 +117,7 @@ Passes codes earlier token x = (body_fault codes earlier [] token ≡ None) × (
 abbrev pub Refuses : List IdCode → List BodyPhrase → List ℕ → BodyFault → Type 0
 Refuses codes earlier token fault = (fault ≢ ReadFailed) × (body_fault codes earlier [] token ≡ Some (fault_number fault))
 
--- a token begins a phrase, and is none alone
+-- a token begins a phrase, and is not a whole one
 abbrev pub OpensPhrase : List IdCode → List BodyPhrase → List ℕ → Type 0
 OpensPhrase codes earlier token = (body_fault codes earlier [] token ≡ None) × (body_phrase codes (token ∷ []) ≡ None)
 

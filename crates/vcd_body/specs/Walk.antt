@@ -1,4 +1,4 @@
--- How far a walk over the items ahead has come, whoever takes them.
+-- How far a walk over the items ahead has come, for any task.
 use Rattle.std.specs.Prelude.{◌≡◌, ℕ, ◌≤◌, Bool, true, false, List, length, Option, MatchOption, Result, Ok, Err, IfOk}
 use Rattle.vcd_text.specs.Ahead.{bytes_of, longest_of, passed_of}
 use Rattle.vcd_text.specs.Device.{Counts, Device}
@@ -43,15 +43,16 @@ module _ {V C : Type 0} (takes : HeadView → Stage V C → Stage V C → Result
     pub counts : Counts s.out s'.out result
     pub on : IfOk result (λ _. CanGoOn s')
 
-  -- so, if there is a result; otherwise nothing has changed
+  -- if there is a result, one more item was taken ahead; otherwise nothing has changed
   abbrev pub MayTakeNext : {A : Type 0} → HeadView → Stage V C → Stage V C → Option (Result A WriteFailed) → Type 0
   MayTakeNext v s s' result = MatchOption result (s' ≡ s) (λ one. TakesOne v s s' (as_done one))
 
-  -- so, up to this position, if there is a result; otherwise nothing has changed
+  -- if there is a result, one more item was taken ahead, up to this position; otherwise nothing has
+  -- changed
   abbrev pub MayTakeUpTo : {A : Type 0} → HeadView → Stage V C → (Ahead → Stage V C) → Ahead → Option (Result A WriteFailed) → Type 0
   MayTakeUpTo v s s' to result = MatchOption result (s' s.ahead ≡ s) (λ one. TakesOne v s (s' to) (as_done one))
 
-  -- a timestamp was taken, with which nothing is written, if there is a result; otherwise nothing
+  -- if there is a result, a timestamp was taken, with which nothing is written; otherwise nothing
   -- has changed
   abbrev pub MayTakeTimestamp : HeadView → (Device → Stage V C) → (Device → Stage V C) → Option (Unit {0}) → Type 0
   MayTakeTimestamp v s s' result = MatchOption result ((out : Device) → s' out ≡ s out) (λ _. (out : Device) → TakesOne v (s out) (s' out) (Ok tt))

@@ -6,7 +6,7 @@ use crate::declarations::ScopePhrase;
 use crate::words::{is_end, is_scope, is_upscope};
 use vcd_text::Ahead;
 
-/// Returns the scope whose phrase comes next, if that lies completely in the chunk.
+/// Returns the scope whose phrase comes next, if the phrase lies completely in the chunk.
 #[inline(always)]
 pub(crate) fn scope_ahead<'a>(ahead: &mut Ahead<'a>) -> Option<ScopePhrase<'a>>
     ensures gives { Gives IsScope ahead.old ahead.new result }

@@ -8,8 +8,8 @@ use crate::write::{put_lines, put_scope, put_variable, text_of_exponent};
 use vcd_text::{Sink, WriteFailed, put, put_number};
 use vcd_view::{HeadView, Kind, NewCode};
 
-/// Returns the least power of ten of the heads' time scales, in seconds; a missing one counts as
-/// 1s, and 0 if there is no head.
+/// Returns the least power of ten of the heads' time scales, in seconds. A missing scale counts as
+/// 1 s. The result is 0 if there is no head.
 pub fn least_exponent(heads: &[Head]) -> i8
     ensures { (hs : List Header) → ShowHeaders heads.now hs → result ≡ least_of hs }
 {
@@ -24,8 +24,8 @@ pub fn least_exponent(heads: &[Head]) -> i8
     least.unwrap_or(0)
 }
 
-// The scopes that are open at a row of an input. The line that opens one is written at the first
-// variable inside it, so each is written once, and none that has no variable.
+// The scopes that are open at a row of an input. The line that opens a scope is written at the
+// first variable inside it, so each is written at most once, and only if it has a variable.
 #[derive(Clone, Copy)]
 pub(crate) struct OpenScopes {
     // How many scopes, the innermost, are not written yet.
@@ -69,8 +69,8 @@ fn put_openings<W: Sink>(
     Ok(())
 }
 
-/// Writes the line of an `$upscope` at which these scopes are open: none if the line of the scope
-/// that it closes is not written.
+/// Writes the line of an `$upscope` at which these scopes are open, if the line of the scope that
+/// it closes is written.
 fn put_closing<W: Sink>(scopes: OpenScopes, w: &mut W) -> Result<(), WriteFailed>
     requires failures { (W.device w.old).failures < 2 ^ 64 - 1 }
     ensures { PutsTo W.device w.old w.new (closing scopes.pending scopes.written) result }
@@ -94,7 +94,7 @@ fn put_closings<W: Sink>(count: usize, w: &mut W) -> Result<(), WriteFailed>
 }
 
 /// Writes what is due at a row of an input, at which these scopes are open: the line of a variable,
-/// with a new code, after those of the scopes that it is the first one in; the line of an
+/// with a new code, after the lines of the scopes in which it is the first; or the line of an
 /// `$upscope`. The codes are numbered from `first` on.
 fn put_input_row<W: Sink>(
     view: HeadView<'_>,
