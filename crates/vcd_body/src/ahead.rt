@@ -302,8 +302,8 @@ pub fn keyword_comes(ahead: Ahead<'_>) -> bool
     ahead.first_byte() == Some(b'$')
 }
 
-/// Returns whether the next item lies completely in the chunk, so that `next_item` reads nothing
-/// for it. Before a comment this is not known, since the item comes after that.
+/// Returns whether the next item lies whole ahead, so that `next_item` reads nothing for it. Before
+/// a comment this is not known, since the item comes after that.
 // It looks at one byte after the other: it is asked at the end of a chunk, and at keywords.
 #[inline(never)]
 pub fn item_comes(ahead: Ahead<'_>) -> bool

@@ -46,7 +46,7 @@ struct Collecting {
     room: usize,
     // The index of the code among the header's.
     index: usize,
-    // How many bytes of the chunk are passed if the change of the last row ends.
+    // How many bytes of the chunk are passed where the change of the last row ends.
     end: usize,
 }
 
@@ -157,8 +157,8 @@ fn walk_rows<'a>(
 }
 
 /// Returns how many rows are filled once the items that are whole in the feed's chunk are taken:
-/// those after the first `count` get the changes of the code at `index`, until all are full. If a
-/// keyword is next, no item is taken.
+/// those after the first `count` get the changes of the code at `index`, until all are full. Where
+/// a keyword is next, no item is taken.
 pub(crate) fn take_ahead<S: Source>(
     feed: &mut Feed<'_, '_, '_, '_, S>,
     view: HeadView<'_>,

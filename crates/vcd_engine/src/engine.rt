@@ -1,4 +1,4 @@
-//! A run of a task over the items of a body. It names no command.
+//! A run of a task over the items of a body. It knows no single command.
 ghost use Rattle.std.specs.Prelude.{◌≡◌, ◌≢◌, ◌-◌, ◌^◌, ◌<◌, [], List, true, false, MatchBool, Ok, MatchResult};
 ghost use Rattle.vcd_engine.specs.Names.{Advances, Again, BeginsAs, BodyItem, CallEnd, CanRun, close_text, Counts, CountsOn, Early, EndsAsAsked, EndsAtRead, Finish, Finishes, HasBegun, HasRoomFor, Header, Holds, is_going, IsValid, IsViewOf, IsWithinEachBound, item_text, MayRun, MayStep, parts, request_of, request_of_begun, request_of_engine, room_in, room_of_begun, room_size, RunsTask, SameHold, SameWindows, seen, StartsOver, Steps, StepsAhead, StepsOver, Takes, view_in};
 ghost use Rattle.vcd_engine.specs.Waits.{StepsOrStops};
@@ -185,9 +185,8 @@ impl<'v, 'n, 'r> Engine<'v, 'n, 'r> {
         }
     }
 
-    /// Takes the items that lie completely in the chunk, as `walk_ahead` does. If a keyword is
-    /// next, it takes none, as `walk_ahead` would: the test spares that call. Fails if a write
-    /// does.
+    /// Takes the items that are whole in the chunk, as `walk_ahead` does. Where a keyword is next,
+    /// it takes none, as `walk_ahead` would: the test spares that call. Fails where a write does.
     #[inline(always)]
     fn take_ahead<S: Source, W: Sink>(
         &mut self,

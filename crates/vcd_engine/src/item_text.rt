@@ -26,7 +26,8 @@ fn begin_line(section: Section) -> &'static [u8]
     }
 }
 
-/// Writes the line of an item that has this text; a timestamp has none here. Fails if a write does.
+/// Writes the line of an item that has this text; a timestamp has no line here. Fails if a write
+/// does.
 #[inline(always)]
 fn put_item<W: Sink>(
     view: HeadView<'_>,
@@ -91,9 +92,9 @@ impl ItemText {
         put_item(view, item, text, out)
     }
 
-    /// Adds the line of `time`, if it is due, and the line of an item, after the pending text. What
-    /// the chunk has as such a line becomes pending; otherwise it is written. Fails if a write
-    /// does.
+    /// Adds the line of `time`, if it is due, and the line of an item, after the pending text. If
+    /// the chunk has such a line, the line becomes pending; otherwise it is written. Fails if a
+    /// write does.
     #[inline(always)]
     pub(crate) fn put_spanned<W: Sink>(
         &mut self,

@@ -12,8 +12,7 @@ pub(crate) struct Declared {
     pub(crate) variables: usize,
 }
 
-/// Returns how many scopes and variables the rows declare.
-// One pass: the rows of a large header are in no cache.
+/// Returns how many scopes and variables the rows declare, in one pass.
 pub(crate) fn declared_in(rows: &[Row]) -> Declared
     ensures scopes { result.scopes ≡ count_by (λ r. opens_scope r.kind) rows.now }
     ensures variables { result.variables ≡ count_by (λ r. declares_variable r.kind) rows.now }
@@ -53,8 +52,8 @@ fn put_counts<W: Sink>(out: &mut W, counts: &[(&str, u64)]) -> Result<(), WriteF
     Ok(())
 }
 
-/// Writes the report: these counts, and the last timestamp, `-` if there is none. Fails if a write
-/// does.
+/// Writes the report: these counts, and the last timestamp, or `-` if there is none. Fails if a
+/// write does.
 pub(crate) fn put_report<W: Sink>(
     out: &mut W,
     counts: &[(&str, u64)],

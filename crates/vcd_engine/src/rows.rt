@@ -39,7 +39,7 @@ fn put_variable<W: Sink>(view: HeadView<'_>, row: usize, out: &mut W) -> Result<
 }
 
 /// Writes a line for each variable, in order of declaration: its path, type, size in bits and code.
-/// The body of the dump is not read. Fails with `Stop::Write` if a write failed.
+/// It does not read the body of the dump. Fails with `Stop::Write` if a write failed.
 pub fn list<W: Sink>(view: HeadView<'_>, out: &mut W) -> Result<Done, Stop>
     requires failures { (W.device out.old).failures < 2 ^ 64 - 1 }
     requires bound { IsWithinEachBound view no_room }

@@ -36,8 +36,8 @@ fn put_line<W: Sink>(
     put(out, b"\n")
 }
 
-/// Writes the lines of a time: one for each row whose flag is 1. Any other flag skips rows. No item
-/// so far is later than `time`. Fails if a write does.
+/// Writes the lines of a time: one for each row whose flag is 1. Any other flag says how many rows
+/// to skip. No item so far is later than `time`. Fails if a write does.
 fn put_lines<W: Sink>(
     table: &Table<'_>,
     view: HeadView<'_>,

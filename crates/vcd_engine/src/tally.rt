@@ -9,8 +9,8 @@ use vcd_text::{Sink, WriteFailed, put, put_number};
 use vcd_view::{HeadView, Kind};
 
 /// Sets the value of a code that is no event by the text of a change, and counts a change, rise or
-/// fall if it differs from the value before. `size` is the code's, in bits; `bits` the text as a
-/// number, if it is known.
+/// fall if it differs from the value before. `size` is the size of the code, in bits; `bits` is the
+/// text as a number, if that is known.
 #[inline(always)]
 pub(crate) fn take_value(
     table: &mut Table<'_>,

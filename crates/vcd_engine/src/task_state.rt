@@ -106,7 +106,7 @@ impl<'n, 'r> TaskState<'n, 'r> {
     }
 
     /// Takes the items that lie completely in the chunk, and writes what is due with each.
-    // A loop for each task: none matches on the task for each item.
+    // A loop for each task, so that no loop asks for the task at each item.
     pub(crate) fn take_ahead<W: Sink>(
         &mut self,
         view: HeadView<'_>,

@@ -29,7 +29,7 @@ fn greatest_time(seats: &[Seat]) -> Option<u64>
 }
 
 /// Takes the turn of an input, as `resume_turn` does, over its seat, its source and its parts of
-/// the windows. Those of other inputs are not touched. Fails if `take_item` does.
+/// the windows. Nothing of other inputs changes. Fails if `take_item` does.
 #[inline(always)]
 fn run_turn<S: Source, W: Sink>(
     heads: &[Head],
@@ -139,8 +139,8 @@ fn close<W: Sink>(seats: &[Seat], written: Option<u64>, out: &mut W) -> Result<(
     }
 }
 
-/// Takes the next turn, and puts its input back into the order; after the last one writes what is
-/// due at the end. Fails if `take_item` or a write does.
+/// Takes the next turn, and puts its input back into the order. After the last turn it writes what
+/// is due at the end. Fails if `take_item` or a write does.
 #[inline(always)]
 fn run_next<S: Source, W: Sink>(
     heads: &[Head],
@@ -175,7 +175,7 @@ fn run_next<S: Source, W: Sink>(
     Ok(More::Ended(Done::Whole))
 }
 
-/// Takes the next turn of a merge, as `run_next` does. After any answer but `Again` the merge is
+/// Takes the next turn of a merge, as `run_next` does. After any answer except `Again` the merge is
 /// over.
 #[inline(always)]
 fn run_step<S: Source, W: Sink>(
@@ -212,8 +212,9 @@ fn run_step<S: Source, W: Sink>(
     answer
 }
 
-/// Returns the order of these inputs. Each turn ends at `until` at the latest. The seats stay.
-// They come as a `&mut`: a proof learns nothing of what a shared borrow of a field reads.
+/// Returns the order of these inputs. Each turn ends at `until` at the latest. The seats do not
+/// change.
+// They come as a `&mut`, since a proof learns nothing of what a shared borrow of a field reads.
 fn order_of(seats: &mut [Seat], until: u64) -> TurnOrder
     requires { length seats.old ≤ 64 }
     ensures order { AllWait seats.old result.inputs result.len }
@@ -226,7 +227,7 @@ fn order_of(seats: &mut [Seat], until: u64) -> TurnOrder
 /// Takes the next item of the input whose turn it is, and writes what is due with it, or at the end
 /// of all inputs. At the end of one input while others have items, nothing is written, and the
 /// input counts as finished. Before a read `out` passes on what it keeps back; if that fails,
-/// nothing is read. After any answer but `Again` the merge is over.
+/// nothing is read. After any answer except `Again` the merge is over.
 ///
 /// # Errors
 ///

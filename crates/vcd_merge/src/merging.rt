@@ -1,4 +1,4 @@
-//! The turn of one input of a merge, over its source and its parts of the windows alone.
+//! The turn of one input of a merge, over its own source and its parts of the windows.
 ghost use Rattle.std.specs.Prelude.{◌≡◌, ◌≢◌, ℕ, ◌+◌, ◌-◌, ◌^◌, ◌<◌, ◌≤◌, ◌++◌, [], List, Option, Some, None, length, slice_get, IfOk, IfSome, MatchOption, Ok, true, false, is_some, ◌&&◌};
 ghost use Rattle.vcd_merge.specs.Names.{Advances, AheadTurns, AtSeat, BodyItem, bytes_of, CallEnd, chunk_len_of, Code, Counts, CountsWrites, Device, EndsAtRead, failures_after, Fits, HasNotFailed, IsGoodText, IsRun, IsSeated, Lane, limit_of, longest_of, Moved, NamesInput, parked_of, parked_seen, parts, passed_of, Puts, PutsDue, reads_failed, RunTurns, SameLoans, SameSeat, seat_with, seen, shown, source_of, spot, spot_with, stage, stage_with, time_due, Turns, Views};
 ghost use Rattle.vcd_body.specs.declared.answer.Stop.TheVariants as stop;
@@ -45,8 +45,7 @@ fn put_due_time<W: Sink>(
 
 /// Writes a change of the code at index `code`, under its new code, after the line of its time. An
 /// event inside a section is dropped. Fails if a write does.
-// Cold, and not inlined, for the walk over the items in the chunk: the look-up there gives the size
-// of most codes. It takes no struct: that would be cleared for each item.
+// Not inlined, and takes no struct, since it is rare.
 #[cold]
 #[inline(never)]
 fn put_unsized<W: Sink>(
@@ -141,7 +140,7 @@ impl Visit<()> for Merging {
             return Ok(());
         };
         if change.size_or_zero == 0 {
-            // A copy, so that `written` stays in a register on the other path.
+            // A copy is lent, so that `written` itself can stay in a register.
             let mut last = self.written;
             let inside = regs.section.is_some();
             let (time, first) = (self.time, self.first);
@@ -166,8 +165,8 @@ impl Visit<()> for Merging {
 }
 
 /// Takes the items of an input that are whole in its feed's chunk, while its time is below
-/// `before`, and returns whether the time has reached it. The feed moves past them in one call. If
-/// a keyword is next, none is taken. Fails if a write does.
+/// `before`, and returns whether the time has reached it. The feed moves past them in one call.
+/// Where a keyword is next, none is taken. Fails where a write does.
 #[inline(never)]
 fn take_ahead<S: Source, W: Sink>(
     head: &Head,
@@ -324,7 +323,7 @@ fn take_turn<S: Source, W: Sink>(
     }
 }
 
-/// Takes the turn of an input over its source and its parts of the windows alone: resumes its feed,
+/// Takes the turn of an input over its own source and its parts of the windows: resumes its feed,
 /// takes the items of the turn, and parks the feed. Fails if `take_item` does.
 #[inline(always)]
 pub(crate) fn resume_turn<S: Source, W: Sink>(

@@ -33,7 +33,7 @@ fn few_digits(bytes: &[u8], to: usize, n: usize) -> Option<u64>
 /// returns `None` for them.
 // At most 16 digits are read in one or two steps of eight bytes. Digit by digit, the times of a
 // dump of Icarus Verilog take 25 of 104 instructions for each item of its `check`. For more than
-// eight digits no step begins before the first digit, because a run of a merge begins at its time.
+// eight digits no step begins before the first digit, because a turn of a merge begins at its time.
 #[inline(always)]
 pub fn decimal_at(bytes: &[u8], from: usize, to: usize) -> Option<u64>
     requires { (from ≤ to) × (to ≤ length bytes.now) }

@@ -137,8 +137,8 @@ pub(crate) trait AheadTask<L: LineMemory> {
         ensures same { SameTask (task_state self.old) (task_state self.new) };
 
     /// Takes an item that is no timestamp. What is due with it is added to `pending`, or written to
-    /// `out` after them. `regs` are the registers after the item; `line` tells if the last
-    /// timestamp's line is. Fails if a write does.
+    /// `out` after them. `regs` are the registers after the item; `line` says where the
+    /// last timestamp's line is. Fails if a write does.
     fn take_item<W: Sink>(
         &mut self,
         view: HeadView<'_>,
