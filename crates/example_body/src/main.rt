@@ -1,4 +1,4 @@
-//! Prints how many value changes of each kind the dump on standard input has: a caller of
+//! Prints how many value changes of each kind the dump on standard input has. It is a caller of
 //! `vcd_body`, over a header that `vcd_head` has read.
 //!
 //! `count` is the loop over items. Its contract says that the counts are those of the items of the
@@ -74,7 +74,8 @@ fn count<S: Source>(
     }
 }
 
-/// Reads a dump, and counts its changes: or the fault of its header, or that of its body.
+/// Reads a dump, and returns how many changes it has, or the fault of its body. Fails with the
+/// fault of its header.
 fn forms_in<S: Source>(alloc: Global, reader: &mut S) -> Result<Result<Forms, BodyFault>, HeadFault>
     requires failures { S.failures reader.old < 2 ^ 64 - 1 }
     ensures reads { (text : List ℕ) → S.rest reader.old ≡ Some text

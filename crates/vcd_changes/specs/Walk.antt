@@ -34,7 +34,7 @@ pub record HasRoom (c : Collecting) (rows : Rows) : Type 0 where
 abbrev pub passed_with : Ahead → Collecting → ℕ
 passed_with a c = cond (is_full c) c.end (passed_of a)
 
--- if such a walk is, and the rows so far
+-- where such a walk is, and the rows so far
 abbrev pub RowStage : Type 0
 RowStage = Stage Collecting Rows
 

@@ -1,7 +1,7 @@
 //! The changes of one variable of a dump in memory, as rows of numbers.
 //!
 //! `changes` fills rows with the changes of an identifier code, each with its time and its last 64
-//! digits, from where an earlier call has stopped. The rows of all calls, one after the other, are
+//! digits, from where an earlier call stopped. The rows of all calls, one after the other, are
 //! those of the code's changes in all items of the body (`rows_of` of `specs/Rows`).
 //!
 //! # The modules

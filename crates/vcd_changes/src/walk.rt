@@ -39,7 +39,7 @@ impl<'r> Rows<'r> {
     }
 }
 
-/// What such a walk keeps, as numbers: how many rows are filled, and how many there are.
+/// What such a walk keeps, only as numbers: how many rows are filled, and how many there are.
 #[derive(Clone, Copy)]
 struct Collecting {
     count: usize,

@@ -98,7 +98,7 @@ pub fn open_inputs<'a, H: Host>(
     Ok(opened)
 }
 
-/// Returns how many bytes each of these inputs gives at most, if the host knows it of all.
+/// Returns how many bytes any of these inputs gives at most, if the host knows it of all.
 pub fn most_of_all<H: Host>(inputs: &[H::Input]) -> Option<usize>
     ensures { IfSome result (λ most.
         All (λ r. IfSome (H.Input.rest r) (λ text. length text ≤ most)) inputs.now) }

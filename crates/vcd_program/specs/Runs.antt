@@ -34,8 +34,8 @@ names_wanted (Want.Sample times names) = names
 names_wanted (Want.Edges names) = names
 names_wanted want = []
 
--- over any inputs: the job ends done or failed, and says which; for a failed read only if one of
--- the input that is named failed, its last one, and of no other, and likewise for a write
+-- over any inputs the job succeeds or fails, and says which; it fails with a failed read only if a
+-- read of the input that is named failed, its last one, and none of another; likewise for a write
 abbrev pub EndsSo : (names asked : List Text) (before after : List ℕ) (last_failed : List Bool) (out out' err err' : Device) (status : ℕ) → Type 0
 EndsSo names asked before after last_failed out out' err err' status =
     (why : _) × CountsReads before after why × (failures_then (writes_failed why) out' ≡ out.failures + writes_failed why) × (status ≡ end_status why) × Shows err err' (end_message names asked why)
@@ -72,7 +72,7 @@ pub data Runs {H I : Type 0} (opens : H → Option Text → Result I OpenFault �
 -- ---- what any words leave
 
 -- what is left if a parse of this kind gave no matches: help and the version on the output, all
--- else on the error stream; which text is not said
+-- else on the error stream; it is not said which text
 abbrev pub answer_outcome : ErrorKind → Text → Outcome
 answer_outcome kind text = cond (parse_status_of kind == 0) (clean_outcome text) (record { output = []; message = text; status = parse_status_of kind })
 

@@ -17,7 +17,7 @@ abbrev pub cut_request : Result Task Refusal → Result Request model.Refusal
 cut_request (Ok task) = Ok (request_of task)
 cut_request (Err why) = Err (model_refusal why)
 
--- the request if there is no task over the items of one body
+-- the request, if there is no task over the items of one body
 abbrev pub taskless : Want → Request
 taskless want.Merge = Request.Merge
 taskless want = Request.Listing
@@ -32,7 +32,7 @@ abbrev pub IsEnough : Option Task → HeadView → Room → Type 0
 IsEnough (Some task) v r = HasRoomFor task v r
 IsEnough None v r = Unit {0}
 
--- the request of a task over items; of what is none; or why it is refused
+-- the request of a task over items, the request of what is no task, or why the request is refused
 abbrev pub task_request : Want → Result (Option Task) Refusal → Result Request model.Refusal
 task_request want (Ok (Some task)) = Ok (request_of task)
 task_request want (Ok None) = Ok (taskless want)
