@@ -22,8 +22,8 @@ use Rattle.vcd_engine.specs.declared.task_state.TaskState.{TaskState}
 use Rattle.vcd_engine.specs.declared.task_state.walk.WalkState.{WalkState}
 use Rattle.vcd_engine.specs.declared.pending.PendingCopy.{PendingCopy}
 
--- from a position on some of the items that lie ahead were taken, and what is due with them was
--- written, but for what is pending
+-- from a position on, some of the items that lie ahead were taken, and what is due with them was
+-- written, except what is pending
 pub record HasWalked (v : HeadView) (a : Ahead) (r : Regs) (m : TaskState) (begin : Device) (w : Walk) (p : PendingCopy) (out : Device) (m' : TaskState) : Type 0 where
   pub over : LooksOver (longest_of a) (bytes_of a) w.ahead
   pub within : passed_of w.ahead ≤ length (bytes_of w.ahead)

@@ -1,4 +1,4 @@
--- What calls promise that read the tokens of a header.
+-- What the calls that read the tokens of a header promise.
 use Rattle.std.specs.Global.{Vec}
 use Rattle.std.specs.Prelude.{ℕ, Bool, List, Option, Result, MatchBool, MatchResult}
 use Rattle.vcd_model.specs.HeaderPhrases.{HeaderPhrase}
@@ -20,11 +20,11 @@ use Rattle.vcd_head.specs.Texts.{EndsThere, RunsOn, Welcomes, WordRead}
 use Rattle.vcd_head.specs.declared.draft.Draft.{Draft}
 use Rattle.vcd_head.specs.declared.fault.HeadFault.{HeadFault}
 
--- the feed has moved on as far as the call says that ended so
+-- the feed has moved on as far as a call with this end says
 abbrev pub MovesOn : {X A : Type 0} {g : Ghosts X} → (X → ℕ) → (old new : Feed X g) → Result A HeadFault → Type 0
 MovesOn failures old new r = Advances failures old new (call_end r)
 
--- so, and by a byte or more if it succeeds
+-- the same, and by a byte or more if the call succeeds
 abbrev pub MovesFurther : {X A : Type 0} {g : Ghosts X} → (X → ℕ) → (old new : Feed X g) → Result A HeadFault → Type 0
 MovesFurther failures old new r = GoesFurther failures old new (call_end r) r
 
@@ -52,7 +52,7 @@ ReadsOne old new r = (most : ℕ) (i : Input) (placed : List (Placed HeaderPhras
 abbrev pub ReadsWord : {X : Type 0} {g : Ghosts X} → Feed X g → Feed X g → Result (Option (Vec ℕ)) HeadFault → Type 0
 ReadsWord old new r = (most : ℕ) (i : Input) (placed : List (Placed HeaderPhrase)) (before : List (List ℕ)) → Welcomes most placed before → Reads most i placed before old → OrFails most i new (WordRead most i placed before new) r
 
--- so it is however many declarations are allowed
+-- the same, however many declarations are allowed
 abbrev pub ReadsText : {X A : Type 0} {g : Ghosts X} → Keyword → (old : Draft) → Feed X g → (new : Draft) → Feed X g → Result A HeadFault → Type 0
 ReadsText k old before new after r = (most : ℕ) → ReadsPhrase most k old before new after r
 

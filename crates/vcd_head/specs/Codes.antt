@@ -10,7 +10,7 @@ use Rattle.vcd_head.specs.declared.codes.Codes.{Codes}
 abbrev pub is_of : Code → ℕ → Bool → Bool
 is_of c size event = (c.size == size) && same_flag c.event event
 
--- there is none yet
+-- there is no code yet
 pub record HasNone (c : Codes) : Type 0 where
   pub no_codes : c.list.items ≡ []
   pub no_numbers : c.rising.items ≡ []

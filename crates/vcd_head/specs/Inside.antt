@@ -29,7 +29,7 @@ pub record AreOpen (h : Header) (names : List (List ℕ)) (order : List ℕ) (fl
   pub held : (k : ℕ) (s : Inside) → k ≤ o.entered → slice_get o.inside.now k ≡ Some s → Follows names order flags (front h.declarations s.scope) s.run
   pub same : AreSame names flags
 
--- so it is of a group of names
+-- the same for a group of names
 abbrev pub IsOpen : Header → Group → List Bool → Open → Type 0
 IsOpen h g flags o = AreOpen h (names_of g) g.order.now flags o
 
@@ -37,16 +37,18 @@ IsOpen h g flags o = AreOpen h (names_of g) g.order.now flags o
 abbrev pub KeepsOpen : HeadView → Group → (old_flags new_flags : List Bool) → (old new : Open) → Type 0
 KeepsOpen view g old_flags new_flags old new = (h : Header) → IsViewOf view h → IsOpen h g old_flags old → IsOpen h g new_flags new
 
--- so, and the flags that were set are of names that select all that continues after this front
+-- what is held stays right, and the flags that were set are of names that select all that continues
+-- after this front
 pub record HasEntered (h : Header) (names : List (List ℕ)) (order : List ℕ) (front : List ℕ) (old_flags new_flags : List Bool) (new : Open) : Type 0 where
   pub open_scopes : AreOpen h names order new_flags new
   pub notes : Notes names front old_flags new_flags
 
--- so it is if what was held before was right
+-- the same if what was held before was right
 abbrev pub Enters : Header → Group → (front : List ℕ) → (old_flags new_flags : List Bool) → (old new : Open) → Type 0
 Enters h g front old_flags new_flags old new = IsOpen h g old_flags old → HasEntered h (names_of g) g.order.now front old_flags new_flags new
 
--- so, and the names that select this path were flagged, and this is whether there are some
+-- what is held is right, the names that select this path were flagged, and this is whether there
+-- are some
 pub record HasSelected (h : Header) (g : Group) (path : List ℕ) (old_flags new_flags : List Bool) (new : Open) (some : Bool) : Type 0 where
   pub open_scopes : IsOpen h g new_flags new
   pub matches : Matches (selects_path path) (names_of g) old_flags new_flags some
@@ -63,7 +65,7 @@ FlagsSelected g earlier d old_flags new_flags = Matched (λ name. is_selected (n
 abbrev pub SelectsAt : HeadView → ℕ → Group → (old_flags new_flags : List Bool) → (old new : Open) → Bool → Type 0
 SelectsAt view row g old_flags new_flags old new some = AnyDeclared view row (λ h d. is_variable d ≡ true → IsOpen h g old_flags old → HasSelected h g (path_of (take row h.declarations) d) old_flags new_flags new some)
 
--- so they were, and nothing else that is held has changed
+-- the names that select the variable were flagged, and nothing else that is held has changed
 abbrev pub ComparesAt : HeadView → ℕ → Group → (old_flags new_flags : List Bool) → Open → Bool → Type 0
 ComparesAt view row g old_flags new_flags o some = AnyDeclared view row (λ h d. is_variable d ≡ true → IsOpen h g old_flags o → Matches (selects_path (path_of (take row h.declarations) d)) (names_of g) old_flags new_flags some)
 

@@ -52,13 +52,13 @@ due h first pending written earlier (Declaration.Scope type name) = []
 due h first pending written earlier Declaration.Up = closing pending written
 due h first pending written earlier (Declaration.Var v) = openings h.declarations (take pending (enclosing earlier)) ++ var_line v (numbered first h v.code)
 
--- how many are pending after it
+-- how many scopes are pending after it
 abbrev pub pending_behind : Declaration → ℕ → ℕ
 pending_behind (Declaration.Scope type name) pending = suc pending
 pending_behind Declaration.Up pending = pending - 1
 pending_behind (Declaration.Var v) pending = 0
 
--- how many are written
+-- how many scopes are written after it
 abbrev pub written_behind : Declaration → ℕ → ℕ → ℕ
 written_behind (Declaration.Scope type name) pending written = written
 written_behind Declaration.Up zero written = written - 1

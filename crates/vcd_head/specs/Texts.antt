@@ -36,7 +36,7 @@ pub record ReadsOn {X : Type 0} {g : Ghosts X} (most : ℕ) (i : Input) (placed 
   pub reads : Reads most i placed (before ++ inner) f
   pub grows : Grows inner
 
--- and the last token is `$end`
+-- after these tokens the last one is `$end`
 pub record EndsThere {X : Type 0} {g : Ghosts X} (most : ℕ) (i : Input) (placed : List (Placed HeaderPhrase)) (before : List (List ℕ)) (f : Feed X g) (Grows : List (List ℕ) → Type 0) : Type 0 where
   pub inner : List (List ℕ)
   pub none : NoEnds inner

@@ -35,7 +35,7 @@ PutsDue codes text item r time number written written' out out' result = (v : He
 abbrev pub MergeStage : Type 0
 MergeStage = Stage Merging (Unit {0})
 
--- of the same input, and for the same turn
+-- the seat of the same input, in the same turn
 pub record SameMerging (m m' : Merging) : Type 0 where
   pub factor : m'.factor ≡ m.factor
   pub first : m'.first ≡ m.first

@@ -21,6 +21,6 @@ pub record Moved {X : Type 0} {g : Ghosts X} {A : Type 0} (failures : X → ℕ)
   pub progress : IfOk result (λ _. s.finished ≡ false → seen old < seen new)
   pub bounded : seen new < 2 ^ 63
 
--- a write has failed if that is why it stopped, the last one, and otherwise none
+-- if the step stopped at a failed write, one has failed, the last one; otherwise none has
 abbrev pub CountsWrites : {A : Type 0} → Device → Device → Result A Stop → Type 0
 CountsWrites out out' result = failures_then (writes_failed result) out' ≡ out.failures + writes_failed result
