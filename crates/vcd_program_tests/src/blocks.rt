@@ -5,8 +5,8 @@ use std::io::Write;
 use vcd_host::{Buffered, Output};
 use vcd_text::{Sink, put, put_few, put_parts};
 
-// Notes how many bytes each write brings. It takes 3,000 of them at most if it is `narrow`, and
-// fails at the write of one number.
+// Notes how many bytes each write brings. It takes at most 3,000 of them if it is `narrow`, and
+// fails at one write, given by its number.
 #[derive(Drop)]
 struct Noted {
     sizes: Vec<usize>,

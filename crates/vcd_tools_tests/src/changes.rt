@@ -256,7 +256,7 @@ fn is_found(alloc: Global, worked: Worked, most: usize) -> Result<bool, AllocErr
     )
 }
 
-// Whether all worked dumps are found so, with an array of this length.
+// Whether all worked dumps are found, with an array of this length.
 fn are_found(alloc: Global, most: usize) -> Result<bool, AllocError> {
     for worked in WORKED.iter() {
         if !is_found(alloc, *worked, most)? {
