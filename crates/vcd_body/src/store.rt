@@ -14,7 +14,7 @@ use crate::step::{way_between, way_to};
 use crate::table::Table;
 use vcd_view::Code;
 
-/// Returns how many bytes of its share a value uses: 0 if the slot alone holds it.
+/// Returns how many bytes of its share a value uses: 0 if it is only in the slot.
 #[inline(always)]
 fn used_by(holding: Holding) -> usize
     ensures { result ≡ used holding }

@@ -110,7 +110,7 @@ fn put_line<W: Sink>(
 }
 
 /// The pending text: the bytes of the chunk from `from` up to `to`.
-// Numbers alone, so that a loop keeps them in registers.
+// Only numbers, so that a loop keeps them in registers.
 #[derive(Clone, Copy)]
 pub(crate) struct PendingCopy {
     from: usize,

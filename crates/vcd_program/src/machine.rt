@@ -298,8 +298,8 @@ fn stand_in(rt: &HostRuntime) -> Option<File> {
 /// exit status, as `run_words_on_machine` does. It is 2 if an argument is not UTF-8, and 3 if there
 /// is no memory for the arguments; then a message goes to standard error.
 ///
-/// The system gives a file that is opened the lowest free descriptor. If a standard stream is closed,
-/// that is its descriptor, so a folder is open there until the end (`stand_in`).
+/// The system gives a file that is opened the lowest free descriptor. If a standard stream is
+/// closed, that is its descriptor, so a folder is open there until the end (`stand_in`).
 pub fn run_on_machine(rt: &HostRuntime) -> u8
     ensures { result ≤ 3 }
 {
