@@ -140,8 +140,9 @@ fn put_input_rows<W: Sink>(view: HeadView<'_>, first: u64, w: &mut W) -> Result<
     put_closings(scopes.written, w)
 }
 
-/// Writes the head of an input, by its number from 1: its scope, and in it the variables with new
-/// codes, numbered from `first` on, and the scopes around these.
+/// Writes what the head of a merged dump has of an input: the scope of the input, named by its
+/// number from 1, and in it the variables with new codes, numbered from `first` on, and the scopes
+/// around these.
 fn put_input_head<W: Sink>(
     view: HeadView<'_>,
     number: u64,

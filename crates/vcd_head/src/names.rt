@@ -308,7 +308,7 @@ fn sort(positions: &mut [u16], names: &[String])
     positions.sort_unstable_by(|a, b| order_by(names, *a, *b));
 }
 
-/// Returns the order of two names by their bytes.
+/// Returns the order of the names at two indexes, by their bytes.
 #[inline(always)]
 fn order_by(names: &[String], a: u16, b: u16) -> Ordering
     ensures { result ≡ order_in (map string_bytes names.now) a b }

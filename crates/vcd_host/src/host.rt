@@ -29,7 +29,7 @@ pub trait Host {
 
     /// Returns how many bytes the reads of an input give at most, if the host knows it. The
     /// provided function knows nothing.
-    fn most_of(_input: &Self::Input) -> Option<usize>
+    fn max_bytes_of(_input: &Self::Input) -> Option<usize>
         ensures { IfSome (Self.Input.rest _input.now)
             (λ text. IfSome result (λ most. length text ≤ most)) }
     {

@@ -5,7 +5,7 @@ ghost use Rattle.vcd_program.specs.Names.{Answers, AsksFor, Finishes, kind_of, M
 use clap::{ArgMatches, Error};
 use std::alloc::Global;
 use std::hash::BuildHasher;
-use vcd_host::{Host, OpenStop, Output, called, inputs_of, most_of_all, open_inputs};
+use vcd_host::{Host, OpenStop, Output, called, inputs_of, max_bytes_of_all, open_inputs};
 use vcd_text::{Sink, put};
 use vcd_words::{Job, UseFault, answer_text, command_of, job_of, parse_status};
 use vcdkit::{open_fault, run_within, use_fault, write_fault};
@@ -35,7 +35,7 @@ fn run_job<H: Host, W: Sink, E: Sink, B: BuildHasher>(
     };
     match open_inputs(alloc, asked.as_slice(), host) {
         Ok(mut inputs) => {
-            let longest = most_of_all::<H>(&inputs.readers);
+            let longest = max_bytes_of_all::<H>(&inputs.readers);
             run_within(
                 alloc,
                 job,

@@ -35,7 +35,7 @@ impl<R: Read> Measured<R> {
     }
 
     /// Returns a number of bytes that reads do not exceed; `None` if none is known.
-    fn most(&self) -> Option<usize>
+    fn max_bytes(&self) -> Option<usize>
         ensures { GivesAtMost (measured_left R.remaining self.now) result }
     {
         match self {
@@ -100,12 +100,12 @@ trait Machine {
         ensures { gives self.now result };
 
     /// Returns a number of bytes that reads of a file do not exceed; `None` if none is known.
-    fn most_of_file(file: &Self::File) -> Option<usize>
+    fn max_bytes_of_file(file: &Self::File) -> Option<usize>
         ensures { GivesAtMost (Self.File.remaining file.now) result };
 
     /// Returns a number of bytes that reads of standard input do not exceed; `None` if none is
     /// known.
-    fn most_of_input(input: &Self::Input) -> Option<usize>
+    fn max_bytes_of_input(input: &Self::Input) -> Option<usize>
         ensures { GivesAtMost (Self.Input.remaining input.now) result };
 }
 
@@ -132,12 +132,12 @@ impl Machine for HostRuntime {
         Measured::new(self.stdin(), len)
     }
 
-    fn most_of_file(file: &Measured<File>) -> Option<usize> {
-        file.most()
+    fn max_bytes_of_file(file: &Measured<File>) -> Option<usize> {
+        file.max_bytes()
     }
 
-    fn most_of_input(input: &Measured<Stdin>) -> Option<usize> {
-        input.most()
+    fn max_bytes_of_input(input: &Measured<Stdin>) -> Option<usize> {
+        input.max_bytes()
     }
 }
 
@@ -202,13 +202,13 @@ impl<M: Machine> Host for MachineHost<'_, M> {
         }
     }
 
-    fn most_of(input: &Watch<Stream<M::File, M::Input>>) -> Option<usize>
+    fn max_bytes_of(input: &Watch<Stream<M::File, M::Input>>) -> Option<usize>
         ensures { GivesAtMost
             (⟦<Watch<Stream<M::File, M::Input>> as Source>⟧.rest input.now) result }
     {
         match &input.device {
-            Stream::File(file) => M::most_of_file(&file.device),
-            Stream::Input(input) => M::most_of_input(&input.device),
+            Stream::File(file) => M::max_bytes_of_file(&file.device),
+            Stream::Input(input) => M::max_bytes_of_input(&input.device),
             Stream::Refused => None,
         }
     }

@@ -88,7 +88,7 @@ impl<'a> Host for Memory<'a> {
         }
     }
 
-    fn most_of(input: &Bytes<'a>) -> Option<usize> {
+    fn max_bytes_of(input: &Bytes<'a>) -> Option<usize> {
         Some(input.rest.len())
     }
 }

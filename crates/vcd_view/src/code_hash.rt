@@ -54,7 +54,7 @@ impl CodeSeed {
         }
     }
 
-    // Returns the state after any number of bytes.
+    // Returns the state after these bytes, of any number, by a loop over words, as `hashed` does.
     fn hashed_by_words(self, state: u64, bytes: &[u8]) -> u64
         ensures { result ≡ hashed self state bytes.now }
     {

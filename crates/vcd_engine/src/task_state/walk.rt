@@ -219,8 +219,8 @@ impl<L: LineMemory, C: AheadTask<L>> Visit<C> for WalkState<L> {
     }
 }
 
-/// Takes the items that lie completely in the chunk, and writes what is due with them, piece by
-/// piece.
+/// Takes the items that lie completely in the chunk from `ahead` on, writes what is due with them,
+/// piece by piece, and returns how far it came.
 // The loop of each task is a function of its own, so that it has all registers.
 #[inline(never)]
 pub(crate) fn take_each<L: LineMemory, C: AheadTask<L>, W: Sink>(
