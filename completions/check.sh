@@ -1,8 +1,8 @@
 #!/usr/bin/env bash
-# Compares the commands and options in both completions with those in the help of the program, looks
-# for them in the man page, and tries the completion of bash. It does the same with the names of the
-# scripts; their options come from their help. It builds nothing: it uses the program that VCDKIT
-# names, or ./vcdkit.
+# Tests both completions, which take commands, options and their texts from the help of the program
+# and of the scripts (zsh only if it is installed). It also compares the usage lines, options, faults
+# and statuses in the help with the man page and the manual. It builds nothing: it uses the program
+# that VCDKIT names, or ./vcdkit.
 set -u
 cd "$(dirname "$0")/.."
 program=${VCDKIT:-./vcdkit}
@@ -44,43 +44,31 @@ completed() {
     printf '%s' "${COMPREPLY[*]-}${options_set:+ ($options_set)}"
 }
 
-# What zsh reads: the commands of its list; of each command what is in its case and the lists that
-# it names.
-zsh_commands=$(sed -n "s/^ *'\([a-z]*\):[A-Z].*'\$/\1/p" completions/_vcdkit | sorted)
-zsh_options() {
-    awk -v command="$1" '
-        /^ *case / { on = 1; next }
-        on && /^ *[a-z |]+\)$/ {
-            mine = 0
-            gsub(/[)|]/, " ")
-            for (i = 1; i <= NF; i++) if ($i == command) mine = 1
-            next
-        }
-        mine
-    ' completions/_vcdkit | {
-        text=$(cat)
-        [[ $text == *'$help'* ]] && echo '-h --help'
-        [[ $text == *'$limit'* ]] && echo '--token-limit'
-        [[ $text == *'$input'* ]] && echo '-i'
-        grep -oE "'--[a-z-]+\[" <<< "$text" | tr -d "'["
-    } | sorted
+# What zsh offers: its file runs with functions that print what they are given. Of the program the
+# commands, of each command its options.
+zsh_offers() {
+    zsh -f -c '
+        _arguments() { print -rl -- "$@"; line=($COMMAND) state=$STATE; return 1 }
+        _describe() { print -rl -- $commands }
+        service=vcdkit words=($PROGRAM)
+        . completions/_vcdkit'
 }
-manual=$(sed 's/\\-/-/g; s/\\f[A-Z]//g' man/vcdkit.1)
+zsh_commands() { PROGRAM=$program STATE=command zsh_offers | sed -nE 's/^([a-z]+):[A-Z].*/\1/p'; }
+zsh_options() {
+    PROGRAM=$program COMMAND=$1 STATE=argument zsh_offers | awk '/^\*::/ { on = 1 } on' |
+        sed -nE 's/^(\([^)]*\))?(--?[A-Za-z-]+).*/\2/p' | sorted
+}
+manual=$(sed -E ':more; /\\c$/ { N; s/\\c\n//; t more }; s/\\-/-/g; s/\\f[A-Z]//g' man/vcdkit.1)
 # Prints 1 if a line of the man page matches this pattern.
 in_manual() { grep -qE -- "$1" <<< "$manual" && echo 1; }
 
 same 'commands, bash' "$help_commands" "$(completed "$program" '' | sorted)"
-same 'commands, zsh' "$help_commands" "$zsh_commands"
 same 'options, bash' "$(help_options)" "$(completed "$program" - | sorted)"
-for option in $(help_options); do
-    same "option $option, zsh" 1 "$(grep -qE -- "[{,]$option[,}]" completions/_vcdkit && echo 1)"
-done
 for command in $help_commands; do
     options=$(help_options "$command")
     same "options of $command, bash" "$options" "$(completed "$program" "$command" - | sorted)"
-    same "options of $command, zsh" "$options" "$(zsh_options "$command")"
-    about=$("$program" "$command" --help | head -n 1)
-    same "what $command does, zsh" 1 "$(grep -cF "'$command:$about'" completions/_vcdkit)"
+    usage=$("$program" "$command" --help | sed -n 's/^Usage: //p' | sed 's/ > OUT$//; s/\.\./.../g')
+    same "usage of $command in the man page" 1 "$(grep -cxF -- "$usage" <<< "$manual")"
     same "$command in the man page" 1 \
         "$(in_manual "^\.B[RI]? \"?vcdkit $command|^\.SS $command|^\.B vcdkit $command")"
     for option in $options; do
@@ -180,7 +168,10 @@ same 'names behind a colon' \
     { failed=$((failed + 1)); echo "many names took $((SECONDS - before)) seconds"; }
 
 if command -v zsh > /dev/null; then
-    same 'zsh reads its file' '' "$(zsh -n completions/_vcdkit 2>&1)"
+    same 'commands, zsh' "$help_commands" "$(zsh_commands | sorted)"
+    for command in $help_commands; do
+        same "options of $command, zsh" "$(help_options "$command")" "$(zsh_options "$command")"
+    done
 fi
 echo "$((tried - failed)) of $tried as they should be"
 ((failed == 0))

@@ -2,17 +2,20 @@
 # dump if its file comes before them. Source this file, or let `make install` put it where
 # bash-completion finds it.
 
-# Prints what a command takes: its options, and `name` if it takes names, `file` if it takes files,
-# or `dump` if it takes one file unless there is one after `-i`.
-_vcdkit_words() {
-    case $1 in
-        '') echo '-h --help -V --version' ;;
-        check | list) echo '-i --token-limit -h --help dump' ;;
-        pick | edges) echo '-i --token-limit -h --help name' ;;
-        cut) echo '-i --token-limit --from --to -h --help dump' ;;
-        sample) echo '-i --token-limit --at -h --help name' ;;
-        merge) echo '--token-limit -h --help file' ;;
-    esac
+# _vcdkit_options COMMAND ..: the options that the help of a command shows, a line each, with what
+# comes after it: `--help`, `-i FILE`.
+_vcdkit_options() {
+    "$@" --help 2> /dev/null < /dev/null | sed -nE '
+        s/^ +-([A-Za-z]), --/-\1\n --/
+        s/(^|\n) +(--?[A-Za-z][A-Za-z-]*)( <?([A-Z]+))?.*/\1\2 \4/p'
+}
+
+# _vcdkit_kind OPTION OPTIONS: sets kind to what comes after this option.
+_vcdkit_kind() {
+    local option
+    while read -r option kind; do
+        [[ $option == "$1" ]] && return
+    done <<< "$2"
 }
 
 # _vcdkit_names START COMMAND ..: the names of the rows of a command that begin with some text, up
@@ -90,46 +93,40 @@ _vcdkit_complete_names() {
     done
 }
 
+# The help says which commands and options there are, and which words they take.
 _vcdkit() {
     COMPREPLY=()
-    local words current word
+    local program=${1/#~\//$HOME/} words current word kind= command= argument= file= ended=
     _vcdkit_split
-
-    # What comes before the word: the command, the file of `-i`, and whether `--` ended the
-    # options.
-    local command= file= ended= previous=
+    local options=$(_vcdkit_options "$program")
     for word in "${words[@]:1}"; do
-        case $previous in
-            -i) file=$(_vcdkit_plain "$word") previous= ; continue ;;
-            --token-limit | --from | --to | --at) previous= ; continue ;;
-        esac
-        if [[ -n $ended ]]; then continue
+        if [[ $kind == FILE ]]; then file=$(_vcdkit_plain "$word") kind=
+        elif [[ -n $kind ]]; then kind=
+        elif [[ -n $ended ]]; then continue
         elif [[ $word == -- ]]; then ended=1
-        elif [[ -z $command ]]; then [[ $word == -* ]] || command=$word
         elif [[ $word == -i?* ]]; then file=${word#-i} file=$(_vcdkit_plain "${file#=}")
-        else
-            previous=$word
-            [[ $word != -?* && " $(_vcdkit_words "$command") " == *' dump '* ]] &&
-                file=$(_vcdkit_plain "$word")
+        elif [[ $word == -* ]]; then _vcdkit_kind "$word" "$options"
+        elif [[ -z $command ]]; then
+            command=$word options=$(_vcdkit_options "$program" "$command")
+            argument=$("$program" "$command" --help 2> /dev/null < /dev/null |
+                sed -nE 's/^  [[<]((FILE|NAME)[]>](\.\.\.)?) .*/\1/p')
+        elif [[ $argument == 'FILE]' ]]; then file=$(_vcdkit_plain "$word")
         fi
     done
 
-    local can=" $(_vcdkit_words "$command") "
-    case $previous in
-        -i) [[ $can == *' -i '* ]] && compopt -o default 2> /dev/null; return ;;
-        --token-limit | --from | --to | --at) return ;;
+    case $kind:$command:$argument in
+        FILE:*) compopt -o default 2> /dev/null; return ;;
+        ?*:*:*) return ;;
     esac
-    if [[ -z $command ]]; then
-        local commands='check list pick cut sample edges merge'
-        [[ $current == -* ]] && commands=$can
-        COMPREPLY=($(compgen -W "$commands" -- "$current"))
-    elif [[ $current == -* && -z $ended ]]; then
-        can=${can/ name / } can=${can/ file / } can=${can/ dump / }
-        COMPREPLY=($(compgen -W "$can" -- "$current"))
-    elif [[ $can == *' file '* || $can == *' dump '* && -z $file ]]; then
+    if [[ $current == -* && -z $ended ]]; then
+        COMPREPLY=($(compgen -W "$(sed 's/ .*//' <<< "$options")" -- "$current"))
+    elif [[ -z $command ]]; then
+        COMPREPLY=($(compgen -W "$("$program" --help 2> /dev/null |
+            sed -nE '/^Commands:/,/^$/s/^  ([a-z]+) .*/\1/p')" -- "$current"))
+    elif [[ $argument == FILE* && -z $file ]]; then
         compopt -o default 2> /dev/null
-    elif [[ $can == *' name '* && -f $file ]]; then
-        _vcdkit_complete_names "${1/#~\//$HOME/}" list -i "$file"
+    elif [[ $argument == NAME* && -f $file ]]; then
+        _vcdkit_complete_names "$program" list -i "$file"
     fi
 }
 
@@ -140,10 +137,10 @@ _vcdkit_script() {
     local words current word help kind= file= count=0
     local script=${1/#~\//$HOME/}
     _vcdkit_split
-    help=$("$script" --help 2> /dev/null < /dev/null | sed -nE 's/^  (-[a-z], )?(--[a-z])/\2/p')
+    help=$(_vcdkit_options "$script")
     for word in "${words[@]:1}"; do
         if [[ -n $kind ]]; then kind=
-        elif [[ $word == -?* ]]; then kind=$(sed -nE "s/^$word ([A-Z]+).*/\1/p" <<< "$help")
+        elif [[ $word == -?* ]]; then _vcdkit_kind "$word" "$help"
         else file=${file:-$(_vcdkit_plain "$word")} count=$((count + 1))
         fi
     done

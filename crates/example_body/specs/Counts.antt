@@ -39,7 +39,7 @@ pub record AreForms (items : List BodyItem) (f : Forms) : Type 0 where
   pub vectors : f.vectors ≡ count_by (is_change is_vector) items
   pub reals : f.reals ≡ count_by (is_change is_real) items
 
--- one item more
+-- one more item
 abbrev pub counted : Forms → Item → Forms
 counted f (Change code Scalar) = record f { scalars = f.scalars + 1 }
 counted f (Change code Vector) = record f { vectors = f.vectors + 1 }

@@ -1,4 +1,4 @@
-//! Prints how many value changes of each kind the dump on standard input has: a caller of
+//! Prints how many value changes of each kind the dump on standard input has. It is a caller of
 //! `vcd_body`, over a header that `vcd_head` has read.
 //!
 //! `count` is the loop over items. Its contract says that the counts are those of the items of the
@@ -19,7 +19,7 @@ use vcd_body::{BodyFault, Form, Item, Regs, next_item};
 use vcd_head::{HeadFault, HeadView, read_head};
 use vcd_text::{Feed, Source, Watch, text_of};
 
-/// The most bytes that a token may have.
+/// How many bytes a token may have.
 const LIMIT: usize = 65_536;
 
 /// How many changes there were, by how they are written.
@@ -30,7 +30,7 @@ struct Forms {
     reals: u64,
 }
 
-/// Returns these counts after one item more.
+/// Returns these counts after one more item.
 fn with(forms: Forms, item: Item) -> Forms
     requires { forms.scalars + forms.vectors + forms.reals < 2 ^ 63 }
     ensures { result ≡ counted forms item }
@@ -74,7 +74,8 @@ fn count<S: Source>(
     }
 }
 
-/// Reads a dump, and counts its changes: or the fault of its header, or that of its body.
+/// Reads a dump, and returns how many changes it has, or the fault of its body. Fails with the
+/// fault of its header.
 fn forms_in<S: Source>(alloc: Global, reader: &mut S) -> Result<Result<Forms, BodyFault>, HeadFault>
     requires failures { S.failures reader.old < 2 ^ 64 - 1 }
     ensures reads { (text : List ℕ) → S.rest reader.old ≡ Some text

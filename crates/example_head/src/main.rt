@@ -1,5 +1,5 @@
-//! Prints how many variables the dump on standard input declares: a caller of `vcd_head`, and of
-//! `vcd_text` below it.
+//! Prints how many variables the dump on standard input declares. It is a caller of `vcd_head`, and
+//! of `vcd_text` below it.
 //!
 //! `variables` lends a feed its memory, reads the header, and looks at its view. Its contract is
 //! over every reader whose bytes are known; standard input is read by the same code, but no
@@ -17,11 +17,11 @@ use std::process::ExitCode;
 use vcd_head::{HeadFault, HeadView, Kind, Row, read_head};
 use vcd_text::{Feed, Source, Watch, text_of};
 
-/// The most bytes that a token may have.
+/// How many bytes a token may have.
 const LIMIT: usize = 65_536;
 
-/// The most declarations that `read_head` takes.
-const MOST: u64 = 16_777_216;
+/// How many declarations `read_head` may read.
+const MAX_DECLARATIONS: u64 = 16_777_216;
 
 /// Returns how many of these rows declare a variable.
 fn variable_rows(rows: &[Row]) -> usize
@@ -53,7 +53,7 @@ fn variables<S: Source>(alloc: Global, reader: &mut S) -> Result<usize, HeadFaul
     let mut token = vec![in alloc; 0u8; LIMIT]?;
     let mut value = vec![in alloc; 0u8; LIMIT]?;
     let mut feed = Feed::new(reader, &mut chunk, &mut token, &mut value);
-    let head = read_head(alloc, &mut feed, MOST)?;
+    let head = read_head(alloc, &mut feed, MAX_DECLARATIONS)?;
     Ok(variables_in(head.view()))
 }
 

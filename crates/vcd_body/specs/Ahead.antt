@@ -38,7 +38,7 @@ abbrev pub IsSizedItem : List Code → Item → ℕ → Type 0
 IsSizedItem codes (Change position form) most = IsSized codes (record { position = position; size_or_zero = most })
 IsSizedItem codes item most = most ≡ 0
 
--- where there are bits, the item is a change by a vector, and the text is their digits
+-- if there are bits, the item is a change by a vector, and the text is their digits
 abbrev pub HasBits : Item → List ℕ → Option Bits → Type 0
 HasBits item text bits = IfSome bits (λ b. (code : ℕ) × (item ≡ Change code form.Vector) × (text ≡ binary_digits b.len b.number))
 
@@ -57,8 +57,8 @@ pub record PassBoth (codes : List IdCode) (earlier : List BodyPhrase) (first sec
 abbrev pub GivesBoth : List IdCode → ChangeForm → List ℕ → List ℕ → Found → Type 0
 GivesBoth codes form first second found = (c : IdCode) × (slice_get codes found.position ≡ Some c) × ((earlier : List BodyPhrase) → PassBoth codes earlier first second (BodyItem.Changes (record { code = c; form = form; text = drop 1 first })))
 
--- The first n bytes ahead are whole phrases, each with one of these items, where the items before
--- them are these. Whatever was given with those, the reading continues with these.
+-- The first n bytes ahead are whole phrases, each with one of these items, if the items before them
+-- are these. Whatever was given with those, the reading continues with these.
 pub record GaveAhead (codes : List IdCode) (limit lines : ℕ) (bytes : List ℕ) (n : ℕ) (before items : List BodyItem) : Type 0 where
   pub tokens : List Token
   pub passed : Passed limit lines bytes n tokens

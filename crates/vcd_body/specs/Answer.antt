@@ -28,11 +28,11 @@ abbrev pub writes_failed : {A : Type 0} → Result A Stop → ℕ
 writes_failed (Err Write) = 1
 writes_failed result = 0
 
--- a failed read was the last one of its source, of which this says whether the last one failed
+-- a failed read was the last read of its source; `last_failed` says whether that failed
 abbrev pub EndsAtRead : {A : Type 0} → Bool → Result A Stop → Type 0
 EndsAtRead last_failed result = (input : ℕ) → result ≡ Err (Read input) → last_failed ≡ true
 
--- the answer to a fault of the body of this input at this line
+-- how a run stops at a fault of the body of this input at this line
 abbrev pub stop_of_body : BodyFault → ℕ → ℕ → Stop
 stop_of_body ReadFailed input line = Read input
 stop_of_body fault input line = Dump input line (fault_number fault)
@@ -42,7 +42,7 @@ abbrev pub goes_on : Result More Stop → Bool
 goes_on (Ok Again) = true
 goes_on result = false
 
--- what is left of an input: all of it; or, where a read failed, what its source gave until then,
--- which has the others still
+-- what is left of an input: all of it; or, if a read failed, what its source gave until then, and
+-- the source still has the rest
 abbrev pub IsLeft : Input → (old new : Supply) → Input → Type 0
 IsLeft i old new left = ((new.failures ≡ old.failures) × (left ≡ i)) ⊎ ((new.failures ≡ old.failures + 1) × (n : ℕ) × (left ≡ failed_after n i) × (i.mark ≡ Clean → HasRest new.rest n i))

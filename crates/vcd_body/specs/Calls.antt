@@ -1,4 +1,4 @@
--- What the calls say that read tokens and phrases of a body, each over any input.
+-- What the calls that read tokens and phrases of a body say, each over any input.
 use Rattle.std.specs.Prelude.{◌≡◌, ℕ, ◌≤◌, List, [], ◌∷◌, drop, slice_get, Some, IsSome, Option, Bool, true, Result, Ok, IfOk, MatchBool, MatchResult}
 use Rattle.vcd_model.specs.BodyPhrases.{BodyPhrase, declared_code, items_of}
 use Rattle.vcd_model.specs.Declarations.{IdCode}
@@ -23,7 +23,7 @@ use Rattle.vcd_body.specs.declared.item.Form.{Form}
 use Rattle.vcd_body.specs.declared.item.Item.{Item}
 use Rattle.vcd_body.specs.declared.item.Regs.{Regs}
 
--- a timestamp is taken where one may come
+-- a timestamp is taken if one may come
 abbrev pub ReadsTimestamp : List ℕ → Regs → Result ℕ BodyFault → Type 0
 ReadsTimestamp token r result = (codes : List IdCode) (earlier : List BodyPhrase) → AreRegsAfter (items_of earlier) r → MatchResult result (λ time. Passes codes earlier token (BodyItem.Time time) × (time_after (items_of earlier) ≤ time)) (Refuses codes earlier token)
 
@@ -31,20 +31,20 @@ ReadsTimestamp token r result = (codes : List IdCode) (earlier : List BodyPhrase
 abbrev pub RefusesIn : HeadView → List ℕ → BodyFault → Type 0
 RefusesIn v token fault = (h : Header) (earlier : List BodyPhrase) → IsViewOf v h → Refuses h.codes earlier token fault
 
--- a token opens a phrase, or has a fault
+-- a token begins a phrase, or has a fault
 abbrev pub OpensOrRefuses : {A : Type 0} → List ℕ → Result A BodyFault → Type 0
 OpensOrRefuses token result = (codes : List IdCode) (earlier : List BodyPhrase) → MatchResult result (λ _. OpensPhrase codes earlier token) (Refuses codes earlier token)
 
--- one token more, or the end where there is none
+-- one more token, or the end if there is none
 abbrev pub ReadsToken : {X : Type 0} {g : Ghosts X} → (old new : Feed X g) → Result Bool BodyFault → Type 0
 ReadsToken old new result = (codes : List IdCode) (i : Input) (front : List Token) (placed : List (Placed BodyPhrase)) (before : List (List ℕ)) → Reads codes i front placed before old
     → MatchResult result (λ more. MatchBool more (Looks codes i front placed before new) (ReadsAll codes i front placed before new)) (FailsAfter codes i front placed new)
 
--- where whole tokens lie ahead, the next one is given, and nothing is read for it
+-- if whole tokens lie ahead, the next one is given, and nothing is read for it
 abbrev pub TakesToken : {X : Type 0} {g : Ghosts X} → (old new : Feed X g) → Result Bool BodyFault → Type 0
 TakesToken old new result = (t : Token) (ts : List Token) → LieAhead old (t ∷ ts) → (result ≡ Ok true) × TakesFirst old new t ts
 
--- where a whole token lies ahead, nothing is read
+-- if a whole token lies ahead, nothing is read
 abbrev pub NeedsOneToken : {X : Type 0} {g : Ghosts X} → (old new : Feed X g) → Type 0
 NeedsOneToken old new = (t : Token) (ts : List Token) → LieAhead old (t ∷ ts) → source_of new ≡ source_of old
 
@@ -52,7 +52,7 @@ NeedsOneToken old new = (t : Token) (ts : List Token) → LieAhead old (t ∷ ts
 abbrev pub EndsUnread : {X : Type 0} {g : Ghosts X} → (old new : Feed X g) → Result (Option Item) BodyFault → Type 0
 EndsUnread old new result = IfOk result IsSome × (source_of new ≡ source_of old)
 
--- one token more of a phrase that has begun
+-- one more token of a phrase that has begun
 abbrev pub ReadsInner : {A X : Type 0} {g : Ghosts X} → (old new : Feed X g) → Result A BodyFault → Type 0
 ReadsInner old new result = (codes : List IdCode) (i : Input) (front : List Token) (placed : List (Placed BodyPhrase)) (first : List ℕ) (before : List (List ℕ)) → Reads codes i front placed (first ∷ before) old
     → MatchResult result (λ _. Looks codes i front placed (first ∷ before) new) (FailsAfter codes i front placed new)
@@ -80,11 +80,11 @@ HasGoodValue v form new result = IfOk result (λ position. IsGoodText v.codes.no
 abbrev pub ReadsCommand : {X : Type 0} {g : Ghosts X} → (old new : Feed X g) → (r r' : Regs) → Result (Option Item) BodyFault → Type 0
 ReadsCommand old new r r' result = (codes : List IdCode) (i : Input) (front : List Token) (items : List BodyItem) → Begun codes i front items old r → GivesPhrase codes i front items new r' result
 
--- one phrase more, or the end
+-- one more phrase, or the end
 abbrev pub ReadsOne : {X : Type 0} {g : Ghosts X} → HeadView → (old new : Feed X g) → (r r' : Regs) → Result (Option Item) BodyFault → Type 0
 ReadsOne v old new r r' result = (h : Header) (i : Input) (front : List Token) (items : List BodyItem) → IsViewOf v h → GaveItems h.codes i front items old r → GivesPhrase h.codes i front items new r' result
 
--- one item more, after the items given so far; at the end they are all of the body's, and it has no
+-- one more item, after the items given so far; at the end they are all of the body's, and it has no
 -- fault. A fault is the body's, after exactly these items
 abbrev pub ReadsItem : {X : Type 0} {g : Ghosts X} → HeadView → (old new : Feed X g) → (r r' : Regs) → Result Item BodyFault → Type 0
 ReadsItem v old new r r' result = (h : Header) (i : Input) (front : List Token) (items : List BodyItem) → IsViewOf v h → GaveItems h.codes i front items old r → MatchResult result (GivesItem h.codes i front items new r') (λ fault. Fails h.codes i front items fault new)

@@ -10,11 +10,11 @@ use Rattle.vcd_body.specs.Items.{model_form}
 use Rattle.vcd_body.specs.declared.id.Id.{Id}
 use Rattle.vcd_body.specs.declared.item.Form.{Form}
 
--- the line of a change of a code of this size, or of an event, under these bytes
+-- the line of a change of a code of this size, or of an event, with these bytes as the code
 abbrev pub line_under : List ℕ → ℕ → Bool → Form → List ℕ → List ℕ
 line_under id size event form text = change_line (record { code = record { text = id; size = size; event = event }; form = model_form form; text = text })
 
--- so, under the bytes of this one
+-- the same, with the bytes of this `Id` as the code
 abbrev pub id_line : Id → ℕ → Bool → Form → List ℕ → List ℕ
 id_line id size event form text = line_under (id_text id) size event form text
 
@@ -36,7 +36,7 @@ IsLowerAt bytes at = to_ascii_lowercase (slice_index bytes at) ≡ slice_index b
 abbrev pub IsBinaryAt : List ℕ → ℕ → Type 0
 IsBinaryAt bytes at = slice_index bytes at ≡ byte "0" + bit_of (slice_index bytes at)
 
--- these digits are binary; they are where that is known
+-- these digits are binary; the second says it only if `binary` is true
 abbrev pub AreBinary : List ℕ → Type 0
 AreBinary digits = (k : ℕ) → k < length digits → IsBinaryAt digits k
 

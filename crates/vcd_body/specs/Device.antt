@@ -14,6 +14,6 @@ GrowsSome out out' text more = (due : List ℕ) × (more ≡ text ++ due) × Wri
 abbrev pub DueBy : (List ℕ → Type 0) → List ℕ → List ℕ → Type 0
 DueBy takes text more = (due : List ℕ) × (more ≡ text ++ due) × takes due
 
--- what one text has more than the other was written, or a prefix of it where a write failed
+-- what one text has more than the other was written, or a prefix of it if a write failed
 abbrev pub TakesDue : {A E : Type 0} → Device → Device → List ℕ → List ℕ → Result A E → Type 0
 TakesDue out out' text more result = DueBy (λ due. Takes out out' due result) text more

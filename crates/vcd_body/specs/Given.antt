@@ -1,4 +1,4 @@
--- What a call gives: an item, its text, and what the body has where it ends.
+-- What a call gives: an item, its text, and what the body has when it ends.
 use Rattle.std.specs.Prelude.{◌≡◌, ℕ, ◌<◌, ◌≤◌, false, IsTrue, List, [], ◌∷◌, length, take, drop, Option, Some, Result, IfOk, MatchOption, MatchResult, slice_get}
 use Rattle.std.specs.List.{list_all}
 use Rattle.vcd_model.specs.Input.{Input}
@@ -25,7 +25,7 @@ text_of Scalar f = take 1 (token_of f).bytes
 text_of Vector f = drop 1 (value_of f)
 text_of RealText f = drop 1 (value_of f)
 
--- one item more was given; at the end the body has all of them, and no fault
+-- one more item was given; at the end the body has all of them, and no fault
 abbrev pub GivesItem : {X : Type 0} {g : Ghosts X} → List IdCode → Input → List Token → List BodyItem → Feed X g → Regs → Item → Type 0
 GivesItem codes i front items f r (Time t) = GaveItem codes i front items (BodyItem.Time t) f r
 GivesItem codes i front items f r (Begin s) = GaveItem codes i front items (BodyItem.Begin (model_section s)) f r
@@ -61,7 +61,7 @@ HasGoodText codes text End = Unit {0}
 HasGoodText codes text (Change position form) = IsGoodText codes position form text
 HasGoodText codes text Finish = Unit {0}
 
--- the text of the item that was read last; a change alone has one
+-- the text of the item that was read last; only a change has one
 abbrev pub item_text : {X : Type 0} {g : Ghosts X} → Feed X g → Item → List ℕ
 item_text f (Time t) = []
 item_text f (Begin s) = []
@@ -77,7 +77,7 @@ IsGoodChange codes f item = HasGoodText codes (item_text f item) item
 abbrev pub GivesPhrase : {X : Type 0} {g : Ghosts X} → List IdCode → Input → List Token → List BodyItem → Feed X g → Regs → Result (Option Item) BodyFault → Type 0
 GivesPhrase codes i front items f r result = MatchResult result (λ item. MatchOption item (GaveItems codes i front items f r) (λ x. GivesItem codes i front items f r x)) (λ fault. Fails codes i front items fault f)
 
--- a change that it gives is one of these codes, and has a text that the code may have
+-- if it gives a change, that is one of these codes, and has a text that the code may have
 abbrev pub IsGoodPhrase : {X : Type 0} {g : Ghosts X} → List Code → Feed X g → Result (Option Item) BodyFault → Type 0
 IsGoodPhrase codes f result = IfOk result (λ item. MatchOption item (Unit {0}) (IsGoodChange codes f))
 

@@ -25,12 +25,12 @@ model_form Scalar = ChangeForm.Scalar
 model_form Vector = ChangeForm.Vector
 model_form RealText = ChangeForm.RealText
 
--- the registers tell what is known after these items
+-- the registers say what is known after these items
 pub record AreRegsAfter (items : List BodyItem) (r : Regs) : Type 0 where
   pub time_is : r.time ≡ time_after items
   pub marked_is : r.marked ≡ not (is_empty (marks items))
   pub section_is : option_map model_section r.section ≡ open_section items
-  -- as many sections have ended as have begun, but for the open one
+  -- as many sections have ended as have begun, except the open one
   pub ended : count_by is_begin items ≡ count_by is_end_of_section items + cond (is_some r.section) 1 0
 
 -- a timestamp of this time may come after these items; or it has this fault
@@ -41,7 +41,7 @@ pub record AcceptsTimestamp (r : Regs) (time : ℕ) : Type 0 where
 abbrev pub RefusesTimestamp : Regs → ℕ → BodyFault → Type 0
 RefusesTimestamp r time fault = ((fault ≡ TimeInSection) × (is_some r.section ≡ true)) ⊎ ((fault ≡ TimeBack) × (is_some r.section ≡ false) × (time < r.time))
 
--- the registers after one item more
+-- the registers after one more item
 abbrev pub regs_after : Regs → Item → Regs
 regs_after r (Time t) = record { time = t; marked = true; section = r.section }
 regs_after r (Begin s) = record { time = r.time; marked = r.marked; section = Some s }
@@ -49,6 +49,6 @@ regs_after r End = record { time = r.time; marked = r.marked; section = None }
 regs_after r (Change code form) = r
 regs_after r Finish = r
 
--- the registers are those after the item of what was read, and as before where nothing was
+-- the registers are those after the item that was read, and as before if nothing was read
 abbrev pub AreRegsWith : {A E : Type 0} → (A → Item) → Regs → Regs → Result A E → Type 0
 AreRegsWith item old new result = MatchResult result (λ x. new ≡ regs_after old (item x)) (λ _. new ≡ old)

@@ -39,7 +39,7 @@ room_for form.Scalar n = cond (n == 1) 0 (bytes_for n)
 room_for form.Vector n = cond (n == 1) 0 (bytes_for n)
 room_for form.RealText n = n
 
--- a text is held where it is not empty and there is room for it
+-- a text is held if it is not empty and there is room for it
 abbrev pub fits : Form → ℕ → ℕ → Bool
 fits f n room = nat_lt 0 n && nat_le (room_for f n) room
 
@@ -52,7 +52,7 @@ held_as form.RealText text = Text text
 abbrev pub with_held : Held → Kept → Kept
 with_held h k = record { held = h; counts = k.counts; chosen = k.chosen; room = k.room }
 
--- the value is that of the text, where it is held; else it stays
+-- the value is that of the text, if it is held; otherwise it stays
 abbrev pub with_text : Form → List ℕ → Kept → Kept
 with_text f text k = with_held (cond (fits f (length text) k.room) (held_as f text) k.held) k
 
@@ -60,19 +60,19 @@ with_text f text k = with_held (cond (fits f (length text) k.room) (held_as f te
 abbrev pub with_number : ℕ → ℕ → Kept → Kept
 with_number count number k = with_held (Digits (binary_digits count number)) k
 
--- the definitions' value at a size, none where there is no value
+-- the definitions' value at a size, `None` if there is no value
 abbrev pub value_at_size : ℕ → Held → Option Value
 value_at_size size Unset = None
 value_at_size size (Digits ds) = Some (Value.Bits (extend ds size))
 value_at_size size (Text text) = Some (Value.Real text)
 
--- the digit of a value at an index, from the left; none where it has none
+-- the digit of a value at an index, from the left; `None` if it has fewer
 abbrev pub digit_in : Option Value → ℕ → Option ℕ
 digit_in None position = None
 digit_in (Some (Value.Bits ds)) position = slice_get ds position
 digit_in (Some (Value.Real text)) position = None
 
--- its last digit
+-- the last digit of a value
 abbrev pub last_digit_in : Option Value → Option ℕ
 last_digit_in None = None
 last_digit_in (Some (Value.Bits ds)) = last_or None ds
@@ -91,7 +91,7 @@ goes_from a b before after = is_digit before a && is_digit after b
 abbrev pub last_bit : ℕ → Option ℕ
 last_bit n = Some (48 + n % 2)
 
--- there is a value, and it is another than this
+-- there is a value, and it is not this one
 abbrev pub differs : Option Value → Value → Bool
 differs None v = false
 differs (Some u) v = not (same_value u v)
@@ -103,14 +103,14 @@ are_two size ds text = not (bytes_eq (extend ds size) (extend (str_to_ascii_lowe
 abbrev pub AreTwo : List ℕ → List ℕ → Type 0
 AreTwo ds text = (size : ℕ) → extend ds size ≢ extend (str_to_ascii_lowercase text) size
 
--- a value was this, and is to be that: whether they differ, and how the last digit goes
+-- the step from one value to another: whether they differ, and how the last digit goes
 abbrev pub IsStep : Step → Option Value → Value → Type 0
 IsStep s old new =
     (s.differs ≡ differs old new)
     × (s.rises ≡ goes_from (byte "0") (byte "1") (last_digit_in old) (last_digit_in (Some new)))
     × (s.falls ≡ goes_from (byte "1") (byte "0") (last_digit_in old) (last_digit_in (Some new)))
 
--- the text of a real number, empty where the value is none
+-- the text of a real number, empty if the value is none
 abbrev pub real_text : Held → List ℕ
 real_text Unset = []
 real_text (Digits ds) = []
@@ -125,21 +125,21 @@ counts_with counts which = slice_set counts which (min (get_or counts which 0 + 
 abbrev pub one_more : ℕ → Kept → Kept
 one_more which k = record { held = k.held; counts = counts_with k.counts which; chosen = k.chosen; room = k.room }
 
--- one more in a counter, where the test holds
+-- one more in a counter if the test holds
 abbrev pub counts_if : Bool → List ℕ → ℕ → List ℕ
 counts_if true counts which = counts_with counts which
 counts_if false counts which = counts
 
--- one more in the first counter, and in the others where the tests hold
+-- one more in the first counter, and in the others if the tests hold
 abbrev pub with_step : Bool → Bool → Kept → Kept
 with_step rises falls k = record { held = k.held; counts = counts_if falls (counts_if rises (counts_with k.counts 0) 1) 2; chosen = k.chosen; room = k.room }
 
--- a value was this, and is to be that: where they differ, the step is counted
+-- the step from one value to another is counted, if they differ
 abbrev pub with_counted : Option Value → Value → Kept → Kept
 with_counted old new k = cond (differs old new) (with_step (goes_from (byte "0") (byte "1") (last_digit_in old) (last_digit_in (Some new))) (goes_from (byte "1") (byte "0") (last_digit_in old) (last_digit_in (Some new))) k) k
 
--- the value is that of the text, where it is held, and its step at this size is counted; an empty
--- text is passed over
+-- the value is that of the text, if it is held, and its step at this size is counted; an empty text
+-- is ignored
 abbrev pub with_change : ℕ → Form → List ℕ → Kept → Kept
 with_change size f text k = cond (nat_lt 0 (length text)) (with_counted (value_at_size size k.held) (value_with size (model_form f) text) (with_text f text k)) k
 

@@ -1,4 +1,4 @@
--- When bytes are the line of the change that they spell, and what is left out of them else.
+-- When bytes are the line of the change that they spell, and what to leave out of them otherwise.
 use Rattle.std.specs.Prelude.{◌≡◌, ℕ, ◌+◌, ◌-◌, ◌<◌, ◌≤◌, false, List, [], ◌∷◌, ◌++◌, drop, length, slice_range, Bool, Option, IfSome}
 use Rattle.std.specs.Str.{str_to_ascii_lowercase}
 use Rattle.vcd_model.specs.Values.{extend, short}
@@ -23,27 +23,28 @@ IsTextLine bytes from to first text code_at = (code : List ℕ) → HasChange by
 abbrev pub MayBe : Option Bits → List ℕ → Type 0
 MayBe bits digits = IfSome bits (λ b. digits ≡ binary_digits b.len b.number)
 
--- without this many, the digits are the shortest, where they are binary if that is known
+-- without the first k, the digits are the shortest of the same value, if they are binary whenever
+-- `binary` says so
 abbrev pub LeavesShortest : List ℕ → Bool → ℕ → Type 0
 LeavesShortest digits binary k = (k ≤ length digits) × (AreBinaryIf binary digits → (size : ℕ) → drop k digits ≡ short (extend (str_to_ascii_lowercase digits) size))
 
--- without this many after the `b` the bytes before the last one, and a line feed, are the line
+-- without k bytes after the `b`, the bytes before the last one, and a line feed, are the line
 abbrev pub LeavesLine : List ℕ → ℕ → ℕ → List ℕ → Bool → ℕ → ℕ → Type 0
 LeavesLine bytes from to digits binary code_at k = (k ≤ length digits) × ((code : List ℕ) → HasChange bytes from to form.Vector digits code → to ≡ code_at + length code + 1 → AreBinaryIf binary digits → (size : ℕ)
     → bytes_without bytes from (to - 1) k ≡ 98 ∷ short (extend (str_to_ascii_lowercase digits) size) ++ (32 ∷ code))
 
 -- the line of a change of a code of this size is this front, a blank, the code and a line feed,
--- whatever the code
+-- whatever the code is
 abbrev pub IsFront : ℕ → Form → List ℕ → List ℕ → Type 0
 IsFront size form text front = (code : List ℕ) → line_under code size false form text ≡ front ++ (32 ∷ code ++ 10 ∷ [])
 
--- without this many after the first one the bytes before the last one, and a line feed, are the
--- line, whose digits are binary if that is known
+-- without k bytes after the first one, the bytes before the last one, and a line feed, are the
+-- line, if the digits are binary whenever `binary` says so
 abbrev pub LeavesText : List ℕ → ℕ → ℕ → ℕ → Form → List ℕ → Bool → ℕ → ℕ → Type 0
 LeavesText bytes from to size form text binary code_at k = (from + 2 + k ≤ to) × (front : List ℕ) × (0 < length front) × IsFront size form text front
     × ((code : List ℕ) → HasChange bytes from to form text code → to ≡ code_at + length code + 1 → AreBinaryIf binary text → bytes_without bytes from (to - 1) k ≡ front ++ (32 ∷ code))
 
--- without this many after the first one the bytes before the blank before the code are the front
+-- without k bytes after the first one, the bytes before the blank before the code are the front
 abbrev pub LeavesFront : List ℕ → ℕ → ℕ → Form → List ℕ → ℕ → ℕ → Type 0
 LeavesFront bytes from size form text code_at k = (from + 2 + k ≤ code_at) × (code_at ≤ length bytes) × (front : List ℕ) × IsFront size form text front × (bytes_without bytes from (code_at - 1) k ≡ front)
 

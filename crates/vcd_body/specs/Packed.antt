@@ -12,7 +12,7 @@ held_digit d = cond (d == byte "0") (byte "0") (cond (d == byte "1") (byte "1") 
 abbrev pub code_of : ℕ → ℕ
 code_of d = cond (d == byte "0") 0 (cond (d == byte "1") 1 (cond ((d == byte "x") || (d == byte "X")) 3 2))
 
--- and back, in lower case
+-- the digit with this number, in lower case
 abbrev pub digit_of : ℕ → ℕ
 digit_of c = cond (c == 0) (byte "0") (cond (c == 1) (byte "1") (cond (c == 3) (byte "x") (byte "z")))
 

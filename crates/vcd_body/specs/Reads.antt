@@ -28,7 +28,7 @@ pub record BodyHas (codes : List IdCode) (i : Input) (front : List Token) (limit
 
 module _ {X : Type 0} {g : Ghosts X} (codes : List IdCode) (i : Input) (front : List Token) where
   -- After these tokens, those of the header, the feed has given whole phrases with these items, and
-  -- the registers tell what is known of them.
+  -- the registers say what is known of them.
   pub record GaveItems (items : List BodyItem) (f : Feed X g) (r : Regs) : Type 0 where
     pub given : List Token
     pub placed : List (Placed BodyPhrase)
@@ -46,7 +46,7 @@ module _ {X : Type 0} {g : Ghosts X} (codes : List IdCode) (i : Input) (front : 
     pub last : gave.placed ≡ before ++ record { phrase = BodyPhrase.Gives x; line = (token_of f).line } ∷ []
     pub near : HasReadTo i (front ++ gave.given) f
 
-  -- these are all tokens, and the body has just these items and no fault
+  -- these are all tokens, and the body has exactly these items and no fault
   pub record GaveAll (items : List BodyItem) (f : Feed X g) (r : Regs) : Type 0 where
     pub gave : GaveItems items f r
     pub all : (stream_of (limit_of f) i).tokens ≡ front ++ gave.given
@@ -61,25 +61,26 @@ module _ {X : Type 0} {g : Ghosts X} (codes : List IdCode) (i : Input) (front : 
     pub stands : HasGiven i (front ++ given) f
     pub so_far : IsSoFar (body_grammar codes) given placed before
 
-  -- and then one token, which was not looked at
+  -- after them one more token was given, which was not looked at
   pub record Looks (placed : List (Placed BodyPhrase)) (before : List (List ℕ)) (f : Feed X g) : Type 0 where
     pub given : List Token
     pub stands : HasGiven i (front ++ given ++ token_of f ∷ []) f
     pub so_far : IsSoFar (body_grammar codes) given placed before
 
-  -- and no more, at a clean end
+  -- no other token was given, and the input has come to its clean end
   pub record ReadsAll (placed : List (Placed BodyPhrase)) (before : List (List ℕ)) (f : Feed X g) : Type 0 where
     pub given : List Token
     pub stands : HasGiven i (front ++ given) f
     pub all : Ends (limit_of f) i (front ++ given) None (token_of f).line
     pub so_far : IsSoFar (body_grammar codes) given placed before
 
-  -- and no more, where the tokens end
+  -- no other token was given, and the input has no others
   pub record ReadsToEnd (placed : List (Placed BodyPhrase)) (before : List (List ℕ)) (f : Feed X g) : Type 0 where
     pub reads : Reads placed before f
     pub all : (stream_of (limit_of f) i).tokens ≡ front ++ reads.given
 
-  -- and one phrase more, which ends with the feed's last token; at most a chunk was read past it
+  -- one more phrase was given, which ends with the feed's last token; at most a chunk was read past
+  -- it
   pub record ReadsPhrase (placed : List (Placed BodyPhrase)) (f : Feed X g) (p : BodyPhrase) : Type 0 where
     pub reads : Reads (placed ++ record { phrase = p; line = (token_of f).line } ∷ []) [] f
     pub near : HasReadTo i (front ++ reads.given) f
@@ -103,7 +104,7 @@ pub record Begun {X : Type 0} {g : Ghosts X} (codes : List IdCode) (i : Input) (
 abbrev pub FailsOver : {X : Type 0} {g : Ghosts X} → List IdCode → Input → List Token → List BodyItem → ℕ → Feed X g → Type 0
 FailsOver codes i front items number f = BodyHas codes i front (limit_of f) items (Some (record { number = number; line = (token_of f).line })) × StopsAt codes i front items f
 
--- why a body is refused: its fault; where the source failed, that of what it gave until then
+-- why a body is refused: its fault; if the source failed, that of what it gave until then
 abbrev pub Fails : {X : Type 0} {g : Ghosts X} → List IdCode → Input → List Token → List BodyItem → BodyFault → Feed X g → Type 0
 Fails codes i front items ReadFailed f = FailsOver codes (failed_after (seen f) i) front items 31 f × GaveOnlySeen i f
 Fails codes i front items fault f = FailsOver codes i front items (fault_number fault) f
@@ -116,7 +117,7 @@ Passes codes earlier token x = (body_fault codes earlier [] token ≡ None) × (
 abbrev pub Refuses : List IdCode → List BodyPhrase → List ℕ → BodyFault → Type 0
 Refuses codes earlier token fault = (fault ≢ ReadFailed) × (body_fault codes earlier [] token ≡ Some (fault_number fault))
 
--- a token begins a phrase, and is none alone
+-- a token begins a phrase, and is not a whole one
 abbrev pub OpensPhrase : List IdCode → List BodyPhrase → List ℕ → Type 0
 OpensPhrase codes earlier token = (body_fault codes earlier [] token ≡ None) × (body_phrase codes (token ∷ []) ≡ None)
 

@@ -1,4 +1,4 @@
--- What is known of a step before it is counted, and where a value is set as by its text.
+-- What is known of a step before it is counted, and when a value is set as by its text.
 use Rattle.std.specs.Prelude.{◌≡◌, ◌≢◌, ◌≤◌, ℕ, ◌+◌, ◌-◌, ◌^◌, min, Bool, true, false, List, [], ◌∷◌, length, get_or, slice_set, Option, Some, IfSome}
 use Rattle.vcd_model.specs.Values.{value_with}
 use Rattle.vcd_body.specs.Contents.{ChangesCode, IsLaidOut, kept_at}
@@ -13,7 +13,7 @@ use Rattle.vcd_body.specs.declared.slot.Slot.{Slot}
 use Rattle.vcd_body.specs.declared.step.Step.{Step}
 use Rattle.vcd_body.specs.declared.table.Table.{Table}
 
--- it is that from what is held to the digits of a text, at each size
+-- this is the step from what is held to the digits of a text, at each size
 abbrev pub TellsStep : Held → List ℕ → Option Step → Type 0
 TellsStep h text result = IfSome result (λ step. (size : ℕ) → IsStep step (value_at_size size h) (value_with size (model_form form.Vector) text))
 
@@ -21,20 +21,20 @@ TellsStep h text result = IfSome result (λ step. (size : ℕ) → IsStep step (
 abbrev pub counts_plus : ℕ → List ℕ → ℕ → List ℕ
 counts_plus n counts which = slice_set counts which (min (get_or counts which 0 + n) (2 ^ 64 - 1))
 
--- this many more, where the test holds
+-- this many more in a counter if the test holds
 abbrev pub counts_plus_if : Bool → ℕ → List ℕ → ℕ → List ℕ
 counts_plus_if true n counts which = counts_plus n counts which
 counts_plus_if false n counts which = counts
 
--- this many more in the first counter, and in the others where the tests hold
+-- this many more in the first counter, and in the others if the tests hold
 abbrev pub counts_after : ℕ → Bool → Bool → List ℕ → List ℕ
 counts_after n rises falls counts = counts_plus_if falls n (counts_plus_if rises n (counts_plus n counts 0) 1) 2
 
 abbrev pub with_steps : ℕ → Bool → Bool → Kept → Kept
 with_steps n rises falls k = record { held = k.held; counts = counts_after n rises falls k.counts; chosen = k.chosen; room = k.room }
 
--- a slot counts a step where it has room for it; else 256 steps are left to count, which then make
--- the change whole
+-- The slot had no room to count the step. The 256 steps that are left to count make the change
+-- whole once they are added.
 abbrev pub LeavesSteps : ℕ → (Kept → Kept) → Bool → Bool → List Slot → List Slot → Type 0
 LeavesSteps code f rises falls slots slots' = (shares : List Share) (values after : List ℕ) (counted : List Slot) (with : List Share) → ChangesAt code (with_steps 256 rises falls) values slots' shares after counted with → ChangesAt code f values slots shares after counted with
 
@@ -53,6 +53,6 @@ abbrev pub LeavesNumber : ℕ → ℕ → Bits → Bool → Bool → List Slot �
 LeavesNumber code size b rises falls slots slots' = (shares : List Share) (values after : List ℕ) → AreLaidOut slots shares (length values) → (counted : List Slot) (with : List Share) → ChangesAt code (with_steps 256 rises falls) values slots' shares after counted with
     → ChangesAt code (with_number_change size b.len b.number) values slots shares after counted with
 
--- where the code at an index has room for 8 bytes, it is changed so
+-- the code at an index is changed by f, if it has room for 8 bytes
 abbrev pub ChangesRoomy : ℕ → (Kept → Kept) → Table → Table → Type 0
 ChangesRoomy code f old new = IsLaidOut old → (k : Kept) → kept_at old code ≡ Some k → 8 ≤ k.room → ChangesCode code f old new

@@ -1,5 +1,5 @@
--- How a table keeps it: a slot for each code, with the steps that it has counted, and a share of
--- the bytes of values, with the counters before them.
+-- How a table stores what it keeps: a slot for each code, with the steps that it has counted, and a
+-- share of the bytes of values, with the counters before these steps.
 use Rattle.std.specs.Prelude.{◌≡◌, ◌≢◌, ◌<◌, ℕ, zero, suc, ◌+◌, ◌-◌, ◌*◌, ◌%◌, ◌≤◌, ◌==◌, nat_le, min, max, cond, List, [], ◌∷◌, ◌++◌, length, take, drop, map, sum_by, Bool, false, slice_get, Option, Some, None, option_map, option_and_then}
 use Rattle.std.specs.Str.{byte}
 use Rattle.vcd_view.specs.declared.view.Code.{Code}
@@ -51,7 +51,7 @@ held_bits v = binary_digits (count_in (len_of v)) (number_in (len_of v))
 abbrev pub used : Holding → ℕ
 used v = used_by v.state (len_of v)
 
--- what is held so, with these bytes of the share
+-- the value that is held in this state and length, with these bytes of the share
 abbrev pub held_by : State → ℕ → List ℕ → Held
 held_by state.Unset len bytes = Held.Unset
 held_by state.Zero len bytes = Held.Digits (byte "0" ∷ [])
@@ -63,13 +63,13 @@ held_by state.Packed len bytes = Held.Digits (digits_in len bytes)
 held_by state.Bits len bytes = Held.Digits (binary_digits (count_in len) (number_in len))
 held_by state.Real len bytes = Held.Text bytes
 
--- the digits, none where there are none
+-- the digits that are held, or none
 abbrev pub digits_held : Held → List ℕ
 digits_held Held.Unset = []
 digits_held (Held.Digits ds) = ds
 digits_held (Held.Text text) = []
 
--- what is held so with these bytes of a share, and its digits
+-- the value that this `Holding` and these bytes of a share hold, and its digits
 abbrev pub held_with : Holding → List ℕ → Held
 held_with v bytes = held_by v.state (len_of v) bytes
 
@@ -80,10 +80,10 @@ digits_with v bytes = digits_held (held_with v bytes)
 abbrev pub held_line : ℕ → List ℕ → List ℕ → List ℕ
 held_line size ds id = cond (size == 1) (ds ++ (id ++ 10 ∷ [])) (byte "b" ∷ short (extend ds size) ++ (byte " " ∷ id ++ 10 ∷ []))
 
--- ---- what a slot and its share tell
+-- ---- what a slot and its share say
 
--- the number that tells a state, and the state that a number tells; from 8 on it tells how many
--- binary digits there are
+-- the number of a state, and the state of a number; from 8 on the number also says how many binary
+-- digits there are
 abbrev pub number_of : State → ℕ
 number_of state.Unset = 0
 number_of state.One = 1
@@ -106,7 +106,8 @@ state_in (suc (suc (suc (suc (suc (suc zero)))))) = state.Packed
 state_in (suc (suc (suc (suc (suc (suc (suc zero))))))) = state.Real
 state_in (suc (suc (suc (suc (suc (suc (suc (suc n)))))))) = state.Bits
 
--- a length of these parts: the upper one is the share's, or how many binary digits there are
+-- a length of these parts: the upper one is from the share, or says how many binary digits there
+-- are
 abbrev pub len_in : ℕ → ℕ → ℕ → ℕ
 len_in tag number upper = cond (nat_le 8 tag) (tag - 8) upper * 4294967296 + number % 4294967296
 
@@ -127,7 +128,7 @@ pub record Whole : Type 0 where
 abbrev pub whole : Slot → Share → Whole
 whole s h = record { state = state_in s.tag; len = len_in s.tag s.number h.upper; start = h.start; counts = counts_of s.steps h.counts; chosen = h.chosen }
 
--- with a value that is held so
+-- the slot and share with a value that is held in this state and length
 abbrev pub set_whole : State → ℕ → Whole → Whole
 set_whole st len w = record { state = st; start = w.start; len = len; counts = w.counts; chosen = w.chosen }
 
@@ -153,7 +154,7 @@ start_in shares code = start_or 0 (slice_get shares code)
 abbrev pub end_at : List Share → ℕ → ℕ → ℕ
 end_at shares n code = start_or n (slice_get shares (code + 1))
 
--- what is kept of a code, whose share ends here
+-- what is kept of a code whose share ends here
 abbrev pub kept_with : List ℕ → ℕ → Whole → Kept
 kept_with values end w = record { held = held_of values w; counts = w.counts; chosen = w.chosen; room = end - w.start }
 
@@ -161,11 +162,11 @@ kept_with values end w = record { held = held_of values w; counts = w.counts; ch
 abbrev pub kept_in : List ℕ → List Slot → List Share → ℕ → Option Kept
 kept_in values slots shares code = option_map (kept_with values (end_at shares (length values) code)) (whole_at slots shares code)
 
--- of the code at an index is kept what f makes of it, and of the others what was kept
+-- what is kept of the code at an index is what f makes of it, and what is kept of the others stays
 abbrev pub ChangesAt : ℕ → (Kept → Kept) → List ℕ → List Slot → List Share → List ℕ → List Slot → List Share → Type 0
 ChangesAt code f values slots shares values' slots' shares' = (position : ℕ) → kept_in values' slots' shares' position ≡ cond (position == code) (option_map f (kept_in values slots shares position)) (kept_in values slots shares position)
 
--- a slot is changed so, and no share is: whatever the shares and the values are
+-- a slot is changed by f, and no share is, whatever the shares and the values are
 abbrev pub ChangesSlot : ℕ → (Kept → Kept) → List Slot → List Slot → Type 0
 ChangesSlot code f slots slots' = (shares : List Share) (values : List ℕ) → ChangesAt code f values slots shares values slots' shares
 
@@ -175,7 +176,7 @@ least_bytes form.Scalar n = bytes_for n
 least_bytes form.Vector n = bytes_for n
 least_bytes form.RealText n = n
 
--- several digits are one or more
+-- how many digits have to be there: 1 if the state is no state of several digits
 abbrev pub some_by : State → ℕ → ℕ
 some_by state.Unset len = 1
 some_by state.Zero len = 1
@@ -187,14 +188,14 @@ some_by state.Packed len = len
 some_by state.Bits len = cond (is_proper len) 1 0
 some_by state.Real len = 1
 
--- a text is held so, in the first bytes of a share
+-- a text is held in this state, in the first bytes of a share
 pub record IsHeldAs (f : Form) (text : List ℕ) (st : State) (share : List ℕ) : Type 0 where
   pub held : held_by st (length text) (take (used_by st (length text)) share) ≡ held_as f text
   pub used : used_by st (length text) ≤ length share
   pub some : 0 < length text → 1 ≤ some_by st (length text)
   pub whole : st ≢ state.Bits
 
--- what is held so is whole in these bytes of a share: they are enough, and several digits are some
+-- these bytes of a share hold all of the value: they are enough, and there is a digit
 pub record HoldsIn (v : Holding) (bytes : List ℕ) : Type 0 where
   pub fits : used v ≤ length bytes
   pub some : 1 ≤ some_by v.state (len_of v)
@@ -210,7 +211,7 @@ pub record IsLaid (shares : List Share) (n k : ℕ) (s : Slot) : Type 0 where
 abbrev pub AreLaidOut : List Slot → List Share → ℕ → Type 0
 AreLaidOut slots shares n = (k : ℕ) (s : Slot) → slice_get slots k ≡ Some s → IsLaid shares n k s
 
--- what is laid out stays so with these slots
+-- if these slots were laid out over some shares, they still are
 abbrev pub SlotsKeepLaid : List Slot → List Slot → Type 0
 SlotsKeepLaid slots slots' = (shares : List Share) (n : ℕ) → AreLaidOut slots shares n → AreLaidOut slots' shares n
 

@@ -61,7 +61,7 @@ pub record IsFound (v : HeadView) (form : Form) (first second : List ℕ) (found
   pub names : Names v found.position second
   pub sized : IsSized v.codes.now found
 
--- an item was taken, from one position ahead to another, where the registers before it are these
+-- an item was taken, from one position ahead to another, if the registers before it are these
 pub record TakesItem (v : HeadView) (a a' : Ahead) (r : Regs) (p : ScannedItem) : Type 0 where
   -- it comes after the items given before and those taken ahead so far
   pub gives : (h : Header) (limit lines : ℕ) (bytes : List ℕ) (before items : List BodyItem) → IsViewOf v h → LooksOver limit bytes a → AreRegsAfter (before ++ items) r → GaveAhead h.codes limit lines bytes (passed_of a) before items

@@ -1,4 +1,4 @@
--- How far a walk over the items ahead has come, whoever takes them.
+-- How far a walk over the items ahead has come, for any task.
 use Rattle.std.specs.Prelude.{◌≡◌, ℕ, ◌≤◌, Bool, true, false, List, length, Option, MatchOption, Result, Ok, Err, IfOk}
 use Rattle.vcd_text.specs.Ahead.{bytes_of, longest_of, passed_of}
 use Rattle.vcd_text.specs.Device.{Counts, Device}
@@ -35,7 +35,7 @@ module _ {V C : Type 0} (takes : HeadView → Stage V C → Stage V C → Result
   abbrev pub CanGoOn : Stage V C → Type 0
   CanGoOn s = stands s.visit s.command (bytes_of s.ahead) s.regs
 
-  -- one item more was taken ahead, and the visit has done with it what it does
+  -- one more item was taken ahead, and the visit has done with it what it does
   pub record TakesOne (v : HeadView) (s s' : Stage V C) (result : Result (Unit {0}) WriteFailed) : Type 0 where
     pub scanned : ScannedItem
     pub item : TakesItem v s.ahead s'.ahead s.regs scanned
@@ -43,16 +43,17 @@ module _ {V C : Type 0} (takes : HeadView → Stage V C → Stage V C → Result
     pub counts : Counts s.out s'.out result
     pub on : IfOk result (λ _. CanGoOn s')
 
-  -- so, where there is a result; else nothing has changed
+  -- if there is a result, one more item was taken ahead; otherwise nothing has changed
   abbrev pub MayTakeNext : {A : Type 0} → HeadView → Stage V C → Stage V C → Option (Result A WriteFailed) → Type 0
   MayTakeNext v s s' result = MatchOption result (s' ≡ s) (λ one. TakesOne v s s' (as_done one))
 
-  -- so, up to this position, where there is a result; else nothing has changed
+  -- if there is a result, one more item was taken ahead, up to this position; otherwise nothing has
+  -- changed
   abbrev pub MayTakeUpTo : {A : Type 0} → HeadView → Stage V C → (Ahead → Stage V C) → Ahead → Option (Result A WriteFailed) → Type 0
   MayTakeUpTo v s s' to result = MatchOption result (s' s.ahead ≡ s) (λ one. TakesOne v s (s' to) (as_done one))
 
-  -- a timestamp was taken, with which nothing is written, where there is a result; else nothing has
-  -- changed
+  -- if there is a result, a timestamp was taken, with which nothing is written; otherwise nothing
+  -- has changed
   abbrev pub MayTakeTimestamp : HeadView → (Device → Stage V C) → (Device → Stage V C) → Option (Unit {0}) → Type 0
   MayTakeTimestamp v s s' result = MatchOption result ((out : Device) → s' out ≡ s out) (λ _. (out : Device) → TakesOne v (s out) (s' out) (Ok tt))
 

@@ -1,4 +1,4 @@
--- Whether the next item lies whole ahead.
+-- Whether the next item lies completely in the chunk.
 use Rattle.std.specs.Prelude.{◌≡◌, ◌⊎◌, ℕ, false, List, [], ◌∷◌}
 use Rattle.vcd_model.specs.Tokens.{Token}
 use Rattle.vcd_text.specs.Ahead.{ahead_of}
@@ -17,13 +17,14 @@ IsAlone Real token = ⊥
 IsAlone Other token = is_comment token ≡ false
 IsAlone first token = Unit {0}
 
--- these are the tokens of an item: one, or two where it is the change of a vector or a real number
+-- these are the tokens of an item: one, or two if it is the change of a vector or a real number
 abbrev pub AreWhole : List Token → Type 0
 AreWhole (t ∷ []) = (first : PhraseKind) × Begins t.bytes first × IsAlone first t.bytes
 AreWhole (t ∷ u ∷ []) = Begins t.bytes Vector ⊎ Begins t.bytes Real
 AreWhole tokens = ⊥
 
--- the next item lies whole ahead: these bytes begin with its tokens, each of at most `limit` bytes
+-- the next item lies completely in the chunk: these bytes begin with its tokens, each of at most
+-- `limit` bytes
 pub record HoldsItem (limit : ℕ) (bytes : List ℕ) : Type 0 where
   pub tokens : List Token
   pub n : ℕ
@@ -31,6 +32,6 @@ pub record HoldsItem (limit : ℕ) (bytes : List ℕ) : Type 0 where
   pub whole : AreWhole tokens
 
 -- A read may wait: no byte is kept back by then (`kept_back` says how many are). Or no read comes,
--- since the next item lies whole ahead.
+-- since the next item lies completely in the chunk.
 abbrev pub IsPrompt : {X : Type 0} {g : Ghosts X} → ℕ → Feed X g → Type 0
 IsPrompt kept_back f = (kept_back ≡ 0) ⊎ HoldsItem (limit_of f) (ahead_of f)

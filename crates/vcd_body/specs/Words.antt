@@ -66,7 +66,7 @@ BeginsOther (b ∷ rest) = ((b == byte "#") ≡ false) × (is_value_digit b ≡ 
 abbrev pub IsScalar : List ℕ → Type 0
 IsScalar token = (d : ℕ) × (code : List ℕ) × IsTrue (is_value_digit d) × (token ≡ d ∷ code)
 
--- the time that the token of a timestamp spells, where it is below 2^64
+-- the time that the token of a timestamp spells, if it is below 2^64
 abbrev pub mark_time : List ℕ → Option ℕ
 mark_time token = cond (is_decimal (drop 1 token) && nat_lt (decimal_value (drop 1 token)) (2 ^ 64)) (Some (decimal_value (drop 1 token))) None
 

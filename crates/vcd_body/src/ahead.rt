@@ -1,4 +1,4 @@
-// Items whose tokens are whole ahead in the chunk: most cost no change of the feed.
+// Items whose tokens lie completely in the chunk. Most are taken without a change of the feed.
 ghost use Rattle.std.specs.Prelude.{◌≡◌, ◌⊎◌, ℕ, ◌+◌, ◌-◌, ◌^◌, ◌<◌, ◌≤◌, List, [], drop, length, slice_get, slice_range, false, true, is_some, None, Some, IfOk, IfSome};
 ghost use Rattle.vcd_body.specs.Names.{Advances, AreBinaryIf, AreWhite, Begins, CallEnd, GivesAhead, GivesToLast, HasTimestamp, HasTime, HoldsItem, IsChangeBy, IsFound, IsFoundScalar, IsPrompt, IsRun, IsScalar, LeavesRegs, MayBe, Opens, OpensVector, Passed, Puts, TakesItem, TakesOpened, TakesOpenedTimestamp, Token, ahead_of, binary_digits, byte, bytes_of, limit_of, lines_of, longest_of, passed_of, seen, source_of};
 ghost use Rattle.vcd_body.specs.declared.item.Form.TheVariants as form;
@@ -23,8 +23,8 @@ pub struct ScannedItem<'a> {
     pub item: Item,
     /// The text of a change; none for a timestamp.
     pub text: &'a [u8],
-    /// The size in bits of a change's code, which `size` returns. It is 0 for an event, for a size
-    /// that 32 bits do not hold, and for a timestamp.
+    /// The size in bits of a change's code, which `size` returns. It is 0 for an event, for a
+    /// timestamp, and if the size does not fit into 32 bits.
     pub size_or_zero: usize,
     /// Where the item begins in the bytes that are looked over: at its digit, or at the byte before
     /// its text or before the digits of a timestamp.
@@ -34,15 +34,15 @@ pub struct ScannedItem<'a> {
     pub at: usize,
     /// Where a change's code begins; it ends one byte before the last one that is passed.
     pub code_at: usize,
-    /// The digits of a vector as a number, where they are few, and `0` and `1` alone.
+    /// The digits of a vector as a number, if they are few, and only `0` and `1`.
     pub bits: Option<Bits>,
-    /// Whether the digits of a vector are known to be `0` and `1` alone.
+    /// Whether the digits of a vector are known to be only `0` and `1`.
     pub binary: bool,
 }
 
 impl ScannedItem<'_> {
-    /// Returns the size in bits of a change's code. `None` if `size_or_zero` is 0: for an event, for
-    /// a timestamp, for a size that 32 bits do not hold, and if the size is not known.
+    /// Returns the size in bits of a change's code. `None` for an event and a timestamp, if the
+    /// size does not fit into 32 bits, and if it is not known.
     #[inline(always)]
     pub fn size(self) -> Option<usize>
         ensures told { IfSome result (λ size. (size ≡ self.entry.size_or_zero) × (0 < size)) }
@@ -133,7 +133,7 @@ fn vector_code(token: &[u8], code: &[u8], view: HeadView<'_>, binary: bool) -> O
 }
 
 /// Returns the code after the text of a real number, if the text has 1 to 64 bytes.
-// Not inlined, so that the function that takes the other forms stays small enough to be inlined.
+// Not inlined, since real numbers are rare.
 #[inline(never)]
 fn real_code(token: &[u8], code: &[u8], view: HeadView<'_>) -> Option<Found>
     requires { Begins token.now kind.Real }
@@ -155,9 +155,8 @@ pub(crate) struct Opening<'a> {
     pub(crate) from_lines: bool,
 }
 
-/// Returns the next token ahead, with what it begins; none where the look-ahead gives none.
-// Inlined to the end of each arm of `take_next`, so the compiler drops what cannot be, such as the
-// digits of a vector where a digit was taken.
+/// Returns the next token ahead, with what it begins; `None` if the look-ahead gives none.
+// Inlined into each arm of `take_next`, where the compiler knows what the token begins.
 #[inline(always)]
 pub(crate) fn opening_ahead<'a>(ahead: &mut Ahead<'a>) -> Option<Opening<'a>>
     ensures opens { IfSome result (λ o. Opens ahead.old ahead.new o) }
@@ -171,8 +170,8 @@ pub(crate) fn opening_ahead<'a>(ahead: &mut Ahead<'a>) -> Option<Opening<'a>>
     })
 }
 
-/// Returns the next token ahead, with what it begins, where it begins right here, has two bytes and
-/// a line feed after them.
+/// Returns the next token ahead, with what it begins, if it begins at the next byte and has two
+/// bytes and a line feed after them.
 #[inline(always)]
 fn short_opening<'a>(ahead: &mut Ahead<'a>) -> Option<Opening<'a>>
     ensures opens { IfSome result (λ o. Opens ahead.old ahead.new o) }
@@ -186,8 +185,9 @@ fn short_opening<'a>(ahead: &mut Ahead<'a>) -> Option<Opening<'a>>
     })
 }
 
-/// Returns the next token ahead where it begins a timestamp, if it begins right here, has at most
-/// 15 bytes and a line feed after them. Else `opening_ahead` may give one, and nothing has changed.
+/// Returns the next token ahead, if it begins a timestamp, begins at the next byte, and has at most
+/// 15 bytes and a line feed after them. Otherwise `None`, and nothing has changed; then
+/// `opening_ahead` may give one.
 #[inline(always)]
 pub(crate) fn line_timestamp<'a>(ahead: &mut Ahead<'a>) -> Option<Opening<'a>>
     ensures opens { IfSome result (λ o. Opens ahead.old ahead.new o) }
@@ -208,7 +208,7 @@ pub(crate) fn line_timestamp<'a>(ahead: &mut Ahead<'a>) -> Option<Opening<'a>>
     })
 }
 
-/// Returns where the token begins that the look-ahead is right after.
+/// Returns the offset of a token that the look-ahead has just given.
 #[inline(always)]
 fn begin_of(token: &[u8], ahead: Ahead<'_>) -> usize
     requires { length token.now + 1 ≤ passed_of ahead }
@@ -217,8 +217,8 @@ fn begin_of(token: &[u8], ahead: Ahead<'_>) -> usize
     ahead.passed() - 1 - token.len()
 }
 
-/// Returns the change whose token the look-ahead is right after: a digit and its code. None where
-/// no code comes after the digit, and where the header has no such code.
+/// Returns the change of a digit and a code, whose token the look-ahead has just given. `None` if
+/// no code comes after the digit, or if the header has no such code.
 #[inline(always)]
 pub(crate) fn scalar_ahead<'a>(
     opening: Opening<'a>,
@@ -237,7 +237,7 @@ pub(crate) fn scalar_ahead<'a>(
     Some(change_of(found, Form::Scalar, text, at, at, at + 1))
 }
 
-/// Returns the code after a digit, where a look at one entry finds it.
+/// Returns the code after a digit, if a look at one entry finds it.
 #[inline(always)]
 fn short_code(token: &[u8], view: HeadView<'_>) -> Option<Found>
     requires begins { IsScalar token.now }
@@ -251,10 +251,9 @@ fn short_code(token: &[u8], view: HeadView<'_>) -> Option<Found>
     Some(found)
 }
 
-/// Returns the change that a `0` or a `1` begins, where its token begins right here, has two bytes
-/// and a line feed after them, and a look at one entry finds its code. None for any other item;
-/// then nothing has changed.
-// No call is made, so that a loop over such changes keeps all that it needs in registers.
+/// Returns the change of a `0` or a `1`, if its token begins at the next byte and has two bytes and
+/// a line feed after them, and a look at one entry finds its code. `None` for any other item; then
+/// nothing has changed.
 #[inline(always)]
 pub(crate) fn short_ahead<'a>(ahead: &mut Ahead<'a>, view: HeadView<'_>) -> Option<ScannedItem<'a>>
     ensures takes { IfSome result
@@ -275,7 +274,7 @@ pub(crate) fn short_ahead<'a>(ahead: &mut Ahead<'a>, view: HeadView<'_>) -> Opti
     Some(change_of(found, Form::Scalar, text, at, at, at + 1))
 }
 
-/// Returns whether two lines of two bytes come right here: the begin of a run for `short_ahead`.
+/// Returns whether two lines of two bytes come next: the start of a run for `short_ahead`.
 #[inline(always)]
 pub(crate) fn two_short_lines_come(ahead: Ahead<'_>) -> bool
     ensures { result ≡ true
@@ -322,8 +321,8 @@ pub fn item_comes(ahead: Ahead<'_>) -> bool
     }
 }
 
-/// Passes on what the output keeps back, before a read may wait: unless the next item lies whole
-/// ahead.
+/// Passes on what the output keeps back, before a read may wait: unless the next item lies
+/// completely in the chunk.
 #[inline(always)]
 pub fn pass_on<S: Source, W: Sink>(
     feed: &Feed<'_, '_, '_, '_, S>,
@@ -340,7 +339,7 @@ pub fn pass_on<S: Source, W: Sink>(
 }
 
 /// The two tokens of a vector's change, which were taken ahead: one that begins with `b` or `B`,
-/// and the next one. Whether they are digits and a code of the header is still to be asked.
+/// and the next one. They may still be bad digits, or a code that the header does not have.
 #[derive(Clone, Copy)]
 pub(crate) struct VectorTokens<'a> {
     pub(crate) token: &'a [u8],
@@ -350,9 +349,8 @@ pub(crate) struct VectorTokens<'a> {
     pub(crate) code_at: usize,
 }
 
-/// Returns the tokens of a vector's change: that of the digits, which is given, and the next one,
-/// its code. The look-ahead is moved from after the first to after the second. None where it gives
-/// no second one.
+/// Returns the tokens of a vector's change, of which the first is given: moves the look-ahead past
+/// the next token, its code. `None` if there is no next token ahead.
 #[inline(always)]
 pub(crate) fn vector_tokens_ahead<'a>(
     opening: Opening<'a>,
@@ -375,9 +373,8 @@ pub(crate) fn vector_tokens_ahead<'a>(
     })
 }
 
-/// Returns a vector's digits as a number, if they are 1 to 32, each `0` or `1`, and `bytes` has 32
-/// bytes from the first digit on. `bytes` are those ahead. `None` says nothing of the digits: then
-/// `vector_ahead` looks at them.
+/// Returns a vector's digits as a number, if they are 1 to 32, each `0` or `1`, and `bytes`, the
+/// bytes ahead, have 32 from the first digit on. Otherwise `None`: the digits may still be good.
 #[inline(always)]
 pub(crate) fn vector_bits(tokens: VectorTokens<'_>, bytes: &[u8]) -> Option<Bits>
     requires within { tokens.at + length tokens.token.now ≤ length bytes.now }
@@ -389,8 +386,8 @@ pub(crate) fn vector_bits(tokens: VectorTokens<'_>, bytes: &[u8]) -> Option<Bits
     bits_at(bytes, tokens.at + 1, after_first(tokens.token))
 }
 
-/// Returns the change that these tokens are, with the number of the digits where it is known. The
-/// look-ahead is that after the tokens; none where they are no such change.
+/// Returns the change that these tokens are, with the number of the digits if it is known; `None`
+/// if they are no such change. `ahead` is after the tokens.
 #[inline(always)]
 pub(crate) fn vector_ahead<'a>(
     tokens: VectorTokens<'a>,
@@ -421,8 +418,9 @@ pub(crate) fn vector_ahead<'a>(
     })
 }
 
-/// Returns the change that an `r` and the text of a real number begin, as `vector_tokens_ahead` and
-/// `vector_ahead` do.
+/// Returns the change of an `r` and the text of a real number, whose first token is given: moves
+/// the look-ahead past the next token, its code. `None` if there is none, or if they are no such
+/// change.
 #[inline(always)]
 pub(crate) fn real_ahead<'a>(
     opening: Opening<'a>,
@@ -443,8 +441,8 @@ pub(crate) fn real_ahead<'a>(
     Some(change_of(found, Form::RealText, text, at, at + 1, code_at))
 }
 
-/// Returns the time of the timestamp that a token is; none where it spells none. The look-ahead is
-/// right after the token.
+/// Returns the time of the timestamp that a token is; `None` if it spells none. `ahead` is after
+/// the token.
 #[inline(always)]
 pub(crate) fn time_ahead<'a>(opening: Opening<'a>, ahead: Ahead<'a>) -> Option<u64>
     requires opens { (a : Ahead) × Opens a ahead opening }
@@ -455,7 +453,7 @@ pub(crate) fn time_ahead<'a>(opening: Opening<'a>, ahead: Ahead<'a>) -> Option<u
     decimal_at(ahead.bytes(), at, ahead.passed() - 1)
 }
 
-/// Returns the timestamp that a token spells, and sets the registers to those after it. None where
+/// Returns the timestamp that a token spells, and sets the registers to those after it. `None` if
 /// no such timestamp may come here; then nothing has changed.
 #[inline(always)]
 pub(crate) fn timestamp_ahead<'a>(

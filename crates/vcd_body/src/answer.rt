@@ -32,12 +32,12 @@ pub enum Stop {
     Read { input: usize },
     /// A write failed. A prefix of the output was written.
     Write,
-    /// The name at this index among those of the task, the first such, selects nothing.
+    /// A name selects nothing: the first such name of the task, at this index.
     Unmatched { name: usize },
 }
 
 impl Stop {
-    /// Returns the answer to a fault of the body of the input at an index.
+    /// Returns how a run stops at a fault of the body of the input at an index.
     pub fn of_body(fault: BodyFault, input: usize, line: u64) -> Stop
         ensures { result ≡ stop_of_body fault input line }
     {

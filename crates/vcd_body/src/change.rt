@@ -7,7 +7,7 @@ use crate::words::{clear_bits, others_32, rest_of};
 use vcd_text::{Sink, WriteFailed, put};
 
 // Returns the digit by which digits that begin with `digit`, in lower case, are extended on the
-// left: `0` for a `1`, else the same digit.
+// left: `0` for a `1`, otherwise the same digit.
 pub(crate) fn extension_of(digit: u8) -> u8
     ensures { result ≡ extension (digit ∷ []) }
 {
@@ -21,7 +21,8 @@ pub(crate) fn extended_by(digit: u8) -> u8
     extension_of(digit.to_ascii_lowercase())
 }
 
-// Returns how many bytes on the left are the first one, at least.
+// Returns how many bytes on the left equal the first one, or a smaller number: it looks at 32 at a
+// time.
 fn same_as_first(bytes: &[u8]) -> usize
     requires { 32 ≤ length bytes.now }
     ensures few { result < length bytes.now }
@@ -40,10 +41,10 @@ fn same_as_first(bytes: &[u8]) -> usize
     last + clear_bits(others_32(bytes, last, first), 32)
 }
 
-// Returns digits without some of the first ones, which extend to the same value: of 32 or more of
-// which the first ones are the same, all of these but the last, unless they are `1`.
-// 32 at a time: with the loop of `shortest` alone `pick` of all of a dump of Verilator's, a third of
-// it vectors of 128 bits, takes 2.8 times as many instructions.
+// Returns digits that extend to the same value, without some of the first ones. Of 32 or more
+// digits it leaves out those that are the same as the first, except the last of these, unless the
+// first is `1`.
+// Without it `pick` of all of a dump of Verilator's takes 2.8 times as many instructions.
 fn without_same(digits: &[u8]) -> &[u8]
     requires { 0 < length digits.now }
     ensures some { 0 < length result.now }
@@ -73,8 +74,8 @@ pub(crate) fn shortest(digits: &[u8]) -> &[u8]
 }
 
 // Returns whether some byte may be a capital letter: these have bit 5 clear, and digits of a value
-// in lower case have it set. Bit 5 of all digits is put together by `and`: by two comparisons of
-// each digit `merge` of wide vectors takes 7 % more.
+// in lower case have it set. With two comparisons of each digit instead, `merge` of wide vectors
+// takes 7 % more.
 pub(crate) fn may_have_capital(bytes: &[u8]) -> bool
     ensures { result ≡ false → str_to_ascii_lowercase bytes.now ≡ bytes.now }
 {
@@ -113,7 +114,7 @@ fn put_lowered<W: Sink>(w: &mut W, bytes: &[u8]) -> Result<(), WriteFailed>
     Ok(())
 }
 
-// Writes the bytes, in lower case as most are already.
+// Writes the bytes in lower case. Most are in lower case already.
 fn put_lower<W: Sink>(w: &mut W, bytes: &[u8]) -> Result<(), WriteFailed>
     requires { (W.device w.old).failures < 2 ^ 64 - 1 }
     ensures { Puts (W.device w.old) (W.device w.new) (str_to_ascii_lowercase bytes.now) result }
@@ -172,7 +173,7 @@ pub(crate) fn put_shortest<W: Sink>(w: &mut W, digits: &[u8]) -> Result<(), Writ
 }
 
 // Writes the line of a change that is rare: of an event, of a real number, or of digits after `b`
-// for a code of one bit. Where a write fails, a prefix was written.
+// for a code of one bit. If a write fails, a prefix was written.
 pub(crate) fn put_rare<W: Sink>(
     event: bool,
     form: Form,

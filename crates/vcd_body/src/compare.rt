@@ -9,7 +9,7 @@ use crate::packed::{held_digit, holds_packed};
 use crate::slot::{HeldValue, State, digit_of_state};
 use crate::words::are_all_digits;
 
-// Returns what a text is extended by.
+// Returns the digit by which a text is extended.
 fn extension_of_text(text: &[u8]) -> u8
     ensures { result ≡ extension (str_to_ascii_lowercase text.now) }
 {
@@ -19,7 +19,7 @@ fn extension_of_text(text: &[u8]) -> u8
     }
 }
 
-// Returns the digit at an index of a text that is extended to a size; 0 where there is none.
+// Returns the digit at an index of a text that is extended to a size; 0 if there is none.
 #[inline(always)]
 fn text_digit(text: &[u8], size: usize, index: usize) -> u8
     ensures { result ≡ get_or (extend (str_to_ascii_lowercase text.now) size) index 0 }
@@ -34,7 +34,7 @@ fn text_digit(text: &[u8], size: usize, index: usize) -> u8
     }
 }
 
-// Returns the digit at an index of the held digits, which are extended to a size; 0 where there is
+// Returns the digit at an index of the held digits, which are extended to a size; 0 if there is
 // none.
 #[inline(always)]
 fn shown_digit(held: HeldValue<'_>, size: usize, index: usize) -> u8
@@ -44,8 +44,8 @@ fn shown_digit(held: HeldValue<'_>, size: usize, index: usize) -> u8
     digit_shown(held, size, index).unwrap_or(0)
 }
 
-// Returns whether the digits that are held and a text are the same, both extended to a size that is
-// no less than their lengths. It looks from the right, where they mostly differ.
+// Returns whether the held digits and those of a text are the same, both extended to a size that is
+// at least their lengths. It looks from the right, where most differ.
 fn are_same(held: HeldValue<'_>, text: &[u8], size: usize) -> bool
     requires digits { HasDigits held }
     requires held_fit { length (digits_of held) ≤ size }
@@ -62,8 +62,8 @@ fn are_same(held: HeldValue<'_>, text: &[u8], size: usize) -> bool
     true
 }
 
-// Returns whether digits that are held a byte each and a text of as many are the same. Where they are
-// written in the same way all are looked at together, else from the right too.
+// Returns whether digits that are held a byte each and a text of as many are the same. It looks at
+// all of them together, and if some differ, for capital letters, from the right too.
 fn are_same_unpacked(bytes: &[u8], text: &[u8]) -> bool
     requires { length bytes.now ≡ length text.now }
     ensures { Decides result (map held_digit bytes.now ≡ str_to_ascii_lowercase text.now) }
@@ -81,8 +81,8 @@ fn are_same_unpacked(bytes: &[u8], text: &[u8]) -> bool
     true
 }
 
-// Returns whether a text gives a code of this size other digits than several that are held, or is
-// itself of several. It takes as long as these digits and the text are, whatever the size is.
+// Returns whether a text gives a code of this size other digits than the held ones, if either has
+// several. It takes as long as these digits and the text are, whatever the size is.
 #[inline(never)]
 fn several_differ(held: HeldValue<'_>, size: usize, text: &[u8]) -> bool
     requires digits { HasDigits held }
@@ -99,7 +99,7 @@ fn several_differ(held: HeldValue<'_>, size: usize, text: &[u8]) -> bool
     }
 }
 
-// Returns whether a text gives a code of this size other digits than those that are held. Most are
+// Returns whether a text gives a code of this size other digits than the held ones. Most texts are
 // one digit.
 #[inline(always)]
 fn digits_differ(held: HeldValue<'_>, size: usize, text: &[u8]) -> bool
@@ -112,7 +112,7 @@ fn digits_differ(held: HeldValue<'_>, size: usize, text: &[u8]) -> bool
     }
 }
 
-/// Returns whether a text gives a code of this size another value than it has; false where it has
+/// Returns whether a text gives a code of this size another value than it has; false if it has
 /// none.
 #[inline(always)]
 pub(crate) fn value_differs(held: HeldValue<'_>, size: usize, form: Form, text: &[u8]) -> bool

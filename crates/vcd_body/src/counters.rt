@@ -1,10 +1,10 @@
-// The three counters of a code, of 64 bits each. The code's share has them as they were once, and
-// its slot has how many steps came since, in 8 bits for each way that a step may go: so most steps
-// add one to one byte of the slot.
+// The three counters of a code, of 64 bits each. They are in two parts: the slot counts up to 256
+// steps of each kind in a byte, and the share has what came before these. So most steps add one to
+// one byte of the slot.
 ghost use Rattle.std.specs.Prelude.{◌≡◌, ◌<◌, ℕ, List, ◌==◌, true, false};
 ghost use Rattle.vcd_body.specs.Names.{counts_after, counts_if, counts_of, counts_plus, counts_plus_if, counts_with};
 
-/// Returns the counters.
+/// Returns the counters, from the parts in the slot and in the share.
 #[inline(always)]
 pub(crate) fn counts_of(steps: [u8; 3], counts: [u64; 3]) -> [u64; 3]
     ensures { result ≡ counts_of steps counts }
@@ -18,9 +18,9 @@ pub(crate) fn counts_of(steps: [u8; 3], counts: [u64; 3]) -> [u64; 3]
     ]
 }
 
-/// How many steps a counter of a slot has counted where it begins again at 0.
-// The byte is added to in place, and the sum says whether it was full: with a test before it is
-// written, and without `flipped`, `edges` of scalars takes 58.3 an item, as it is 53.7.
+/// How many steps a counter of a slot has counted when it begins again at 0.
+// The byte is increased in place, and the sum says whether it was full. With a test before, and
+// without `flipped`, `edges` of scalars takes 9 % more.
 pub(crate) const CARRY: u64 = 256;
 
 /// Adds `more` to a counter of a share. A full one stays.
@@ -34,7 +34,7 @@ pub(crate) fn count_more(counts: &mut [u64; 3], which: usize, more: u64)
     }
 }
 
-/// Adds `more` to a counter of a share where a test holds. A full one stays.
+/// Adds `more` to a counter of a share if a test holds. A full one stays.
 #[inline(always)]
 fn count_more_if(counts: &mut [u64; 3], which: usize, more: u64, test: bool)
     ensures { (steps : List ℕ)
@@ -45,7 +45,7 @@ fn count_more_if(counts: &mut [u64; 3], which: usize, more: u64, test: bool)
     }
 }
 
-/// Adds `more` to the first counter of a share, and to the others where the tests hold. A full one
+/// Adds `more` to the first counter of a share, and to the others if the tests hold. A full one
 /// stays.
 pub(crate) fn count_steps(counts: &mut [u64; 3], more: u64, rises: bool, falls: bool)
     ensures { (steps : List ℕ) → counts_of steps counts.new
@@ -56,10 +56,11 @@ pub(crate) fn count_steps(counts: &mut [u64; 3], more: u64, rises: bool, falls: 
     count_more_if(counts, 2, more, falls);
 }
 
-/// Counts a step that goes this way in a slot. Returns whether that had room for it; else its
-/// counter begins again, and 256 steps are left to count.
-// A step touches one byte, whose index is the difference of the last digits, without a branch:
-// with counters of changes, rises and falls in the slot `edges` of scalars takes 22 % more.
+/// Counts a step in a slot: a fall if `way` is 0, a rise if it is 2, any other if it is 1. Returns
+/// whether the slot had room for it. If not, its counter begins again at 0, and the caller has 256
+/// steps to count in the share.
+// The step adds to one byte, without a branch. With counters of changes, rises and falls in the
+// slot, `edges` of scalars takes 22 % more.
 #[inline(always)]
 pub(crate) fn count_step(steps: &mut [u8; 3], way: usize) -> bool
     requires { way < 3 }

@@ -9,15 +9,15 @@ pub enum BodyFault {
     EndOfInput,
     /// A phrase begins with none of the body's tokens (fault 3).
     UnknownCommand,
-    /// What belongs into the header, a section inside a section, or `$end` outside of one (fault
-    /// 4).
+    /// A keyword that belongs into the header, a section inside a section, or an `$end` outside of
+    /// one (fault 4).
     OutOfPlace,
     /// No decimal number below 2^64 after `#` (fault 13).
     BadTime,
     /// A timestamp below one that was read (fault 14).
     TimeBack,
-    /// No digits `0 1 x X z Z` where there should be some, or no code after a digit, or no text
-    /// after `r` (fault 15).
+    /// Digits are missing or other bytes than `0 1 x X z Z`; or no code follows a digit, or no text
+    /// follows `r` (fault 15).
     BadValue,
     /// No variable has this code (fault 16).
     UnknownCode,

@@ -35,7 +35,7 @@ pub(crate) fn digit_held(held: HeldValue<'_>, index: usize) -> Option<u8>
     }
 }
 
-/// Returns the digit at an index of the value at a size, from the left; none where it has none.
+/// Returns the digit at an index of the value at a size, from the left; `None` if it has fewer.
 #[inline(always)]
 pub(crate) fn digit_shown(held: HeldValue<'_>, size: usize, index: usize) -> Option<u8>
     ensures { result ≡ digit_in (value_at_size size (held_in held.entry)) index }
@@ -48,7 +48,7 @@ pub(crate) fn digit_shown(held: HeldValue<'_>, size: usize, index: usize) -> Opt
     digit_held(held, index - missing)
 }
 
-/// Returns the last digit of the value at each size; none where it has none.
+/// Returns the last digit of the value, which is the same at each size; `None` if it has none.
 #[inline(always)]
 pub(crate) fn last_held(held: HeldValue<'_>) -> Option<u8>
     ensures { (size : ℕ) → result ≡ last_digit_in (value_at_size size (held_in held.entry)) }

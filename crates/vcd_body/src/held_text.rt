@@ -7,7 +7,7 @@ use crate::held::{count_of, digit_held};
 use crate::slot::{HeldValue, State};
 use vcd_text::{Sink, WriteFailed, put};
 
-// How many digits are written in one call at most.
+// How many digits one call writes at most.
 const BLOCK: usize = 64;
 
 // Writes a digit `count` times.
@@ -25,8 +25,8 @@ fn put_repeated<W: Sink>(digit: u8, count: usize, w: &mut W) -> Result<(), Write
     Ok(())
 }
 
-// Returns the digit at an index of those that are held, as a byte (`b'0'`, `b'1'`, `b'x'` or
-// `b'z'`), and the number 0 where the index is past them.
+// Returns the digit at an index of the held digits, as a byte (`b'0'`, `b'1'`, `b'x'` or `b'z'`),
+// or the number 0 after the last.
 #[inline(always)]
 fn digit_or(held: HeldValue<'_>, index: usize) -> u8
     ensures { result ≡ get_or (digits_of held.entry) index 0 }
@@ -61,7 +61,7 @@ fn put_from<W: Sink>(held: HeldValue<'_>, from: usize, w: &mut W) -> Result<(), 
     Ok(())
 }
 
-// Returns where the shortest digits begin that extend to the same value.
+// Returns the index at which the shortest digits begin that extend to the same value.
 fn first_needed(held: HeldValue<'_>) -> usize
     requires some { 0 < length (digits_of held) }
     ensures { (size : ℕ) → drop result (digits_of held.entry)
@@ -100,7 +100,7 @@ fn put_short_held<W: Sink>(held: HeldValue<'_>, id: &[u8], w: &mut W) -> Result<
     put_end(w, b' ', id)
 }
 
-/// Writes the line that gives a code of this size its value; nothing where it has none.
+/// Writes the line that gives a code of this size its value; nothing if it has none.
 pub(crate) fn put_value_line<W: Sink>(
     held: HeldValue<'_>,
     size: usize,
@@ -142,7 +142,7 @@ fn put_real_text<W: Sink>(text: &[u8], w: &mut W) -> Result<(), WriteFailed>
     put(w, text)
 }
 
-/// Writes the value at a size in full, `-` where there is none.
+/// Writes the value at a size in full, `-` if there is none.
 pub(crate) fn put_value<W: Sink>(
     held: HeldValue<'_>,
     size: usize,

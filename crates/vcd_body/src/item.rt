@@ -44,7 +44,7 @@ pub enum Item {
 /// What is known after the items read so far.
 #[derive(Clone, Copy, PartialEq, Eq, Debug)]
 pub struct Regs {
-    /// The last timestamp, which is the greatest; 0 where there was none.
+    /// The last timestamp, which is the greatest; 0 if there was none.
     pub time: u64,
     /// Whether there was a timestamp.
     pub marked: bool,
@@ -68,11 +68,9 @@ impl Regs {
         }
     }
 
-    /// Takes a timestamp, where one may come: outside a section, and at no time before the last
-    /// one. Else returns its fault, and nothing changes.
-    // Not inlined, so that a loop over items keeps neither time nor timestamp in a register for it:
-    // so `cut` of scalars before its window takes 6 % less. `take_lines` does not call it: with a
-    // call `check` takes 5 % more.
+    /// Takes a timestamp, if one may come: outside a section, and not before the last one.
+    /// Otherwise returns its fault, and nothing changes.
+    // Not inlined: with it inlined, `cut` of scalars before its window takes 6 % more.
     #[inline(never)]
     pub(crate) fn accept_timestamp(&mut self, time: u64) -> Result<(), BodyFault>
         ensures may { MatchResult result (λ _. AcceptsTimestamp self.old time) (RefusesTimestamp self.old time) }
@@ -81,7 +79,7 @@ impl Regs {
         self.accept_timestamp_here(time)
     }
 
-    /// Takes a timestamp as `accept_timestamp` does, in a call where `call` says so.
+    /// Takes a timestamp as `accept_timestamp` does, by a call of it if `call` is true.
     #[inline(always)]
     pub(crate) fn accept_timestamp_by(&mut self, time: u64, call: bool) -> Result<(), BodyFault>
         ensures may { MatchResult result (λ _. AcceptsTimestamp self.old time) (RefusesTimestamp self.old time) }
@@ -94,7 +92,7 @@ impl Regs {
         }
     }
 
-    /// Takes a timestamp as `accept_timestamp` does, without a call.
+    /// Takes a timestamp as `accept_timestamp` does, inlined.
     #[inline(always)]
     fn accept_timestamp_here(&mut self, time: u64) -> Result<(), BodyFault>
         ensures may { MatchResult result (λ _. AcceptsTimestamp self.old time) (RefusesTimestamp self.old time) }

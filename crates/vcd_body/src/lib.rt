@@ -2,34 +2,39 @@
 //!
 //! `next_item` reads the next item from a feed that is after a header: a timestamp, the begin or
 //! end of a section, a value change, or the end of the body (`Finish`). `change_text` is the text
-//! of the change that was read last, and `put_change` writes one as its line. Most items are
-//! timestamps and changes that are whole in the chunk: `walk_ahead` takes these one after the
-//! other, and leaves the feed where it is; `pass_items` takes the feed past all of them. A `Visit`
-//! says what is done with each, which timestamps are left, and when the walk is over. `pass_on` is
-//! for a caller that reads on: before a read may wait, a sink passes on what it keeps back. If the
-//! bytes of such a change before its last one are those of the line that `put_change` would write,
-//! but for digits that it does not need (`left_out` counts them), they may be copied from the chunk
-//! before a line feed. Lines that end with a line feed in the chunk may be copied together. A `Table` keeps of each code its current value, three counters, and
-//! whether it is chosen. What is done with all items ends with a `Done` or a `Stop`; `put_time`
-//! writes the line of a time. None of them takes memory.
+//! of the change that was read last, and `put_change` writes a change as its line.
+//!
+//! Most items are timestamps and changes that lie completely in the chunk. `walk_ahead` takes these
+//! one after the other, and leaves the feed where it is; `pass_items` moves the feed past all of
+//! them. A `Visit` says what is done with each, which timestamps are left, and when the walk is
+//! over. `pass_on` is for a caller that reads on: before a read may wait, a sink passes on what it
+//! keeps back.
+//!
+//! The bytes of such a change are often the line that `put_change` would write, except its last
+//! byte and digits that the line does not need (`left_out` counts these). Then they may be copied
+//! from the chunk, with a line feed after them. Lines that end with a line feed in the chunk may be
+//! copied together.
+//!
+//! A `Table` keeps of each code its current value, three counters, and whether it is chosen. A run
+//! ends with a `Done` or a `Stop`; `put_time` writes the line of a time. None of them takes memory.
 //!
 //! # The relation
 //!
 //! `GaveItems codes input front items feed regs`: after the tokens of `front`, those of the header,
 //! the feed has given whole phrases with these items, and the registers hold what is known of them.
-//! `next_item` takes it to one item more (`GivesItem`). At the end these are all items of the body,
-//! and it has no fault; else it has this fault after exactly these items (`Fails`). Whatever the
-//! input is, `Advances` of `vcd_text` says what is left of the feed, and a change is of one of the
-//! view's codes and has a text that this code may have (`IsGoodChange`).
+//! `next_item` takes it to one more item (`GivesItem`). At the end these are all items of the body,
+//! and it has no fault; otherwise it has this fault after exactly these items (`Fails`). Whatever
+//! the input is, `Advances` of `vcd_text` says what is left of the feed, and a change is of one of
+//! the view's codes and has a text that this code may have (`IsGoodChange`).
 //!
 //! `GaveAhead codes limit lines bytes n before items`: the first n bytes ahead are phrases with
-//! these items, which follow those with the items before. An item takes it to one item more
+//! these items, which follow those with the items before. An item takes it to one more item
 //! (`TakesItem`); `pass_items` takes `GaveItems` to all of them, and at the last of them to
 //! `GaveLast`, which says how much was read.
 //!
 //! `Walks takes stands over shows begin end ended` is what `walk_ahead` leaves: a trail of items
 //! from where it began (`Trail`), at each of which the visit did what its `takes` says, and how it
-//! ended. Who calls it folds the trail into a relation of its own.
+//! ended. Callers turn the trail into a relation of their own.
 //!
 //! `HasSpelled view bytes from to text item` says by which bytes a change that was taken ahead is
 //! spelled: those that were passed with it, or those from its first byte on (`ScannedItem.begin`).
@@ -49,8 +54,8 @@
 //! - `item`, `fault`: `Item`, `Form`, `Section`, `Regs`; `BodyFault`
 //! - `answer`: `Done`, `More`, `Stop`: how a run over a body or several ends, and whether it goes
 //!   on
-//! - `id`: `put_change`, under an `Id`; `put_line`: the one writer of a change's line; `change`:
-//!   its digits, and a code's own bytes at its end; `renamed`: a new code at its end
+//! - `id`: `put_change`, under an `Id`; `put_line`: the line of a change from its form and text;
+//!   `change`: its digits, and a code's own bytes at its end; `renamed`: a new code at its end
 //! - `lines`: `left_out`; `time_line`: `put_time`
 //! - `value`: `Value`, what a change gives
 //! - `table`, `slot`: `Table`, `Shown`; `Slot`, `Share`; `table_text`: `put_short`, `put_full`;
@@ -72,8 +77,8 @@
 //! A time is below 2^64, a vector has at most as many digits as its code has bits (an event any
 //! number), the text of a real number 1 to 64 bytes.
 //!
-//! Not promised: anything of a body after its first fault; then neither the feed nor the registers
-//! are to be used again.
+//! Not promised: anything of a body after its first fault. Do not use the feed or the registers
+//! again then.
 #![tactic(auto)]
 
 mod ahead;

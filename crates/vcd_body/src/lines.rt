@@ -8,8 +8,8 @@ use crate::item::{Form, Item};
 use crate::words::{clear_bits, others_32};
 use std::simd::prelude::*;
 
-/// Returns a mask: bit k is set where byte `at + k` may be a capital letter: of letters and digits
-/// just the capital letters have bit 5 clear.
+/// Returns a mask whose bit k is set if byte `at + k` may be a capital letter: of letters and
+/// digits, only capital letters have bit 5 clear.
 #[inline(always)]
 fn capitals_32(bytes: &[u8], at: usize) -> u64
     requires { at + 32 ≤ length bytes.now }
@@ -29,8 +29,8 @@ fn are_lower_at(bytes: &[u8], at: usize, n: usize) -> bool
     capitals_32(bytes, at) & ((1 << n) - 1) == 0
 }
 
-// Returns true only where all of these digits are in lower case. Not inlined, so that the short way
-// of `are_lower` stays small.
+// Returns true only if all of these digits are in lower case. Not inlined, since most values have
+// fewer digits.
 #[inline(never)]
 fn are_all_lower(digits: &[u8]) -> bool
     ensures { result ≡ true → str_to_ascii_lowercase digits.now ≡ digits.now }
@@ -38,8 +38,8 @@ fn are_all_lower(digits: &[u8]) -> bool
     !may_have_capital(digits)
 }
 
-/// Returns whether the digits, which begin at an offset of these bytes, are in lower case. Up to
-/// 32, as most are, are looked at in one load.
+/// Returns whether the digits, which begin at an offset of these bytes, are in lower case. Up to 32
+/// of them, as most are, take one look.
 #[inline(always)]
 fn are_lower(bytes: &[u8], at: usize, digits: &[u8]) -> bool
     requires { StandsAt bytes.now at digits.now }
@@ -52,7 +52,7 @@ fn are_lower(bytes: &[u8], at: usize, digits: &[u8]) -> bool
     are_all_lower(digits)
 }
 
-/// Returns true only where there are digits, and none can be left out on the left.
+/// Returns true only if there are digits, and none can be left out on the left.
 #[inline(always)]
 fn are_shortest(digits: &[u8]) -> bool
     ensures { result ≡ true → (size : ℕ) → digits.now ≡ short (extend digits.now size) }
@@ -64,8 +64,8 @@ fn are_shortest(digits: &[u8]) -> bool
     }
 }
 
-/// Returns whether a digit is in lower case: of letters and digits just the capital letters have
-/// bit 5 clear.
+/// Returns whether a digit is in lower case: of letters and digits, only capital letters have bit 5
+/// clear.
 #[inline(always)]
 pub(crate) fn is_lower(digit: u8) -> bool
     ensures { result ≡ true → lower digit ≡ digit }
@@ -82,8 +82,8 @@ fn is_bit_line(bytes: &[u8], from: usize, to: usize, code_at: usize) -> bool
     (from + 1 == code_at) & (bytes[from] & 0x20 != 0)
 }
 
-/// Returns whether a value has this first byte, and just one blank is between it and the code that
-/// begins at this offset.
+/// Returns whether a value has this first byte, and exactly one blank between it and the code,
+/// which begins at `code_at`.
 #[inline(always)]
 fn has_one_blank(
     bytes: &[u8],
@@ -103,7 +103,7 @@ fn has_one_blank(
     (text_end + 1 == code_at) & (bytes[from] == first) & (bytes[text_end] == b' ')
 }
 
-/// Returns a mask: bit k is set where byte `at + k` is not `0`.
+/// Returns a mask whose bit k is set if byte `at + k` is not `0`.
 #[inline(always)]
 fn nonzero_64(bytes: &[u8], at: usize) -> u64
     requires { at + 64 ≤ length bytes.now }
@@ -114,8 +114,7 @@ fn nonzero_64(bytes: &[u8], at: usize) -> u64
     v.simd_ne(u8x64::splat(b'0')).to_bitmask()
 }
 
-/// Returns how many digits on the left the shortest ones leave out.
-// Not inlined: most digits are the shortest.
+/// Returns how many digits on the left the shortest digits of the same value leave out.
 #[inline(never)]
 fn needless(digits: &[u8]) -> usize
     requires { 0 < length digits.now }
@@ -126,8 +125,9 @@ fn needless(digits: &[u8]) -> usize
     digits.len() - shortest(digits).len()
 }
 
-/// Returns how many digits on the left the shortest ones leave out, or `None` where these are not
-/// in lower case or there is no digit. The digits begin at this offset of the bytes.
+/// Returns how many digits on the left the shortest digits of the same value leave out. `None` if
+/// these are not in lower case, or if there is no digit. The digits begin at this offset of the
+/// bytes.
 #[inline(never)]
 fn needless_before_lower(bytes: &[u8], at: usize, digits: &[u8]) -> Option<usize>
     requires { StandsAt bytes.now at digits.now }
@@ -143,10 +143,10 @@ fn needless_before_lower(bytes: &[u8], at: usize, digits: &[u8]) -> Option<usize
     Some(k)
 }
 
-/// Returns how many digits on the left the shortest ones leave out, where all are known to be `0`
-/// and `1`: the zeros that lead. None says nothing.
-// Zeros that lead are counted in the bytes: by the number `pick` of five of 27,505 codes takes 8 %
-// more, of all 1.6 % less.
+/// Returns how many zeros lead, if all digits are known to be `0` and `1`: the shortest digits of
+/// the same value leave them out. If `None`, nothing is known.
+// It counts them in the bytes. From the number of the digits, `pick` of five of 27,505 codes takes
+// 8 % more.
 #[inline(always)]
 fn left_out_of_binary(bytes: &[u8], at: usize, digits: &[u8]) -> Option<usize>
     requires { StandsAt bytes.now at digits.now }
@@ -168,10 +168,10 @@ fn left_out_of_binary(bytes: &[u8], at: usize, digits: &[u8]) -> Option<usize>
     Some(needless(digits))
 }
 
-/// Returns how many digits on the left the shortest ones leave out, or `None` where these are not
-/// in lower case. That the digits are `0` and `1` alone may be known. Most values need all of their
-/// digits.
-// Digits that are known so are not asked for capital letters: without this `pick` of all of wide
+/// Returns how many digits on the left the shortest digits of the same value leave out. `None` if
+/// these are not in lower case. The digits begin at the offset `at` of the bytes. `binary` says that
+/// they are only `0` and `1`. Most values need all of their digits.
+// Binary digits have no capital letters, so none is looked for: otherwise `pick` of all of wide
 // vectors takes 15 % more.
 #[inline(always)]
 fn left_out_of(bytes: &[u8], at: usize, digits: &[u8], binary: bool) -> Option<usize>
@@ -190,8 +190,8 @@ fn left_out_of(bytes: &[u8], at: usize, digits: &[u8], binary: bool) -> Option<u
     Some(0)
 }
 
-/// Returns how many digits after a `b` are left out, where the rest is the line with the code that
-/// begins at this offset.
+/// Returns how many digits after a `b` to leave out, so that the rest is the line with the code
+/// that begins at this offset. `None` if no such rest is the line, or if that is not known.
 #[inline(always)]
 fn left_out_of_vector(
     bytes: &[u8],
@@ -210,9 +210,9 @@ fn left_out_of_vector(
     left_out_of(bytes, from + 1, digits, binary)
 }
 
-/// Returns how many bytes after the first one to leave out of the bytes of a vector or a real
-/// number, so that the others are its line under the code that they spell. The code has this size,
-/// and a line feed comes after it.
+/// Returns how many bytes after the first one to leave out of a vector or a real number, so that
+/// the others are the line of a change of the code that they spell. The code has this size, and a
+/// line feed comes after it.
 #[inline(always)]
 fn left_out_of_text(
     scanned: ScannedItem<'_>,
@@ -243,9 +243,11 @@ fn left_out_of_text(
 }
 
 /// Returns how many bytes of a change that was taken ahead to leave out after its first one, so
-/// that the others but the last, and a line feed, are the line that would be written. The change
-/// has the bytes from `from` up to `to`: the last one is that after its code. None for a timestamp,
-/// and where the size is not known. None for a change does not say that its bytes are not the line.
+/// that the others before its last byte, and a line feed, are the line that `put_change` would
+/// write. The change has the bytes from `from` up to `to`; its last byte is the one after its code.
+///
+/// `None` for a timestamp, and if the size is not known. For other changes `None` does not mean
+/// that the bytes are not the line.
 #[inline(always)]
 pub fn left_out(scanned: ScannedItem<'_>, bytes: &[u8], from: usize, to: usize) -> Option<usize>
     requires { (v : HeadView) × SpellsScanned v bytes.now from to scanned }
@@ -267,9 +269,9 @@ pub fn left_out(scanned: ScannedItem<'_>, bytes: &[u8], from: usize, to: usize) 
     }
 }
 
-/// Returns how many bytes after the first one to leave out of the bytes of a vector or a real
-/// number that was taken ahead, so that the others before the blank before its code are what its
-/// line begins with under any code. Where the result is none, they may be it all the same.
+/// Returns how many bytes after the first one to leave out of a vector or a real number that was
+/// taken ahead, so that the others before the blank before its code are what its line begins with
+/// under any code. If `None`, that is not known.
 #[inline(always)]
 pub(crate) fn left_out_of_front(
     scanned: ScannedItem<'_>,
@@ -288,7 +290,7 @@ pub(crate) fn left_out_of_front(
 }
 
 /// Returns whether the bytes of a timestamp that was taken ahead are the line of its time: `#`, the
-/// digits without zeros that lead, and a line feed. The timestamp has the bytes from `from` up to
+/// digits without leading zeros, and a line feed. The timestamp has the bytes from `from` up to
 /// `to`, and its digits begin at `at`.
 #[inline(always)]
 pub fn is_timestamp_line(bytes: &[u8], from: usize, to: usize, at: usize) -> bool

@@ -1,11 +1,11 @@
-// Digits in a share: a byte each, or four to a byte, one of each quarter of them.
+// Digits in a share: a byte each, or four to a byte, which has one of each quarter of them.
 ghost use Rattle.std.specs.Prelude.{◌≡◌, ◌≢◌, ◌≤◌, ◌<◌, ◌+◌, ◌-◌, ◌*◌, ◌/◌, ◌==◌, ℕ, Some, get_or, length, map, slice_get, false, true};
 ghost use Rattle.vcd_body.specs.Names.{ArePacked, AreTwo, HasFour, MayPack, chunk, code_among, code_of, code_or, digit_of, digits_in, four_codes, held_digit, quarter_of, str_to_ascii_lowercase};
 
 use crate::words::are_all_digits;
 use std::simd::prelude::*;
 
-/// Returns a digit as two bits. It is written so that it takes no branches.
+/// Returns a digit as two bits, without a branch.
 #[inline(always)]
 fn code_of(digit: u8) -> u8
     ensures code { result ≡ code_of digit }
@@ -46,7 +46,7 @@ pub(crate) fn held_digit(digit: u8) -> u8
     }
 }
 
-/// Returns the digit at an index of a share that holds a byte a digit; none after its end.
+/// Returns the digit at an index of a share that holds a byte a digit; `None` after its end.
 #[inline(always)]
 pub(crate) fn unpacked_digit_at(bytes: &[u8], index: usize) -> Option<u8>
     ensures { result ≡ slice_get (map held_digit bytes.now) index }
@@ -54,7 +54,7 @@ pub(crate) fn unpacked_digit_at(bytes: &[u8], index: usize) -> Option<u8>
     Some(held_digit(byte_at(bytes, index)?))
 }
 
-/// Returns the code of the digit at an index, 0 where there is none.
+/// Returns the code of the digit at an index, 0 if there is none.
 #[inline(always)]
 fn code_at(text: &[u8], index: usize) -> u8
     ensures small { result < 4 }
@@ -92,8 +92,8 @@ fn pack_few(bytes: &mut [u8], text: &[u8], quarter: usize)
     }
 }
 
-/// Returns the codes of 16 digits. Of a byte that is neither `0` nor `1` it is 2, and one more
-/// where it is an x.
+/// Returns the codes of 16 digits. Of a byte that is neither `0` nor `1` it is 2, and one more if
+/// it is an x.
 #[inline(always)]
 fn codes_16(bytes: &[u8], at: usize) -> u8x16
     requires { at + 16 ≤ length bytes.now }
@@ -115,7 +115,7 @@ fn codes_differ(first: u8x16, second: u8x16) -> bool
 }
 
 /// Returns whether a share that holds a byte a digit and a text differ in their last 16 digits;
-/// false where either has fewer.
+/// false if either has fewer.
 #[inline(always)]
 pub(crate) fn unpacked_ends_differ(bytes: &[u8], text: &[u8]) -> bool
     ensures differ { result ≡ true → AreTwo (map held_digit bytes.now) text.now }
@@ -139,8 +139,8 @@ fn last_codes_16(bytes: &[u8], at: usize) -> u8x16
     u8x16::from_slice(&bytes[at..]) >> u8x16::splat(6)
 }
 
-/// Returns whether `len` packed digits and a text differ in their last 16 digits; false where
-/// either has fewer. The last 16 packed digits are in the last bytes that are in use.
+/// Returns whether `len` packed digits and a text differ in their last 16 digits; false if either
+/// has fewer. The last 16 packed digits are in the last bytes that are in use.
 #[inline(always)]
 pub(crate) fn packed_ends_differ(bytes: &[u8], len: usize, text: &[u8]) -> bool
     ensures differ { result ≡ true → AreTwo (digits_in len bytes.now) text.now }
@@ -169,8 +169,7 @@ fn with_4_times(low: u8x16, high: u8x16) -> u8x16
     low + (twice + twice)
 }
 
-/// Returns 16 digits of each quarter, packed.
-// Four digits a byte, one of each quarter: 16 bytes by four loads and no shuffle.
+/// Returns 16 digits of each quarter, packed: 16 bytes, by four loads and no shuffle.
 #[inline(always)]
 fn packed_16(text: &[u8], quarter: usize, at: usize) -> u8x16
     requires within { at + 16 ≤ quarter }
@@ -196,7 +195,7 @@ fn pack_16(bytes: &mut [u8], text: &[u8], quarter: usize, at: usize)
     packed_16(text, quarter, at).copy_to_slice(&mut bytes[at..]);
 }
 
-/// Returns true only where 16 bytes hold 16 digits of each quarter.
+/// Returns true only if 16 bytes hold 16 digits of each quarter.
 #[inline(always)]
 fn are_packed_16(bytes: &[u8], text: &[u8], quarter: usize, at: usize) -> bool
     requires within { at + 16 ≤ quarter }
@@ -210,8 +209,8 @@ fn are_packed_16(bytes: &[u8], text: &[u8], quarter: usize, at: usize) -> bool
     )
 }
 
-/// Returns true only where a share holds the digits of each quarter. It looks at 16 of each at a
-/// time, and at some of the last 16 twice.
+/// Returns true only if a share holds the digits of each quarter. It looks at 16 of each at a time,
+/// and at some of the last 16 twice.
 fn are_packed(bytes: &[u8], text: &[u8], quarter: usize) -> bool
     requires { MayPack bytes.now text.now quarter }
     ensures { result ≡ true → ArePacked bytes.now text.now quarter }
@@ -227,10 +226,10 @@ fn are_packed(bytes: &[u8], text: &[u8], quarter: usize) -> bool
     are_packed_16(bytes, text, quarter, last)
 }
 
-/// Returns true only where a share holds as many packed digits as the text has, and these are its
+/// Returns true only if a share holds as many packed digits as the text has, and these are its
 /// digits.
-// By bytes of the share: digit by digit `edges` of vectors of 128 bits that stay the same takes 7.8
-// times as many instructions.
+// It compares bytes of the share: digit by digit, `edges` of vectors of 128 bits takes 7.8 times as
+// many instructions.
 pub(crate) fn holds_packed(bytes: &[u8], text: &[u8]) -> bool
     ensures { result ≡ true → digits_in (length text.now) bytes.now ≡ str_to_ascii_lowercase text.now }
 {
@@ -297,8 +296,8 @@ fn pack_bits_16(bytes: &mut [u8], text: &[u8], quarter: usize, at: usize) -> u8x
     either(either(first, second), either(third, last))
 }
 
-/// Packs the digits of each quarter, 16 at a time, where the digits are 0 and 1 alone. Returns
-/// whether they are. Of the last 16 some may have been packed before.
+/// Packs the digits of each quarter, 16 at a time, if the digits are only 0 and 1. Returns whether
+/// they are. Of the last 16 some may have been packed before.
 fn pack_bits(bytes: &mut [u8], text: &[u8], quarter: usize) -> bool
     requires { MayPack bytes.old text.now quarter }
     ensures { result ≡ true → ArePacked bytes.new text.now quarter }
@@ -328,7 +327,7 @@ fn pack_any(bytes: &mut [u8], text: &[u8], quarter: usize)
     pack_16(bytes, text, quarter, last);
 }
 
-/// Packs the digits of each quarter, where a quarter has 16 or more. Most digits are 0 and 1 alone.
+/// Packs the digits of each quarter, if a quarter has 16 or more. Most digits are only 0 and 1.
 fn pack_many(bytes: &mut [u8], text: &[u8], quarter: usize)
     requires { MayPack bytes.old text.now quarter }
     ensures { ArePacked bytes.new text.now quarter }
@@ -360,7 +359,7 @@ fn byte_at(bytes: &[u8], index: usize) -> Option<u8>
     bytes.get(index).copied()
 }
 
-/// Returns the byte at an index, 0 where there is none.
+/// Returns the byte at an index, 0 if there is none.
 #[inline(always)]
 fn byte_or(bytes: &[u8], index: usize) -> u8
     ensures { result ≡ get_or bytes.now index 0 }
@@ -368,7 +367,7 @@ fn byte_or(bytes: &[u8], index: usize) -> u8
     byte_at(bytes, index).unwrap_or(0)
 }
 
-/// Returns the digit at an index of `len` digits in a share; none after the last.
+/// Returns the digit at an index of `len` digits in a share; `None` after the last.
 #[inline(always)]
 pub(crate) fn digit_at(bytes: &[u8], len: usize, index: usize) -> Option<u8>
     ensures { result ≡ slice_get (digits_in len bytes.now) index }
@@ -391,7 +390,7 @@ pub(crate) fn last_packed(bytes: &[u8], len: usize) -> u8
 }
 
 /// Returns the code of the digit at an index of `len` packed digits. The last quarter ends where
-/// the digits do, and may hold some of the third one again.
+/// the digits do, so it may hold some of the third one again.
 #[inline(always)]
 fn code_among(bytes: &[u8], len: usize, index: usize) -> u8
     requires { index < len }

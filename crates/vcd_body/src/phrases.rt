@@ -17,7 +17,7 @@ pub(crate) fn time_in(token: &[u8]) -> Option<u64>
     decimal_of(rest_of(token))
 }
 
-/// Takes the timestamp that a token is, and returns its time. A fault changes nothing.
+/// Takes the timestamp that a token is, and returns its time. If there is a fault, nothing changes.
 #[inline(always)]
 pub(crate) fn read_timestamp(token: &[u8], regs: &mut Regs) -> Result<u64, BodyFault>
     requires { Begins token.now PhraseKind.Timestamp }
@@ -50,8 +50,8 @@ pub(crate) fn scalar_code(token: &[u8], view: HeadView<'_>) -> Result<Found, Bod
     }
 }
 
-/// Returns the digits of a vector's change: one or more. Where they are known to be `0` and `1`
-/// alone, none is looked at.
+/// Returns the digits of a vector's change: one or more. If they are known to be only `0` and `1`,
+/// none is looked at.
 #[inline(always)]
 pub(crate) fn vector_text(token: &[u8], binary: bool) -> Result<&[u8], BodyFault>
     requires begins { Begins token.now PhraseKind.Vector }
@@ -106,7 +106,7 @@ pub(crate) fn skip_comment<S: Source>(feed: &mut Feed<'_, '_, '_, '_, S>) -> Res
 }
 
 /// Keeps the token as the value of the feed, reads the next one, and returns the code that it is.
-/// Fails where it cannot be read, or is no code of the header.
+/// Fails if it cannot be read, or is no code of the header.
 #[inline(always)]
 fn read_code<S: Source>(
     feed: &mut Feed<'_, '_, '_, '_, S>,
@@ -127,8 +127,8 @@ fn read_code<S: Source>(
     }
 }
 
-/// Returns whether the code that was found has room for this many digits, or is an event. The size
-/// found with it is mostly enough; the code is read only where it is not.
+/// Returns whether the code that was found has room for this many digits, or is an event.
+// The size found with it is mostly enough. Only if it is not, the code is read.
 #[inline(always)]
 pub(crate) fn has_room(codes: &[Code], found: Found, digits: usize) -> bool
     requires { IsSized codes.now found }
@@ -141,9 +141,9 @@ pub(crate) fn has_room(codes: &[Code], found: Found, digits: usize) -> bool
 }
 
 /// Reads the rest of a vector's change, of which the feed shows the first token, `b` and the
-/// digits: returns its code's index. Fails where there are no digits, where they are more than the
-/// size, and where the code is none of the header. Then the feed's value is that first token, and
-/// its token is the code.
+/// digits, and returns the index of its code. Fails if there are no digits, if they are more than
+/// the size, or if the header does not have the code. Then the feed's value is that first token,
+/// and its token is the code.
 #[inline(always)]
 pub(crate) fn read_vector<S: Source>(
     feed: &mut Feed<'_, '_, '_, '_, S>,
@@ -168,8 +168,8 @@ pub(crate) fn read_vector<S: Source>(
 }
 
 /// Reads the rest of a real number's change, of which the feed shows the first token, `r` and the
-/// text: returns its code's index. Any text of 1 to 64 bytes will do, and any code of the header,
-/// whatever its size. Then the feed's value is that first token, and its token is the code.
+/// text, and returns the index of its code. Any text of 1 to 64 bytes is good, and any code of the
+/// header, whatever its size. Then the feed's value is that first token, and its token is the code.
 pub(crate) fn read_real<S: Source>(
     feed: &mut Feed<'_, '_, '_, '_, S>,
     view: HeadView<'_>,

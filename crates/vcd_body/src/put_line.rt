@@ -1,4 +1,4 @@
-// Changes as they are written: the one writer of their lines.
+// Changes as they are written, from their form and text.
 ghost use Rattle.std.specs.Prelude.{◌≡◌, ◌≢◌, ℕ, ◌-◌, ◌^◌, ◌<◌, ◌++◌, ◌∷◌, [], false, true, length};
 ghost use Rattle.vcd_body.specs.Names.{Puts, PutsTo, PutsWhere, extended, id_line, id_text, short};
 
@@ -21,7 +21,7 @@ fn put_end_under<W: Sink>(first: u8, id: Id<'_>, w: &mut W) -> Result<(), WriteF
     }
 }
 
-/// Writes a change of digits after `b`, the shortest ones.
+/// Writes a change of digits after `b`: the shortest digits of the same value.
 #[inline(never)]
 fn put_shortened<W: Sink>(digits: &[u8], id: Id<'_>, w: &mut W) -> Result<(), WriteFailed>
     requires failures { (W.device w.old).failures < 2 ^ 64 - 1 }
@@ -33,7 +33,7 @@ fn put_shortened<W: Sink>(digits: &[u8], id: Id<'_>, w: &mut W) -> Result<(), Wr
     put_end_under(b' ', id, w)
 }
 
-/// Writes a change that is neither of one bit nor of several.
+/// Writes a change that is neither of a code of one bit nor of one of several bits.
 #[inline(never)]
 fn put_other<W: Sink>(
     event: bool,
@@ -53,7 +53,7 @@ fn put_other<W: Sink>(
     }
 }
 
-/// Returns whether a change of one digit is that of a bit, as most are. One branch shows it.
+/// Returns whether a change is a digit of a code of one bit, as most are.
 #[inline(always)]
 pub(crate) fn is_bit(size: usize, event: bool, form: Form) -> bool
     ensures { result ≡ true → (size ≡ 1) × (event ≡ false) × (form ≡ Form.Scalar) }
@@ -61,8 +61,7 @@ pub(crate) fn is_bit(size: usize, event: bool, form: Form) -> bool
     (size == 1) & !event & (form == Form::Scalar)
 }
 
-/// Returns whether a change is one of digits of a code that has several bits, as most that are of
-/// no bit are. One branch shows it.
+/// Returns whether a change is digits of a code of several bits, as most others are.
 #[inline(always)]
 fn is_vector(size: usize, event: bool, form: Form) -> bool
     ensures vector { result ≡ true → (size ≢ 1) × (event ≡ false) × (form ≢ Form.RealText) }
@@ -71,8 +70,8 @@ fn is_vector(size: usize, event: bool, form: Form) -> bool
     (size != 1) & !event & (form != Form::RealText)
 }
 
-/// Writes a change of a code of this size, or of an event, as its line. Where a write fails, a
-/// prefix was written.
+/// Writes a change of a code of this size, or of an event, as its line. If a write fails, a prefix
+/// was written.
 #[inline(always)]
 pub(crate) fn put_line<W: Sink>(
     size: usize,

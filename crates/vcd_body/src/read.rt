@@ -10,7 +10,7 @@ use crate::words::{KeywordUse, PhraseKind, command_of, first_byte_of, kind_of, r
 use vcd_text::{Feed, Source};
 use vcd_view::HeadView;
 
-/// Reads a phrase that begins with a command: a comment gives no item.
+/// Reads a phrase that begins with a command. `None` for a comment, which gives no item.
 #[inline(always)]
 fn read_command<S: Source>(
     feed: &mut Feed<'_, '_, '_, '_, S>,
@@ -51,7 +51,7 @@ fn read_command<S: Source>(
     }
 }
 
-/// Reads a phrase, or finds the end: a comment gives no item.
+/// Reads a phrase, or finds the end. `None` for a comment, which gives no item.
 #[inline(always)]
 fn read_phrase<S: Source>(
     feed: &mut Feed<'_, '_, '_, '_, S>,
@@ -95,7 +95,7 @@ fn read_phrase<S: Source>(
 }
 
 /// Reads the next item of the body of the header that is shown, or finds the end. At first the feed
-/// is after the header, and `regs` is new. After a fault neither is to be used again.
+/// is after the header, and `regs` is new. Do not use either of them again after a fault.
 #[inline(always)]
 pub fn next_item<S: Source>(
     feed: &mut Feed<'_, '_, '_, '_, S>,
@@ -104,14 +104,14 @@ pub fn next_item<S: Source>(
 ) -> Result<Item, BodyFault>
     requires failures { S.failures (source_of feed.old) < 2 ^ 64 - 1 }
 
-    // After the items given so far comes this one; at the end they are all of the body's, and it
-    // has no fault. A fault is the body's, after exactly these items.
+    // The item that is returned comes after the items given so far. At the end they are all items
+    // of the body, and it has no fault. A fault is the body's, after exactly these items.
     ensures reads { ReadsItem view.entry feed.old feed.new regs.old regs.new result }
 
     // A change is of one of the view's codes, and its text is one that this code may have.
     ensures sound { IfOk result (IsGoodChange view.entry.codes.now feed.new) }
 
-    // An item that lies whole ahead is taken without a read.
+    // An item that lies completely in the chunk is taken without a read.
     ensures ahead { HoldsItem (limit_of feed.old) (ahead_of feed.old)
         → source_of feed.new ≡ source_of feed.old }
     ensures regs { AreRegsWith (λ item. item) regs.old regs.new result }

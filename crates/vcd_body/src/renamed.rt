@@ -1,4 +1,4 @@
-// Lines that end with the new code of a number.
+// Lines that end with a new code, given by its number.
 ghost use Rattle.std.specs.Prelude.{◌≡◌, ◌≢◌, ℕ, ◌+◌, ◌-◌, ◌%◌, ◌^◌, ◌<◌, ◌≤◌, ◌++◌, ◌∷◌, [], List, take, false, true, length, IfSome};
 ghost use Rattle.vcd_body.specs.Names.{AreBinaryIf, Puts, PutsTo, bytes_without, line_under, new_code, HasChange, HasPlaces};
 
@@ -11,7 +11,7 @@ use crate::put_line::{is_bit, put_line};
 use vcd_text::{Sink, WriteFailed, put, put_few, put_parts};
 use vcd_view::NewCode;
 
-/// Returns the first byte of the code of a number.
+/// Returns the first byte of the code with this number.
 #[inline(always)]
 fn digit_of(number: u64) -> u8
     ensures { result ≡ 33 + number % 94 }
@@ -19,7 +19,7 @@ fn digit_of(number: u64) -> u8
     (number % 94) as u8 + 33
 }
 
-/// The end of a line: its bytes, of which the first ones count.
+/// The end of a line: a number whose first bytes are written.
 #[derive(Clone, Copy)]
 struct End {
     bytes: [u8; 8],
@@ -27,9 +27,8 @@ struct End {
 }
 
 /// Returns a byte, the code of a number below 830,584, which has up to three bytes, and a line
-/// feed. None of a greater number.
-// Eight bytes in a number, of which the first ones count, so that `write_few` copies them without a
-// length. The last digit of the code is what is left, without a division.
+/// feed. `None` for a greater number.
+// Eight bytes in a number, so that `write_few` copies them without a length.
 #[inline(always)]
 fn short_end(first: u8, number: u64) -> Option<End>
     ensures few { IfSome result (λ end. end.len ≤ 8) }
@@ -64,8 +63,7 @@ fn short_end(first: u8, number: u64) -> Option<End>
     None
 }
 
-/// Writes a byte, the code of a number, of any length, and a line feed.
-// Not inlined: the bytes of a code would be cleared where the other codes are written.
+/// Writes a byte, the code of any number, and a line feed.
 #[cold]
 #[inline(never)]
 fn put_any_code<W: Sink>(first: u8, number: u64, w: &mut W) -> Result<(), WriteFailed>
@@ -76,7 +74,7 @@ fn put_any_code<W: Sink>(first: u8, number: u64, w: &mut W) -> Result<(), WriteF
 }
 
 /// Writes a byte, the code of a number and a line feed. A code of up to three bytes, as most are,
-/// is written by one write.
+/// takes one write.
 #[inline(always)]
 pub(crate) fn put_code_line<W: Sink>(first: u8, number: u64, w: &mut W) -> Result<(), WriteFailed>
     requires { (W.device w.old).failures < 2 ^ 64 - 1 }
@@ -88,7 +86,7 @@ pub(crate) fn put_code_line<W: Sink>(first: u8, number: u64, w: &mut W) -> Resul
     }
 }
 
-/// Writes a change as `put_change` does, under the new code of this number. Where a write fails, a
+/// Writes a change as `put_change` does, under the new code with this number. If a write fails, a
 /// prefix was written.
 #[inline(always)]
 pub fn put_renamed<W: Sink>(
@@ -106,8 +104,8 @@ pub fn put_renamed<W: Sink>(
     put_line(size, event, form, text, Id::Number(number), w)
 }
 
-/// Writes the bytes from `from` up to `end`, without `left_out` after the first one, then a blank,
-/// the code of a number and a line feed. The code is long.
+/// Writes the bytes from `from` up to `end`, without `left_out` bytes after the first one, then a
+/// blank, the code of a number and a line feed, in several writes.
 #[cold]
 #[inline(never)]
 fn put_copied_slowly<W: Sink>(
@@ -129,10 +127,9 @@ fn put_copied_slowly<W: Sink>(
     put_any_code(b' ', number, w)
 }
 
-/// Writes the bytes from `from` up to `end`, without `left_out` after the first one, then a blank,
-/// the code of a number and a line feed. The bytes after `end` may be read too.
-// Not inlined: two arms of a loop call it. One write for most lines: as three writes it takes 46 %
-// more of Verilator's.
+/// Writes the bytes from `from` up to `end`, without `left_out` bytes after the first one, then a
+/// blank, the code of a number and a line feed. The bytes after `end` may be read too.
+// Mostly one write. With three writes, `merge` of Verilator's takes 46 % more.
 #[inline(never)]
 fn put_copied<W: Sink>(
     bytes: &[u8],
@@ -162,10 +159,9 @@ fn put_copied<W: Sink>(
     )
 }
 
-/// Writes a change of a code of this size, which is no event's, under the new code of a number.
-/// Each digit is looked at.
-// Not inlined, and it takes no struct: one would be cleared for each change, also where this is not
-// called.
+/// Writes a change of a code of this size, which is no event's, under the new code of a number, and
+/// looks at each digit.
+// Not inlined, and takes no struct, since it is rare.
 #[cold]
 #[inline(never)]
 fn put_renamed_text<W: Sink>(
@@ -183,11 +179,10 @@ fn put_renamed_text<W: Sink>(
     put_renamed(size, false, form, text, number, w)
 }
 
-/// Writes a change that was taken ahead under the new code of this number. The bytes from `from` up
-/// to `to` spell it. Those before its code are copied where they are what its line begins with.
-/// Where a write fails, a prefix was written.
-// Digits are copied and not looked at one by one: without this `merge` of Verilator's takes 12 %
-// more.
+/// Writes a change that was taken ahead under the new code with this number. The bytes from `from`
+/// up to `to` spell it. Those before its code are copied if its line begins with them. If a write
+/// fails, a prefix was written.
+// With a look at each digit instead, `merge` of Verilator's takes 12 % more.
 #[inline(always)]
 pub fn put_renamed_ahead<W: Sink>(
     scanned: ScannedItem<'_>,

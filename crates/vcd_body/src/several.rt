@@ -1,4 +1,4 @@
-// Several digits set over several others that differ from them in the last ones.
+// Several digits that are set over several others, from which they differ in the last ones.
 ghost use Rattle.std.specs.Prelude.{◌≡◌, ◌-◌, ◌≤◌, ◌<◌, ℕ, IfSome, Some, length, take, drop, map, true, false};
 ghost use Rattle.vcd_body.specs.Names.{Held, SetsCode, TellsStep, bytes_for, digits_in, goes_from, held_digit, held_from, with_change};
 
@@ -8,8 +8,8 @@ use crate::slot::{Holding, State, holding_of};
 use crate::step::Step;
 use crate::table::Table;
 
-// Returns the step from digits whose last one is 0 or 1 where a byte is, to those of a text that
-// ends with this one, where they differ. It takes no branches.
+// Returns the step between digits with these last ones, which differ. Any byte that is neither 0
+// nor 1 counts as no edge. It takes no branches.
 #[inline(always)]
 fn step_between(before: u8, after: u8) -> Step
     ensures differs { result.differs ≡ true }
@@ -23,8 +23,8 @@ fn step_between(before: u8, after: u8) -> Step
     }
 }
 
-// Returns the step from digits that are held a byte each to those of a text, where they differ in
-// the last 16.
+// Returns the step from digits that are held a byte each to those of a text, if they differ in the
+// last 16.
 #[inline(always)]
 fn unpacked_step(bytes: &[u8], text: &[u8]) -> Option<Step>
     ensures many { IfSome result (λ _. 16 ≤ length text.now) }
@@ -37,8 +37,8 @@ fn unpacked_step(bytes: &[u8], text: &[u8]) -> Option<Step>
     Some(step_between(bytes[bytes.len() - 1], text[text.len() - 1]))
 }
 
-// Returns the step from `len` packed digits, in the first bytes of a share, to those of a text,
-// where they differ in the last 16.
+// Returns the step from `len` packed digits, in the first bytes of a share, to those of a text, if
+// they differ in the last 16.
 #[inline(always)]
 fn packed_step(bytes: &[u8], len: usize, text: &[u8]) -> Option<Step>
     ensures room { IfSome result (λ _. bytes_for len ≤ length bytes.now) }
@@ -61,8 +61,8 @@ fn part_of(values: &[u8], start: usize, end: usize) -> Option<&[u8]>
 }
 
 impl<'a> Table<'a> {
-    /// Returns the step from several digits that are held so, in a share that begins and ends here,
-    /// to those of a text, where they differ in the last 16. It asks once how they are held.
+    /// Returns the step from several digits, which are held in a share that begins and ends here,
+    /// to those of a text, if they differ in the last 16. It asks once how they are held.
     #[inline(always)]
     fn step_from_held(&self, held: Holding, start: usize, end: usize, text: &[u8]) -> Option<Step>
         ensures many { IfSome result (λ _. 16 ≤ length text.now) }
@@ -77,11 +77,11 @@ impl<'a> Table<'a> {
         }
     }
 
-    /// Sets the value of the code at an index to several digits over several others, where they
-    /// differ in the last 16 and so at each size, and counts the step. Returns whether it did; else
+    /// Sets the value of the code at an index to several digits over several others, if they differ
+    /// in the last 16 and so at each size, and counts the step. Returns whether it did; otherwise
     /// nothing changes. This is the common case.
-    // Values that differ mostly do so in their last digits. With one loop over digits instead of
-    // this, `packed_ends_differ` and `pack_bits`, `edges` of wide vectors takes 45 % more.
+    // Values that differ mostly do so in their last digits. Without it `edges` of wide vectors
+    // takes 45 % more.
     #[inline(never)]
     pub(crate) fn change(&mut self, code: usize, text: &[u8]) -> bool
         ensures sets { result ≡ true → (size : ℕ)

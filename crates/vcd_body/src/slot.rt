@@ -3,7 +3,7 @@ ghost use Rattle.std.specs.Prelude.{◌≡◌, ◌≢◌, ◌≤◌, ◌⊎◌, 
 ghost use Rattle.vcd_body.specs.Stored.{IsUncounted, IsUnset, held_digit, holding_of, len_of, number_of, one_digit, share_from, some_by, state_in, used};
 
 /// How the value of a code is held. Each digit has a state of its own, so that a value of one digit
-/// is in the slot alone.
+/// is only in the slot.
 // In the order of the numbers that encode them, so that none has to be looked up.
 #[derive(Clone, Copy, PartialEq, Eq, Debug)]
 pub(crate) enum State {
@@ -17,34 +17,34 @@ pub(crate) enum State {
     Unknown,
     /// By the digit z.
     High,
-    /// By several digits as they were written, a byte each, where its share of the values has room
-    /// for them.
+    /// By several digits as they were written, a byte each, if its share of the values has room for
+    /// them.
     Unpacked,
-    /// By several digits, packed four to a byte, where its share has no room for a byte each.
+    /// By several digits, packed four to a byte, if its share has no room for a byte each.
     Packed,
     /// By the text of a real number, in its share of the values.
     Real,
-    /// By up to 32 binary digits, as their number beside how many they are, in the slot alone.
+    /// By up to 32 binary digits: their number and their count, only in the slot.
     Bits,
 }
 
 /// The number of `State::Bits` with no digit. The number of a state with n digits is n more.
 pub(crate) const BITS: u8 = 8;
 
-/// What each change of a code looks at: its value where it is short, and how it is held. It is
-/// split from what few changes look at, and takes 8 bytes, so that many slots fit in the L1 cache.
-// With one record of 48 bytes instead of slots of 8 and shares `cut` of 27,505 codes before its
-// window takes 16 % more time.
+/// What each change of a code looks at: its value if it is short, and how it is held. It has 8
+/// bytes, so that many slots fit into the cache.
+// With one record of 48 bytes instead, `cut` of 27,505 codes before its window takes 16 % more
+// time.
 #[derive(Clone, Copy, PartialEq, Eq, Debug)]
 pub struct Slot {
-    // The number of the binary digits; else the lowest 32 bits of how many digits, or bytes of a
-    // text, are held in the share.
+    // The number of the binary digits; otherwise the lowest 32 bits of how many digits, or bytes of
+    // a text, are held in the share.
     pub(crate) number: u32,
     // The number of the state that holds the value; from `BITS` on it is more by as many as the
     // binary digits are.
     pub(crate) tag: u8,
-    // How many steps came since the share had the counters: those that fall, those that do
-    // neither, and those that rise. So most steps are counted here, by one byte.
+    // How many steps came since the share had the counters: falls, steps that are neither, and
+    // rises. So most steps add to one of these bytes.
     pub(crate) steps: [u8; 3],
 }
 
@@ -72,7 +72,7 @@ pub(crate) struct Holding {
     pub(crate) upper: u32,
 }
 
-/// A value that is held so, with the bytes of its share that are in use.
+/// A value as it is held, with the bytes of its share that are in use.
 #[derive(Clone, Copy)]
 pub(crate) struct HeldValue<'a> {
     pub(crate) holding: Holding,
@@ -81,7 +81,7 @@ pub(crate) struct HeldValue<'a> {
     ghost some: { 1 ≤ some_by holding.state (len_of holding) },
 }
 
-/// What the upper part of a length counts in: 2^32.
+/// The unit of the upper part of a length: 2^32.
 pub(crate) const UPPER: usize = 4_294_967_296;
 
 impl Holding {
@@ -185,7 +185,7 @@ pub(crate) fn number_of_flipped(digit: u8) -> u8
     number_of_bit(b'0' + b'1' - digit)
 }
 
-/// Returns the number that encodes the state of the digit 0 for that of 1, and the other way round.
+/// Returns the number that encodes the state of the other of the digits 0 and 1.
 #[inline(always)]
 pub(crate) fn flipped(tag: u8) -> u8
     ensures { (one : Bool) → tag ≡ number_of (cond one State.Zero State.One)
@@ -230,8 +230,8 @@ pub(crate) fn holding_of(slot: Slot, share: Share) -> Holding
     }
 }
 
-/// Returns the number of the state that holds a digit. Most are 0 or 1: between these it takes no
-/// branches.
+/// Returns the number of the state that holds a digit. Most are 0 or 1; between these it takes no
+/// branch.
 #[inline(always)]
 pub(crate) fn number_of_digit(digit: u8) -> u8
     ensures { one_digit (state_in result) ≡ Some (held_digit digit) }
@@ -243,7 +243,6 @@ pub(crate) fn number_of_digit(digit: u8) -> u8
 }
 
 /// Returns the number of the state that holds a digit other than 0 and 1.
-// Not inlined, since most digits are 0 or 1.
 #[cold]
 #[inline(never)]
 fn number_of_other(digit: u8) -> u8

@@ -1,4 +1,4 @@
-//! What a change of a value is, by its last digit.
+//! The step from one value of a code to the next, by its last digit.
 ghost use Rattle.std.specs.Prelude.{◌≡◌, ◌<◌, ◌+◌, ◌%◌, ℕ, ◌==◌, ◌⊎◌, ◌&&◌, cond, false, length, Some};
 ghost use Rattle.vcd_body.specs.Names.{goes_from, last_bit, last_digit_in, model_form, value_with};
 
@@ -15,7 +15,7 @@ pub struct Step {
     pub falls: bool,
 }
 
-/// Returns whether a last digit was one, and is another.
+/// Returns whether a last digit was `from`, and is now `to`.
 #[inline(always)]
 fn is_edge(from: u8, to: u8, before: Option<u8>, after: Option<u8>) -> bool
     ensures { result ≡ goes_from from to before after }
@@ -26,7 +26,7 @@ fn is_edge(from: u8, to: u8, before: Option<u8>, after: Option<u8>) -> bool
     }
 }
 
-/// Returns the last digit of a text of digits, in lower case; none of the text of a real number.
+/// Returns the last digit of a text of digits, in lower case; `None` for the text of a real number.
 #[inline(always)]
 fn last_of(form: Form, text: &[u8]) -> Option<u8>
     ensures { 0 < length text.now → (size : ℕ)
@@ -56,8 +56,7 @@ pub(crate) fn step_to_text(differs: bool, before: Option<u8>, form: Form, text: 
     }
 }
 
-/// Returns the way that a step goes, as a slot counts it: 0 where it falls, 2 where it rises, and
-/// else 1.
+/// Returns the number by which a slot counts a step: 0 if it falls, 2 if it rises, otherwise 1.
 #[inline(always)]
 pub(crate) fn way_of(rises: bool, falls: bool) -> usize
     ensures within { result < 3 }
@@ -67,7 +66,8 @@ pub(crate) fn way_of(rises: bool, falls: bool) -> usize
     1 + usize::from(rises) - usize::from(falls)
 }
 
-/// Returns the way of a step from one number of binary digits to another.
+/// Returns the number by which a slot counts a step from one number of binary digits to another: 0
+/// if the last digit falls, 2 if it rises, otherwise 1.
 #[inline(always)]
 pub(crate) fn way_between(before: usize, after: usize) -> usize
     ensures within { result < 3 }
@@ -77,7 +77,8 @@ pub(crate) fn way_between(before: usize, after: usize) -> usize
     1 + after % 2 - before % 2
 }
 
-/// Returns the way of a step to the digit 0 or 1 from the other one.
+/// Returns the number by which a slot counts a step to this digit from the other of 0 and 1: 0 if
+/// it falls, 2 if it rises.
 #[inline(always)]
 pub(crate) fn way_to(digit: u8) -> usize
     requires { (digit ≡ 48) ⊎ (digit ≡ 49) }

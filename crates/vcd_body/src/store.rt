@@ -14,7 +14,7 @@ use crate::step::{way_between, way_to};
 use crate::table::Table;
 use vcd_view::Code;
 
-/// Returns how many bytes of its share a value uses: 0 where the slot alone holds it.
+/// Returns how many bytes of its share a value uses: 0 if it is only in the slot.
 #[inline(always)]
 fn used_by(holding: Holding) -> usize
     ensures { result ≡ used holding }
@@ -41,9 +41,9 @@ fn holds_some(holding: Holding) -> bool
 }
 
 impl<'a> Table<'a> {
-    /// Returns the value of the code at an index as it is held. None where there is no such code;
-    /// and where its share would not lie within the values, or would hold no digits where it should
-    /// hold several. No code of a table that is laid out is so.
+    /// Returns the value of the code at an index as it is held. `None` if there is no such code, if
+    /// its share would not lie within the values, or if it would hold no digits although it should
+    /// hold several. A table that is laid out has no such code.
     #[inline(always)]
     pub(crate) fn held(&self, code: usize) -> Option<HeldValue<'_>>
         ensures { IsLaidOut self.now → held_at self.now code ≡ held_or result }
@@ -62,8 +62,8 @@ impl<'a> Table<'a> {
     }
 }
 
-/// Sets the value of a code to the one digit that a state holds, by its number. Its share is left
-/// alone, and need not be looked at.
+/// Sets the value of a code to the one digit that a state holds, given by its number. Its share is
+/// not changed, and need not be looked at.
 #[inline(always)]
 pub(crate) fn set_tag(slots: &mut [Slot], code: usize, tag: u8)
     ensures changes { (d : ℕ) → one_digit (state_in tag) ≡ Some d
@@ -75,8 +75,8 @@ pub(crate) fn set_tag(slots: &mut [Slot], code: usize, tag: u8)
     }
 }
 
-/// Holds a text in a share: digits a byte each where it has room for them, and else four to a byte.
-/// Says how it is held.
+/// Holds a text in a share: digits a byte each if it has room for them, and otherwise four to a
+/// byte. Says how it is held.
 #[inline(always)]
 fn hold(bytes: &mut [u8], form: Form, text: &[u8]) -> State
     requires room { least_bytes form (length text.now) ≤ length bytes.old }
@@ -118,7 +118,7 @@ fn hold_text(slot: &mut Slot, share: &mut Share, state: State, len: usize)
 }
 
 /// Returns how many bytes of a share a text needs: one for each byte of a real number, one for four
-/// digits. `hold` takes one for each digit where there is room.
+/// digits. `hold` takes one for each digit if there is room.
 #[inline(always)]
 fn least_bytes(form: Form, len: usize) -> usize
     ensures { result ≡ least_bytes form len }
@@ -130,8 +130,9 @@ fn least_bytes(form: Form, len: usize) -> usize
 }
 
 impl<'a> Table<'a> {
-    /// Returns where in `values` the share of the code at an index ends: where the next one begins,
-    /// or all values end. Check it: in a table not laid out it may be any number.
+    /// Returns the offset in `values` at which the share of the code at an index ends: where the
+    /// next one begins, or where the values end. In a table that is not laid out it may be any
+    /// number, so check it.
     #[inline(always)]
     pub(crate) fn end_of(&self, code: usize) -> usize
         requires { code < length self.now.shares.now }
@@ -143,7 +144,7 @@ impl<'a> Table<'a> {
         }
     }
 
-    /// Sets the value of the code at an index to a text, where it fits its share, which ends here.
+    /// Sets the value of the code at an index to a text, if it fits its share, which ends here.
     #[inline(always)]
     pub(crate) fn set_text_in(&mut self, code: usize, end: usize, form: Form, text: &[u8])
         requires several { form ≢ Form.RealText → length text.now ≢ 1 }
@@ -165,8 +166,8 @@ impl<'a> Table<'a> {
         hold_text(&mut slots[code], &mut shares[code], state, text.len());
     }
 
-    /// Sets the value of the code at an index to a text. Nothing changes where there is no such
-    /// code, and where the text is empty or does not fit the code's share. A single digit is set by
+    /// Sets the value of the code at an index to a text. Nothing changes if there is no such code,
+    /// and if the text is empty or does not fit the code's share. A single digit is set by
     /// `set_tag`, unless it is the text of a real number.
     #[inline(never)]
     pub(crate) fn set_text(&mut self, code: usize, form: Form, text: &[u8])
@@ -178,11 +179,10 @@ impl<'a> Table<'a> {
         }
     }
 
-    /// Adds `more` to the first counter of the code at an index, and to the others where the tests
-    /// hold, in its share. A full one stays.
-    // It is given the table, and no parts of it, so that none is made ready for it where it is not
-    // called. Called once in 256 steps: handed the shares for each change, `edges` takes 2 to 5 %
-    // more.
+    /// Adds `more` to the first counter of the code at an index, and to the others if the tests
+    /// hold, in its share. A full counter stays as it is.
+    // It takes the whole table, since it is called once in 256 steps: with the shares, `edges`
+    // takes 2 to 5 % more.
     #[cold]
     #[inline(never)]
     pub(crate) fn add(&mut self, code: usize, more: u64, rises: bool, falls: bool)
@@ -196,8 +196,8 @@ impl<'a> Table<'a> {
     }
 }
 
-/// Sets the value of a code to binary digits. Its slot is written alone, and neither it nor the
-/// share need be looked at.
+/// Sets the value of a code to binary digits. It writes only the slot, and reads neither it nor the
+/// share.
 #[inline(always)]
 pub(crate) fn set_bits(slots: &mut [Slot], code: usize, bits: Bits)
     ensures changes { ChangesSlot code (with_number bits.len bits.number) slots.old slots.new }
@@ -211,8 +211,9 @@ pub(crate) fn set_bits(slots: &mut [Slot], code: usize, bits: Bits)
     }
 }
 
-/// Counts a step of the value of a code that goes this way in its slot. Returns whether that had
-/// room for it; else 256 steps are left to count.
+/// Counts a step of the value of a code in its slot: a fall if `way` is 0, a rise if it is 2, any
+/// other if it is 1. Returns whether the slot had room for it. If not, the caller has 256 steps to
+/// count in the share.
 #[inline(always)]
 pub(crate) fn count_in_slot(slots: &mut [Slot], code: usize, way: usize) -> bool
     requires { way < 3 }
@@ -228,22 +229,21 @@ pub(crate) fn count_in_slot(slots: &mut [Slot], code: usize, way: usize) -> bool
     count_step(&mut slots[code].steps, way)
 }
 
-/// What became of a change for which its slot alone may be enough.
+/// What became of a change that may need only its slot.
 #[derive(Clone, Copy, PartialEq, Eq, Debug)]
 pub(crate) enum Stepped {
-    /// The slot alone is not enough, and nothing changed.
+    /// The change needs more than the slot, and nothing changed.
     Not,
-    /// The value was set, and its step was counted where it differs.
+    /// The value was set, and its step was counted if it differs.
     Counted,
-    /// The value was set. Of its step, which rises or falls where a test holds, 256 are left to
-    /// count, since the slot had no room for one more.
+    /// The value was set. 256 of its steps are left to count, since the slot had no room for one
+    /// more. This step rises or falls if a test holds.
     Uncounted { rises: bool, falls: bool },
 }
 
-/// Sets the value of a code to the digit 0 or 1 over such a digit, and counts the step. Most
-/// changes are of this kind, and touch one slot alone.
-// A digit is a state of the slot, so no byte of values is touched: held as a number of one digit,
-// `edges` of scalars takes some 10 % more.
+/// Sets the value of a code to the digit 0 or 1 if it is such a digit, and counts the step. Most
+/// changes are of this kind, and change only one slot.
+// With the digit as a number of one digit, `edges` of scalars takes some 10 % more.
 #[inline(always)]
 pub(crate) fn flip_at(slots: &mut [Slot], code: usize, digit: u8) -> Stepped
     ensures counted { result ≡ Stepped.Counted → FlipsTo code digit slots.old slots.new }
@@ -274,8 +274,8 @@ pub(crate) fn flip_at(slots: &mut [Slot], code: usize, digit: u8) -> Stepped
     }
 }
 
-/// Sets the value of a code from one binary number to another, and counts the step. Nothing
-/// changes where the slot holds no such number, or one of both has more than `size` digits.
+/// Sets the value of a code from one binary number to another, and counts the step. Nothing changes
+/// if the slot holds no such number, or one of both has more than `size` digits.
 #[inline(always)]
 pub(crate) fn step_at(slots: &mut [Slot], code: usize, size: usize, bits: Bits) -> Stepped
     ensures counted { result ≡ Stepped.Counted → StepsTo code size bits slots.old slots.new }
@@ -311,8 +311,8 @@ fn share_of(size: usize) -> usize
     size.div_ceil(4).max(LEAST_SHARE)
 }
 
-/// Gives each code its share of the values, one after the other, and unsets all. Where the values
-/// have no room for all shares, the last ones are cut. Returns where the last share ends.
+/// Gives each code its share of the values, one after the other, and unsets all. If the values have
+/// no room for all shares, the last ones are cut. Returns where the last share ends.
 pub(crate) fn lay_out(
     codes: &[Code],
     slots: &mut [Slot],

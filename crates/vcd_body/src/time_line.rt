@@ -4,7 +4,7 @@ ghost use Rattle.vcd_body.specs.Names.{Puts, time_due, time_line};
 
 use vcd_text::{Sink, WriteFailed, put, put_number};
 
-/// Writes the line of a time. Where a write fails, a prefix was written.
+/// Writes the line of a time. If a write fails, a prefix was written.
 #[cold]
 #[inline(never)]
 pub fn put_time<W: Sink>(time: u64, out: &mut W) -> Result<(), WriteFailed>
@@ -16,8 +16,7 @@ pub fn put_time<W: Sink>(time: u64, out: &mut W) -> Result<(), WriteFailed>
     put(out, b"\n")
 }
 
-/// Writes the line of `time`, unless that was written last. Where a write fails, a prefix was
-/// written.
+/// Writes the line of `time`, unless that was written last. If a write fails, a prefix was written.
 #[inline(always)]
 pub fn put_time_unless<W: Sink>(
     written: Option<u64>,

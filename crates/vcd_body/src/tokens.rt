@@ -6,7 +6,7 @@ use crate::fault::BodyFault;
 use vcd_text::{Feed, Halt, Next, Source};
 
 /// Reads the next token, and returns whether there was one: false at the clean end of the input.
-/// Fails where the feed halts.
+/// Fails if the feed halts.
 #[inline(always)]
 pub(crate) fn next_token<S: Source>(feed: &mut Feed<'_, '_, '_, '_, S>) -> Result<bool, BodyFault>
     requires { S.failures (source_of feed.old) < 2 ^ 64 - 1 }
@@ -26,7 +26,7 @@ pub(crate) fn next_token<S: Source>(feed: &mut Feed<'_, '_, '_, '_, S>) -> Resul
     }
 }
 
-/// Returns the next token of a phrase that has begun.
+/// Reads the next token of a phrase that has begun. Fails if there is none.
 #[inline(always)]
 pub(crate) fn next_inner<S: Source>(feed: &mut Feed<'_, '_, '_, '_, S>) -> Result<(), BodyFault>
     requires { S.failures (source_of feed.old) < 2 ^ 64 - 1 }

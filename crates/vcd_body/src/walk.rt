@@ -1,4 +1,4 @@
-//! The loop over the items that lie whole ahead in a feed's chunk: one for whoever takes them.
+//! The loop over the items that lie completely in a feed's chunk, for each task that takes them.
 ghost use Rattle.std.specs.Prelude.{◌≡◌, ◌⊎◌, ℕ, ◌-◌, ◌^◌, ◌<◌, ◌≤◌, Bool, List, length, false, true, IfOk, Result, Ok};
 ghost use Rattle.vcd_text.specs.Ahead.{bytes_of, passed_of};
 ghost use Rattle.vcd_text.specs.Device.{Counts, Device};
@@ -172,9 +172,8 @@ fn take_change<C, V: Visit<C>, W: Sink>(
     Ok(false)
 }
 
-/// Takes the timestamp whose token is that of `opening`, from `ahead` up to `to`. None where the
-/// token spells no time, where the time may not come here, or where the visit leaves it; then
-/// nothing has changed.
+/// Takes the timestamp of `opening`, which is between `ahead` and `to`. `None` if the token spells
+/// no time, if the time may not come here, or if the visit leaves it; then nothing has changed.
 #[inline(always)]
 fn take_timestamp<'a, C, V: Visit<C>>(
     command: &mut C,
@@ -205,10 +204,9 @@ fn take_timestamp<'a, C, V: Visit<C>>(
 }
 
 /// Takes the change that the tokens of a vector are, which lies at `extent`, and returns that it
-/// was no timestamp. `None` where they are no such change, and then nothing has changed.
-// Whether the digits have a number is asked once: what is done with it follows in each arm. The arm
-// for digits of a known number takes 5 % off `merge` of 27,505 codes and of Verilator's. To `check`
-// it adds 6 %.
+/// was no timestamp. `None` if they are no such change; then nothing has changed.
+// The arm for digits of a known number takes 5 % off `merge` of 27,505 codes, and adds 6 % to
+// `check`.
 #[inline(always)]
 fn take_vector<C, V: Visit<C>, W: Sink>(
     command: &mut C,
@@ -238,10 +236,10 @@ fn take_vector<C, V: Visit<C>, W: Sink>(
     }
 }
 
-/// Takes the next item that lies ahead, and returns whether it was a timestamp. None where it takes
-/// none, and then nothing has changed.
-// What begins the item is asked once: what is done with it follows in each arm. All arms are
-// inlined: else `check` takes nearly three times as many instructions.
+/// Takes the next item that lies ahead, and returns whether it was a timestamp. `None` if it takes
+/// none; then nothing has changed.
+// What begins the item is asked once. Each arm is inlined: otherwise `check` takes nearly three
+// times as many instructions.
 #[inline(always)]
 fn take_next<C, V: Visit<C>, W: Sink>(
     command: &mut C,
@@ -286,9 +284,9 @@ fn take_next<C, V: Visit<C>, W: Sink>(
     Some(taken)
 }
 
-/// Takes the next item that lies ahead, where it is a change by `0` or `1` with a code of one byte
-/// on a line of its own, and returns that it was no timestamp. None where it takes none, and then
-/// nothing has changed.
+/// Takes the next item that lies ahead, if it is a change by `0` or `1` with a code of one byte on
+/// a line of its own, and returns that it was no timestamp. Otherwise `None`, and nothing has
+/// changed.
 #[inline(always)]
 fn take_short<C, V: Visit<C>, W: Sink>(
     command: &mut C,
@@ -314,9 +312,9 @@ fn take_short<C, V: Visit<C>, W: Sink>(
     Some(taken)
 }
 
-/// Takes the next changes while each is a `0` or `1` with a one-byte code on its own line. Returns
-/// the walk where another item or a short chunk ends it, or where a write fails. `take_lines` calls
-/// it for the changes between two timestamps.
+/// Takes the next changes, as long as each is a `0` or `1` with a code of one byte on its own line.
+/// Returns the walk when another item, the end of the chunk or a failed write ends it. `take_lines`
+/// calls it for the changes between two timestamps.
 #[inline(always)]
 fn take_shorts<'a, C, V: Visit<C>, W: Sink>(
     command: &mut C,
@@ -345,9 +343,9 @@ fn take_shorts<'a, C, V: Visit<C>, W: Sink>(
     }
 }
 
-/// Takes the next item that lies ahead, where `line_timestamp` gives it: a timestamp right here, of
-/// at most 15 bytes, with a line feed after it. None where that gives none, where no such time may
-/// come here, or where the visit leaves it; then nothing has changed.
+/// Takes the next item that lies ahead, if it is a timestamp at the next byte, of at most 15 bytes,
+/// with a line feed after it. `None` if it is not, if its time may not come here, or if the visit
+/// leaves it; then nothing has changed.
 #[inline(always)]
 fn take_timestamp_line<C, V: Visit<C>>(
     command: &mut C,
@@ -368,10 +366,7 @@ fn take_timestamp_line<C, V: Visit<C>>(
 
 /// Takes the items that come next, as long as each is a short change or a timestamp on a line of
 /// its own.
-// It is not inlined, so that it has all registers, and the other loop has none less for it. The
-// loop of changes in it is one of its own, so that no change pays for what a timestamp needs.
-// Without this loop `check` of scalars takes 55 % more, other dumps 1 to 2 % less. With one loop
-// over changes and timestamps, and a call for each timestamp, it takes 39 % more.
+// Without this loop `check` of scalars takes 55 % more, and of other dumps 1 to 2 % less.
 #[inline(never)]
 fn take_lines<'a, C, V: Visit<C>, W: Sink>(
     command: &mut C,
@@ -412,7 +407,7 @@ fn take_lines<'a, C, V: Visit<C>, W: Sink>(
 }
 
 /// Takes the items that come next as `take_lines` does, if two lines of two bytes come and the
-/// visit is not over, else none. `walk_ahead` calls it once, before its first item.
+/// visit is not over, otherwise none. `walk_ahead` calls it once, before its first item.
 #[inline(always)]
 fn take_first_lines<'a, C, V: Visit<C>, W: Sink>(
     command: &mut C,

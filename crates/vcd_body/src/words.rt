@@ -46,8 +46,8 @@ pub(crate) fn kind_of(token: &[u8]) -> PhraseKind
 }
 
 /// Returns what a token with this first byte begins.
-// The most frequent first bytes of dumps are asked for first. With x and z asked before `b`, and
-// each token whether it is empty, `check` of 27,505 codes takes 6 % more.
+// The most frequent first bytes come first: in another order `check` of 27,505 codes takes 6 %
+// more.
 #[inline(always)]
 pub(crate) fn kind_by(byte: u8) -> PhraseKind
     ensures { (rest : List ℕ) → Begins (byte ∷ rest) result }
@@ -67,7 +67,7 @@ pub(crate) fn kind_by(byte: u8) -> PhraseKind
     }
 }
 
-/// Returns the bytes after the first one, where there is one.
+/// Returns the bytes after the first one.
 #[inline(always)]
 pub(crate) fn after_first(token: &[u8]) -> &[u8]
     requires { 0 < length token.now }
@@ -76,7 +76,7 @@ pub(crate) fn after_first(token: &[u8]) -> &[u8]
     &token[1..]
 }
 
-/// Returns the bytes after the first one, none where there is none.
+/// Returns the bytes after the first one, or none if there is no first one.
 #[inline(always)]
 pub(crate) fn rest_of(token: &[u8]) -> &[u8]
     ensures { result.now ≡ drop 1 token.now }
@@ -87,7 +87,7 @@ pub(crate) fn rest_of(token: &[u8]) -> &[u8]
     }
 }
 
-/// Returns the first byte alone, none where there is none.
+/// Returns only the first byte, or none if there is none.
 pub(crate) fn first_byte_of(token: &[u8]) -> &[u8]
     ensures { result.now ≡ take 1 token.now }
 {
@@ -129,8 +129,7 @@ fn command_for(keyword: Keyword) -> KeywordUse
     }
 }
 
-/// Returns what the keyword is that the token is.
-// Inlined: its answer would come through memory.
+/// Returns what the keyword is that the token is. `None` if it is no keyword.
 #[inline(always)]
 pub(crate) fn command_of(token: &[u8]) -> Option<KeywordUse>
     ensures { StandsFor token.now result }
@@ -147,7 +146,7 @@ fn is_value_digit(byte: u8) -> bool
     byte == b'0' || byte == b'1' || byte == b'x' || byte == b'X' || byte == b'z' || byte == b'Z'
 }
 
-/// Returns a mask: bit k is set where byte `at + k` is another one than this.
+/// Returns a mask whose bit k is set if byte `at + k` is not this one.
 #[inline(always)]
 pub(crate) fn others_32(bytes: &[u8], at: usize, byte: u8) -> u64
     requires { at + 32 ≤ length bytes.now }
@@ -158,8 +157,8 @@ pub(crate) fn others_32(bytes: &[u8], at: usize, byte: u8) -> u64
     v.simd_ne(u8x32::splat(byte)).to_bitmask()
 }
 
-/// Returns how many of the lowest n bits of a mask are not set before the first one that is, or
-/// before the last of them.
+/// Returns how many of the lowest n bits of a mask are clear before the first set one. The result
+/// is below n.
 #[inline(always)]
 pub(crate) fn clear_bits(mask: u64, n: usize) -> usize
     requires some { 1 ≤ n }
@@ -174,7 +173,7 @@ pub(crate) fn clear_bits(mask: u64, n: usize) -> usize
     (mask.trailing_zeros() as usize).min(n - 1)
 }
 
-/// Returns a mask: bit k is set where byte `at + k` is neither `0` nor `1`.
+/// Returns a mask whose bit k is set if byte `at + k` is neither `0` nor `1`.
 #[inline(always)]
 fn nonbinary_32(bytes: &[u8], at: usize) -> u64
     requires { at + 32 ≤ length bytes.now }
@@ -185,7 +184,7 @@ fn nonbinary_32(bytes: &[u8], at: usize) -> u64
     v.simd_ne(u8x32::splat(b'0')).to_bitmask()
 }
 
-/// Returns a mask: bit k is set where byte `at + k` is none of `x`, `X`, `z` and `Z`.
+/// Returns a mask whose bit k is set if byte `at + k` is none of `x`, `X`, `z` and `Z`.
 #[inline(always)]
 fn known_32(bytes: &[u8], at: usize) -> u64
     requires { at + 32 ≤ length bytes.now }
@@ -195,7 +194,7 @@ fn known_32(bytes: &[u8], at: usize) -> u64
     v.simd_ne(u8x32::splat(b'X')).to_bitmask()
 }
 
-/// Returns true only where the 32 bytes from an offset on are digits of a value.
+/// Returns whether the 32 bytes from an offset on are digits of a value.
 #[inline(always)]
 fn are_digits_32(bytes: &[u8], at: usize) -> bool
     requires { at + 32 ≤ length bytes.now }
@@ -204,7 +203,7 @@ fn are_digits_32(bytes: &[u8], at: usize) -> bool
     nonbinary_32(bytes, at) & known_32(bytes, at) == 0
 }
 
-/// Returns whether n bytes from an offset on are `0` and `1` alone. The 32 bytes there are read.
+/// Returns whether n bytes from an offset on are only `0` and `1`. The 32 bytes there are read.
 #[inline(always)]
 fn are_binary_at(bytes: &[u8], at: usize, n: usize) -> bool
     requires room { at + 32 ≤ length bytes.now }
@@ -215,7 +214,7 @@ fn are_binary_at(bytes: &[u8], at: usize, n: usize) -> bool
     nonbinary_32(bytes, at) & ((1 << n) - 1) == 0
 }
 
-/// Returns whether the digits are `0` and `1` alone, looked at one by one. No byte is branched on.
+/// Returns whether the digits are only `0` and `1`, by a look at each, without a branch.
 fn are_few_binary(digits: &[u8]) -> bool
     ensures { result ≡ true → AreBinary digits.now }
 {
@@ -227,9 +226,8 @@ fn are_few_binary(digits: &[u8]) -> bool
     largest <= 1
 }
 
-/// Returns true only where the digits are `0` and `1` alone. It looks at 32 at a time where there
-/// are at least 32, and at some of the last 32 twice.
-// Not inlined, so that the ways of digits that are known stay small.
+/// Returns true only if the digits are only `0` and `1`. It looks at 32 at a time, if there are
+/// that many, and at some of the last 32 twice.
 #[inline(never)]
 pub(crate) fn are_binary(digits: &[u8]) -> bool
     ensures { result ≡ true → AreBinary digits.now }
@@ -248,8 +246,8 @@ pub(crate) fn are_binary(digits: &[u8]) -> bool
     nonbinary_32(digits, last) == 0
 }
 
-/// Returns true only where these are digits of a value, at least 32. It looks at 32 at a time, and
-/// at some of the last 32 twice.
+/// Returns true only if there are at least 32 bytes and all are digits of a value. It looks at 32
+/// at a time, and at some of the last 32 twice.
 fn are_many_digits(digits: &[u8]) -> bool
     ensures { result ≡ true → list_all is_digit digits.now ≡ true }
 {
@@ -267,8 +265,8 @@ fn are_many_digits(digits: &[u8]) -> bool
     are_digits_32(digits, last)
 }
 
-// Not inlined, as `are_binary`. Many x and z are looked at 32 at a time: `check` of wide vectors
-// takes 309 an item, one by one 359.
+// Returns whether all of these bytes are digits of a value. It looks at 32 at a time: one by one,
+// `check` of wide vectors takes 16 % more.
 #[inline(never)]
 pub(crate) fn are_all_digits(digits: &[u8]) -> bool
     ensures { result ≡ list_all is_digit digits.now }
@@ -276,8 +274,8 @@ pub(crate) fn are_all_digits(digits: &[u8]) -> bool
     are_many_digits(digits) || digits.iter().all(|digit| is_value_digit(*digit))
 }
 
-/// Returns true only where the digits are `0` and `1` alone. Where their number is known they are,
-/// and none is looked at.
+/// Returns true only if the digits are only `0` and `1`. If their number is known they are, and
+/// none is looked at.
 #[inline(always)]
 pub(crate) fn are_binary_or_known(digits: &[u8], bits: Option<Bits>) -> bool
     requires { MayBe bits digits.now }
@@ -286,8 +284,8 @@ pub(crate) fn are_binary_or_known(digits: &[u8], bits: Option<Bits>) -> bool
     bits.is_some() || are_binary(digits)
 }
 
-/// Returns whether these are one or more digits of a value. Where they are known to be `0` and `1`
-/// alone, none is looked at.
+/// Returns whether these are one or more digits of a value. If they are known to be only `0` and
+/// `1`, none is looked at.
 #[inline(always)]
 pub(crate) fn are_digits_or_binary(digits: &[u8], binary: bool) -> bool
     requires { AreBinaryIf binary digits.now }
@@ -299,8 +297,8 @@ pub(crate) fn are_digits_or_binary(digits: &[u8], binary: bool) -> bool
     binary || are_all_digits(digits)
 }
 
-/// Returns a mask whose bit 31 - k is set where byte `at + k` is `1`: the last byte gives the
-/// lowest bit.
+/// Returns a mask whose bit 31 - k is set if byte `at + k` is `1`: the last byte gives the lowest
+/// bit.
 #[inline(always)]
 fn ones_32(bytes: &[u8], at: usize) -> u64
     requires { at + 32 ≤ length bytes.now }
@@ -322,10 +320,9 @@ fn number_at(bytes: &[u8], at: usize, n: usize) -> usize
     (ones_32(bytes, at) >> (32 - n)) as usize
 }
 
-/// Returns digits that begin at an offset of these bytes as a number. None where they are more than
-/// 32, not `0` and `1` alone, or near the end of the bytes.
-// By one look at 32 bytes: how many digits there are cannot be predicted, so a branch or loop on it
-// costs more.
+/// Returns the digits that begin at an offset of these bytes, as a number. `None` if they are more
+/// than 32, not only `0` and `1`, or near the end of the bytes.
+// It looks at 32 bytes, without a branch on how many digits there are.
 #[inline(always)]
 pub(crate) fn bits_at(bytes: &[u8], at: usize, digits: &[u8]) -> Option<Bits>
     requires { StandsAt bytes.now at digits.now }

@@ -205,8 +205,9 @@ fn source_that_fails(rt: HostRuntime) -> Result<(), Fail> {
     Ok(())
 }
 
-// What is taken ahead: the items, which of them have their lines as bytes (`=`), which but for this
-// many digits, and which do not (`.`), and the number that is given for the digits of the last.
+// What is taken ahead: the items; for each whether its bytes are its line (`=`), are its line
+// except this many digits, or are not (`.`); and the number that is given for the digits of the
+// last one.
 #[derive(Drop)]
 struct Noted {
     alloc: Global,
@@ -424,7 +425,8 @@ fn real_numbers_taken_ahead(rt: HostRuntime) -> Result<(), Fail> {
     Ok(())
 }
 
-// A change of digits, of which there is at least one, is written so, where the code is no event.
+// A change of digits, of which there is at least one, is written like this, if the code is no
+// event.
 fn writes(size: usize, form: Form, text: &[u8], line: &[u8]) -> bool {
     let mut page = Watch::new(Narrow::new(80));
     !text.is_empty()

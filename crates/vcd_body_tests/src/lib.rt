@@ -1,5 +1,5 @@
-//! The tests of `vcd_body`, over public functions alone. They are a crate of their own so that the
-//! library is proved once: a crate with tests in it is proved again with them.
+//! The tests of `vcd_body`, which use only public functions. They are a crate of their own so that
+//! the library is proved once: a crate with tests in it is proved again with them.
 #![tactic(auto)]
 
 #[cfg(test)]

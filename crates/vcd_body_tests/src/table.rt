@@ -37,8 +37,8 @@ fn view_of(codes: &[Code]) -> HeadView<'_>
     }
 }
 
-// Returns a table in this room. It ensures nothing: what is proved of a table is proved where it is
-// made.
+// Returns a table in this room. It ensures nothing, since what is proved of a table is proved where
+// the table is made.
 fn table_in<'a>(
     view: HeadView<'_>,
     values: &'a mut [u8],
@@ -68,7 +68,7 @@ fn follow(table: &mut Table<'_>, code: usize, size: usize, form: Form, text: &[u
     ]
 }
 
-// This many of a digit, and then these.
+// Returns this many of a digit, and then these digits.
 fn padded(alloc: Global, digit: u8, count: usize, rest: &[u8]) -> Result<Vec<u8>, AllocError> {
     let mut text = Vec::new(alloc);
     for _ in 0..count {
@@ -106,7 +106,7 @@ fn line_of(alloc: Global, size: usize, digits: &[u8]) -> Result<Vec<u8>, AllocEr
     Ok(line)
 }
 
-// A code of this size that is set by this text is written so, as a line and in full.
+// A code of this size that is set by this text is written like this, as a line and in full.
 fn is_shown(
     alloc: Global,
     size: usize,
@@ -137,7 +137,7 @@ fn are_shown(
     is_shown(alloc, size, Form::Vector, text, &line, full)
 }
 
-// Digits of a code of some size: these alone, one for each index, `1` at the last index and `0`
+// Digits of a code of some size: only these, one for each index, `1` at the last index and `0`
 // before it, and `z x 0 1` over and over.
 #[derive(Clone, Copy)]
 enum Digits {
@@ -501,7 +501,7 @@ fn shares_lie_apart(rt: HostRuntime) -> Result<(), Fail> {
     Ok(())
 }
 
-// Texts that set a code of 8 bits without room, of which the first one alone is taken.
+// Texts that set a code of 8 bits without room, of which only the first one is taken.
 const WITHOUT_ROOM: [(Form, &[u8]); 4] = [
     (Form::Vector, b"1"),
     (Form::Vector, b"01"),

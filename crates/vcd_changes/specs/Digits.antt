@@ -13,11 +13,12 @@ is_one d = d == byte "1"
 abbrev pub is_known : ℕ → Bool
 is_known d = d == byte "0" || d == byte "1"
 
--- the number whose binary digits are 1 where these pass the test, and 0 elsewhere
+-- the number whose binary digit is 1 for each of these digits that passes the test, and 0 for the
+-- others
 abbrev pub number_where : (ℕ → Bool) → List ℕ → ℕ
 number_where test digits = number_from_digits 2 (map (λ d. cond (test d) 1 0) digits)
 
--- the last digits of these, this many at most
+-- the last digits of these, at most this many
 abbrev pub last_of : ℕ → List ℕ → List ℕ
 last_of most digits = drop (length digits - most) digits
 
@@ -25,7 +26,7 @@ last_of most digits = drop (length digits - most) digits
 abbrev pub digits_in : List ℕ → Digits
 digits_in digits = record { value = number_where is_one digits; known = number_where is_known digits }
 
--- the last 64 digits of a value, which is extended on the left where it is shorter (clause 18, left
+-- the last 64 digits of a value, which is extended on the left if it is shorter (clause 18, left
 -- extension)
 abbrev pub digits_of : List ℕ → Digits
 digits_of text = digits_in (extend (last_of 64 text) 64)

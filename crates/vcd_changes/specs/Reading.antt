@@ -43,8 +43,8 @@ section_number (Some All) = 4
 abbrev pub section_at : ℕ → Option Section
 section_at n = cond (n == 1) (Some Vars) (cond (n == 2) (Some Off) (cond (n == 3) (Some On) (cond (n == 4) (Some All) None)))
 
--- the `Place` of a reading that has come this far under this token limit, with this known of the
--- items
+-- the `Place` of a reading that has come this far with this token limit, and of whose items this is
+-- known
 abbrev pub place_of : (limit : ℕ) → Offset → Regs → Place
 place_of limit offset regs = record { limit = limit; offset = offset; time = regs.time; marked = cond regs.marked 1 0; section = section_number regs.section }
 
@@ -54,9 +54,8 @@ regs_of p = record { time = p.time; marked = not (p.marked == 0); section = sect
 
 -- ---- in a dump
 
--- Under a token limit the body continues at this `Place`, after these tokens of the header, these
--- items and no others. Where the `Place` says that they were read under the lower limit, no token
--- is longer.
+-- With a token limit the body continues at this `Place`, after these tokens of the header, exactly
+-- these items. If the `Place` says that they were read with the lower limit, no token is longer.
 pub record IsAfter (limit : ℕ) (codes : List IdCode) (i : Input) (front : List Token) (items : List BodyItem) (p : Place) : Type 0 where
   pub given : List Token
   pub placed : List (Placed BodyPhrase)
@@ -81,8 +80,8 @@ pub data GoesOnUnder (limit : ℕ) (dump : List ℕ) (items : List BodyItem) (p 
   AtBegin : (new : p.limit ≡ 0) (none : items ≡ []) → GoesOnUnder limit dump items p
   Behind : (front : List Token) (codes : List IdCode) (has : HasCodes limit dump front codes) (after : IsAfter limit codes (whole dump) front items p) → GoesOnUnder limit dump items p
 
--- the header was refused, and there are no rows: where memory ran out the status says so, else the
--- fault and its line are noted
+-- the header was refused, and there are no rows. If memory ran out, the status says so; otherwise
+-- the fault and its line are noted
 abbrev pub Refused : HeadFault → (line : ℕ) → Reading → (status : ℕ) → Type 0
 Refused fault line r status = (r.count ≡ 0) × (((fault ≡ OutOfMemory) × (status ≡ 3)) ⊎ ((fault ≡ OutOfMemory → ⊥) × (status ≡ 1) × (r.fault ≡ fault_number fault) × (r.line ≡ line)))
 
@@ -91,8 +90,8 @@ abbrev pub status_of : Filled → ℕ
 status_of filled.All = 0
 status_of filled.Full = 4
 
--- the next call resumes where this one did, unless the body has no others or the rows are full: so
--- after a fault, or where memory ran out, the same call may be made again
+-- the next call resumes where this one did, unless the body has no other items or the rows are
+-- full. So after a fault, or if memory ran out, the same call may be made again
 abbrev pub StaysAt : (old new : Reading) → (status : ℕ) → Type 0
 StaysAt old new status = status ≢ 0 → status ≢ 4 → new.place ≡ old.place
 
@@ -119,7 +118,7 @@ pub data FindsUnder (limit : ℕ) (dump : List ℕ) (items : List BodyItem) (cod
   NoMemory : (count_is : r.count ≡ 0) (status_is : status ≡ 3) → FindsUnder limit dump items code r rows status
 
 -- What a call under a lower limit found is what it finds under the limit of callers: its fault is
--- not that a token is too long, and no halt is noted where the next call resumes.
+-- not that a token is too long, and no halt is noted if the next call resumes.
 pub record IsEnough (r : Reading) (status : ℕ) : Type 0 where
   pub fits : status ≡ 1 → r.fault ≢ 1
   pub «open» : r.place.offset.answer ≤ 1

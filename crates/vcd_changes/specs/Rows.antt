@@ -42,7 +42,7 @@ row_in code entry = elim entry.item [
 abbrev pub rows_of : List ℕ → List BodyItem → List ChangeRow
 rows_of code items = filter_map (row_in code) (entries items)
 
--- the row that an item adds, where it is a change of the code at this index
+-- the row that an item adds, if it is a change of the code at this index
 abbrev pub row_added : (index time : ℕ) → List ℕ → Item → List ChangeRow
 row_added index time text (item.Change code form) = cond (code == index) (row_of time (model_form form) text ∷ []) []
 row_added index time text other = []

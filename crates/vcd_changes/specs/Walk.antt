@@ -47,7 +47,7 @@ pub record SameRows (s t : RowStage) : Type 0 where
   pub loan : t.command.rows.ghost_name ≡ s.command.rows.ghost_name
 
 -- One item more was taken ahead. Once the rows are full, it is a change, and nothing is done with
--- it. Else it adds its row, and no byte after it is passed if the rows are full then.
+-- it. Otherwise it adds its row, and no byte after it is passed if the rows are full then.
 pub record TakesRow (v : HeadView) (s t : RowStage) (result : Result (Unit {0}) WriteFailed) : Type 0 where
   pub scanned : ScannedItem
   pub item : TakesItem v s.ahead t.ahead s.regs scanned

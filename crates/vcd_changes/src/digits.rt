@@ -18,7 +18,7 @@ fn is_known(digit: u8) -> bool
     digit == b'0' || digit == b'1'
 }
 
-/// Returns the last 64 digits, or all where there are fewer.
+/// Returns the last 64 digits, or all if there are fewer.
 fn last_of(digits: &[u8]) -> &[u8]
     ensures last { result.now ≡ last_of 64 digits.now }
     ensures most { length result.now ≤ 64 }
@@ -36,8 +36,7 @@ fn extends_known(digits: &[u8]) -> bool
     }
 }
 
-/// Returns a bit for each of 64 digits by which these are extended on the left: 1 where it is 0 or
-/// 1.
+/// Returns 64 bits, each 1 if these digits are extended on the left by a 0 or 1.
 fn known_before(digits: &[u8]) -> u64
     requires { length digits.now ≤ 64 }
     ensures { result ≡ cond (is_known (extension digits.now)) (2 ^ 64 - 2 ^ length digits.now) 0 }
@@ -49,7 +48,7 @@ fn known_before(digits: &[u8]) -> u64
     }
 }
 
-/// Returns a number with one binary digit more, on the right.
+/// Returns a number with one more binary digit, on the right.
 fn with_digit(number: u64, digit: bool) -> u64
     requires { number < 2 ^ 63 }
     ensures { result ≡ 2 * number + cond digit 1 0 }
@@ -57,8 +56,8 @@ fn with_digit(number: u64, digit: bool) -> u64
     if digit { 2 * number + 1 } else { 2 * number }
 }
 
-/// Returns a bit for each of 64 digits, these extended on the left: 1 where it is 0 or 1. `known`
-/// has the bits of these.
+/// Returns a bit for each of 64 digits, which are these digits extended on the left: 1 if the digit
+/// is 0 or 1. `known` has the bits of these digits.
 fn known_in_all(digits: &[u8], known: u64) -> u64
     requires most { length digits.now ≤ 64 }
     requires known { known ≡ number_where is_known digits.now }

@@ -20,40 +20,40 @@ use vcd_head::{HeadFault, HeadView, read_head_with_hasher};
 use vcd_text::{Bytes, Feed};
 use vcd_view::find;
 
-/// The most bytes that a token may have: as many as where the program is given no `--token-limit`.
+/// How many bytes a token may have: as many as without `--token-limit`.
 const LIMIT: usize = 1_048_576;
 
-/// The limit under which a call reads a dump as long as no token is longer. It takes two windows as
-/// long as the limit and fills them with zeros: under `LIMIT` this takes longer than the reading of
-/// some hundred rows.
+/// The limit with which a call reads a dump first, and which is enough if no token is longer. It
+/// takes two windows as long as the limit and fills them with zeros. With `LIMIT` that takes longer
+/// than reading some hundred rows.
 const LOWER_LIMIT: usize = 65_536;
 
-/// The most bytes that are read in one call. Few, since each call of `changes` reads so many of the
-/// header and of the body, also where its rows are full long before their end.
+/// How many bytes are read in one call. They are few, since each call of `changes` reads as many of
+/// the header and of the body, even if its rows are full long before their end.
 const CHUNK: usize = 8_192;
 
-/// The most scopes, variables and `$upscope` that a header may have.
-const MOST: u64 = 16_777_216;
+/// How many scopes, variables and `$upscope` a header may have.
+const MAX_DECLARATIONS: u64 = 16_777_216;
 
 /// The number of the fault that a token is too long.
 const TOKEN_TOO_LONG: u64 = 1;
 
-/// The status where the dump has no further change of the code, and no fault.
+/// The status if the dump has no further change of the code, and no fault.
 pub const DONE: u8 = 0;
 
-/// The status where the dump has a fault.
+/// The status if the dump has a fault.
 pub const FAULT: u8 = 1;
 
-/// The status where no variable has the code.
+/// The status if no variable has the code.
 pub const NO_CODE: u8 = 2;
 
-/// The status where memory ran out.
+/// The status if memory ran out.
 pub const NO_MEMORY: u8 = 3;
 
-/// The status where the rows are full, and the next call continues.
+/// The status if the rows are full, and the next call continues.
 pub const FULL: u8 = 4;
 
-/// The status where no call can have left this `Place`.
+/// The status if no call can have left this `Place`.
 pub const BAD_PLACE: u8 = 5;
 
 /// Returns the status of a reading that has met no fault.
@@ -104,7 +104,7 @@ fn read_on(
     }
 }
 
-/// Returns the bytes after the first `n`: none where there are fewer.
+/// Returns the bytes after the first `n`, or none if there are fewer.
 fn after(dump: &[u8], n: u64) -> &[u8]
     ensures { result.now ≡ drop n dump.now }
 {
@@ -128,8 +128,8 @@ fn refused(fault: HeadFault, line: u64, reading: &mut Reading) -> u8
     FAULT
 }
 
-/// Reads the header of a dump under this token limit, fills the rows from the reading's `Place` on,
-/// and returns the status. Fails where memory runs out.
+/// Reads the header of a dump with this token limit, fills the rows from the reading's `Place` on,
+/// and returns the status. Fails if memory runs out.
 fn read_changes<B: BuildHasher>(
     alloc: Global,
     limit: usize,
@@ -153,7 +153,7 @@ fn read_changes<B: BuildHasher>(
     let mut value = vec![in alloc; 0u8; limit]?;
     let mut source = Bytes { rest: dump };
     let mut feed = Feed::new(&mut source, &mut chunk, &mut token, &mut value);
-    let head = match read_head_with_hasher(alloc, &mut feed, MOST, hasher) {
+    let head = match read_head_with_hasher(alloc, &mut feed, MAX_DECLARATIONS, hasher) {
         Ok(head) => head,
         Err(fault) => return Ok(refused(fault, feed.line(), reading)),
     };
@@ -172,7 +172,7 @@ fn read_changes<B: BuildHasher>(
     }
 }
 
-/// Fills the rows from the reading's `Place` on under this token limit, and returns the status, as
+/// Fills the rows from the reading's `Place` on with this token limit, and returns the status, as
 /// `changes` does.
 fn read_under<B: BuildHasher>(
     alloc: Global,
@@ -196,8 +196,8 @@ fn read_under<B: BuildHasher>(
     }
 }
 
-/// Returns whether what a call found under the lower limit is what it finds under `LIMIT`: it met no
-/// token that is too long. A feed that was halted may have met one.
+/// Returns whether a call with the lower limit finds what it finds with `LIMIT`: it met no token
+/// that is too long. A feed that was halted may have met one.
 fn is_enough(status: u8, reading: Reading) -> bool
     ensures { result ≡ true → IsEnough reading status }
 {
@@ -205,11 +205,12 @@ fn is_enough(status: u8, reading: Reading) -> bool
 }
 
 /// Fills the rows with the changes of the variables with this identifier code, from `reading.place`
-/// on, and returns the status: `DONE`, `FAULT`, `NO_CODE`, `NO_MEMORY`, `FULL` or `BAD_PLACE`. Each
-/// call reads the header anew, and then continues in the body. Identifier codes are hashed by
-/// numbers that the hasher gives; the rows are the same by each. `reading.count` is at most the
-/// number of rows; 0 with `NO_CODE`, `NO_MEMORY` and `BAD_PLACE`, and where the header has a fault.
-/// `reading.place` moves on with `DONE` and `FULL` alone.
+/// on, and returns the status: `DONE`, `FAULT`, `NO_CODE`, `NO_MEMORY`, `FULL` or `BAD_PLACE`.
+///
+/// Each call reads the header again, and then continues in the body. Identifier codes are hashed
+/// with numbers that the hasher gives; the rows do not depend on them. `reading.count` is at most
+/// the number of rows. It is 0 with `NO_CODE`, `NO_MEMORY` and `BAD_PLACE`, and if the header has a
+/// fault. `reading.place` moves on only with `DONE` and `FULL`.
 pub fn changes<B: BuildHasher>(
     alloc: Global,
     dump: &[u8],

@@ -1,14 +1,14 @@
 //! The changes of one variable of a dump in memory, as rows of numbers.
 //!
 //! `changes` fills rows with the changes of an identifier code, each with its time and its last 64
-//! digits, from where an earlier call has stopped. The rows of all calls, one after the other, are
+//! digits, from where an earlier call stopped. The rows of all calls, one after the other, are
 //! those of the code's changes in all items of the body (`rows_of` of `specs/Rows`).
 //!
 //! # The modules
 //!
 //! - `dump`: from a dump to rows and a status
 //! - `rows`: the loop over the items of the body
-//! - `walk`: the items that are whole in the chunk
+//! - `walk`: the items that lie completely in the chunk
 //! - `row`: `ChangeRow`, a change as numbers
 //! - `reading`: where the next call continues, as numbers
 //! - `digits`: the digits of a value as numbers

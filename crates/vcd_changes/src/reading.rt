@@ -9,13 +9,13 @@ use vcd_text::Offset;
 #[repr(C)]
 #[derive(Clone, Copy, PartialEq, Eq, Debug)]
 pub struct Place {
-    /// The most bytes that a token before it may have; 0 before the first call.
+    /// How many bytes a token before it may have; 0 before the first call.
     pub limit: u64,
-    /// The bytes and lines of the dump that were read.
+    /// How many bytes and lines of the dump were read.
     pub offset: Offset,
-    /// The last timestamp; 0 where there was none.
+    /// The last timestamp; 0 if there was none.
     pub time: u64,
-    /// 1 where there was a timestamp, else 0.
+    /// 1 if there was a timestamp, otherwise 0.
     pub marked: u64,
     /// The section that is open: 1 to 4 for `$dumpvars`, `$dumpoff`, `$dumpon` and `$dumpall`, 0
     /// for none.
@@ -30,7 +30,7 @@ pub struct Reading {
     pub place: Place,
     /// How many changes the last call found.
     pub count: u64,
-    /// The number of the dump's fault, where the status is `FAULT`.
+    /// The number of the dump's fault, if the status is `FAULT`.
     pub fault: u64,
     /// The line of that fault, from 1.
     pub line: u64,
@@ -62,7 +62,7 @@ fn section_at(number: u64) -> Option<Section>
     }
 }
 
-/// Returns where the next call continues, by the token limit, the feed's offset and the registers
+/// Returns where the next call continues, from the token limit, the feed's offset and the registers
 /// there.
 pub(crate) fn place_of(limit: u64, offset: Offset, regs: Regs) -> Place
     ensures { result ≡ place_of limit offset regs }

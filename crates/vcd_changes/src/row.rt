@@ -15,12 +15,12 @@ pub struct ChangeRow {
     pub time: u64,
     /// Which digits are 1.
     pub value: u64,
-    /// Which digits are 0 or 1: all where the whole value is known, none of a real number.
+    /// Which digits are 0 or 1: all 64 if the whole value is known, none for a real number.
     pub known: u64,
 }
 
 /// Returns the row of a change at `time` with this text.
-// Not inlined: few of the changes of a dump are those of one code.
+// Not inlined, since most changes are of other codes.
 #[inline(never)]
 pub(crate) fn row_of(time: u64, form: Form, text: &[u8]) -> ChangeRow
     ensures { result ≡ row_of time (model_form form) text.now }

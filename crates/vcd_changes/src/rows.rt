@@ -28,8 +28,8 @@ pub(crate) enum Filled {
     Full,
 }
 
-/// Returns how many rows are filled once the item that was read last is added to the first `count`:
-/// it is, where it is a change of the code at `index`.
+/// Adds the item that was read last to the first `count` rows, if it is a change of the code at
+/// `index`, and returns how many rows are filled then.
 fn put_row<S: Source>(
     feed: &Feed<'_, '_, '_, '_, S>,
     item: Item,

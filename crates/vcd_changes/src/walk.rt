@@ -39,7 +39,7 @@ impl<'r> Rows<'r> {
     }
 }
 
-/// What such a walk keeps, as numbers: how many rows are filled, and how many there are.
+/// What such a walk keeps, only as numbers: how many rows are filled, and how many there are.
 #[derive(Clone, Copy)]
 struct Collecting {
     count: usize,
@@ -61,8 +61,8 @@ impl Collecting {
         self.room <= self.count
     }
 
-    /// Returns how many bytes of the chunk are passed: where the rows are full, those up to the end
-    /// of the last row's change, else all that the walk took.
+    /// Returns how many bytes of the chunk are passed: if the rows are full, those up to the end of
+    /// the last row's change, otherwise all that the walk took.
     #[inline(always)]
     fn passed(&self, ahead: Ahead<'_>) -> usize
         ensures { result ≡ passed_with ahead.entry self.now }
@@ -134,8 +134,8 @@ impl<'r> Visit<Rows<'r>> for Collecting {
     }
 }
 
-/// Takes the items that are whole in the chunk, and fills the rows with the changes of the code,
-/// until they are full.
+/// Takes the items that lie completely in the chunk, and fills the rows with the changes of the
+/// code, until they are full.
 // Not inlined, so that the loop has all registers.
 #[inline(never)]
 fn walk_rows<'a>(

@@ -1,4 +1,4 @@
--- What is left where a task takes items that are whole in a feed's chunk.
+-- What is left when a task takes items that lie completely in a feed's chunk.
 use Rattle.std.specs.Prelude.{◌≡◌, ℕ, ◌+◌, ◌<◌, ◌^◌, false, List, [], ◌∷◌, ◌++◌, length, Result, Ok, Err}
 use Rattle.std.specs.List.{list_any}
 use Rattle.vcd_model.specs.Header.{Header}
@@ -32,23 +32,23 @@ module _ (task : Request) (h : Header) (limit lines : ℕ) (bytes : List ℕ) (b
     pub keeps : Keeps m h (before ++ items)
     pub on : list_any (ends_early task) (before ++ items) ≡ false
 
-  -- and then one more
+  -- one more item lies after those
   pub record GaveOneAhead (n : ℕ) (items : List BodyItem) (x : BodyItem) (r : Regs) : Type 0 where
     pub gave : GaveAhead h.codes limit lines bytes n before (items ++ x ∷ [])
     pub known : AreRegsAfter (before ++ (items ++ x ∷ [])) r
 
-  -- how that ends after these items: no other was taken; or a write of what is due with these or
-  -- with one more failed
+  -- how taking them ends after these items: no other was taken; or a write of what is due with
+  -- these or with one more failed
   abbrev pub EndsAhead : {A E : Type 0} → ℕ → TaskState → Regs → Device → Device → Result A E → List BodyItem → Type 0
   EndsAhead n m r out out' (Ok v) items = StandsAhead n items m r × Grows out out' (open_text task h before) (open_text task h (before ++ items))
   EndsAhead n m r out out' (Err e) items = (x : BodyItem) × GaveOneAhead n items x r × GrowsSome out out' (open_text task h before) (open_text task h ((before ++ items) ++ x ∷ []))
 
-  -- some of the items were taken, and what is due with them was written, or a prefix of it where a
+  -- some of the items were taken, and what is due with them was written, or a prefix of it if a
   -- write failed
   abbrev pub RunsAhead : {A E : Type 0} → ℕ → TaskState → Regs → Device → Device → Result A E → Type 0
   RunsAhead n m r out out' result = TakesSeveral task before (EndsAhead n m r out out' result)
 
--- what a task leaves that takes the items which are whole in the chunk from a position on
+-- what a task leaves that takes the items which lie completely in the chunk, from a position on
 pub record RunsOver (v : HeadView) (a : Ahead) (r : Regs) (m m' : TaskState) (out out' : Device) (t : WalkEnd) : Type 0 where
   pub gives : (h : Header) (lines : ℕ) (before : List BodyItem) → IsViewOf v h → length before + length (bytes_of a) < 2 ^ 63 → StandsAhead (request_in m) h (longest_of a) lines (bytes_of a) before (passed_of a) [] m r
       → RunsAhead (request_in m) h (longest_of a) lines (bytes_of a) before t.passed m' t.regs out out' t.written

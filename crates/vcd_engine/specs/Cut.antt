@@ -56,22 +56,22 @@ pub record HasBegun (h : Header) (items : List BodyItem) (time : ℕ) (m m' : Cu
   pub text : HasWritten (m.from ∷ []) [] m'.text
   pub section : Appends out.held out'.held (start_section h m.from items)
 
--- or none was due
+-- the start section was written before, or is not due yet
 pub record HasNone (time : ℕ) (m m' : Cut) (out out' : Device) : Type 0 where
   pub why : (m.started ≡ true) ⊎ (time < m.from)
   pub same : m' ≡ m
   pub nothing : out' ≡ out
 
--- the start section was written, where it was due; or a prefix of it where a write failed
+-- the start section was written, if it was due; or a prefix of it if a write failed
 abbrev pub BeginsBy : {A E : Type 0} → Header → List BodyItem → ℕ → Cut → Cut → Device → Device → Result A E → Type 0
 BeginsBy h items time m m' out out' (Ok a) = HasBegun h items time m m' out out' ⊎ HasNone time m m' out out'
 BeginsBy h items time m m' out out' (Err e) = (m.started ≡ false) × (m.from ≤ time) × WritesSome out out' (start_section h m.from items)
 
--- what it is lent
+-- what `cut` is lent
 abbrev pub lent_to : Cut → RoomSize
 lent_to m = record { values = bytes_in m.table; slots = codes_in m.table; marks = 0 }
 
--- span and room stay
+-- the times and the room stay
 abbrev pub SameSpan : Cut → Cut → Type 0
 SameSpan m m' = (span_in m' ≡ span_in m) × (lent_to m' ≡ lent_to m)
 

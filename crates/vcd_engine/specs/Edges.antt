@@ -35,16 +35,16 @@ change_to c form text = BodyItem.Changes (record { code = c; form = model_form f
 abbrev pub names_counted : Edges → List (List ℕ)
 names_counted e = map string_bytes e.names.now
 
--- what it is lent
+-- what `edges` is lent
 abbrev pub room_in_edges : Edges → RoomSize
 room_in_edges e = record { values = bytes_in e.table; slots = codes_in e.table; marks = length e.marks.now }
 
--- names and room stay
+-- the names and the room stay
 abbrev pub SameEdges : Edges → Edges → Type 0
 SameEdges e e' = (names_counted e' ≡ names_counted e) × (room_in_edges e' ≡ room_in_edges e)
 
--- over this header and after these items the selected variables are marked, and the table tells
--- what is to be written of them
+-- over this header and after these items the selected variables are marked, and the table says what
+-- is to be written of them
 pub record AreEdges (e : Edges) (h : Header) (items : List BodyItem) : Type 0 where
   pub marks_are : e.marks.now ≡ marks_of (names_counted e) h.declarations
   pub tallied : AreTallied e.table h items

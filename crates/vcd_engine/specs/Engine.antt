@@ -36,7 +36,7 @@ use Rattle.vcd_engine.specs.declared.task_state.TaskState.TheVariants as task_st
 use Rattle.vcd_engine.specs.declared.task.Task.{Task}
 use Rattle.vcd_engine.specs.declared.task.Task.TheVariants as task
 
--- ---- one case a command
+-- ---- one case for each command
 
 -- the definitions' request for a task
 abbrev pub request_of : Task → Request
@@ -97,13 +97,13 @@ StopsUnread Write = Unit {0}
 StopsUnread (Unmatched index) = Unit {0}
 StopsUnread stop = ⊥
 
--- and this is what it leaves
+-- what such a run leaves
 abbrev pub StopsAtStart : Request → Header → Device → Device → Stop → Type 0
 StopsAtStart task h out out' Write = CanRun task h × WritesSome out out' (open_text task h [])
 StopsAtStart task h out out' (Unmatched index) = (first_unmatched (names_of task) h.declarations ≡ Some index) × Writes out out' []
 StopsAtStart task h out out' stop = ⊥
 
--- one write failed where the answer is that, the last one, and none where it is not
+-- if the answer is a failed write, one write failed, the last one; otherwise none did
 abbrev pub CountsStop : {A : Type 0} → Device → Device → Result A Stop → Type 0
 CountsStop out out' result = failures_then (writes_failed result) out' ≡ out.failures + writes_failed result
 
@@ -111,7 +111,7 @@ CountsStop out out' result = failures_then (writes_failed result) out' ≡ out.f
 abbrev pub Starts : {A : Type 0} → (A → Type 0) → Request → Header → Device → Device → Result A Stop → Type 0
 Starts holds task h out out' result = MatchResult result (λ a. CanRun task h × holds a × Writes out out' (open_text task h [])) (StopsAtStart task h out out')
 
--- so it does over any header that is shown
+-- the same over any header that is shown
 abbrev pub StartsOver : {A : Type 0} → HeadView → (A → Header → Type 0) → Request → Device → Device → Result A Stop → Type 0
 StartsOver v holds task out out' result = (h : Header) → IsViewOf v h → Starts (λ a. holds a h) task h out out' result
 
@@ -121,14 +121,14 @@ StartsOver v holds task out out' result = (h : Header) → IsViewOf v h → Star
 abbrev pub last_of : Regs → Option ℕ
 last_of r = cond r.marked (Some r.time) None
 
--- what is due with one item more was taken so, and it was returned whether the item ends the run;
--- if not, this holds
+-- What is due with one more item was written, and it was returned whether the item ends the run. If
+-- it does not, this holds.
 pub record TakesOneBy {E : Type 0} (takes : List ℕ → Type 0) (holds : Type 0) (task : Request) (h : Header) (items : List BodyItem) (x : BodyItem) (result : Result Bool E) : Type 0 where
   pub due : DueBy takes (open_text task h items) (open_text task h (items ++ x ∷ []))
   pub ends : IfOk result (λ ended. ended ≡ ends_early task x)
   pub keeps : result ≡ Ok false → holds
 
--- what is due with one item more was written
+-- what is due with one more item was written
 abbrev pub TakesOne : {E : Type 0} → Type 0 → Request → Header → List BodyItem → BodyItem → Device → Device → Result Bool E → Type 0
 TakesOne holds task h items x out out' result = TakesOneBy (λ due. Takes out out' due result) holds task h items x result
 
@@ -137,7 +137,7 @@ abbrev pub AtItem : HeadView → Regs → Item → List ℕ → (Header → List
 AtItem v r item text holds = (h : Header) (items : List BodyItem) (before : Regs) (x : BodyItem) → IsViewOf v h → AreRegsAfter items before → r ≡ regs_after before item → IsItem h.codes text item x → length items < 2 ^ 63 → holds h items x
 
 -- what is due with an item of any header, after any items of which the first holds, was written;
--- the second holds of all of them, where the item does not end the run
+-- the second holds of all of them, if the item does not end the run
 abbrev pub TakesEach : {E : Type 0} → HeadView → Regs → Item → List ℕ → (holds after : Header → List BodyItem → Type 0) → Request → Device → Device → Result Bool E → Type 0
 TakesEach v r item text holds after task out out' result = AtItem v r item text (λ h items x. holds h items → TakesOne (after h (items ++ x ∷ [])) task h items x out out' result)
 

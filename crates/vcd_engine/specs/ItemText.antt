@@ -24,16 +24,16 @@ times_with before kept = before ++ map (λ e. e.time) kept
 pub record HasWritten (before : List ℕ) (kept : List Entry) (t : ItemText) : Type 0 where
   pub last : t.written ≡ last_or None (times_with before kept)
 
--- a look at the time that was written last tells whether the line of this time is there
+-- the time that was written last says whether the line of this time is there
 abbrev pub LastTells : List ℕ → ℕ → Type 0
 LastTells written t = time_unless written t ≡ time_due (last_or None written) t
 
--- an item with this text is put as one kept entry more, at this time: what is due with it is taken
--- so
+-- an item with this text is put as one more kept entry, at this time: `takes` holds of what is due
+-- with it
 abbrev pub PutsEntry : {A E : Type 0} → (List ℕ → Type 0) → HeadView → ℕ → Item → List ℕ → ItemText → ItemText → Result A E → Type 0
 PutsEntry takes v time item text t t' result = (h : Header) (before : List ℕ) (kept : List Entry) (e : Entry) → IsViewOf v h → IsItem h.codes text item e.item → e.time ≡ time → HasWritten before kept t → LastTells (times_with before kept) time
     → DueBy takes (text_after before kept) (text_after before (kept ++ e ∷ [])) × IfOk result (λ _. HasWritten before (kept ++ e ∷ []) t')
 
--- the one that the item is which was read last
+-- the item that was read last, as an item of the definitions
 abbrev pub AsItem : {X : Type 0} {g : Ghosts X} → List IdCode → Feed X g → Item → BodyItem → Type 0
 AsItem codes f item x = IsItem codes (item_text f item) item x

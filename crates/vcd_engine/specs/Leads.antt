@@ -30,7 +30,7 @@ rows_on mark = 2 ^ min (mark - 2) 63
 abbrev pub Leads : List (List ℕ) → List Declaration → ℕ → ℕ → Type 0
 Leads names ds i mark = MatchBool (mark == 1) (IsSelectedAt names ds i) (HaveNoLine names ds i (rows_on mark))
 
--- so does each mark, one a declaration
+-- the same for each mark, one for each declaration
 pub record LeadOn (names : List (List ℕ)) (ds : List Declaration) (marks : List ℕ) : Type 0 where
   pub each : (i : ℕ) → i < length marks → Leads names ds i (get_or marks i 0)
   pub len : length marks ≡ length ds

@@ -1,5 +1,5 @@
--- What the clauses of this crate speak of, under one path: of the crates below, and what several of
--- its modules share.
+-- What the contracts of this crate cite, under one path: names of the crates below, and those that
+-- several of its modules share.
 pub use Rattle.std.specs.List.{AllByRecursion, position_or_len}
 pub use Rattle.std.specs.List.Sorted.{IsStrictlyIncreasing}
 pub use Rattle.vcd_model.specs.BodyPhrases.{section_keyword}

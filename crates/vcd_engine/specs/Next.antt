@@ -32,7 +32,7 @@ pub record Walk : Type 0 where
 abbrev pub walk_at : Ahead → Regs → ℕ × ℕ → Walk
 walk_at a r line = record { ahead = a; regs = r; line = line }
 
--- the line of the last time is there, or nothing is said to
+-- the line of the last time is there, or nothing is known of it
 abbrev pub HasLine : Walk → Type 0
 HasLine w = IsLine (bytes_of w.ahead) w.line w.regs.time
 
@@ -45,13 +45,13 @@ abbrev pub PutsItem : {A E : Type 0} → HeadView → Regs → SpannedItem → P
 PutsItem v r c p p' out out' m m' result = AtItem v r c.scanned.item c.scanned.text.now (λ h items x. Keeps m h items
     → DueBy (λ due. PutsOn (pending_in c.bytes.now p) (pending_in c.bytes.now p') out out' due result) (open_text (request_in m) h items) (open_text (request_in m) h (items ++ x ∷ [])) × IfOk result (λ _. Keeps m' h (items ++ x ∷ [])))
 
--- what is due with one item more was taken so; the item does not end the run, and then this holds
+-- what is due with one more item was taken; the item does not end the run, and then this holds
 pub record TakesMore {A E : Type 0} (takes : List ℕ → Type 0) (holds : Type 0) (task : Request) (h : Header) (items : List BodyItem) (x : BodyItem) (result : Result A E) : Type 0 where
   pub due : DueBy takes (open_text task h items) (open_text task h (items ++ x ∷ []))
   pub on : ends_early task x ≡ false
   pub keeps : IfOk result (λ _. holds)
 
--- one item more was taken ahead, and what is due with it was put after the text that is pending
+-- one more item was taken ahead, and what is due with it was put after the text that is pending
 pub record TakesNext {A E : Type 0} (v : HeadView) (w w' : Walk) (p p' : PendingCopy) (out out' : Device) (m m' : TaskState) (result : Result A E) : Type 0 where
   pub scanned : ScannedItem
   pub item : TakesItem v w.ahead w'.ahead w.regs scanned

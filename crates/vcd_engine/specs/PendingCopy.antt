@@ -13,7 +13,7 @@ use Rattle.vcd_engine.specs.Cut.{IsNoTimestamp}
 use Rattle.vcd_engine.specs.declared.pending.SpannedItem.{SpannedItem}
 use Rattle.vcd_engine.specs.declared.pending.PendingCopy.{PendingCopy}
 
--- an item that is no timestamp; where its size is known, it lies at an offset of these bytes
+-- an item that is no timestamp; if its size is known, it lies at an offset of these bytes
 pub record IsSpanned (v : HeadView) (l : SpannedItem) : Type 0 where
   pub none : IsNoTimestamp l.scanned.item
   pub within : (l.from ≤ l.to) × (l.to ≤ length l.bytes.now)
@@ -29,7 +29,7 @@ pub record LiesUpTo (a : Ahead) (l : SpannedItem) : Type 0 where
   pub from : l.from ≡ l.scanned.begin
   pub to : l.to ≡ passed_of a
 
--- from one offset of these bytes up to another is the line of this time, or nothing is said
+-- from one offset of these bytes up to another is the line of this time, or nothing is known of it
 abbrev pub IsLine : List ℕ → ℕ × ℕ → ℕ → Type 0
 IsLine bytes line time = line.0 < line.1 → (line.1 ≤ length bytes) × (slice_range bytes line.0 line.1 ≡ time_line time)
 
@@ -45,12 +45,12 @@ pending_in bytes p = slice_range bytes p.from p.to
 abbrev pub PutsAll : List ℕ → List ℕ → Device → Device → List ℕ → Type 0
 PutsAll pending pending' out out' due = (written : List ℕ) × (pending ++ due ≡ written ++ pending') × Writes out out' written
 
--- so it is; or, where a write failed, a prefix of that text was written
+-- the same if the write succeeded; if a write failed, a prefix of that text was written
 abbrev pub PutsOn : {A E : Type 0} → List ℕ → List ℕ → Device → Device → List ℕ → Result A E → Type 0
 PutsOn pending pending' out out' due (Ok v) = PutsAll pending pending' out out' due
 PutsOn pending pending' out out' due (Err e) = WritesSome out out' (pending ++ due)
 
--- so, where what is pending are the pending of these bytes
+-- the same, if what is pending is a piece of these bytes
 abbrev pub PutsCopy : {A E : Type 0} → List ℕ → PendingCopy → PendingCopy → Device → Device → List ℕ → Result A E → Type 0
 PutsCopy bytes p p' out out' due result = PutsOn (pending_in bytes p) (pending_in bytes p') out out' due result
 
@@ -60,6 +60,6 @@ pub record PutsBehind {A E : Type 0} (bytes : List ℕ) (p p' : PendingCopy) (ou
   pub counts : Counts out out' result
   pub part : IfOk result (λ _. IsPart bytes p')
 
--- what one text has more than the other was written, but for what is pending at its end
+-- what one text has more than the other was written, except what is pending at its end
 abbrev pub GrowsBut : Device → Device → List ℕ → List ℕ → List ℕ → Type 0
 GrowsBut out out' pending text more = (due : List ℕ) × (more ≡ text ++ (due ++ pending)) × Writes out out' due

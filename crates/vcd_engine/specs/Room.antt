@@ -68,7 +68,7 @@ AnyRoom need Holds = (r : Room) → need.values ≤ length r.values.now → need
 abbrev pub room_size : Room → RoomSize
 room_size r = record { values = length r.values.now; slots = max (length r.slots.now) (length r.shares.now); marks = length r.marks.now }
 
--- those of the room that a task's state holds
+-- the lengths of the room that a task's state has
 abbrev pub room_of : TaskState → RoomSize
 room_of (task_state.Check c) = no_room
 room_of (task_state.Pick p) = record { values = flags_in p; slots = 0; marks = 0 }
@@ -80,7 +80,7 @@ room_of (task_state.Edges e) = room_in_edges e
 abbrev pub SameTask : TaskState → TaskState → Type 0
 SameTask m m' = (request_in m' ≡ request_in m) × (room_of m' ≡ room_of m)
 
--- what an engine holds beside its registers: a view, and room
+-- what an engine has besides its registers: a view, and room
 abbrev pub view_in : Engine → HeadView
 view_in e = e.view
 
@@ -90,7 +90,7 @@ room_of_begun b = room_of b.task_state
 abbrev pub room_in : Engine → RoomSize
 room_in e = room_of e.task_state
 
--- it still holds them
+-- the engine still has the same view and room
 abbrev pub SameHold : Engine → Engine → Type 0
 SameHold e e' = (view_in e' ≡ view_in e) × (room_in e' ≡ room_in e)
 
@@ -112,11 +112,11 @@ pub record BeginsAs {A : Type 0} (asked : A → Request) (lent : A → RoomSize)
 abbrev pub AreWithinBound : (limit chunk : ℕ) → HeadView → RoomSize → Type 0
 AreWithinBound limit chunk v r = (h : Header) → IsViewOf v h → FitsInput limit h (record { chunk = chunk; token = limit; value = limit }) (view_size (parts v)) r
 
--- the windows of this feed do so
+-- the windows of this feed count like this
 abbrev pub FitsBound : {X : Type 0} {g : Ghosts X} → Feed X g → HeadView → RoomSize → Type 0
 FitsBound f v r = AreWithinBound (limit_of f) (chunk_len_of f) v r
 
--- so it is for every token limit, where no chunk is lent: of what begins, or reads no body
+-- the same for every token limit, if no chunk is lent: of a task that begins, or that reads no body
 abbrev pub IsWithinEachBound : HeadView → RoomSize → Type 0
 IsWithinEachBound v r = (limit : ℕ) → AreWithinBound limit 0 v r
 

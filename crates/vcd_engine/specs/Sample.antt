@@ -20,16 +20,16 @@ names_in s = map string_bytes s.names.now
 abbrev pub asked_in : Sample → Request
 asked_in s = Request.Sample s.times.now (names_in s)
 
--- what it is lent
+-- what `sample` is lent
 abbrev pub lent_to : Sample → RoomSize
 lent_to s = record { values = bytes_in s.table; slots = codes_in s.table; marks = length s.marks.now }
 
--- request and room stay
+-- the request and the room stay
 abbrev pub SameSample : Sample → Sample → Type 0
 SameSample s s' = (asked_in s' ≡ asked_in s) × (lent_to s' ≡ lent_to s)
 
 -- over this header and after these items: the table holds the values, the marks lead from one row
--- with a line to the next, and the last of the times, one at least, are those that are not settled
+-- with a line to the next, and the last of the times, at least one, are those that are not settled
 pub record AreSampled (s : Sample) (h : Header) (items : List BodyItem) : Type 0 where
   pub held : AreHeld s.table h items
   pub marks_lead : LeadOn (names_in s) h.declarations s.marks.now

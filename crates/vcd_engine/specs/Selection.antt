@@ -8,11 +8,11 @@ use Rattle.vcd_engine.specs.Choice.{is_chosen}
 use Rattle.vcd_body.specs.declared.answer.Stop.{Stop}
 use Rattle.vcd_body.specs.declared.answer.Stop.TheVariants.{Unmatched}
 
--- of the codes those of the variables that these names select are chosen, and no others
+-- of the codes, only those of the variables that these names select are chosen
 abbrev pub AreChosen : List (List ℕ) → Header → List ℕ → Type 0
 AreChosen names h t = (index : ℕ) (c : IdCode) → slice_get h.codes index ≡ Some c → is_chosen t index ≡ selects_code (selected names h.declarations) c
 
--- so they are, beside those that were chosen before
+-- the codes of these variables are chosen, besides those that were chosen before
 abbrev pub ChoosesMore : List (List ℕ) → Header → (old new : List ℕ) → Type 0
 ChoosesMore names h old new = (index : ℕ) (c : IdCode) → slice_get h.codes index ≡ Some c → is_chosen new index ≡ (is_chosen old index || selects_code (selected names h.declarations) c)
 
@@ -27,7 +27,7 @@ abbrev pub IsUnmatched : Stop → Type 0
 IsUnmatched (Unmatched index) = Unit {0}
 IsUnmatched stop = ⊥
 
--- and it is the first such
+-- it is the first name that selects nothing
 abbrev pub IsFirstUnmatched : List (List ℕ) → Header → Stop → Type 0
 IsFirstUnmatched names h (Unmatched index) = first_unmatched names h.declarations ≡ Some index
 IsFirstUnmatched names h stop = ⊥

@@ -42,8 +42,8 @@ StepGives task h i front items e f out out' (Err Write) =
 StepGives task h i front items e f out out' (Err (Unmatched name)) = ⊥
 
 -- What several steps leave after these items and some more, by all that they wrote: the last one is
--- a step after those. Where it takes an item after which the run is over, it is not said on which
--- line that is; and a write that failed may be of any item that was not there before.
+-- a step after those. If it takes an item after which the run is over, it is not known on which
+-- line that is; and a write that failed may belong to any item that was not there before.
 abbrev pub LastGives : {X : Type 0} {g : Ghosts X} → Request → Header → Input → List Token → List BodyItem → Engine → Feed X g → Device → Device → Result More Stop → List BodyItem → Type 0
 LastGives task h i front items e f out out' (Ok (Ended Early)) more =
     (x : BodyItem) × (ends_early task x ≡ true) × GaveLast h.codes i front (items ++ more) x f e.regs × Grows out out' (open_text task h items) (open_text task h ((items ++ more) ++ x ∷ []))
@@ -66,7 +66,7 @@ AheadGives task h i front items e f out out' (Err v) more = (x : BodyItem) × Ga
 abbrev pub TakesAhead : {X A E : Type 0} {g : Ghosts X} → Request → Header → Input → List Token → List BodyItem → Engine → Feed X g → Device → Device → Result A E → Type 0
 TakesAhead task h i front items e f out out' result = TakesSeveral task items (AheadGives task h i front items e f out out' result)
 
--- so it is after any items of any input
+-- the same after any items of any input
 abbrev pub Steps : {X W : Type 0} {g : Ghosts X} → (W → Device) → Engine → Engine → Feed X g → Feed X g → W → W → Result More Stop → Type 0
 Steps device e e' f f' out out' result = (h : Header) (i : Input) (front : List Token) (items : List BodyItem) → Runs e h i front items f → StepGives (request_of_engine e) h i front items e' f' (device out) (device out') result
 
@@ -76,7 +76,7 @@ StepsOn e e' f f' out out' result = (h : Header) (i : Input) (front : List Token
 abbrev pub StepsAhead : {X A E : Type 0} {g : Ghosts X} → Engine → Engine → Feed X g → Feed X g → Device → Device → Result A E → Type 0
 StepsAhead e e' f f' out out' result = (h : Header) (i : Input) (front : List Token) (items : List BodyItem) → Runs e h i front items f → TakesAhead (request_of_engine e) h i front items e' f' out out' result
 
--- a step ends the run early only where a timestamp may end it
+-- a step ends the run early only if a timestamp may end it
 abbrev pub MayEnd : Request → Result More Stop → Type 0
 MayEnd task result = IfOk result (λ more. more ≡ Ended Early → may_end_early task ≡ true)
 
@@ -88,7 +88,7 @@ step_end result = CallEnd.Ends
 
 -- ---- a step over any input
 
--- a step may be taken: no step has ended the run, devices can count one failure more, and what is
+-- a step may be taken: no step has ended the run, devices can count one more failure, and what is
 -- lent is within the bound
 pub record MayStep {X : Type 0} {g : Ghosts X} (failures : X → ℕ) (e : Engine) (f : Feed X g) (out : Device) : Type 0 where
   pub feed_failures : failures (source_of f) < 2 ^ 64 - 1
@@ -96,8 +96,8 @@ pub record MayStep {X : Type 0} {g : Ghosts X} (failures : X → ℕ) (e : Engin
   pub going : is_going e ≡ true
   pub bound : FitsBound f (view_in e) (room_in e)
 
--- what a step leaves beside items and output: the feed has advanced, a write that failed is
--- counted, and the engine has the same task, view and room, and has not ended where the answer is
+-- what a step leaves besides items and output: the feed has advanced, a write that failed is
+-- counted, the engine has the same task, view and room, and it has not ended if the answer is
 -- `Again`
 pub record StepsOver {X : Type 0} {g : Ghosts X} (failures : X → ℕ) (e e' : Engine) (f f' : Feed X g) (out out' : Device) (result : Result More Stop) : Type 0 where
   pub advances : Advances failures f f' (step_end result)

@@ -55,11 +55,11 @@ pub record Follows (task : Request) (limit chunk : ℕ) (i : Input) (front : Lis
   pub belongs : Belongs task (over_dump task name (record { header = h; stream = stream_of limit left; rest = rest })) name out out' result
   -- no more was read than what settles the task
   pub read : ReadsAsNeeded limit chunk old new left front (is_settled_behind task h)
-  -- it ended early exactly where an item ends it
+  -- it ended early if and only if an item ends it
   pub early : IfOk result (λ done. is_early done ≡ list_any (ends_early task) (body_items (read_body h.codes rest)))
   pub refused : IfErr result (IsRefused task h)
 
--- so it does over any header and any input
+-- the same over any header and any input
 abbrev pub Does : {X : Type 0} {g : Ghosts X} → Request → HeadView → (old new : Feed X g) → (out out' : Device) → Result Done Stop → Type 0
 Does task v old new out out' result = (h : Header) (i : Input) (front : List Token) (name : List ℕ) → IsViewOf v h → HasGiven i front old → Follows task (limit_of old) (chunk_len_of old) i front h name (supply_of old) (supply_of new) out out' result
 
@@ -68,15 +68,15 @@ abbrev pub Finishes : {X W : Type 0} {g : Ghosts X} → (W → Device) → Engin
 Finishes device e old new out out' result = (h : Header) (i : Input) (front : List Token) (name : List ℕ) (begin : Device) → Holds e h [] → HasGiven i front old → Writes begin (device out) (open_text (request_of_engine e) h [])
     → Follows (request_of_engine e) (limit_of old) (chunk_len_of old) i front h name (supply_of old) (supply_of new) begin (device out') result
 
--- it ends early only where a timestamp may end it
+-- it ends early only if a timestamp may end it
 abbrev pub EndsAsAsked : Request → Result Done Stop → Type 0
 EndsAsAsked task result = IfOk result (λ done. done ≡ Early → may_end_early task ≡ true)
 
--- one failed read or write is counted where the answer is that, and none where it is not
+-- if the answer is a failed read or write, one is counted; otherwise none is
 abbrev pub CountsBoth : {X A : Type 0} {g : Ghosts X} → (X → ℕ) → (old new : Feed X g) → (out out' : Device) → Result A Stop → Type 0
 CountsBoth failures old new out out' result = (failures (source_of new) ≡ failures (source_of old) + reads_failed result) × CountsStop out out' result
 
--- so, by what the output tells of itself
+-- the same, as far as the output describes itself
 abbrev pub CountsOn : {X W A : Type 0} {g : Ghosts X} → (X → ℕ) → (W → Device) → (old new : Feed X g) → (out out' : W) → Result A Stop → Type 0
 CountsOn failures device old new out out' result = CountsBoth failures old new (device out) (device out') result
 
@@ -84,7 +84,7 @@ CountsOn failures device old new out out' result = CountsBoth failures old new (
 abbrev pub SameWindows : {X : Type 0} {g : Ghosts X} → (old new : Feed X g) → Type 0
 SameWindows old new = (limit_of new ≡ limit_of old) × (chunk_len_of new ≡ chunk_len_of old) × SameLoans old new
 
--- a run may begin: no failed read of the feed was returned, devices can count one failure more, and
+-- a run may begin: no failed read of the feed was returned, devices can count one more failure, and
 -- what is lent is within the bound
 pub record MayRun {X : Type 0} {g : Ghosts X} (failures : X → ℕ) (f : Feed X g) (v : HeadView) (room : RoomSize) (out : Device) : Type 0 where
   pub feed_failures : failures (source_of f) < 2 ^ 64 - 1
@@ -100,7 +100,7 @@ pub record RunsTask {X : Type 0} {g : Ghosts X} (failures : X → ℕ) (task : R
   pub last : EndsAtRead (g.last_failed (source_of new)) result
   pub windows : SameWindows old new
 
--- so it does, and where it is done the body was read to its end
+-- the same, and if it succeeded, the body was read to its end
 pub record RunsWhole {X : Type 0} {g : Ghosts X} (failures : X → ℕ) (task : Request) (v : HeadView) (old new : Feed X g) (out out' : Device) (result : Result Done Stop) : Type 0 where
   pub runs : RunsTask failures task v old new out out' result
   pub answer : IfOk result (λ done. done ≡ Whole)

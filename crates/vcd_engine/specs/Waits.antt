@@ -1,4 +1,4 @@
--- What a run leaves that stops before a read, where what is due could not be passed on.
+-- What a run leaves that stops before a read, because what is due could not be passed on.
 use Rattle.std.specs.Prelude.{◌≡◌, ◌⊎◌, List, ◌++◌, Result, Err}
 use Rattle.vcd_model.specs.Header.{Header}
 use Rattle.vcd_model.specs.Input.{Input}

@@ -22,8 +22,8 @@ use Rattle.vcd_engine.specs.declared.task_state.TaskState.{TaskState}
 use Rattle.vcd_engine.specs.declared.task_state.walk.WalkState.{WalkState}
 use Rattle.vcd_engine.specs.declared.pending.PendingCopy.{PendingCopy}
 
--- from a position on some of the items that lie ahead were taken, and what is due with them was
--- written, but for what is pending
+-- from a position on, some of the items that lie ahead were taken, and what is due with them was
+-- written, except what is pending
 pub record HasWalked (v : HeadView) (a : Ahead) (r : Regs) (m : TaskState) (begin : Device) (w : Walk) (p : PendingCopy) (out : Device) (m' : TaskState) : Type 0 where
   pub over : LooksOver (longest_of a) (bytes_of a) w.ahead
   pub within : passed_of w.ahead ≤ length (bytes_of w.ahead)
@@ -45,6 +45,6 @@ pub record CanTake {L C : Type 0} (line_of : L → ℕ × ℕ) (is_ready : C →
   pub part : IsPart bytes state.pending
   pub line : IsLine bytes (line_of state.line) r.time
 
--- one item more was taken ahead by a command
+-- one more item was taken ahead by a command
 abbrev pub TakesByTask : {L C E : Type 0} → (L → ℕ × ℕ) → (C → TaskState) → HeadView → Stage (WalkState L) C → Stage (WalkState L) C → Result (Unit {0}) E → Type 0
 TakesByTask line task_state v s t result = TakesNext v (walk_of line s) (walk_of line t) s.visit.pending t.visit.pending s.out t.out (task_state s.command) (task_state t.command) result

@@ -1,4 +1,4 @@
-//! The commands over items: each is its task.
+//! The commands over items. Each is a call with its task.
 ghost use Rattle.std.specs.Prelude.{◌≢◌, ◌≤◌, [], map, string_bytes};
 ghost use Rattle.vcd_engine.specs.Names.{HasRoomFor, IsStrictlyIncreasing, MayRun, no_room, Request, room_size, RunsTask, RunsWhole};
 
@@ -9,7 +9,7 @@ use vcd_text::{Feed, Sink, Source};
 use vcd_view::HeadView;
 
 /// Reads the body after the header that is shown, and writes the seven lines of its report. Fails
-/// at the first fault of the body, at a failed read, and where a write failed.
+/// at the first fault of the body, at a failed read, and at a failed write.
 pub fn check<S: Source, W: Sink>(
     view: HeadView<'_>,
     feed: &mut Feed<'_, '_, '_, '_, S>,
@@ -28,11 +28,12 @@ pub fn check<S: Source, W: Sink>(
     run_task(Task::Check, view, feed, room, out)
 }
 
-/// Writes the header of the variables that the names select and of the scopes around them, and then
+/// Writes the header of the variables that the names select and of the scopes around them. Then
 /// reads the body after the header that is shown, and writes its sections and the changes of these
-/// variables, each after the line of its time. A name that selects nothing is refused before
-/// anything is read or written. Fails at the first fault of the body, at a failed read, and where a
-/// write failed.
+/// variables, each after the line of its time.
+///
+/// A name that selects nothing is refused before anything is read or written. Fails at the first
+/// fault of the body, at a failed read, and at a failed write.
 pub fn pick<S: Source, W: Sink>(
     view: HeadView<'_>,
     feed: &mut Feed<'_, '_, '_, '_, S>,
@@ -49,9 +50,10 @@ pub fn pick<S: Source, W: Sink>(
 }
 
 /// Reads the body after the header that is shown, and then writes a row for each variable that the
-/// names select: its path, and how often its value changes, rises and falls. A name that selects
-/// nothing is refused before anything is read. Fails at the first fault of the body, at a failed
-/// read, and where a write failed. At a fault nothing is written.
+/// names select: its path, and how often its value changes, rises and falls.
+///
+/// A name that selects nothing is refused before anything is read. Fails at the first fault of the
+/// body, at a failed read, and at a failed write. At a fault nothing is written.
 pub fn edges<S: Source, W: Sink>(
     view: HeadView<'_>,
     feed: &mut Feed<'_, '_, '_, '_, S>,
@@ -67,10 +69,10 @@ pub fn edges<S: Source, W: Sink>(
     run_task(Task::Edges(names), view, feed, room, out)
 }
 
-/// Writes the header of all variables and, from the first timestamp of at least `from` on, a
-/// section with the values just before `from`, and the items from then up to `to`, each after the
-/// line of its time. Times are in ticks. A timestamp above `to` ends the run. Fails at the first
-/// fault of the body, at a failed read, and where a write failed.
+/// Writes the header of all variables; from the first timestamp of at least `from` on, a section
+/// with the values just before `from`; and the items from then up to `to`, each after the line of
+/// its time. Times are in ticks. A timestamp above `to` ends the run. Fails at the first fault of
+/// the body, at a failed read, and at a failed write.
 pub fn cut<S: Source, W: Sink>(
     view: HeadView<'_>,
     feed: &mut Feed<'_, '_, '_, '_, S>,
@@ -89,10 +91,11 @@ pub fn cut<S: Source, W: Sink>(
 }
 
 /// Writes, for each of the times, the lines of the variables that the names select: the time, the
-/// path and the value, in full. There is a time, in ticks, and each is above the one before it. A
-/// name that selects nothing is refused before anything is read or written. Fails at the first
-/// fault of the body, at a failed read, and where a write failed. A timestamp above the last of the
-/// times ends the run.
+/// path and the value, in full. There is at least one time, in ticks, and each is above the one
+/// before it. A timestamp above the last of them ends the run.
+///
+/// A name that selects nothing is refused before anything is read or written. Fails at the first
+/// fault of the body, at a failed read, and at a failed write.
 pub fn sample<S: Source, W: Sink>(
     view: HeadView<'_>,
     feed: &mut Feed<'_, '_, '_, '_, S>,

@@ -1,4 +1,4 @@
-//! A run of a task over the items of a body. It names no command.
+//! A run of a task over the items of a body. It knows no single command.
 ghost use Rattle.std.specs.Prelude.{◌≡◌, ◌≢◌, ◌-◌, ◌^◌, ◌<◌, [], List, true, false, MatchBool, Ok, MatchResult};
 ghost use Rattle.vcd_engine.specs.Names.{Advances, Again, BeginsAs, BodyItem, CallEnd, CanRun, close_text, Counts, CountsOn, Early, EndsAsAsked, EndsAtRead, Finish, Finishes, HasBegun, HasRoomFor, Header, Holds, is_going, IsValid, IsViewOf, IsWithinEachBound, item_text, MayRun, MayStep, parts, request_of, request_of_begun, request_of_engine, room_in, room_of_begun, room_size, RunsTask, SameHold, SameWindows, seen, StartsOver, Steps, StepsAhead, StepsOver, Takes, view_in};
 ghost use Rattle.vcd_engine.specs.Waits.{StepsOrStops};
@@ -57,7 +57,7 @@ impl<'n, 'r> Begun<'n, 'r> {
     ///
     /// # Errors
     ///
-    /// `Stop::Unmatched` at a name that selects nothing: nothing was written. `Stop::Write` where a
+    /// `Stop::Unmatched` at a name that selects nothing: nothing was written. `Stop::Write` if a
     /// write failed, after a prefix.
     pub fn start<W: Sink>(
         task: Task<'n>,
@@ -148,7 +148,7 @@ impl<'v, 'n, 'r> Engine<'v, 'n, 'r> {
     }
 
     /// Takes the items that are whole in the feed's chunk, and writes what is due with each. The
-    /// feed moves past them in one call, and nothing is read. Fails where a write does.
+    /// feed moves past them in one call, and nothing is read. Fails if a write does.
     #[inline(never)]
     fn walk_ahead<S: Source, W: Sink>(
         &mut self,
@@ -234,8 +234,8 @@ impl<'v, 'n, 'r> Engine<'v, 'n, 'r> {
         self.step_with_view(view, feed, out)
     }
 
-    /// Takes the items that are whole in the chunk, and then the next one, which may need a read:
-    /// before that `out` passes on all that it keeps back.
+    /// Takes the items that lie completely in the chunk, and then the next one, which may need a
+    /// read: before that `out` passes on all that it keeps back.
     #[inline(always)]
     fn advance<S: Source, W: Sink>(
         &mut self,
@@ -261,7 +261,7 @@ impl<'v, 'n, 'r> Engine<'v, 'n, 'r> {
         self.read_on(view, feed, out)
     }
 
-    /// Writes what is due at the end of a body without fault. Fails where a write does.
+    /// Writes what is due at the end of a body without fault. Fails if a write does.
     // Not inlined, so that the loop over steps lends no view for it.
     #[inline(never)]
     fn close<W: Sink>(&self, out: &mut W) -> Result<(), WriteFailed>
@@ -275,7 +275,7 @@ impl<'v, 'n, 'r> Engine<'v, 'n, 'r> {
     }
 
     /// Runs the items that are left, writes what is due with each and at the end, and returns what
-    /// ended the run: the end of the body, or an item. Fails where a step does.
+    /// ended the run: the end of the body, or an item. Fails if a step does.
     fn run_to_end<S: Source, W: Sink>(
         &mut self,
         feed: &mut Feed<'_, '_, '_, '_, S>,
@@ -306,7 +306,7 @@ impl<'v, 'n, 'r> Engine<'v, 'n, 'r> {
 ///
 /// # Errors
 ///
-/// The fault of the body or a failed read: nothing was written. `Stop::Write` where a write failed.
+/// The fault of the body or a failed read: nothing was written. `Stop::Write` if a write failed.
 #[inline(always)]
 pub fn step<S: Source, W: Sink>(
     engine: &mut Engine<'_, '_, '_>,
@@ -327,7 +327,7 @@ pub fn step<S: Source, W: Sink>(
 /// # Errors
 ///
 /// `Stop::Unmatched` at a name that selects nothing, before anything is read or written; the first
-/// fault of the body; a failed read; `Stop::Write` where a write failed.
+/// fault of the body; a failed read; `Stop::Write` if a write failed.
 pub fn run_task<S: Source, W: Sink>(
     task: Task<'_>,
     view: HeadView<'_>,

@@ -1,4 +1,4 @@
-//! The text of kept items: the line of each, after the line of its time where that is due.
+//! The text of kept items: the line of each, after the line of its time if that is due.
 ghost use Rattle.std.specs.Prelude.{◌≡◌, ℕ, ◌-◌, ◌^◌, ◌<◌, ◌∷◌, [], List, Some, IfOk};
 ghost use Rattle.vcd_engine.specs.Names.{as_line, BodyItem, closing, Counts, Entry, HasGoodText, HasWritten, Header, IsSpanned, IsItem, IsLine, IsPart, IsViewOf, item_line, keyword_text, LastTells, model_section, PutsBehind, PutsEntry, PutsCopy, PutsWhere, section_keyword, TakenBy, Takes, time_due, times_with};
 
@@ -26,7 +26,7 @@ fn begin_line(section: Section) -> &'static [u8]
     }
 }
 
-/// Writes the line of an item that has this text; a timestamp has none here. Fails where a write
+/// Writes the line of an item that has this text; a timestamp has no line here. Fails if a write
 /// does.
 #[inline(always)]
 fn put_item<W: Sink>(
@@ -71,8 +71,7 @@ impl ItemText {
         }
     }
 
-    /// Writes the line of `time`, where it is due, and the line of an item. Fails where a write
-    /// does.
+    /// Writes the line of `time`, if it is due, and the line of an item. Fails if a write does.
     #[inline(always)]
     fn put<W: Sink>(
         &mut self,
@@ -93,9 +92,9 @@ impl ItemText {
         put_item(view, item, text, out)
     }
 
-    /// Adds the line of `time`, where it is due, and the line of an item, after the pending text.
-    /// What the chunk has as such a line becomes pending; else it is written. Fails where a write
-    /// does.
+    /// Adds the line of `time`, if it is due, and the line of an item, after the pending text. If
+    /// the chunk has such a line, the line becomes pending; otherwise it is written. Fails if a
+    /// write does.
     #[inline(always)]
     pub(crate) fn put_spanned<W: Sink>(
         &mut self,
@@ -124,8 +123,8 @@ impl ItemText {
         pending.append_line(item.bytes, item.from, item.to, n, out)
     }
 
-    /// Adds the line of `time`, unless it was the last such line, after the pending text. Fails
-    /// where a write does.
+    /// Adds the line of `time`, unless it was the last such line, after the pending text. Fails if
+    /// a write does.
     #[inline(always)]
     fn add_time<W: Sink>(
         &mut self,
@@ -149,8 +148,7 @@ impl ItemText {
         pending.append_time(time, bytes, line.from, line.to, out)
     }
 
-    /// Writes the line of the last timestamp, where there is one and it is due. Fails where a write
-    /// does.
+    /// Writes the line of the last timestamp, if there is one and it is due. Fails if a write does.
     pub(crate) fn close<W: Sink>(&self, last: Option<u64>, out: &mut W) -> Result<(), WriteFailed>
         requires { (W.device out.old).failures < 2 ^ 64 - 1 }
         ensures takes { (before : List ℕ) (kept : List Entry) → HasWritten before kept self.now

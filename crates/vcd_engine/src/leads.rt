@@ -1,12 +1,12 @@
-//! Flags that lead from one row with a line in a sample to the next, so that a time costs its lines
-//! and no pass over all rows.
+//! Flags that lead from one row with a line in a sample to the next, so that a time needs no look
+//! at the rows without a line.
 ghost use Rattle.std.specs.Prelude.{◌≡◌, ◌≢◌, ◌<◌, ◌≤◌, ℕ, List, length, get_or, MatchBool};
 ghost use Rattle.vcd_engine.specs.Names.{HaveNoLine, Header, IsSelectedAt, IsViewOf, LeadOn, marks_of, rows_on};
 
 use vcd_view::{HeadView, Kind};
 
-/// Returns whether a row has a line in a sample: its flag `flag` is 1, and it is a variable that is
-/// no event.
+/// Returns whether a row has a line in a sample: its flag is 1, and it is a variable that is no
+/// event.
 fn has_line(view: HeadView<'_>, row: usize, flag: u8) -> bool
     requires { row < length view.rows.now }
     ensures { (h : Header) (names : List (List ℕ)) → IsViewOf view.entry h
@@ -30,7 +30,7 @@ fn flag_over(count: usize) -> u8
     2 + count.ilog2() as u8
 }
 
-/// Returns how many rows a flag skips, a power of two: 1 for the flags 0 to 2.
+/// Returns how many rows a flag skips: a power of two, which is 1 for the flags 0 to 2.
 pub(crate) fn rows_on(flag: u8) -> usize
     ensures passes { result ≡ rows_on flag }
     ensures some { 0 < result }
@@ -38,10 +38,10 @@ pub(crate) fn rows_on(flag: u8) -> usize
     1 << flag.saturating_sub(2).min(63)
 }
 
-/// Turns the flags of selected rows into flags that lead on: 1 where a row has a line in a sample,
-/// elsewhere how many rows without one to skip (`rows_on`).
-// Against a look at each row it saves a `sample` of one variable of 200,000 at 20,000 times 99 % of
-// its time.
+/// Turns the flags of selected rows into flags that lead on: 1 if a row has a line in a sample,
+/// otherwise how many rows without a line to skip (`rows_on`).
+// With a look at each row, a `sample` of one variable of 200,000 at 20,000 times took 100 times as
+// long.
 pub(crate) fn lead_on(view: HeadView<'_>, marks: &mut [u8])
     requires { length marks.old ≡ length view.rows.now }
     ensures leads { (h : Header) (names : List (List ℕ)) → IsViewOf view.entry h

@@ -58,7 +58,7 @@ impl<'a> SpannedItem<'a> {
     }
 
     /// Returns how many bytes after the first one to drop, so that the rest of the span before its
-    /// last byte, and a line feed, are the item's line. `None` where that is not known, or the feed
+    /// last byte, and a line feed, are the item's line. `None` if that is not known, or the feed
     /// gave the item.
     #[inline(always)]
     pub(crate) fn left_out(self) -> Option<usize>
@@ -76,7 +76,7 @@ impl<'a> SpannedItem<'a> {
     }
 }
 
-/// Writes the bytes from `from` up to `to`. Fails where a write does.
+/// Writes the bytes from `from` up to `to`. Fails if a write does.
 // Not inlined, so that a loop in which the piece grows has all registers.
 #[inline(never)]
 fn put_part<W: Sink>(bytes: &[u8], from: usize, to: usize, out: &mut W) -> Result<(), WriteFailed>
@@ -88,7 +88,7 @@ fn put_part<W: Sink>(bytes: &[u8], from: usize, to: usize, out: &mut W) -> Resul
 }
 
 /// Writes the bytes from `from` up to `to` without the `n` after the first, and a line feed. Fails
-/// where a write does.
+/// if a write does.
 // It is for lines that end with CR LF. Made anew from digits and codes, these cost `pick` of all
 // scalars 30 % more.
 #[inline(never)]
@@ -110,7 +110,7 @@ fn put_line<W: Sink>(
 }
 
 /// The pending text: the bytes of the chunk from `from` up to `to`.
-// Numbers alone, so that a loop keeps them in registers.
+// Only numbers, so that a loop keeps them in registers.
 #[derive(Clone, Copy)]
 pub(crate) struct PendingCopy {
     from: usize,
@@ -127,7 +127,7 @@ impl PendingCopy {
         PendingCopy { from: 0, to: 0 }
     }
 
-    /// Writes the pending text. Fails where a write does.
+    /// Writes the pending text. Fails if a write does.
     #[inline(always)]
     pub(crate) fn flush<W: Sink>(&mut self, bytes: &[u8], out: &mut W) -> Result<(), WriteFailed>
         requires failures { (W.device out.old).failures < 2 ^ 64 - 1 }
@@ -144,8 +144,8 @@ impl PendingCopy {
         Ok(())
     }
 
-    /// Adds the bytes from `from` up to `to`, which are due next. Where they adjoin the pending
-    /// text, it grows; else it is written first. Fails where a write does.
+    /// Adds the bytes from `from` up to `to`, which are due next. If they adjoin the pending text,
+    /// it grows; otherwise it is written first. Fails if a write does.
     #[inline(always)]
     pub(crate) fn append<W: Sink>(
         &mut self,
@@ -171,7 +171,7 @@ impl PendingCopy {
     }
 
     /// Adds the bytes from `from` up to `to` without the `n` after the first, as one piece or two.
-    /// Fails where a write does.
+    /// Fails if a write does.
     #[inline(always)]
     pub(crate) fn append_parts<W: Sink>(
         &mut self,
@@ -195,8 +195,8 @@ impl PendingCopy {
     }
 
     /// Adds the bytes from `from` up to the last one before `to`, without the `n` after the first,
-    /// and a line feed. Where the last byte is one, they become pending; else they are written by
-    /// one write. Fails where a write does.
+    /// and a line feed. If the last byte is one, they become pending; otherwise they are written by
+    /// one write. Fails if a write does.
     #[inline(always)]
     pub(crate) fn append_line<W: Sink>(
         &mut self,
@@ -222,7 +222,7 @@ impl PendingCopy {
 
     /// Adds the line of a time, which is due next. The bytes from `from` up to `to` are that line,
     /// and become pending; or there are none, and the line is written after the pending text. Fails
-    /// where a write does.
+    /// if a write does.
     #[inline(always)]
     pub(crate) fn append_time<W: Sink>(
         &mut self,

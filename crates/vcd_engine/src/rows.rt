@@ -7,7 +7,7 @@ use vcd_head::put_path;
 use vcd_text::{Sink, WriteFailed, put, put_number};
 use vcd_view::{HeadView, Kind};
 
-/// Writes a space and a word. Fails where a write does.
+/// Writes a space and a word. Fails if a write does.
 fn put_word<W: Sink>(out: &mut W, word: &[u8]) -> Result<(), WriteFailed>
     requires { (W.device out.old).failures < 2 ^ 64 - 1 }
     ensures { Puts (W.device out.old) (W.device out.new) (32 ∷ word.now) result }
@@ -39,7 +39,7 @@ fn put_variable<W: Sink>(view: HeadView<'_>, row: usize, out: &mut W) -> Result<
 }
 
 /// Writes a line for each variable, in order of declaration: its path, type, size in bits and code.
-/// The body of the dump is not read. Fails with `Stop::Write` where a write failed.
+/// It does not read the body of the dump. Fails with `Stop::Write` if a write failed.
 pub fn list<W: Sink>(view: HeadView<'_>, out: &mut W) -> Result<Done, Stop>
     requires failures { (W.device out.old).failures < 2 ^ 64 - 1 }
     requires bound { IsWithinEachBound view no_room }

@@ -9,7 +9,7 @@ use vcd_text::{Sink, WriteFailed, put, put_number};
 use vcd_view::HeadView;
 
 /// Writes the line of the variable in a row: `time`, its path and its value. An event has none. No
-/// item so far is later than `time`. Fails where a write does.
+/// item so far is later than `time`. Fails if a write does.
 fn put_line<W: Sink>(
     table: &Table<'_>,
     view: HeadView<'_>,
@@ -36,8 +36,8 @@ fn put_line<W: Sink>(
     put(out, b"\n")
 }
 
-/// Writes the lines of a time: one for each row whose flag is 1. Any other flag skips rows. No item
-/// so far is later than `time`. Fails where a write does.
+/// Writes the lines of a time: one for each row whose flag is 1. Any other flag says how many rows
+/// to skip. No item so far is later than `time`. Fails if a write does.
 fn put_lines<W: Sink>(
     table: &Table<'_>,
     view: HeadView<'_>,
@@ -61,7 +61,7 @@ fn put_lines<W: Sink>(
     Ok(())
 }
 
-/// Writes the lines of these times. No item so far is later than any. Fails where a write does.
+/// Writes the lines of these times. No item so far is later than any. Fails if a write does.
 pub(crate) fn put_samples<W: Sink>(
     table: &Table<'_>,
     view: HeadView<'_>,

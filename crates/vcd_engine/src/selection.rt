@@ -7,7 +7,7 @@ use vcd_body::Stop;
 use vcd_head::select;
 use vcd_view::{HeadView, Kind};
 
-/// Returns whether the flag of a row is set; false where there is no such row.
+/// Returns whether the flag of a row is set; false if there is no such row.
 pub(crate) fn is_marked(marks: &[u8], row: usize) -> bool
     ensures { result ≡ is_marked marks.now row }
 {
@@ -29,9 +29,9 @@ fn choose_marked(view: HeadView<'_>, marks: &[u8], flags: &mut [u8])
     }
 }
 
-/// Sets the flags of the variables that the names select, all where there are no names, and of the
+/// Sets the flags of the variables that the names select (all if there are no names) and of the
 /// scopes around them, and chooses the codes of these variables and no others. Fails with
-/// `Stop::Unmatched` at the first name that selects nothing; flags are unspecified then.
+/// `Stop::Unmatched` at the first name that selects nothing; then the flags may be anything.
 pub(crate) fn select_codes(
     view: HeadView<'_>,
     names: &[String],

@@ -9,8 +9,8 @@ use vcd_text::{Sink, WriteFailed, put, put_number};
 use vcd_view::{HeadView, Kind};
 
 /// Sets the value of a code that is no event by the text of a change, and counts a change, rise or
-/// fall where it differs from the value before. `size` is the code's, in bits; `bits` the text as a
-/// number, where it is known.
+/// fall if it differs from the value before. `size` is the size of the code, in bits; `bits` is the
+/// text as a number, if that is known.
 #[inline(always)]
 pub(crate) fn take_value(
     table: &mut Table<'_>,
@@ -80,7 +80,7 @@ fn put_row<W: Sink>(
 }
 
 /// Writes a line for each selected variable, in order of declaration. `marks` has a byte for each
-/// row of the view, 1 at a selected variable. Fails where a write does.
+/// row of the view, 1 at a selected variable. Fails if a write does.
 pub(crate) fn put_rows<W: Sink>(
     table: &Table<'_>,
     view: HeadView<'_>,

@@ -1,4 +1,4 @@
-//! A task, what is done with the items of a body, and the slices that it works in.
+//! A task: what is done with the items of a body; and the slices that it works in.
 ghost use Rattle.std.specs.Prelude.{◌≡◌};
 ghost use Rattle.vcd_engine.specs.Names.{AnyRoom, FitsEachInput, HasRoomFor, KeepsBound, marks_for, slots_for, values_for};
 
@@ -18,8 +18,8 @@ pub enum Task<'n> {
         from: u64,
         to: u64,
     },
-    /// Writes the values of the variables that these names select, all where there is none, at
-    /// these times, in ticks.
+    /// Writes the values of the variables that these names select (all if there is none) at these
+    /// times, in ticks.
     Sample {
         times: &'n [u64],
         names: &'n [String],
@@ -29,8 +29,8 @@ pub enum Task<'n> {
     Edges(&'n [String]),
 }
 
-/// The slices that a task works in beside the windows of its feed, of at least the lengths that
-/// `Task::need` returns. No memory is taken beyond them.
+/// The slices that a task works in besides the windows of its feed. They have at least the lengths
+/// that `Task::need` returns. No other memory is taken.
 #[derive(Drop)]
 pub struct Room<'r> {
     /// Bytes for the values of codes; `pick` has a flag of one byte for each code there.

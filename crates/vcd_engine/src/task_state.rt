@@ -25,7 +25,7 @@ pub(crate) enum TaskState<'n, 'r> {
     Edges(edges::Edges<'n, 'r>),
 }
 
-/// Returns the time of the last timestamp; `None` where there was none.
+/// Returns the time of the last timestamp; `None` if there was none.
 pub(crate) fn last_of(regs: Regs) -> Option<u64>
     ensures { result ≡ last_of regs }
 {
@@ -40,7 +40,7 @@ impl<'n, 'r> TaskState<'n, 'r> {
     ///
     /// # Errors
     ///
-    /// `Stop::Unmatched` at a name that selects nothing: nothing was written. `Stop::Write` where a
+    /// `Stop::Unmatched` at a name that selects nothing: nothing was written. `Stop::Write` if a
     /// write failed.
     pub(crate) fn start<W: Sink>(
         task: Task<'n>,
@@ -71,7 +71,7 @@ impl<'n, 'r> TaskState<'n, 'r> {
 
     /// Takes an item that the feed gave, writes what is due with it, and returns whether it ended
     /// the run. `text` is a change's text, and any bytes for other items; `regs` are the registers
-    /// after the item. Fails where a write does.
+    /// after the item. Fails if a write does.
     #[inline(always)]
     pub(crate) fn take<W: Sink>(
         &mut self,
@@ -105,8 +105,8 @@ impl<'n, 'r> TaskState<'n, 'r> {
         }
     }
 
-    /// Takes the items that are whole in the chunk, and writes what is due with each.
-    // A loop for each task: none matches on the task for each item.
+    /// Takes the items that lie completely in the chunk, and writes what is due with each.
+    // A loop for each task, so that no loop asks for the task at each item.
     pub(crate) fn take_ahead<W: Sink>(
         &mut self,
         view: HeadView<'_>,

@@ -1,11 +1,11 @@
-//! The current values of codes after one item more.
+//! The current values of codes after one more item.
 ghost use Rattle.std.specs.Prelude.{◌∷◌, ◌++◌, [], List};
 ghost use Rattle.vcd_engine.specs.Names.{AreHeld, BodyItem, HasBits, HasGoodText, Header, HeadView, IsItem, IsViewOf, KeepsTable};
 
 use vcd_body::{Bits, Item, Table, Value};
 
-/// Sets the value that an item gives, where it is a change. `bits` is its text as a number, where
-/// that is known.
+/// Sets the value that an item gives, if it is a change. `bits` is its text as a number, if that is
+/// known.
 #[inline(always)]
 pub(crate) fn set_item(table: &mut Table<'_>, item: Item, text: &[u8], bits: Option<Bits>)
     requires bits { HasBits item text.now bits }

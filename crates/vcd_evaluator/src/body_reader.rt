@@ -1,4 +1,4 @@
-// Reading a body.
+// The reading of a body.
 use crate::fault::{Fault, Wrong};
 use crate::header::{Code, find_code};
 use crate::item::{Body, Change, Item, Said};
@@ -9,7 +9,7 @@ use crate::value::Value;
 use crate::word::{Keyword, Lead, is_digit, keyword_of, lead_of};
 use std::alloc::{AllocError, Global};
 
-// How many bytes a real text has at most.
+// How many bytes a real text may have.
 const MAX_REAL: usize = 64;
 
 // What is known of the items before a phrase.
@@ -46,7 +46,7 @@ enum Phrase<'t> {
     Finish,
 }
 
-// The code of a change.
+// Returns the code with this text. Fails at the token if there is none.
 fn code_at<'t>(codes: &[Code<'t>], token: Token<'_>, text: &[u8]) -> Result<Code<'t>, Fault> {
     match find_code(codes, text) {
         Some(code) => Ok(code),
@@ -107,7 +107,7 @@ fn read_real<'t>(
     }))
 }
 
-// Reads a phrase that begins with no keyword.
+// Reads a phrase that begins with no keyword, and returns what it says.
 fn read_plain<'t>(
     token: Token<'t>,
     codes: &[Code<'t>],
@@ -126,7 +126,7 @@ fn read_plain<'t>(
     }
 }
 
-// What a keyword other than `$comment` says.
+// Reads the phrase of a keyword other than `$comment`, and returns what it says.
 fn read_keyword<'t>(token: Token<'t>, keyword: Keyword, before: Before) -> Result<Said<'t>, Fault> {
     match keyword {
         Keyword::Dump(section) if !before.in_section => Ok(Said::Begin(section)),
@@ -163,7 +163,7 @@ fn read_phrase<'t>(
     }))
 }
 
-// Reads a body over these codes.
+// Reads the body of a dump with these codes.
 pub(crate) fn read_body<'t>(
     alloc: Global,
     codes: &[Code<'t>],

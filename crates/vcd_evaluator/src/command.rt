@@ -1,6 +1,6 @@
 //! What a run is asked for, what it reads, and what it leaves.
 
-/// A command with its words.
+/// A command with its arguments.
 #[derive(Clone, Copy)]
 pub enum Command<'a> {
     /// `check`.
@@ -9,28 +9,28 @@ pub enum Command<'a> {
     List,
     /// `pick` of these names, one or more.
     Pick(&'a [&'a str]),
-    /// `cut`, its times as words.
+    /// `cut`, with its times as arguments.
     Cut {
-        /// The word of `--from`.
+        /// The argument of `--from`.
         from: &'a str,
-        /// The word of `--to`.
+        /// The argument of `--to`.
         to: &'a str,
     },
     /// `sample`.
     Sample {
-        /// The word of `--at`.
+        /// The argument of `--at`.
         times: &'a str,
-        /// The names, all variables where there is none.
+        /// The names; all variables if there is none.
         names: &'a [&'a str],
     },
-    /// `edges` of these names, of all variables where there is none.
+    /// `edges` of these names, or of all variables if there is none.
     Edges(&'a [&'a str]),
     /// `merge` of all inputs.
     Merge,
 }
 
 impl<'a> Command<'a> {
-    // The names of variables.
+    // Returns the names of variables.
     pub(crate) fn names(self) -> &'a [&'a str] {
         match self {
             Command::Pick(names) | Command::Sample { names, .. } | Command::Edges(names) => names,
@@ -46,7 +46,7 @@ pub struct Input<'a> {
     pub name: &'a str,
     /// Its bytes.
     pub bytes: &'a [u8],
-    /// A read fails after its bytes, where they would end else.
+    /// Whether a read fails after its bytes, and they do not end.
     pub fails: bool,
 }
 

@@ -7,7 +7,7 @@ use crate::value::change_before;
 use crate::variables::Placed;
 use std::alloc::AllocError;
 
-// The section that a cut begins with: the values before its first time.
+// Writes the section that a cut begins with: the values before its first time.
 fn put_start(lines: &mut ItemText, dump: &Dump<'_, '_>, from: u64) -> Result<(), AllocError> {
     lines.put_time(from)?;
     lines.text.put(b"$dumpvars\n");
@@ -22,7 +22,7 @@ fn put_start(lines: &mut ItemText, dump: &Dump<'_, '_>, from: u64) -> Result<(),
     Ok(())
 }
 
-// The items from the first time on. None of them is past the last time.
+// Writes the items from the first time on. None of them is past the last time.
 fn put_kept(lines: &mut ItemText, dump: &Dump<'_, '_>, from: u64) -> Result<(), AllocError> {
     for item in dump.items {
         if from <= item.time && item.is_written() {
@@ -32,7 +32,7 @@ fn put_kept(lines: &mut ItemText, dump: &Dump<'_, '_>, from: u64) -> Result<(), 
     Ok(())
 }
 
-// The dump between these times; its items end with the first timestamp past the last time.
+// Writes the dump between these times. Its items end with the first timestamp past the last time.
 pub(crate) fn put_cut(
     lines: &mut ItemText,
     dump: &Dump<'_, '_>,

@@ -26,7 +26,7 @@ fn last_digit(value: Value<'_>) -> Option<u8> {
     }
 }
 
-// With what one more value counts after the one before it.
+// Returns these counts with those of one more value, after the value before it.
 fn with_step(edges: Edges, before: Value<'_>, after: Value<'_>, size: usize) -> Edges {
     let (rises, falls) = match (last_digit(before), last_digit(after)) {
         (Some(b'0'), Some(b'1')) => (1, 0),
@@ -41,7 +41,7 @@ fn with_step(edges: Edges, before: Value<'_>, after: Value<'_>, size: usize) -> 
     }
 }
 
-// The edges of a code that is no event.
+// Returns the counts of a code that is no event.
 fn edges_of(items: &[Item<'_>], code: &Code<'_>) -> Edges {
     let mut edges = NO_EDGES;
     let mut last = None;
@@ -56,7 +56,7 @@ fn edges_of(items: &[Item<'_>], code: &Code<'_>) -> Edges {
     edges
 }
 
-// The triggers of an event outside sections.
+// Returns how often an event was triggered outside sections.
 fn marks_of(items: &[Item<'_>], code: &Code<'_>) -> Edges {
     let mut edges = NO_EDGES;
     for item in items {
@@ -77,7 +77,7 @@ fn put_counts(text: &mut Text, edges: Edges) {
     text.put(b"\n");
 }
 
-// A row for each of these variables, at the end of the dump.
+// Writes a row for each of these variables, at the end of the dump.
 pub(crate) fn put_edges(text: &mut Text, dump: &Dump<'_, '_>, variables: &[Placed<'_>]) {
     for placed in variables {
         let code = &placed.variable.code;

@@ -2,7 +2,7 @@
 use crate::scale::Scale;
 use std::alloc::{AllocError, Global};
 
-// A code, with what was said of it where it was first declared.
+// A code, with the size and kind of its first declaration.
 #[derive(Clone, Copy)]
 pub(crate) struct Code<'t> {
     pub(crate) text: &'t [u8],
@@ -39,7 +39,7 @@ pub(crate) struct Header<'t> {
 }
 
 impl<'t> Header<'t> {
-    // A header that says nothing yet.
+    // Returns a header that says nothing yet.
     pub(crate) fn new(alloc: Global) -> Self {
         Header {
             date: b"",
@@ -50,7 +50,7 @@ impl<'t> Header<'t> {
         }
     }
 
-    // How many scopes are open after all declarations.
+    // Returns how many scopes are open after all declarations.
     pub(crate) fn open_scopes(&self) -> usize {
         let mut opened: usize = 0;
         for declaration in self.declarations.as_slice() {
@@ -63,7 +63,7 @@ impl<'t> Header<'t> {
         opened
     }
 
-    // Declares a variable, and its code where no other has it.
+    // Declares a variable, and its code if no other variable has it.
     pub(crate) fn declare(&mut self, variable: Variable<'t>) -> Result<(), AllocError> {
         if find_code(self.codes.as_slice(), variable.code.text).is_none() {
             self.codes.push(variable.code)?;
@@ -73,12 +73,12 @@ impl<'t> Header<'t> {
     }
 }
 
-// The code of this text.
+// Returns the code with this text.
 pub(crate) fn find_code<'t>(codes: &[Code<'t>], text: &[u8]) -> Option<Code<'t>> {
     codes.iter().copied().find(|code| code.text == text)
 }
 
-// Whether a scope that was opened at an index is still open at a later one.
+// Returns whether a scope that was opened at an index is still open at a later one.
 pub(crate) fn is_open(declarations: &[Declaration<'_>], scope: usize, place: usize) -> bool {
     let mut depth: usize = 0;
     for declaration in declarations.iter().take(place).skip(scope) {

@@ -1,4 +1,4 @@
-// Reading a header.
+// The reading of a header.
 use crate::fault::{Fault, Wrong};
 use crate::header::{Code, Declaration, Header, Variable, find_code};
 use crate::number::number_of;
@@ -9,10 +9,10 @@ use crate::token::Token;
 use crate::word::{Keyword, Lead, keyword_of, lead_of};
 use std::alloc::Global;
 
-// How many scopes may be open.
+// How many scopes may be open at the same time.
 const MAX_OPEN: usize = 1000;
 
-// The greatest size of a variable.
+// How many bits a variable may have.
 const MAX_BITS: u64 = 16_777_215;
 
 // Reads what follows `$scope`.
@@ -35,7 +35,7 @@ fn read_size(reader: &mut Reader<'_>) -> Result<usize, Fault> {
     }
 }
 
-// Reads the code of a variable, which is to be declared alike each time.
+// Reads the code of a variable. Each declaration of a code has to agree with the first.
 fn read_code<'t>(
     header: &Header<'t>,
     size: usize,
@@ -81,9 +81,9 @@ fn read_declaration<'t>(
     token: Token<'t>,
     keyword: Keyword,
     reader: &mut Reader<'t>,
-    most: usize,
+    allowed: usize,
 ) -> Result<(), Stop> {
-    token.check(header.declarations.len() < most, Wrong::TooMany)?;
+    token.check(header.declarations.len() < allowed, Wrong::TooMany)?;
     match keyword {
         Keyword::Scope => {
             token.check(header.open_scopes() < MAX_OPEN, Wrong::TooDeep)?;
@@ -103,8 +103,8 @@ fn read_declaration<'t>(
     Ok(())
 }
 
-// Reads a command that begins with no keyword: only one that this program does not know may be
-// passed over.
+// Reads a command that begins with no keyword. A command that this program does not know is
+// ignored.
 fn read_other(token: Token<'_>, reader: &mut Reader<'_>) -> Result<(), Fault> {
     match token.parts() {
         Some((b'$', [_, ..])) => {
@@ -123,7 +123,7 @@ fn read_command<'t>(
     header: &mut Header<'t>,
     token: Token<'t>,
     reader: &mut Reader<'t>,
-    most: usize,
+    allowed: usize,
 ) -> Result<(), Stop> {
     let Some(keyword) = keyword_of(token.text) else {
         return Ok(read_other(token, reader)?);
@@ -142,7 +142,7 @@ fn read_command<'t>(
         }
         Keyword::Timescale => header.scale = Some(read_scale(reader)?),
         Keyword::Scope | Keyword::Upscope | Keyword::Var => {
-            read_declaration(header, token, keyword, reader, most)?;
+            read_declaration(header, token, keyword, reader, allowed)?;
         }
         Keyword::EndDefinitions | Keyword::Dump(_) | Keyword::End => {
             return Err(Stop::At(token.fault(Wrong::OutOfPlace)));
@@ -151,11 +151,11 @@ fn read_command<'t>(
     Ok(())
 }
 
-// Reads a header, which may have this many declarations.
+// Reads a header, which may have at most `allowed` declarations.
 pub(crate) fn read_header<'t>(
     alloc: Global,
     reader: &mut Reader<'t>,
-    most: usize,
+    allowed: usize,
 ) -> Result<Header<'t>, Stop> {
     let mut header = Header::new(alloc);
     for _ in 0..reader.len() {
@@ -164,7 +164,7 @@ pub(crate) fn read_header<'t>(
             reader.need_end(Wrong::OutOfPlace)?;
             return Ok(header);
         }
-        read_command(&mut header, token, reader, most)?;
+        read_command(&mut header, token, reader, allowed)?;
     }
     Err(Stop::At(reader.ending))
 }

@@ -11,7 +11,7 @@ pub(crate) enum Naming {
     From(usize),
 }
 
-// The digits of a number in base 94, least first, from `!` on.
+// Writes the digits of a number in base 94, least first, from `!` on.
 fn put_new_code(text: &mut Text, number: usize) {
     let mut rest = number;
     for _ in 0..10 {
@@ -54,7 +54,7 @@ fn put_variable(text: &mut Text, variable: &Variable<'_>, naming: Naming) {
     text.put(b" $end\n");
 }
 
-// Whether some variable is in the scope that was opened at this index, or in one inside it.
+// Returns whether some variable is in the scope that was opened at this index, or in one inside it.
 fn holds_some(header: &Header<'_>, variables: &[Placed<'_>], scope: usize) -> bool {
     let declarations = header.declarations.as_slice();
     variables
@@ -62,8 +62,7 @@ fn holds_some(header: &Header<'_>, variables: &[Placed<'_>], scope: usize) -> bo
         .any(|placed| is_open(declarations, scope, placed.place))
 }
 
-// Of the scopes that hold some variable, whether one is open at an index and no more at a later
-// one.
+// Returns whether a scope that holds some variable is open at an index, and not at a later one.
 fn closes_some(
     header: &Header<'_>,
     variables: &[Placed<'_>],
@@ -77,8 +76,8 @@ fn closes_some(
     })
 }
 
-// What is declared at an index, where it is one of these variables, or opens or closes a scope that
-// holds some.
+// Writes what is declared at an index, if it is one of these variables, or opens or closes a scope
+// that holds some of them.
 fn put_declaration(
     text: &mut Text,
     header: &Header<'_>,
@@ -102,7 +101,7 @@ fn put_declaration(
     }
 }
 
-// The declarations of these variables and of the scopes around them.
+// Writes the declarations of these variables and of the scopes around them.
 fn put_declarations(
     text: &mut Text,
     header: &Header<'_>,
@@ -122,7 +121,7 @@ fn put_declarations(
     }
 }
 
-// A date or a version, where there is one.
+// Writes a date or a version, if there is one.
 fn put_note(text: &mut Text, keyword: &[u8], words: &[u8]) {
     if !words.is_empty() {
         text.put(keyword);
@@ -132,7 +131,7 @@ fn put_note(text: &mut Text, keyword: &[u8], words: &[u8]) {
     }
 }
 
-// The header of these variables.
+// Writes the header of these variables.
 pub(crate) fn put_header(text: &mut Text, header: &Header<'_>, variables: &[Placed<'_>]) {
     put_note(text, b"$date", header.date);
     put_note(text, b"$version", header.version);
@@ -143,8 +142,8 @@ pub(crate) fn put_header(text: &mut Text, header: &Header<'_>, variables: &[Plac
     text.put(b"$enddefinitions $end\n");
 }
 
-// What a merged header has of an input, the first of which is 1: a scope of its own with all its
-// declarations.
+// Writes what a merged header has of an input, the first of which is 1: a scope of its own with all
+// its declarations.
 pub(crate) fn put_input(
     text: &mut Text,
     (input, first): (u64, usize),

@@ -25,7 +25,7 @@ pub(crate) struct Item<'t> {
     pub(crate) line: u64,
     // The greatest timestamp before it, 0 if there is none.
     pub(crate) time: u64,
-    // More sections were begun than ended before it.
+    // Whether more sections began than ended before it.
     pub(crate) in_section: bool,
 }
 
@@ -44,7 +44,7 @@ impl<'t> Item<'t> {
         }
     }
 
-    // Its change, where it is one of this code.
+    // Returns its change, if it is one of this code.
     pub(crate) fn change_of(&self, code: &Code<'_>) -> Option<Change<'t>> {
         match self.said {
             Said::Change(change) if change.code.text == code.text => Some(change),
@@ -52,8 +52,8 @@ impl<'t> Item<'t> {
         }
     }
 
-    // It may be written: a section's begin or end, or a change that is no trigger of an event
-    // inside a section.
+    // Returns whether it may be written: a section's begin or end, or a change that is no trigger
+    // of an event inside a section.
     pub(crate) fn is_written(&self) -> bool {
         match self.said {
             Said::Time(_) => false,
@@ -70,7 +70,7 @@ pub(crate) struct Body<'t> {
     pub(crate) fault: Option<Fault>,
 }
 
-// The last timestamp.
+// Returns the last timestamp.
 pub(crate) fn last_mark(items: &[Item<'_>]) -> Option<u64> {
     items.iter().rev().find_map(|item| item.mark())
 }

@@ -20,7 +20,7 @@ impl ItemText {
         }
     }
 
-    // The line of a time, where it is not there yet.
+    // Writes the line of a time, if it is not there yet.
     pub(crate) fn put_time(&mut self, time: u64) -> Result<(), AllocError> {
         if self.times.as_slice().contains(&time) {
             return Ok(());
@@ -32,7 +32,7 @@ impl ItemText {
         Ok(())
     }
 
-    // The line of an item after the line of a time.
+    // Writes the line of an item, after the line of its time.
     pub(crate) fn put_item(&mut self, item: &Item<'_>, naming: Naming) -> Result<(), AllocError> {
         self.put_time(item.time)?;
         put_line(&mut self.text, &item.said, naming);
@@ -40,7 +40,7 @@ impl ItemText {
     }
 }
 
-// The value of a change of a code that is no event, before the code.
+// Writes the value of a change of a code that is no event, before the code.
 fn put_value(text: &mut Text, change: &Change<'_>) {
     let size = change.code.size;
     match change.value {
@@ -58,7 +58,7 @@ fn put_value(text: &mut Text, change: &Change<'_>) {
     }
 }
 
-// The line of a change.
+// Writes the line of a change.
 pub(crate) fn put_change(text: &mut Text, change: &Change<'_>, naming: Naming) {
     if change.code.is_event {
         text.put(b"1");
@@ -69,7 +69,7 @@ pub(crate) fn put_change(text: &mut Text, change: &Change<'_>, naming: Naming) {
     text.put(b"\n");
 }
 
-// The line of what an item says.
+// Writes the line of what an item says.
 fn put_line(text: &mut Text, said: &Said<'_>, naming: Naming) {
     match said {
         Said::Time(_) => {}

@@ -1,5 +1,4 @@
-//! What `vcdkit` is to leave for a command over whole inputs, by its definitions: output, message
-//! and status.
+//! Computes what `vcdkit` has to leave for a command over whole inputs: output, message and status.
 //!
 //! It is plain and slow, over whole lists: it reads an input as a list of tokens, and looks back in
 //! lists for open scopes, declared codes, values and times. It shares nothing with the product, not
@@ -23,7 +22,8 @@
 //!
 //! # Limits
 //!
-//! Inputs lie in memory, so none is as long as 2^63 bytes. Of words only the times are looked at.
+//! Inputs are in memory, so none is as long as 2^63 bytes. Of the arguments only the times are
+//! looked at.
 #![tactic(auto)]
 
 mod body_reader;

@@ -33,7 +33,7 @@ fn scale_of(input: &Opened<'_>) -> Scale {
     input.header.scale.unwrap_or(SECOND)
 }
 
-// The finest scale.
+// Returns the finest scale.
 fn least_scale(inputs: &[Opened<'_>]) -> Scale {
     let mut least = Scale { exponent: u8::MAX };
     for input in inputs {
@@ -45,7 +45,7 @@ fn least_scale(inputs: &[Opened<'_>]) -> Scale {
     least
 }
 
-// An item with its times scaled, or the fault that its timestamp is too large then.
+// Returns an item with its times scaled, or a fault if its timestamp is then too large.
 fn scaled<'t>(item: &Item<'t>, factor: u64) -> Due<'t> {
     let said = match item.said {
         Said::Time(time) => match time.checked_mul(factor) {
@@ -66,7 +66,7 @@ fn scaled<'t>(item: &Item<'t>, factor: u64) -> Due<'t> {
     })
 }
 
-// The entries of an input whose codes are numbered from a number on.
+// Adds the entries of an input, whose codes are numbered from a number on.
 fn push_entries<'t>(
     entries: &mut Vec<Entry<'t>>,
     input: &Opened<'t>,
@@ -99,7 +99,7 @@ fn push_entries<'t>(
     Ok(())
 }
 
-// The entries of all inputs, one input after the other.
+// Returns the entries of all inputs, one input after the other.
 fn entries_of<'t>(
     alloc: Global,
     inputs: &[Opened<'t>],
@@ -115,7 +115,7 @@ fn entries_of<'t>(
     Ok(entries)
 }
 
-// The merged header.
+// Writes the merged header.
 fn put_merged(
     alloc: Global,
     text: &mut Text,
@@ -137,8 +137,8 @@ fn put_merged(
     Ok(())
 }
 
-// Writes the changes up to the first fault, and returns it with its input's name; else the line of
-// the greatest timestamp too.
+// Writes the changes up to the first fault, and returns it with its input's name. If there is none,
+// writes the line of the greatest timestamp too.
 fn put_entries<'t>(
     lines: &mut ItemText,
     entries: &[Entry<'t>],
@@ -161,8 +161,8 @@ fn put_entries<'t>(
     Ok(None)
 }
 
-// What a merge of inputs leaves. The order of entries is by time, then input, then index in the
-// input.
+// Returns what a merge of inputs leaves. The order of entries is by time, then input, then index in
+// the input.
 pub(crate) fn merge(alloc: Global, inputs: &[Opened<'_>]) -> Result<Left, AllocError> {
     let least = least_scale(inputs);
     let mut entries = entries_of(alloc, inputs, least)?;

@@ -28,7 +28,7 @@ fn moment_of<'a>(word: &'a [u8]) -> Result<Moment, Refusal<'a>> {
     }
 }
 
-// The times of a cut or of a sample, in the order of the words.
+// Returns the times of a cut or of a sample, in the order of the arguments.
 fn words_to_moments<'a>(alloc: Global, command: Command<'a>) -> Result<Vec<Moment>, Refusal<'a>> {
     let mut moments = Vec::new(alloc);
     match command {
@@ -50,7 +50,7 @@ fn have_units(moments: &[Moment]) -> bool {
     moments.iter().any(|moment| moment.unit.is_some())
 }
 
-// Each time is above the one before it.
+// Returns whether each time is above the one before it.
 fn do_rise(times: &[u64]) -> bool {
     times
         .iter()
@@ -58,7 +58,7 @@ fn do_rise(times: &[u64]) -> bool {
         .all(|(earlier, later)| *earlier < *later)
 }
 
-// The times are in order.
+// Fails if the times are not in order.
 fn check_order<'a>(command: Command<'a>, times: &[u64]) -> Result<(), Refusal<'a>> {
     match (command, times) {
         (Command::Cut { .. }, [from, to]) if to < from => Err(Refusal::FromAboveTo),
@@ -75,7 +75,7 @@ fn numbers_of(alloc: Global, moments: &[Moment]) -> Result<Vec<u64>, AllocError>
     Ok(numbers)
 }
 
-// The times of a command. Where none of them has a unit they are in order.
+// Returns the times of a command. Fails if none of them has a unit and they are not in order.
 pub(crate) fn moments_of<'a>(
     alloc: Global,
     command: Command<'a>,
@@ -88,8 +88,8 @@ pub(crate) fn moments_of<'a>(
     Ok(moments)
 }
 
-// This many of a unit in ticks of a scale: the first tick that is not earlier, or the last one that
-// is not later.
+// Returns this many of a unit in ticks of a scale: the first tick that is not earlier, or the last
+// one that is not later.
 fn ticks_in(number: u64, unit: u8, scale: Scale, up: bool) -> Option<u64> {
     let factor = power_of_ten(unit.saturating_sub(scale.exponent));
     let divisor = power_of_ten(scale.exponent.saturating_sub(unit));
@@ -119,9 +119,8 @@ fn ticks_of<'a>(
     }
 }
 
-// The times in ticks of the input of this name, in order. Without a scale the first time with a
-// unit is refused before one that is
-// out of range.
+// Returns the times in ticks of the input of this name, in order. Without a scale, the first time
+// with a unit is refused before one that is out of range.
 pub(crate) fn times_of<'a>(
     alloc: Global,
     command: Command<'a>,

@@ -1,6 +1,6 @@
 // Decimal numbers.
 
-// The value of one or more ASCII digits, below 2^64.
+// Returns the value of one or more ASCII digits, if it is below 2^64.
 pub(crate) fn number_of(text: &[u8]) -> Option<u64> {
     if text.is_empty() {
         return None;
@@ -16,7 +16,7 @@ pub(crate) fn number_of(text: &[u8]) -> Option<u64> {
     Some(number)
 }
 
-// 10 to this power, at most 2^64 - 1.
+// Returns 10 to this power, at most 2^64 - 1.
 pub(crate) fn power_of_ten(exponent: u8) -> u64 {
     let mut power: u64 = 1;
     for _ in 0..exponent {

@@ -35,19 +35,19 @@ pub(crate) struct Opened<'t> {
 pub(crate) struct Dump<'d, 't> {
     pub(crate) header: &'d Header<'t>,
     pub(crate) items: &'d [Item<'t>],
-    // The input was read to its end, without a fault.
+    // Whether the input was read to its end, without a fault.
     pub(crate) is_whole: bool,
 }
 
-// An input, or the fault of its header.
+// Returns an input, or the fault of its header.
 fn open_input<'t>(
     alloc: Global,
     input: &Input<'t>,
     limit: usize,
-    most: usize,
+    allowed: usize,
 ) -> Result<Opened<'t>, Stop> {
     let mut reader = Reader::new(alloc, input, limit)?;
-    let header = read_header(alloc, &mut reader, most)?;
+    let header = read_header(alloc, &mut reader, allowed)?;
     let body = read_body(alloc, header.codes.as_slice(), &mut reader)?;
     Ok(Opened {
         name: input.name,
@@ -56,37 +56,37 @@ fn open_input<'t>(
     })
 }
 
-// An input, which may have this many declarations.
+// Returns an input, which may have at most `allowed` declarations.
 fn open<'t>(
     alloc: Global,
     input: &Input<'t>,
     limit: usize,
-    most: usize,
+    allowed: usize,
 ) -> Result<Opened<'t>, Refusal<'t>> {
-    match open_input(alloc, input, limit, most) {
+    match open_input(alloc, input, limit, allowed) {
         Ok(opened) => Ok(opened),
         Err(Stop::At(fault)) => Err(Refusal::Fault(input.name, fault)),
         Err(Stop::NoMemory) => Err(Refusal::NoMemory),
     }
 }
 
-// All inputs, or the fault of the first header that has one.
+// Returns all inputs, or the fault of the first header that has one.
 fn open_all<'t>(
     alloc: Global,
     inputs: &[Input<'t>],
     limit: usize,
 ) -> Result<Vec<Opened<'t>>, Refusal<'t>> {
     let mut all = Vec::new(alloc);
-    let mut most = MAX_DECLARATIONS;
+    let mut allowed = MAX_DECLARATIONS;
     for input in inputs {
-        let opened = open(alloc, input, limit, most)?;
-        most = most.saturating_sub(opened.header.declarations.len());
+        let opened = open(alloc, input, limit, allowed)?;
+        allowed = allowed.saturating_sub(opened.header.declarations.len());
         all.push(opened)?;
     }
     Ok(all)
 }
 
-// The time that no timestamp read is past.
+// Returns the time that no timestamp that is read may pass.
 fn last_time(command: Command<'_>, times: &[u64]) -> u64 {
     match (command, times.last()) {
         (Command::Cut { .. } | Command::Sample { .. }, Some(time)) => *time,
@@ -94,8 +94,8 @@ fn last_time(command: Command<'_>, times: &[u64]) -> u64 {
     }
 }
 
-// Whether some timestamp is past this time; then the first one is the last item, and what comes
-// after it counts no more.
+// Returns whether some timestamp is past this time. If so, the first such timestamp becomes the
+// last item, and what comes after it does not count.
 fn end_early(body: &mut Body<'_>, last: u64) -> bool {
     let is_past = |item: &Item<'_>| item.mark().is_some_and(|mark| last < mark);
     match body.items.iter().position(is_past) {
@@ -108,7 +108,7 @@ fn end_early(body: &mut Body<'_>, last: u64) -> bool {
     }
 }
 
-// What a command over one body writes.
+// Writes what a command over one body writes.
 fn put_command(
     lines: &mut ItemText,
     command: Command<'_>,
@@ -127,7 +127,7 @@ fn put_command(
     Ok(())
 }
 
-// What a command leaves over the body of an input.
+// Returns what a command leaves over the body of an input.
 fn run_body(
     alloc: Global,
     command: Command<'_>,
@@ -147,7 +147,7 @@ fn run_body(
     left_with(alloc, lines.text, opened.name, fault)
 }
 
-// What a list of an input leaves.
+// Returns what a list of an input leaves.
 fn run_list(alloc: Global, header: &Header<'_>) -> Result<Left, AllocError> {
     let mut text = Text::new(alloc);
     let all = selected(alloc, header, &[])?;
@@ -155,7 +155,7 @@ fn run_list(alloc: Global, header: &Header<'_>) -> Result<Left, AllocError> {
     left_with(alloc, text, "", None)
 }
 
-// What a command over one input leaves, which has good times.
+// Returns what a command over one input leaves, whose times are good.
 fn run_at<'t>(
     alloc: Global,
     command: Command<'t>,
@@ -173,7 +173,7 @@ fn run_at<'t>(
     Ok(left)
 }
 
-// What a command over one input leaves.
+// Returns what a command over one input leaves.
 fn run_one<'t>(
     alloc: Global,
     command: Command<'t>,
@@ -185,7 +185,7 @@ fn run_one<'t>(
     run_at(alloc, command, opened, times.as_slice())
 }
 
-// What a run leaves, or why it has no output.
+// Returns what a run leaves, or why it has no output.
 fn run<'t>(
     alloc: Global,
     command: Command<'t>,
@@ -203,8 +203,8 @@ fn run<'t>(
     }
 }
 
-/// Returns what a command leaves over these inputs, under this token limit: one input, or one or
-/// more for `merge`.
+/// Returns what a command leaves over these inputs, with this token limit: one input, or for
+/// `merge` one or more.
 pub fn evaluate(
     alloc: Global,
     command: Command<'_>,

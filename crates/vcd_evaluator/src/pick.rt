@@ -6,7 +6,8 @@ use crate::outcome::Dump;
 use crate::variables::Placed;
 use std::alloc::AllocError;
 
-// It is a begin or an end of a section, or a change of one of these variables, that may be written.
+// Returns whether an item is a begin or an end of a section, or a change of one of these variables
+// that may be written.
 fn is_kept(item: &Item<'_>, variables: &[Placed<'_>]) -> bool {
     item.is_written()
         && match item.change() {
@@ -17,7 +18,7 @@ fn is_kept(item: &Item<'_>, variables: &[Placed<'_>]) -> bool {
         }
 }
 
-// The dump of these variables.
+// Writes the dump of these variables.
 pub(crate) fn put_pick(
     lines: &mut ItemText,
     dump: &Dump<'_, '_>,

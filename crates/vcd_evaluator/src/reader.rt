@@ -1,4 +1,4 @@
-// The tokens of an input, and reading them in order.
+// The tokens of an input, and the reading of them in order.
 use crate::command::Input;
 use crate::fault::{Fault, Wrong};
 use crate::token::{Token, feeds_in, split_before};
@@ -14,7 +14,7 @@ pub(crate) struct Reader<'t> {
     pub(crate) ending: Fault,
 }
 
-// What is wrong where a token is asked for after all that an input gives.
+// Returns the fault of a token that is asked for after all that an input gives.
 fn end_of(input: &Input<'_>) -> Fault {
     let line = feeds_in(input.bytes).saturating_add(1);
     let wrong = if input.fails {
@@ -25,8 +25,8 @@ fn end_of(input: &Input<'_>) -> Fault {
     Fault { wrong, line }
 }
 
-// The token that comes first in the rest of some bytes, of which this line is the first, and what
-// follows it.
+// Returns the token that comes first in `rest`, the last of some bytes, and what follows it. `line`
+// is the line of the first byte of `rest`.
 fn split_token<'t>(bytes: &'t [u8], rest: &'t [u8], line: u64) -> (Token<'t>, &'t [u8]) {
     let (white, from_token) = split_before(rest, false);
     let (text, after) = split_before(from_token, true);
@@ -39,7 +39,7 @@ fn split_token<'t>(bytes: &'t [u8], rest: &'t [u8], line: u64) -> (Token<'t>, &'
 }
 
 impl<'t> Reader<'t> {
-    // The tokens of an input under a token limit.
+    // Returns a reader of the tokens of an input, with a token limit.
     pub(crate) fn new(
         alloc: Global,
         input: &Input<'t>,
@@ -70,12 +70,12 @@ impl<'t> Reader<'t> {
         })
     }
 
-    // How many tokens there are.
+    // Returns how many tokens there are.
     pub(crate) fn len(&self) -> usize {
         self.tokens.len()
     }
 
-    // The next token, without taking it.
+    // Returns the next token, and does not take it.
     pub(crate) fn peek(&self) -> Result<Token<'t>, Fault> {
         match self.tokens.as_slice().get(self.place) {
             Some(token) => Ok(*token),
@@ -83,14 +83,14 @@ impl<'t> Reader<'t> {
         }
     }
 
-    // The next token, which is to be there.
+    // Takes the next token. Fails if there is none.
     pub(crate) fn need(&mut self) -> Result<Token<'t>, Fault> {
         let token = self.peek()?;
         self.place = self.place.saturating_add(1);
         Ok(token)
     }
 
-    // The next token; none at the end of the input.
+    // Takes the next token; `None` at the end of the input.
     pub(crate) fn next(&mut self) -> Result<Option<Token<'t>>, Fault> {
         match self.need() {
             Ok(token) => Ok(Some(token)),
@@ -101,7 +101,8 @@ impl<'t> Reader<'t> {
         }
     }
 
-    // The bytes from the next token to the last one before the first `$end`, which is taken too.
+    // Takes the tokens up to the first `$end`, and returns the bytes from the first of them to the
+    // last before that `$end`.
     pub(crate) fn need_words(&mut self) -> Result<&'t [u8], Fault> {
         let start = self.peek()?.start;
         let mut end = start;
@@ -115,13 +116,13 @@ impl<'t> Reader<'t> {
         Ok(self.bytes.get(start..end).unwrap_or(b""))
     }
 
-    // Takes a token that is to be `$end`.
+    // Takes a token. Fails if it is not `$end`.
     pub(crate) fn need_end(&mut self, wrong: Wrong) -> Result<(), Fault> {
         let token = self.need()?;
         token.check(token.is(b"$end"), wrong)
     }
 
-    // A token that is not to be `$end`.
+    // Takes a token. Fails if it is `$end`.
     pub(crate) fn need_word(&mut self, wrong: Wrong) -> Result<Token<'t>, Fault> {
         let token = self.need()?;
         token.check(!token.is(b"$end"), wrong)?;

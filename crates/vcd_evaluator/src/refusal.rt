@@ -77,7 +77,7 @@ fn status_of(refusal: Refusal<'_>) -> u8 {
     }
 }
 
-// What a run leaves that is refused after this output.
+// Returns what a run leaves that is refused after this output.
 pub(crate) fn refused(
     alloc: Global,
     output: Text,
@@ -90,7 +90,7 @@ pub(crate) fn refused(
     left(output, message, status_of(refusal))
 }
 
-// What a run leaves that is done, or that a fault of the input of this name has ended.
+// Returns what a run leaves that has ended well, or with a fault of the input of this name.
 pub(crate) fn left_with(
     alloc: Global,
     output: Text,

@@ -42,7 +42,7 @@ fn put_count(text: &mut Text, name: &[u8], count: u64) {
     text.put(b"\n");
 }
 
-// The report of a dump, at its end.
+// Writes the report of a dump, at its end.
 pub(crate) fn put_report(text: &mut Text, dump: &Dump<'_, '_>) {
     if !dump.is_whole {
         return;
@@ -68,7 +68,7 @@ pub(crate) fn put_report(text: &mut Text, dump: &Dump<'_, '_>) {
     }
 }
 
-// A row for each variable.
+// Writes a row for each variable.
 pub(crate) fn put_list(text: &mut Text, header: &Header<'_>, variables: &[Placed<'_>]) {
     for placed in variables {
         put_path(text, header, placed);

@@ -6,7 +6,7 @@ use crate::text::Text;
 use crate::value::{Value, change_at, put_digits};
 use crate::variables::{Placed, put_path};
 
-// The value of a code at a time, in full.
+// Writes the value of a code at a time, in full.
 fn put_value(text: &mut Text, dump: &Dump<'_, '_>, code: &Code<'_>, time: u64) {
     match change_at(dump.items, code, time) {
         None => text.put(b"-"),
@@ -20,7 +20,7 @@ fn put_value(text: &mut Text, dump: &Dump<'_, '_>, code: &Code<'_>, time: u64) {
     }
 }
 
-// The values of these variables at a time.
+// Writes the values of these variables at a time.
 fn put_values(text: &mut Text, dump: &Dump<'_, '_>, variables: &[Placed<'_>], time: u64) {
     for placed in variables {
         if !placed.variable.code.is_event {
@@ -34,8 +34,8 @@ fn put_values(text: &mut Text, dump: &Dump<'_, '_>, variables: &[Placed<'_>], ti
     }
 }
 
-// The values of these variables at each time that some timestamp is past; at the end of the dump at
-// all times.
+// Writes the values of these variables at each time that some timestamp is past; at the end of the
+// dump at all times.
 pub(crate) fn put_sample(
     text: &mut Text,
     dump: &Dump<'_, '_>,

@@ -10,10 +10,10 @@ pub(crate) struct Scale {
     pub(crate) exponent: u8,
 }
 
-// The scale of a dump that has none, where several are merged.
+// The scale of a dump that declares none, if several are merged.
 pub(crate) const SECOND: Scale = Scale { exponent: 15 };
 
-// The exponent of a unit.
+// Returns the exponent of a unit.
 pub(crate) fn unit_of(text: &[u8]) -> Option<u8> {
     if text == b"s".as_slice() {
         Some(15)
@@ -32,7 +32,7 @@ pub(crate) fn unit_of(text: &[u8]) -> Option<u8> {
     }
 }
 
-// The exponent of a scale's number.
+// Returns the exponent of a scale's number.
 fn factor_of(text: &[u8]) -> Option<u8> {
     if text == b"1".as_slice() {
         Some(0)
@@ -45,7 +45,7 @@ fn factor_of(text: &[u8]) -> Option<u8> {
     }
 }
 
-// The digits that a text begins with, and what follows.
+// Returns the digits that a text begins with, and what follows.
 pub(crate) fn split_digits(text: &[u8]) -> (&[u8], &[u8]) {
     match text.iter().position(|byte| !byte.is_ascii_digit()) {
         Some(place) => text.split_at(place),
@@ -60,7 +60,7 @@ fn fit(token: Token<'_>, exponent: Option<u8>) -> Result<u8, Fault> {
     }
 }
 
-// The exponent of the unit, in the token of the number or in the next one.
+// Reads the exponent of the unit, from the token of the number or from the next one.
 fn read_unit(token: Token<'_>, unit: &[u8], reader: &mut Reader<'_>) -> Result<u8, Fault> {
     if unit.is_empty() {
         let next = reader.need()?;
@@ -82,7 +82,7 @@ pub(crate) fn read_scale(reader: &mut Reader<'_>) -> Result<Scale, Fault> {
     })
 }
 
-// The unit of a scale.
+// Returns the unit of a scale.
 fn unit_text(scale: Scale) -> &'static [u8] {
     match scale.exponent / 3 {
         0 => b"fs",
@@ -94,7 +94,7 @@ fn unit_text(scale: Scale) -> &'static [u8] {
     }
 }
 
-// The number of a scale.
+// Returns the number of a scale.
 fn factor_text(scale: Scale) -> &'static [u8] {
     match scale.exponent % 3 {
         0 => b"1",
@@ -103,7 +103,7 @@ fn factor_text(scale: Scale) -> &'static [u8] {
     }
 }
 
-// The three lines of a time scale.
+// Writes the three lines of a time scale.
 pub(crate) fn put_scale(text: &mut Text, scale: Scale) {
     text.put(b"$timescale\n\t");
     text.put(factor_text(scale));

@@ -2,8 +2,7 @@
 use crate::token::{is_white, split_before};
 use std::alloc::{AllocError, Global};
 
-// The bytes so far. Where memory runs out, what is put after that is lost, and the text is not
-// whole.
+// The bytes so far. If memory runs out, what is put after that is lost, and the text is not whole.
 #[derive(Drop)]
 pub(crate) struct Text {
     bytes: Vec<u8>,
@@ -37,7 +36,7 @@ impl Text {
         }
     }
 
-    // The tokens of some bytes, joined by one space.
+    // Writes the tokens of some bytes, with a space between.
     pub(crate) fn put_words(&mut self, bytes: &[u8]) {
         let (first, rest) = split_before(bytes, true);
         self.put(first);
@@ -49,7 +48,7 @@ impl Text {
         }
     }
 
-    // The whole text.
+    // Returns the whole text. Fails if memory ran out.
     pub(crate) fn finish(self) -> Result<Vec<u8>, AllocError> {
         if self.is_whole {
             Ok(self.bytes)

@@ -15,13 +15,13 @@ impl<'t> Token<'t> {
         self.text == word
     }
 
-    // The first byte, and those after it.
+    // Returns the first byte, and those after it.
     pub(crate) fn parts(&self) -> Option<(u8, &'t [u8])> {
         let (first, rest) = self.text.split_first()?;
         Some((*first, rest))
     }
 
-    // This is wrong at the token.
+    // Returns the fault that this is wrong at the token.
     pub(crate) fn fault(&self, wrong: Wrong) -> Fault {
         Fault {
             wrong,
@@ -29,7 +29,7 @@ impl<'t> Token<'t> {
         }
     }
 
-    // A check of the token, and what is wrong where it fails.
+    // Fails with this fault at the token unless the check holds.
     pub(crate) fn check(&self, holds: bool, wrong: Wrong) -> Result<(), Fault> {
         if holds {
             Ok(())
@@ -39,12 +39,13 @@ impl<'t> Token<'t> {
     }
 }
 
-// White space: space, tab, line feed, vertical tab, form feed and carriage return.
+// Returns whether a byte is white space: space, tab, line feed, vertical tab, form feed or carriage
+// return.
 pub(crate) fn is_white(byte: u8) -> bool {
     byte == b' ' || (9..=13).contains(&byte)
 }
 
-// What comes before the first byte that is white, or is not, and what follows.
+// Returns the bytes before the first one that is white, or is not, and the rest.
 pub(crate) fn split_before(bytes: &[u8], white: bool) -> (&[u8], &[u8]) {
     match bytes.iter().position(|byte| is_white(*byte) == white) {
         Some(place) => bytes.split_at(place),
@@ -52,7 +53,7 @@ pub(crate) fn split_before(bytes: &[u8], white: bool) -> (&[u8], &[u8]) {
     }
 }
 
-// How many line feeds there are.
+// Returns how many line feeds there are.
 pub(crate) fn feeds_in(bytes: &[u8]) -> u64 {
     let mut feeds: u64 = 0;
     for byte in bytes {

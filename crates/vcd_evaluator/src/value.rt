@@ -10,7 +10,8 @@ pub(crate) enum Value<'t> {
     Real(&'t [u8]),
 }
 
-// What extends digits to the left: 0 where the first is 0 or 1, else the first itself.
+// Returns the digit that extends digits to the left: 0 if the first is 0 or 1, otherwise the first
+// itself.
 fn extension(first: u8) -> u8 {
     match first {
         b'x' | b'X' => b'x',
@@ -19,8 +20,8 @@ fn extension(first: u8) -> u8 {
     }
 }
 
-// The digit at an index, from the left, of the value of this size that digits extend to, in lower
-// case.
+// Returns the digit at an index, from the left, of the value of this size that digits extend to, in
+// lower case.
 fn digit_at(digits: &[u8], size: usize, place: usize) -> u8 {
     let missing = size.saturating_sub(digits.len());
     let inside = place.checked_sub(missing);
@@ -30,13 +31,13 @@ fn digit_at(digits: &[u8], size: usize, place: usize) -> u8 {
     }
 }
 
-// Whether the digits of a value from an index on extend to all of it.
+// Returns whether the digits of a value from an index on extend to all of it.
 fn is_extended_from(digits: &[u8], size: usize, place: usize) -> bool {
     let fill = extension(digit_at(digits, size, place));
     (0..place).all(|earlier| digit_at(digits, size, earlier) == fill)
 }
 
-// Where the shortest digits that extend to a value begin: the last such index.
+// Returns the index at which the shortest digits that extend to a value begin: the last such index.
 fn shortest_from(digits: &[u8], size: usize) -> usize {
     for place in (0..size).rev() {
         if is_extended_from(digits, size, place) {
@@ -46,19 +47,19 @@ fn shortest_from(digits: &[u8], size: usize) -> usize {
     0
 }
 
-// The digits of a value from an index on.
+// Writes the digits of a value from an index on.
 pub(crate) fn put_digits(text: &mut Text, digits: &[u8], size: usize, from: usize) {
     for place in from..size {
         text.put_byte(digit_at(digits, size, place));
     }
 }
 
-// The shortest digits of a value.
+// Writes the shortest digits of a value.
 pub(crate) fn put_shortest(text: &mut Text, digits: &[u8], size: usize) {
     put_digits(text, digits, size, shortest_from(digits, size));
 }
 
-// Both are one value of a code of this size.
+// Returns whether both are the same value of a code of this size.
 pub(crate) fn are_same(one: Value<'_>, other: Value<'_>, size: usize) -> bool {
     match (one, other) {
         (Value::Real(one), Value::Real(other)) => one == other,
@@ -69,7 +70,7 @@ pub(crate) fn are_same(one: Value<'_>, other: Value<'_>, size: usize) -> bool {
     }
 }
 
-// The last change of a code whose time is at most this.
+// Returns the last change of a code whose time is at most this.
 pub(crate) fn change_at<'t>(items: &[Item<'t>], code: &Code<'_>, time: u64) -> Option<Change<'t>> {
     for item in items.iter().rev() {
         if let Some(change) = item.change_of(code)
@@ -81,7 +82,7 @@ pub(crate) fn change_at<'t>(items: &[Item<'t>], code: &Code<'_>, time: u64) -> O
     None
 }
 
-// The last change of a code whose time is below this.
+// Returns the last change of a code whose time is below this.
 pub(crate) fn change_before<'t>(
     items: &[Item<'t>],
     code: &Code<'_>,

@@ -11,8 +11,8 @@ pub(crate) struct Placed<'t> {
     pub(crate) variable: Variable<'t>,
 }
 
-// The names of the scopes around, outermost first, and the first token of the reference, joined by
-// dots.
+// Writes the names of the scopes around a variable, outermost first, and the first token of its
+// reference, with dots between.
 pub(crate) fn put_path(text: &mut Text, header: &Header<'_>, placed: &Placed<'_>) {
     let declarations = header.declarations.as_slice();
     for (scope, declaration) in declarations.iter().enumerate() {
@@ -33,7 +33,7 @@ fn path_of(alloc: Global, header: &Header<'_>, placed: &Placed<'_>) -> Result<Ve
     path.finish()
 }
 
-// The path is the name, or begins with it and a dot.
+// Returns whether the path is the name, or begins with it and a dot.
 fn selects(name: &str, path: &[u8]) -> bool {
     let bytes = name.as_bytes();
     path.starts_with(bytes)
@@ -43,12 +43,12 @@ fn selects(name: &str, path: &[u8]) -> bool {
         }
 }
 
-// Some name selects the path; where there is no name, all paths are selected.
+// Returns whether some name selects the path. If there are no names, all paths are selected.
 fn is_selected(names: &[&str], path: &[u8]) -> bool {
     names.is_empty() || names.iter().any(|name| selects(name, path))
 }
 
-// The variables that names select, all where there is no name.
+// Returns the variables that names select, or all if there are no names.
 pub(crate) fn selected<'t>(
     alloc: Global,
     header: &Header<'t>,
@@ -70,7 +70,7 @@ pub(crate) fn selected<'t>(
     Ok(variables)
 }
 
-// The first name that selects no variable.
+// Returns the first name that selects no variable.
 pub(crate) fn first_unmatched<'n>(
     alloc: Global,
     header: &Header<'_>,

@@ -72,7 +72,7 @@ fn simulation_keyword(text: &[u8]) -> Option<Keyword> {
     }
 }
 
-// The keyword that a whole token is.
+// Returns the keyword that the whole token is.
 pub(crate) fn keyword_of(text: &[u8]) -> Option<Keyword> {
     declaration_keyword(text).or(simulation_keyword(text))
 }
@@ -97,7 +97,7 @@ pub(crate) fn lead_of(first: u8) -> Lead {
     }
 }
 
-// A digit of a value.
+// Returns whether a byte is a digit of a value.
 pub(crate) fn is_digit(byte: u8) -> bool {
     matches!(lead_of(byte), Lead::Scalar)
 }

@@ -22,7 +22,7 @@ use Rattle.vcd_head.specs.Words.{size_in}
 abbrev pub LooksOver : ℕ → List ℕ → Ahead → Type 0
 LooksOver limit bytes a = (longest_of a ≡ limit) × (bytes_of a ≡ bytes)
 
--- over the same bytes, for the same tokens
+-- both look over the same bytes, for the same tokens
 abbrev pub LooksOn : Ahead → Ahead → Type 0
 LooksOn old new = (bytes_of new ≡ bytes_of old) × (longest_of new ≡ longest_of old)
 
@@ -30,7 +30,7 @@ LooksOn old new = (bytes_of new ≡ bytes_of old) × (longest_of new ≡ longest
 abbrev pub GivesToken : Ahead → Ahead → List ℕ → Type 0
 GivesToken old new token = (limit lines : ℕ) (bytes : List ℕ) (ts : List Token) → LooksOver limit bytes old → Passed limit lines bytes (passed_of old) ts → (line : ℕ) × Passed limit lines bytes (passed_of new) (ts ++ (record { bytes = token; line = line }) ∷ [])
 
--- what lies whole ahead is given, and its tokens were passed
+-- what lies completely in the chunk is given, and its tokens were passed
 abbrev pub Gives : {A : Type 0} → (List Token → A → Type 0) → Ahead → Ahead → Option A → Type 0
 Gives Is old new o = IfSome o (λ x. (limit lines : ℕ) (bytes : List ℕ) (ts : List Token) → LooksOver limit bytes old → Passed limit lines bytes (passed_of old) ts
     → (more : List Token) × Is more x × Passed limit lines bytes (passed_of new) (ts ++ more))
@@ -78,23 +78,23 @@ pub record IsUpscope (ts : List Token) : Type 0 where
   pub are : ts ≡ record { bytes = keyword_text Keyword.Upscope; line = begin_line } ∷ end ∷ []
   pub ends : is_end end.bytes ≡ true
 
--- the draft holds the phrases of the tokens given, and where the phrase that lies ahead was taken
+-- the draft holds the phrases of the tokens given, and if the phrase that lies ahead was taken,
 -- that one too
 abbrev pub TakenOn : ℕ → (given more : List Token) → Draft → Bool → Type 0
 TakenOn most given more d taken = MatchBool taken (DraftsOn most (given ++ more) d) (DraftsOn most given d)
 
--- what is given lies after what was passed before, within the bytes; those and the limit stay
+-- what is given lies after what was passed before, within the bytes; the bytes and the limit stay
 pub record MovesAhead {A : Type 0} (old new : Ahead) (o : Option A) : Type 0 where
   pub further : IfSome o (λ _. passed_of old < passed_of new)
   pub within : IfSome o (λ _. passed_of new ≤ length (bytes_of old))
   pub same : LooksOn old new
 
--- where a phrase that lies ahead is this one, the draft holds it, if it was taken
+-- if a phrase that lies ahead is this one, the draft holds it, if it was taken
 abbrev pub TakesNext : ℕ → (List Token → Type 0) → (old new : Draft) → Result Bool HeadFault → Type 0
 TakesNext most Is old new r = (given more : List Token) → DraftsOn most given old → Is more → IfOk r (TakenOn most given more new)
 
--- where the tokens that were passed are those given, so it is after those of the next phrase, and
--- the draft holds it, if it was taken
+-- if the tokens that were passed were given, the tokens of the next phrase were given too, and the
+-- draft holds it if it was taken
 abbrev pub DraftsNext : ℕ → (old new : Ahead) → (before after : Draft) → Result Bool HeadFault → Type 0
 DraftsNext most old new before after r = (limit lines : ℕ) (bytes : List ℕ) (ts given : List Token) → LooksOver limit bytes old → Passed limit lines bytes (passed_of old) ts → DraftsOn most given before
     → IfOk r (λ taken. MatchBool taken ((more : List Token) × Passed limit lines bytes (passed_of new) (ts ++ more) × DraftsOn most (given ++ more) after) (DraftsOn most given after))
@@ -103,11 +103,11 @@ DraftsNext most old new before after r = (limit lines : ℕ) (bytes : List ℕ) 
 abbrev pub PassesOn : (old new : Ahead) → Type 0
 PassesOn old new = (limit lines : ℕ) (bytes : List ℕ) (ts : List Token) → LooksOver limit bytes old → Passed limit lines bytes (passed_of old) ts → (more : List Token) × Passed limit lines bytes (passed_of new) (ts ++ more)
 
--- where a phrase was taken, it lies after what was passed before, within the bytes
+-- if a phrase was taken, it lies after what was passed before, within the bytes
 abbrev pub GoesOnWithin : (old new : Ahead) → Result Bool HeadFault → Type 0
 GoesOnWithin old new r = IfOk r (λ taken. taken ≡ true → (passed_of old < passed_of new) × (passed_of new ≤ length (bytes_of old)))
 
--- where none was passed before, this many bytes are those of some tokens, whose phrases the draft
+-- if none was passed before, this many bytes are those of some tokens, whose phrases the draft
 -- holds
 abbrev pub DraftsAhead : ℕ → Ahead → (before after : Draft) → Result ℕ HeadFault → Type 0
 DraftsAhead most a before after r = (limit lines : ℕ) (bytes : List ℕ) (given : List Token) → LooksOver limit bytes a → Passed limit lines bytes (passed_of a) [] → DraftsOn most given before

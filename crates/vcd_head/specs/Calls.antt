@@ -1,4 +1,4 @@
--- What calls promise that read the tokens of a header.
+-- What the calls that read the tokens of a header promise.
 use Rattle.std.specs.Global.{Vec}
 use Rattle.std.specs.Prelude.{ℕ, Bool, List, Option, Result, MatchBool, MatchResult}
 use Rattle.vcd_model.specs.HeaderPhrases.{HeaderPhrase}
@@ -20,11 +20,11 @@ use Rattle.vcd_head.specs.Texts.{EndsThere, RunsOn, Welcomes, WordRead}
 use Rattle.vcd_head.specs.declared.draft.Draft.{Draft}
 use Rattle.vcd_head.specs.declared.fault.HeadFault.{HeadFault}
 
--- the feed has moved on as far as the call says that ended so
+-- the feed has moved on as far as a call with this end says
 abbrev pub MovesOn : {X A : Type 0} {g : Ghosts X} → (X → ℕ) → (old new : Feed X g) → Result A HeadFault → Type 0
 MovesOn failures old new r = Advances failures old new (call_end r)
 
--- so, and by a byte or more where it succeeds
+-- the same, and by a byte or more if the call succeeds
 abbrev pub MovesFurther : {X A : Type 0} {g : Ghosts X} → (X → ℕ) → (old new : Feed X g) → Result A HeadFault → Type 0
 MovesFurther failures old new r = GoesFurther failures old new (call_end r) r
 
@@ -36,7 +36,7 @@ OrFails most i f Q r = MatchResult r Q (λ fault. Fails most i fault f)
 abbrev pub ReadsPhrase : {X A : Type 0} {g : Ghosts X} → ℕ → Keyword → (old : Draft) → Feed X g → (new : Draft) → Feed X g → Result A HeadFault → Type 0
 ReadsPhrase most k old before new after r = (i : Input) → AtKeyword most i k old before → OrFails most i after (λ _. DraftsUpTo most i new after) r
 
--- where a phrase runs on, its tokens were read up to the first `$end`
+-- if a phrase runs on, its tokens were read up to the first `$end`
 abbrev pub ReadsToEnd : {X A : Type 0} {g : Ghosts X} → (old new : Feed X g) → (A → List (List ℕ) → Type 0) → Result A HeadFault → Type 0
 ReadsToEnd old new Grows r = (most : ℕ) (i : Input) (placed : List (Placed HeaderPhrase)) (before : List (List ℕ)) → RunsOn most placed before → Reads most i placed before old → OrFails most i new (λ x. EndsThere most i placed before new (Grows x)) r
 
@@ -52,7 +52,7 @@ ReadsOne old new r = (most : ℕ) (i : Input) (placed : List (Placed HeaderPhras
 abbrev pub ReadsWord : {X : Type 0} {g : Ghosts X} → Feed X g → Feed X g → Result (Option (Vec ℕ)) HeadFault → Type 0
 ReadsWord old new r = (most : ℕ) (i : Input) (placed : List (Placed HeaderPhrase)) (before : List (List ℕ)) → Welcomes most placed before → Reads most i placed before old → OrFails most i new (WordRead most i placed before new) r
 
--- so it is however many declarations are allowed
+-- the same, however many declarations are allowed
 abbrev pub ReadsText : {X A : Type 0} {g : Ghosts X} → Keyword → (old : Draft) → Feed X g → (new : Draft) → Feed X g → Result A HeadFault → Type 0
 ReadsText k old before new after r = (most : ℕ) → ReadsPhrase most k old before new after r
 
@@ -72,7 +72,7 @@ ReadsRest most k old before new after r = (i : Input) → AtFirstToken most i k 
 abbrev pub ReadsAny : {X : Type 0} {g : Ghosts X} → ℕ → (old : Draft) → Feed X g → (new : Draft) → Feed X g → Result Bool HeadFault → Type 0
 ReadsAny most old before new after r = (i : Input) → DraftsBehind most i old before → MatchResult r (λ more. MatchBool more (DraftsUpTo most i new after) (DraftsAll most i new after)) (λ fault. Fails most i fault after)
 
--- after a phrase, those that lie whole ahead were read
+-- after a phrase, those that lie completely in the chunk were read
 abbrev pub ReadsAhead : {X A : Type 0} {g : Ghosts X} → ℕ → (old : Draft) → Feed X g → (new : Draft) → Feed X g → Result A HeadFault → Type 0
 ReadsAhead most old before new after r = (i : Input) → DraftsUpTo most i old before → OrFails most i after (λ _. DraftsBehind most i new after) r
 

@@ -10,7 +10,7 @@ use Rattle.vcd_head.specs.declared.codes.Codes.{Codes}
 abbrev pub is_of : Code → ℕ → Bool → Bool
 is_of c size event = (c.size == size) && same_flag c.event event
 
--- there is none yet
+-- there is no code yet
 pub record HasNone (c : Codes) : Type 0 where
   pub no_codes : c.list.items ≡ []
   pub no_numbers : c.rising.items ≡ []
@@ -25,7 +25,7 @@ RisesFrom n (x ∷ xs) = (n < x) × RisesFrom x xs
 abbrev pub Rises : List ℕ → Type 0
 Rises xs = RisesFrom 0 xs
 
--- the keys of codes, where those of the first ones are these numbers
+-- the keys of codes, if those of the first ones are these numbers
 abbrev pub keys_behind : List ℕ → List CodeKey → List CodeKey
 keys_behind rising keys = map (λ n. key.Short n) rising ++ keys
 

@@ -22,22 +22,23 @@ keyword_for kind.Scope = Keyword.Scope
 keyword_for kind.Up = Keyword.Upscope
 keyword_for kind.Var = Keyword.Var
 
--- after these phrases a declaration of this kind may come, where `most` are allowed
+-- after these phrases a declaration of this kind may come, if `most` are allowed
 abbrev pub MayStart : ℕ → List HeaderPhrase → Kind → Type 0
 MayStart most ps k = first_failed (start_checks most (declarations_of ps) (keyword_for k)) ≡ None
 
--- none may, for this fault
+-- no declaration may come, because of this fault
 abbrev pub IsBarred : ℕ → List HeaderPhrase → Kind → HeadFault → Type 0
 IsBarred most ps k TooMany = first_failed (start_checks most (declarations_of ps) (keyword_for k)) ≡ Some 11
 IsBarred most ps k TooDeep = first_failed (start_checks most (declarations_of ps) (keyword_for k)) ≡ Some 10
 IsBarred most ps k NoScope = first_failed (start_checks most (declarations_of ps) (keyword_for k)) ≡ Some 9
 IsBarred most ps k fault = ⊥
 
--- where a declaration of this kind may come, the draft now holds this one too
+-- if a declaration of this kind may come, the draft now holds this one too
 abbrev pub Takes : Kind → Declaration → Draft → Draft → Type 0
 Takes k x old new = (most : ℕ) (ps : List HeaderPhrase) → IsDraftOf most old ps → MayStart most ps k → IsDraftOf most new (ps ++ HeaderPhrase.Declares x ∷ [])
 
--- so it does of a variable that agrees with those before it; it holds the same where one does not
+-- the same for a variable that agrees with those before it; if it does not agree, the draft holds
+-- what it held
 abbrev pub TakesVariable : Variable → Draft → Draft → Bool → Type 0
 TakesVariable v old new taken = (most : ℕ) (ps : List HeaderPhrase) → IsDraftOf most old ps → MayStart most ps kind.Var
     → (taken ≡ agrees (declarations_of ps) v) × MatchBool taken (IsDraftOf most new (ps ++ HeaderPhrase.Declares (Declaration.Var v) ∷ [])) (IsDraftOf most new ps)
@@ -46,7 +47,7 @@ TakesVariable v old new taken = (most : ℕ) (ps : List HeaderPhrase) → IsDraf
 abbrev pub whole : Reference → List ℕ
 whole r = r.name.now ++ unwrap_or (option_map (λ more. 32 ∷ more.now) r.more) []
 
--- it says these tokens
+-- the reference has these tokens
 pub record Spells (r : Reference) (reference : List (List ℕ)) : Type 0 where
   pub named : reference ≢ []
   pub text_is : whole r ≡ join_with_byte 32 reference
@@ -56,6 +57,6 @@ pub record Spells (r : Reference) (reference : List (List ℕ)) : Type 0 where
 abbrev pub spelled : VariablePhrase → List (List ℕ) → Variable
 spelled p reference = record { type = p.word.now; size = p.size; code = p.code.now; reference = reference }
 
--- so it does of a variable with the reference that is spelled
+-- the same for a variable with the reference that is spelled
 abbrev pub DeclaresVariable : VariablePhrase → Draft → Draft → Result Bool HeadFault → Type 0
 DeclaresVariable p old new r = (reference : List (List ℕ)) → IsSize p.size → Spells p.reference reference → IfOk r (TakesVariable (spelled p reference) old new)

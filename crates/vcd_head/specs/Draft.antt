@@ -1,4 +1,4 @@
--- What a draft holds of the phrases read so far, beside the feed that they come from.
+-- What a draft holds of the phrases read so far, besides the feed that they come from.
 use Rattle.std.specs.Prelude.{◌≡◌, ◌≢◌, ℕ, suc, ◌+◌, ◌≤◌, List, [], ◌∷◌, ◌++◌, length, map, reverse, find, filter_map, count_by, sum_by, bytes_eq, Some, None, is_some, option_map, unwrap_or, slice_get, Bool, true, false, Option, IfSome}
 use Rattle.std.specs.List.{AllByRecursion, list_any, last_or}
 use Rattle.vcd_model.specs.Declarations.{Declaration, Variable, IdCode, code_of, codes_of, variables_of, has_text, is_scope, is_up, enclosing}
@@ -60,8 +60,8 @@ pub record CodeHeld (old new : List ℕ) (codes : Codes) (ds : List Declaration)
   pub grown : new ≡ old ++ more
   pub short : length more ≤ length v.code
 
--- the code of a variable is held at the index given; none is given where it does not agree with
--- those of other variables, and the text is then the same
+-- the code of a variable is held at the index given; `None` if it does not agree with those of
+-- other variables, and then the text is the same
 abbrev pub IsEntered : (old new : List ℕ) → Codes → List Declaration → Variable → Option ℕ → Type 0
 IsEntered old new codes ds v (Some position) = (agrees ds v ≡ true) × CodeHeld old new codes ds v position
 IsEntered old new codes ds v None = (agrees ds v ≡ false) × (new ≡ old) × HasCodes new codes ds
@@ -76,8 +76,8 @@ pub record IsNew (d : Draft) : Type 0 where
   pub no_scale : d.scale ≡ None
   pub no_scopes : d.scopes.items ≡ []
 
--- the draft holds the phrases that were read, of which there is one at least, and the feed shows
--- the last token of them
+-- the draft holds the phrases that were read, at least one, and the feed shows the last token of
+-- them
 pub record DraftsUpTo {X : Type 0} {g : Ghosts X} (most : ℕ) (i : Input) (d : Draft) (f : Feed X g) : Type 0 where
   pub placed : List (Placed HeaderPhrase)
   pub reads : Reads most i placed [] f

@@ -40,7 +40,7 @@ pub record AddsKey (t : List ℕ) (old new : List CodeKey) (position : ℕ) : Ty
   pub behind : new ≡ old ++ key ∷ []
   pub last : position ≡ length old
 
--- it is at this index
+-- the key is at this index
 pub record HasKey (t : List ℕ) (old new : List CodeKey) (position : ℕ) : Type 0 where
   pub at : position ≡ position_or_len (is_key t) old
   pub within : position < length old

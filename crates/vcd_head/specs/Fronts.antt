@@ -34,7 +34,7 @@ AreShort text codes = (p : ℕ) → p < length codes → length (bytes_at text c
 abbrev pub rank_of : List ℕ → ℕ → ℕ
 rank_of bs p = (prefix_in 4 bs * 8 + length bs) * 16777216 + p
 
--- that of the code at an index
+-- the rank of the code at an index
 abbrev pub rank_in : List ℕ → List Code → ℕ → ℕ
 rank_in text codes p = rank_of (bytes_at text codes p) p
 

@@ -6,7 +6,7 @@ use Rattle.vcd_head.specs.Runs.{Follows, GoesOn}
 use Rattle.vcd_head.specs.declared.names.Group.{Group}
 use Rattle.vcd_head.specs.declared.names.NameRun.{NameRun}
 
--- the bytes of its names
+-- the bytes of the names of a group
 abbrev pub names_of : Group → List (List ℕ)
 names_of g = map string_bytes g.names.now
 
@@ -27,7 +27,7 @@ RunsOn g old new run longer r = (front : List ℕ) → IsRun g old front run →
 abbrev pub FlagsSome : Group → (old new : List Bool) → NameRun → (test : List ℕ → List ℕ → Bool) → Bool → Type 0
 FlagsSome g old new run test some = (front : List ℕ) → IsRun g old front run → Matches (test front) (names_of g) old new some
 
--- between two indexes of its order the next byte of the names does not fall
+-- between two indexes of its order the next byte of the names does not decrease
 abbrev pub AreRising : Group → ℕ → (first end : ℕ) → Type 0
 AreRising g passed first end = Rises (names_of g) g.order.now passed first end
 

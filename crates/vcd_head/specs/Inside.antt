@@ -29,7 +29,7 @@ pub record AreOpen (h : Header) (names : List (List ℕ)) (order : List ℕ) (fl
   pub held : (k : ℕ) (s : Inside) → k ≤ o.entered → slice_get o.inside.now k ≡ Some s → Follows names order flags (front h.declarations s.scope) s.run
   pub same : AreSame names flags
 
--- so it is of a group of names
+-- the same for a group of names
 abbrev pub IsOpen : Header → Group → List Bool → Open → Type 0
 IsOpen h g flags o = AreOpen h (names_of g) g.order.now flags o
 
@@ -37,21 +37,23 @@ IsOpen h g flags o = AreOpen h (names_of g) g.order.now flags o
 abbrev pub KeepsOpen : HeadView → Group → (old_flags new_flags : List Bool) → (old new : Open) → Type 0
 KeepsOpen view g old_flags new_flags old new = (h : Header) → IsViewOf view h → IsOpen h g old_flags old → IsOpen h g new_flags new
 
--- so, and the flags that were set are of names that select all that continues after this front
+-- what is held stays right, and the flags that were set are of names that select all that continues
+-- after this front
 pub record HasEntered (h : Header) (names : List (List ℕ)) (order : List ℕ) (front : List ℕ) (old_flags new_flags : List Bool) (new : Open) : Type 0 where
   pub open_scopes : AreOpen h names order new_flags new
   pub notes : Notes names front old_flags new_flags
 
--- so it is where what was held before was right
+-- the same if what was held before was right
 abbrev pub Enters : Header → Group → (front : List ℕ) → (old_flags new_flags : List Bool) → (old new : Open) → Type 0
 Enters h g front old_flags new_flags old new = IsOpen h g old_flags old → HasEntered h (names_of g) g.order.now front old_flags new_flags new
 
--- so, and the names that select this path were flagged, and this is whether there are some
+-- what is held is right, the names that select this path were flagged, and this is whether there
+-- are some
 pub record HasSelected (h : Header) (g : Group) (path : List ℕ) (old_flags new_flags : List Bool) (new : Open) (some : Bool) : Type 0 where
   pub open_scopes : IsOpen h g new_flags new
   pub matches : Matches (selects_path path) (names_of g) old_flags new_flags some
 
--- this holds of the declaration at a row, where what is held is right
+-- this holds of the declaration at a row, if what is held is right
 abbrev pub AnyOpen : HeadView → ℕ → Group → List Bool → Open → (Header → Declaration → Type 0) → Type 0
 AnyOpen view row g flags o Holds = AnyDeclared view row (λ h d. IsOpen h g flags o → Holds h d)
 
@@ -59,15 +61,15 @@ AnyOpen view row g flags o Holds = AnyDeclared view row (λ h d. IsOpen h g flag
 abbrev pub FlagsSelected : Group → List Declaration → Declaration → (old_flags new_flags : List Bool) → Type 0
 FlagsSelected g earlier d old_flags new_flags = Matched (λ name. is_selected (name ∷ []) earlier d) (names_of g) old_flags new_flags
 
--- where a variable is declared at a row, the names that select it were flagged
+-- if a variable is declared at a row, the names that select it were flagged
 abbrev pub SelectsAt : HeadView → ℕ → Group → (old_flags new_flags : List Bool) → (old new : Open) → Bool → Type 0
 SelectsAt view row g old_flags new_flags old new some = AnyDeclared view row (λ h d. is_variable d ≡ true → IsOpen h g old_flags old → HasSelected h g (path_of (take row h.declarations) d) old_flags new_flags new some)
 
--- so they were, and nothing else that is held has changed
+-- the names that select the variable were flagged, and nothing else that is held has changed
 abbrev pub ComparesAt : HeadView → ℕ → Group → (old_flags new_flags : List Bool) → Open → Bool → Type 0
 ComparesAt view row g old_flags new_flags o some = AnyDeclared view row (λ h d. is_variable d ≡ true → IsOpen h g old_flags o → Matches (selects_path (path_of (take row h.declarations) d)) (names_of g) old_flags new_flags some)
 
--- where what is inside one more scope is right, what is held is
+-- if what is inside one more scope is right, what is held is
 abbrev pub StaysOpen : Inside → (old new : Open) → Type 0
 StaysOpen inner old new = (h : Header) (names : List (List ℕ)) (order : List ℕ) (flags : List Bool) → AreOpen h names order flags old → Follows names order flags (front h.declarations inner.scope) inner.run → AreOpen h names order flags new
 

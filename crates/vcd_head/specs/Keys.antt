@@ -14,7 +14,7 @@ abbrev pub shape_of : CodeKey → List ℕ
 shape_of (key.Short n) = n ∷ []
 shape_of (key.Long v) = 0 ∷ 0 ∷ v.items
 
--- the shape of the key of a code with these bytes: its number, or its bytes where it has none
+-- the shape of the key of a code with these bytes: its number, or its bytes if it has none
 abbrev pub shape_in : List ℕ → List ℕ
 shape_in t = cond (key_in t == 0) (0 ∷ 0 ∷ t) (key_in t ∷ [])
 

@@ -42,5 +42,5 @@ pub use Rattle.vcd_view.specs.declared.view.Kind
 pub use Rattle.vcd_view.specs.declared.view.Need
 pub use Rattle.vcd_view.specs.declared.view.Row
 pub use Rattle.vcd_view.specs.declared.view.Scale
--- the definitions that the clauses cite
+-- the definitions that the contracts cite
 pub use Rattle.vcd_model.specs as Model

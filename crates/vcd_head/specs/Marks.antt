@@ -23,7 +23,7 @@ abbrev pub scopes_at : List Declaration → ℕ → List ℕ
 scopes_at ds zero = []
 scopes_at ds (suc p) = p ∷ enclosing (take p ds)
 
--- these are marked
+-- the scope and those around it are marked
 abbrev pub AllMarked : List ℕ → List ℕ → Type 0
 AllMarked positions marks = (i : ℕ) → i < length marks → is_among positions i ≡ true → get_or marks i 0 ≡ 1
 
@@ -31,6 +31,6 @@ AllMarked positions marks = (i : ℕ) → i < length marks → is_among position
 abbrev pub row_and_scopes : Header → ℕ → List ℕ
 row_and_scopes h row = row ∷ enclosing (take row h.declarations)
 
--- the first name that selects nothing is refused, and none where each selects something
+-- the first name that selects nothing is refused; if each selects something, none is
 abbrev pub RefusesUnmatched : {A : Type 0} → List (List ℕ) → Header → Result A ℕ → Type 0
 RefusesUnmatched names h r = MatchResult r (λ _. first_unmatched names h.declarations ≡ None) (λ name. first_unmatched names h.declarations ≡ Some name)

@@ -9,7 +9,7 @@ use Rattle.vcd_model.specs.Selection.{selected}
 abbrev pub Matched : (List ℕ → Bool) → List (List ℕ) → List Bool → List Bool → Type 0
 Matched test names old new = (i : ℕ) (name : List ℕ) → slice_get names i ≡ Some name → get_or new i false ≡ (get_or old i false || test name)
 
--- so, and this is whether some name passes it
+-- the flags of names that pass the test are set, and this is whether some name passes it
 pub record Matches (test : List ℕ → Bool) (names : List (List ℕ)) (old new : List Bool) (some : Bool) : Type 0 where
   pub flags : Matched test names old new
   pub any : some ≡ list_any test names

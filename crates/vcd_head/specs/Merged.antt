@@ -45,20 +45,20 @@ closing zero zero = []
 closing zero (suc written) = up_line
 closing (suc pending) written = []
 
--- what is written at a declaration that has these before it, where this many scopes around it, the
+-- what is written at a declaration that has these before it, if this many scopes around it, the
 -- innermost, are pending, and this many are written
 abbrev pub due : Header → (first pending written : ℕ) → List Declaration → Declaration → List ℕ
 due h first pending written earlier (Declaration.Scope type name) = []
 due h first pending written earlier Declaration.Up = closing pending written
 due h first pending written earlier (Declaration.Var v) = openings h.declarations (take pending (enclosing earlier)) ++ var_line v (numbered first h v.code)
 
--- how many are pending after it
+-- how many scopes are pending after it
 abbrev pub pending_behind : Declaration → ℕ → ℕ
 pending_behind (Declaration.Scope type name) pending = suc pending
 pending_behind Declaration.Up pending = pending - 1
 pending_behind (Declaration.Var v) pending = 0
 
--- how many are written
+-- how many scopes are written after it
 abbrev pub written_behind : Declaration → ℕ → ℕ → ℕ
 written_behind (Declaration.Scope type name) pending written = written
 written_behind Declaration.Up zero written = written - 1

@@ -1,4 +1,4 @@
--- Times with a unit, and their ticks, in the definitions' words.
+-- Times with a unit, and their ticks, as the definitions have them.
 use Rattle.std.specs.Prelude.{ℕ, cond, List, Option, Some, None, option_map, Result, Ok, Err}
 use Rattle.vcd_model.specs.Bytes.{is_empty}
 use Rattle.vcd_model.specs.Job.{unit_exponent}
@@ -11,13 +11,13 @@ use Rattle.vcd_head.specs.declared.moment.TickFault.TheVariants.{NoTimescale, Ou
 abbrev pub asked : Moment → model.Moment
 asked m = record { number = m.number; unit = m.unit }
 
--- this many units of this name, or ticks where it is empty
+-- this many units of this name, or ticks if it is empty
 abbrev pub with_unit : ℕ → List ℕ → Option model.Moment
 with_unit number unit =
     cond (is_empty unit) (Some (record { number = number; unit = None }))
     (option_map (λ e. record { number = number; unit = Some e }) (unit_exponent unit))
 
--- the fault's number
+-- the number of the fault
 abbrev pub tick_fault_number : TickFault → ℕ
 tick_fault_number NoTimescale = 12
 tick_fault_number OutOfRange = 22

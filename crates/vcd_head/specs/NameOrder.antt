@@ -27,7 +27,7 @@ pub record IsOrder (names : List (List ℕ)) (order : List ℕ) : Type 0 where
   pub within : (i : ℕ) → get_or order i 0 < 16384
   pub rising : (i j : ℕ) → i ≤ j → j < length names → comes_before names (get_or order j 0) (get_or order i 0) ≡ false
 
--- 1 plus the first byte, 0 where there is none
+-- 1 plus the first byte, or 0 if there is none
 abbrev pub first_of : List ℕ → ℕ
 first_of [] = 0
 first_of (byte ∷ bytes) = suc byte
@@ -36,7 +36,7 @@ first_of (byte ∷ bytes) = suc byte
 abbrev pub next_bytes : List (List ℕ) → List ℕ → ℕ → ℕ → List ℕ
 next_bytes names order passed i = drop passed (text_at names order i)
 
--- 1 plus the first byte of it, 0 where there is none
+-- 1 plus the first byte of what comes after this many bytes, or 0 if there is none
 abbrev pub next_in : List (List ℕ) → List ℕ → ℕ → ℕ → ℕ
 next_in names order passed i = first_of (next_bytes names order passed i)
 
@@ -44,11 +44,12 @@ next_in names order passed i = first_of (next_bytes names order passed i)
 abbrev pub AreShared : List ℕ → List ℕ → ℕ → Type 0
 AreShared a b n = (n ≤ length a) × ((i : ℕ) → i < n → get_or a i 0 ≡ get_or b i 0)
 
--- between two indexes of the order it does not fall
+-- between two indexes of the order that number does not decrease
 abbrev pub Rises : List (List ℕ) → List ℕ → ℕ → (first end : ℕ) → Type 0
 Rises names order passed first end = (i j : ℕ) → first ≤ i → i ≤ j → j < end → next_in names order passed i ≤ next_in names order passed j
 
--- between two indexes of the order, it is less before a third index, and not less from there on
+-- between two indexes of the order, that number is less before a third index, and not less from
+-- there on
 pub record IsSplit (names : List (List ℕ)) (order : List ℕ) (passed first end least position : ℕ) : Type 0 where
   pub below : (i : ℕ) → first ≤ i → i < position → next_in names order passed i < least
   pub above : (i : ℕ) → position ≤ i → i < end → least ≤ next_in names order passed i

@@ -1,5 +1,5 @@
--- What the clauses of this crate speak of, under one path: of the crates below, and what several of
--- its modules share.
+-- What the contracts of this crate cite, under one path: names of the crates below, and those that
+-- several of its modules share.
 pub use Rattle.std.specs.Cmp.{on_equiv, on_per, partial_equiv_from_equiv}
 pub use Rattle.std.specs.Cmp.Lexicographic.{nat_list_eq_equiv}
 pub use Rattle.std.specs.Int.{div_ceil}

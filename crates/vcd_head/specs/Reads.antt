@@ -48,7 +48,7 @@ pub record ReadsWhole {X : Type 0} {g : Ghosts X} (most : ℕ) (i : Input) (plac
   pub going : IsGoing most given
   pub whole : IsWhole (header_grammar most) (given ++ token_of f ∷ []) placed
 
--- a reading that ends so has met no fault
+-- a reading with this ending has met no fault
 abbrev pub IsNoFault : Ending → Type 0
 IsNoFault (AtFault f) = ⊥
 IsNoFault AtEnd = Unit {0}
@@ -71,8 +71,8 @@ HasReadToShown i given f = HasGiven i (given ++ token_of f ∷ []) f × HasReadT
 abbrev pub FailsAtToken : {X : Type 0} {g : Ghosts X} → ℕ → Input → ℕ → Feed X g → Type 0
 FailsAtToken most i number f = HasFault most (limit_of f) i number (token_of f).line × (given : List Token) × HasReadToShown i given f × IsGoing most given
 
--- the header has this fault where no token is left, and the feed shows none; no token before has
--- one
+-- the header has this fault if no token is left, and the feed shows none; no token before it has a
+-- fault
 abbrev pub FailsAtEnd : {X : Type 0} {g : Ghosts X} → ℕ → Input → ℕ → Feed X g → Type 0
 FailsAtEnd most i number f =
     HasFault most (limit_of f) i number (token_of f).line × ((token_of f).bytes ≡ [])
@@ -83,8 +83,8 @@ FailsAtEnd most i number f =
 abbrev pub IsGoodSoFar : {X : Type 0} {g : Ghosts X} → ℕ → Input → Feed X g → Type 0
 IsGoodSoFar most i f = (given : List Token) × HasReadToShown i given f × IsGoing most given × IsFaultless most (given ++ token_of f ∷ [])
 
--- Why a header is refused: its fault, where a source that failed ends the input there. Where memory
--- is refused, no token given so far has a fault.
+-- Why a header is refused: its fault, if a source that failed counts as the end of the input. If
+-- memory is refused, no token given so far has a fault.
 abbrev pub Fails : {X : Type 0} {g : Ghosts X} → ℕ → Input → HeadFault → Feed X g → Type 0
 Fails most i OutOfMemory f = IsGoodSoFar most i f
 Fails most i ReadFailed f = FailsAtEnd most (failed_after (seen f) i) 31 f × GaveOnlySeen i f
@@ -110,11 +110,10 @@ pub record GivesHead {X : Type 0} {g : Ghosts X} (most : ℕ) (i : Input) (f : F
 -- What a call that reads a header, of at most this many declarations, leaves of its feed.
 pub record ReadsHead {X : Type 0} {g : Ghosts X} (failures : X → ℕ) (most : ℕ) (old new : Feed X g) (result : Result Head HeadFault) : Type 0 where
   -- A head shows the header of the phrases that were read. A fault is the header's, at the feed's
-  -- line and token, the first token given that has one, or empty where none was left; where
-  -- memory is refused, no token given so far has a fault.
+  -- line and token, the first token given that has one, or empty if none was left; if memory is
+  -- refused, no token given so far has a fault.
   pub reads : (i : Input) → HasGiven i [] old → MatchResult result (λ head. GivesHead most i new (shown head)) (λ fault. Fails most i fault new)
-  -- a failed read is returned only where the source failed now, in its last read, or had failed
-  -- before
+  -- a failed read is returned only if the source failed now, in its last read, or had failed before
   pub failed : HasNotFailed old → result ≡ Err ReadFailed → failures (source_of new) ≡ failures (source_of old) + 1
   pub last : HasNotFailed old → result ≡ Err ReadFailed → g.last_failed (source_of new) ≡ true
   pub same : result ≢ Err ReadFailed → failures (source_of new) ≡ failures (source_of old)

@@ -3,7 +3,7 @@ use Rattle.std.specs.Prelude.{◌^◌, ◌<◌}
 use Rattle.vcd_head.specs.declared.rows.WideRow.{WideRow}
 use Rattle.vcd_view.specs.declared.view.Row.{Row}
 
--- the row as it is held
+-- the row as it is stored
 abbrev pub row_of : WideRow → Row
 row_of w = record { kind = w.kind; parent = w.parent; word = w.word; name = w.name; start = w.start; all = w.all; code = w.code }
 

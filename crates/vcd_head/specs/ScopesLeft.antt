@@ -24,7 +24,7 @@ pub record LeavesScopes (h : Header) (row : ℕ) (rest : List ℕ) (e : Enclosin
   pub known : 0 < e.held → e.left ≤ length (enclosing (take row h.declarations))
   pub few : e.held ≤ e.left
 
--- the first of them is given, none where none is left
+-- the first of them is given; `None` if none is left
 abbrev pub GivesNext : Header → ℕ → List ℕ → Enclosing → Option ℕ → Type 0
 GivesNext h row rest e None = rest ≡ []
 GivesNext h row rest e (Some scope) = (others : List ℕ) × (rest ≡ scope ∷ others) × (scope < row) × LeavesScopes h row others e

@@ -36,7 +36,7 @@ pub record ReadsOn {X : Type 0} {g : Ghosts X} (most : ℕ) (i : Input) (placed 
   pub reads : Reads most i placed (before ++ inner) f
   pub grows : Grows inner
 
--- and the last token is `$end`
+-- after these tokens the last one is `$end`
 pub record EndsThere {X : Type 0} {g : Ghosts X} (most : ℕ) (i : Input) (placed : List (Placed HeaderPhrase)) (before : List (List ℕ)) (f : Feed X g) (Grows : List (List ℕ) → Type 0) : Type 0 where
   pub inner : List (List ℕ)
   pub none : NoEnds inner
@@ -63,8 +63,8 @@ pub record RunsPast {X : Type 0} {g : Ghosts X} (most : ℕ) (i : Input) (placed
   pub so_far : IsSoFar (header_grammar most) given placed (before ++ inner)
   pub grows : Grows inner
 
--- where none was passed before, this many bytes are those of some tokens before the first `$end`,
--- and the text has grown by them, a space before each
+-- if none was passed before, this many bytes are those of some tokens before the first `$end`, and
+-- the text has grown by them, a space before each
 abbrev pub AppendsAhead : Ahead → (old new : List ℕ) → Result ℕ HeadFault → Type 0
 AppendsAhead a old new r = (limit lines : ℕ) (bytes : List ℕ) → LooksOver limit bytes a → Passed limit lines bytes (passed_of a) []
     → IfOk r (λ n. (ts : List Token) × Passed limit lines bytes n ts × NoEnds (texts_of ts) × (new ≡ old ++ spaced (texts_of ts)))

@@ -1,5 +1,5 @@
-// Variables and scopes whose phrases are whole ahead in the chunk: their tokens cost no change of
-// the feed.
+// Variables and scopes whose phrases lie completely in the chunk. Their tokens are read without a
+// change of the feed.
 ghost use Rattle.std.specs.Prelude.{◌≡◌, IfSome, IfErr};
 ghost use Rattle.vcd_head.specs.Names.{DraftsAhead, DraftsNext, Gives, GivesToken, GoesOnWithin, IsReference, IsScope, IsUpscope, IsVariable, LooksOn, MovesAhead, MovesOn, PassesOn, PassesTokens, ReadsAhead, TakesNext};
 
@@ -14,7 +14,7 @@ use std::alloc::Global;
 use vcd_text::{Ahead, Feed, Source};
 use vcd_view::Kind;
 
-/// Returns the next token, if it lies whole ahead.
+/// Returns the next token, if it lies completely in the chunk.
 #[inline(always)]
 pub(crate) fn token_ahead<'a>(ahead: &mut Ahead<'a>) -> Option<&'a [u8]>
     ensures one { IfSome result (λ token. GivesToken ahead.old ahead.new token.now) }
@@ -23,8 +23,8 @@ pub(crate) fn token_ahead<'a>(ahead: &mut Ahead<'a>) -> Option<&'a [u8]>
     ahead.next()
 }
 
-/// Passes the reference that comes next and the `$end` after it, and returns the reference, if it
-/// has one token or two.
+/// Passes the reference that comes next and the `$end` after it, and returns the reference. `None`
+/// if it has no token or more than two, or does not lie completely in the chunk.
 #[inline(always)]
 fn reference_ahead<'a>(ahead: &mut Ahead<'a>) -> Option<Reference<'a>>
     ensures gives { Gives IsReference ahead.old ahead.new result }
@@ -48,8 +48,8 @@ fn reference_ahead<'a>(ahead: &mut Ahead<'a>) -> Option<Reference<'a>>
     })
 }
 
-/// Returns the variable whose phrase comes next, if that lies whole ahead and its reference has at
-/// most two tokens.
+/// Returns the variable whose phrase comes next, if the phrase lies completely in the chunk and its
+/// reference has at most two tokens.
 #[inline(always)]
 fn variable_ahead<'a>(ahead: &mut Ahead<'a>) -> Option<VariablePhrase<'a>>
     ensures gives { Gives IsVariable ahead.old ahead.new result }
@@ -78,8 +78,8 @@ fn variable_ahead<'a>(ahead: &mut Ahead<'a>) -> Option<VariablePhrase<'a>>
     })
 }
 
-/// Declares a variable ahead, and returns whether it may come there: else `read_variable` says why
-/// not.
+/// Declares a variable ahead, and returns whether it may come here. If not, `read_variable` finds
+/// the fault.
 fn take_variable(
     alloc: Global,
     most: u64,
@@ -95,7 +95,7 @@ fn take_variable(
     declare(alloc, draft, variable)
 }
 
-/// Opens a scope ahead, and returns whether it may come there: else `read_scope` says why not.
+/// Opens a scope ahead, and returns whether it may come here. If not, `read_scope` finds the fault.
 #[inline(always)]
 fn take_scope(most: u64, draft: &mut Draft, scope: ScopePhrase<'_>) -> Result<bool, HeadFault>
     ensures takes { TakesNext most (λ more. IsScope more scope.entry) draft.old draft.new result }
@@ -108,8 +108,8 @@ fn take_scope(most: u64, draft: &mut Draft, scope: ScopePhrase<'_>) -> Result<bo
     Ok(true)
 }
 
-/// Closes a scope by a phrase ahead, and returns whether it may come there: else `read_upscope`
-/// says why not.
+/// Closes a scope by a phrase ahead, and returns whether it may come here. If not, `read_upscope`
+/// finds the fault.
 #[inline(always)]
 fn take_upscope(most: u64, draft: &mut Draft) -> Result<bool, HeadFault>
     ensures takes { TakesNext most IsUpscope draft.old draft.new result }
@@ -122,8 +122,8 @@ fn take_upscope(most: u64, draft: &mut Draft) -> Result<bool, HeadFault>
     Ok(true)
 }
 
-/// Takes the next phrase, if it is whole ahead and declares a variable or a scope, or closes one.
-/// Returns whether it did.
+/// Takes the next phrase, if it lies completely in the chunk and declares a variable or a scope, or
+/// closes a scope. Returns whether it did.
 #[inline(always)]
 fn declare_next(
     alloc: Global,
@@ -155,8 +155,8 @@ fn declare_next(
     Ok(false)
 }
 
-/// Declares the variables and scopes that come next and lie whole ahead, and returns how many bytes
-/// were passed.
+/// Declares the variables and scopes that come next and lie completely in the chunk, and returns
+/// how many bytes were passed.
 fn declare_ahead(
     alloc: Global,
     ahead: Ahead<'_>,
@@ -177,8 +177,8 @@ fn declare_ahead(
     }
 }
 
-/// Reads the variables and scopes that come next, after a phrase, and are whole in the chunk. The
-/// feed then shows no token.
+/// Reads the variables and scopes that come next, after a phrase, and lie completely in the chunk.
+/// The feed then shows no token.
 pub(crate) fn read_ahead<S: Source>(
     alloc: Global,
     feed: &mut Feed<'_, '_, '_, '_, S>,

@@ -1,4 +1,4 @@
-// Scopes whose phrases are whole ahead in the chunk.
+// Scopes whose phrases lie completely in the chunk.
 ghost use Rattle.vcd_head.specs.Names.{Gives, IsScope, IsUpscope, MovesAhead};
 
 use crate::ahead::token_ahead;
@@ -6,7 +6,7 @@ use crate::declarations::ScopePhrase;
 use crate::words::{is_end, is_scope, is_upscope};
 use vcd_text::Ahead;
 
-/// Returns the scope whose phrase comes next, if that lies whole ahead.
+/// Returns the scope whose phrase comes next, if the phrase lies completely in the chunk.
 #[inline(always)]
 pub(crate) fn scope_ahead<'a>(ahead: &mut Ahead<'a>) -> Option<ScopePhrase<'a>>
     ensures gives { Gives IsScope ahead.old ahead.new result }
@@ -31,7 +31,7 @@ pub(crate) fn scope_ahead<'a>(ahead: &mut Ahead<'a>) -> Option<ScopePhrase<'a>>
     Some(ScopePhrase { word, name })
 }
 
-/// Passes the phrase that closes a scope, if it comes next and lies whole ahead.
+/// Passes the phrase that closes a scope, if it comes next and lies completely in the chunk.
 #[inline(always)]
 pub(crate) fn upscope_ahead(ahead: &mut Ahead<'_>) -> Option<()>
     ensures gives { Gives (λ more _. IsUpscope more) ahead.old ahead.new result }

@@ -10,8 +10,8 @@ use crate::rows::token_len;
 use std::alloc::Global;
 use vcd_view::{Code, code_in, key_of};
 
-/// Returns the index of the code of a variable, which is added where it is new, at the end of the
-/// text; none where it was declared with another size or kind.
+/// Returns the index of the code of a variable. A new code is added at the end of the text. `None`
+/// if the code was declared with another size or kind.
 #[inline(always)]
 pub(crate) fn enter_code(
     alloc: Global,
@@ -64,7 +64,7 @@ fn enter_key(alloc: Global, known: &mut Codes, bytes: &[u8]) -> Result<(usize, b
 }
 
 /// Enters the key of the code with these bytes in the set, if it is new. Returns the index of the
-/// code, and whether it is new. A code that is there is found even where memory is refused.
+/// code, and whether it is new. A code that is not new is found even if memory is refused.
 fn enter_in_set(alloc: Global, known: &mut Codes, bytes: &[u8]) -> Result<(usize, bool), HeadFault>
     ensures enters { Rises known.old.rising.items
         → list_any (nat_eq (key_in bytes.now)) known.old.rising.items ≡ false

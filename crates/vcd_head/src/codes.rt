@@ -1,4 +1,4 @@
-// The distinct codes of a header that is read.
+// The distinct codes of a header while it is read.
 ghost use Rattle.std.specs.Prelude.{◌≡◌, ℕ, List, position};
 ghost use Rattle.vcd_head.specs.Names.{Allows, AreHeld, AreKeysOf, Finds, HasNone, IdCode, Rises, is_key, is_of, keys_of};
 
@@ -8,21 +8,20 @@ use indexmap::IndexSet;
 use std::alloc::Global;
 use vcd_view::{Code, CodeSeed, code_in, key_of};
 
-// The codes in order of first declaration, found by their bytes. The set of the kit, instead of a
-// table and tree of 800 lines, costs `check` of 184,002 codes some 12 % more, and codes crafted for
-// it at most 1.4 times as much as others.
+// The codes in order of first declaration, found by their bytes. With a table and a tree of 800
+// lines instead of the kit's set, `check` of 184,002 codes took some 12 % less.
 #[derive(Drop)]
 pub(crate) struct Codes {
     pub(crate) list: Vec<Code>,
     // The numbers of the first codes in the list, each above the one before it. Simulators number
-    // codes in the order of declaration, so most headers have no others.
+    // codes in the order of declaration, so most headers have no other codes.
     pub(crate) rising: Vec<u64>,
-    // The key of each code after those.
+    // The key of each code after the first ones.
     pub(crate) keys: IndexSet<CodeKey, CodeSeed>,
 }
 
 impl Codes {
-    /// Returns no codes, neither in the list nor by their numbers nor in the set.
+    /// Returns an empty set of codes.
     pub(crate) fn new(alloc: Global, seed: CodeSeed) -> Self
         ensures { HasNone result }
     {
@@ -60,8 +59,8 @@ impl Codes {
         self.rising.len().checked_add(position)
     }
 
-    /// Returns the index in the set of the key of the code with these bytes. It takes memory for
-    /// the key of a long one; where that is refused, all keys are looked through.
+    /// Returns the index in the set of the key of the code with these bytes. The key of a long code
+    /// needs memory. If that is refused, it looks at all keys.
     fn find_key(&self, alloc: Global, bytes: &[u8]) -> Option<usize>
         ensures { result ≡ position (is_key bytes.now) self.now.keys.keys }
     {

@@ -1,4 +1,4 @@
-// What the declarations of a header are checked for, and what becomes of the head.
+// The checks of declarations, and what a declaration adds to the draft.
 ghost use Rattle.std.specs.Prelude.{◌≡◌, List, ◌++◌, length, IfOk, IfErr, MatchResult};
 ghost use Rattle.vcd_head.specs.Names.{CallEnd, Declaration, DeclaresVariable, HeaderPhrase, IsBarred, IsDraftOf, MayStart, TakesPhrase, call_end, whole};
 
@@ -28,7 +28,7 @@ pub(crate) struct VariablePhrase<'a> {
 pub(crate) struct Reference<'a> {
     // Its first token.
     pub(crate) name: &'a [u8],
-    // The tokens after that, with a space between; `None` where it has no others.
+    // The tokens after that, with a space between; `None` if it has no others.
     pub(crate) more: Option<&'a [u8]>,
 }
 
@@ -40,8 +40,8 @@ pub(crate) struct ScopePhrase<'a> {
     pub(crate) name: &'a [u8],
 }
 
-/// Checks that a declaration of this kind may come next: `most` may be read in all, 1,000 scopes
-/// may be open, and only an open scope is closed.
+/// Fails if a declaration of this kind may not come next: if `most` were read already, if 1,000
+/// scopes are open and it opens one, or if none is open and it closes one.
 #[inline(always)]
 pub(crate) fn check_start(draft: &Draft, most: u64, kind: Kind) -> Result<(), HeadFault>
     ensures checks { (ps : List HeaderPhrase) → IsDraftOf most draft.now ps
@@ -68,8 +68,8 @@ pub(crate) fn check_start(draft: &Draft, most: u64, kind: Kind) -> Result<(), He
     }
 }
 
-/// Declares a variable, and returns whether its code allows that: not where it was declared with
-/// another size, or where one of the two is an event and the other is not.
+/// Declares a variable, and returns whether its code allows that. It does not if the code was
+/// declared with another size, or if only one of the two is an event.
 #[inline(always)]
 pub(crate) fn declare(
     alloc: Global,
@@ -150,7 +150,7 @@ pub(crate) fn open_scope(draft: &mut Draft, scope: ScopePhrase<'_>) -> Result<()
     Ok(())
 }
 
-/// Closes the innermost open scope; one is open where this may come.
+/// Closes the innermost open scope. There is one, since `check_start` was called.
 #[inline(always)]
 pub(crate) fn close_scope(draft: &mut Draft) -> Result<(), HeadFault>
     ensures closes { IfOk result (λ _. TakesPhrase Kind.Up Declaration.Up draft.old draft.new) }

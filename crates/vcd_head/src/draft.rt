@@ -35,7 +35,7 @@ impl Draft {
         }
     }
 
-    /// Returns 1 plus the row of the innermost open scope, 0 where none is open.
+    /// Returns 1 plus the row of the innermost open scope, or 0 if none is open.
     #[inline(always)]
     pub(crate) fn parent(&self) -> usize
         ensures { result ≡ unwrap_or

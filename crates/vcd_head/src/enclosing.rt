@@ -4,24 +4,24 @@ ghost use Rattle.vcd_head.specs.Names.{AnyRow, GivesNext, Header, IsViewOf, Leav
 
 use vcd_view::HeadView;
 
-// How many rows are held at a time.
+// How many rows are kept at a time.
 const SCOPES_HELD: usize = 128;
 
 /// The scopes around the declaration of a row, given outermost first.
 ///
-/// A row has only the scope just around it. So it walks outwards, holds the last rows that it
-/// passes, gives them, and walks again where more are left: once where at most 128 scopes enclose
-/// the declaration, at most eight times in a header. It takes 1 KB of stack, whatever the depth,
-/// and no memory.
+/// A row only says which scope is directly around it. So `next` walks outwards, keeps the last rows
+/// that it passes, gives these, and walks again if more are left: once if at most 128 scopes
+/// enclose the declaration, and at most eight times in any header. It takes 1 KB of stack, whatever
+/// the depth, and no memory.
 #[derive(Drop)]
 pub(crate) struct Enclosing {
     row: usize,
-    // The rows that were passed last, each at its number, counted outwards from 0, modulo their
-    // number.
+    // The rows that were passed last. Each is at its number, counted outwards from 0, modulo the
+    // length.
     rows: [usize; SCOPES_HELD],
-    // The most scopes that are left to give.
+    // How many scopes are left to give, at most.
     left: usize,
-    // How many of the scopes left, the outermost, are held.
+    // How many of the scopes that are left, the outermost ones, are in `rows`.
     held: usize,
 }
 
@@ -35,7 +35,7 @@ impl Enclosing {
         Self::innermost(row, row)
     }
 
-    /// Returns the innermost `most` scopes around a row, or all where there are fewer.
+    /// Returns the innermost `most` scopes around a row, or all if there are fewer.
     #[inline(always)]
     pub(crate) fn innermost(row: usize, most: usize) -> Self
         ensures { (h : Header) → row < length h.declarations
@@ -67,8 +67,8 @@ impl Enclosing {
     }
 }
 
-// Walks outwards from a row by at most `most` scopes, and holds the last ones. Returns how many it
-// passed.
+// Walks outwards from a row by at most `most` scopes, and keeps the last ones in `rows`. Returns
+// how many it passed.
 fn walk(view: HeadView<'_>, row: usize, most: usize, rows: &mut [usize; SCOPES_HELD]) -> usize
     ensures walks { AnyRow view.entry row (λ h. Walks h row most rows.new result) }
     ensures within { result ≤ most }

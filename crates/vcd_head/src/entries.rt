@@ -1,5 +1,5 @@
-// The entries by which codes are looked up: how they are filled. Any code may have any entry, or
-// none: where an entry is decides only how fast a look-up is.
+// How the entries are filled by which codes are looked up. Any code may have any entry, or none:
+// where an entry is decides only how fast a look-up is.
 ghost use Rattle.std.specs.Prelude.{◌≡◌, ◌-◌, ◌*◌, ◌^◌, ◌≤◌, ◌<◌, ℕ, List, true, false, length, set, slice_get, Some, IfOk, IfSome};
 ghost use Rattle.vcd_head.specs.Names.{Code, KeepsRight, are_right, is_right, key_in, text_in};
 
@@ -9,7 +9,7 @@ use vcd_view::{
     size_or_zero_of, text_in,
 };
 
-// The entry of no code.
+// An empty entry.
 const EMPTY: Entry = Entry {
     key: 0,
     position: 0,
@@ -17,7 +17,7 @@ const EMPTY: Entry = Entry {
 };
 
 /// Returns the entries of these codes, whose bytes lie in the text: a power of two of them, at most
-/// three for each code. Fewer suffice where the codes are in the order of their numbers.
+/// three for each code. Fewer suffice if the codes are in the order of their numbers.
 pub(crate) fn entries_of(
     alloc: Global,
     text: &[u8],
@@ -37,8 +37,8 @@ pub(crate) fn entries_of(
     Ok(entries)
 }
 
-/// Returns the greatest number of a code where they are in the order of their numbers, else the
-/// greatest that there is.
+/// Returns the greatest number of a code, that of the last one, if the codes are in the order of
+/// their numbers; otherwise 2^64 - 1.
 fn greatest_of(text: &[u8], codes: &[Code], in_order: bool) -> usize
     ensures { in_order ≡ false → result ≡ 2 ^ 64 - 1 }
 {
@@ -49,10 +49,10 @@ fn greatest_of(text: &[u8], codes: &[Code], in_order: bool) -> usize
 }
 
 /// Returns how many entries this many codes get, whose greatest number is `greatest`: the least
-/// power of two that has one for each code, and twice as many if three for each code allow that.
-/// Where each number is that of an entry, no two codes have the same one, so no more are needed.
-// With 1.5 to 3 entries for each code the header of 184,002 codes in order takes 2 % more
-// instructions and 16 % more page faults.
+/// power of two that has one for each code, and twice as many if three for each code allow that. If
+/// each number is that of an entry, no two codes have the same one, so no more are needed.
+// With 1.5 to 3 entries for each code, the header of 184,002 codes in order takes 2 % more
+// instructions.
 fn count_for(codes: usize, greatest: usize) -> usize
     requires { (0 < codes) × (codes < 2 ^ 60) }
     ensures { result ≤ 3 * codes }
@@ -76,9 +76,9 @@ fn fill(entries: &mut [Entry], text: &[u8], codes: &[Code], seed: CodeSeed)
     }
 }
 
-/// Writes the entry of the code at index `position`, which has these bytes: over its own entry or
-/// one beside it, if one of them is free, else where its hash leads. Where all of these are taken,
-/// the code gets no entry, and only a binary search finds it.
+/// Writes the entry of the code at index `position`, which has these bytes: to its own entry or one
+/// beside it, if one of them is free, otherwise to one where its hash leads. If all of these are
+/// taken, the code gets no entry, and only a binary search finds it.
 #[inline(always)]
 fn enter(entries: &mut [Entry], position: usize, code: Code, bytes: &[u8], seed: CodeSeed)
     ensures right { (text : List ℕ) (codes : List Code) → slice_get codes position ≡ Some code
@@ -111,8 +111,8 @@ fn free_near(entries: &[Entry], own: usize) -> Option<usize>
     None
 }
 
-/// Writes an entry to the first free one to which the hash leads; to none where all that are
-/// looked at are taken.
+/// Writes an entry to the first free one to which the hash leads. If all that it looks at are
+/// taken, it writes none.
 fn put_hashed(entries: &mut [Entry], hash: u64, entry: Entry)
     ensures right { (text : List ℕ) (codes : List Code) → is_right text codes entry ≡ true
         → KeepsRight text codes entries.old entries.new }
@@ -138,8 +138,8 @@ fn is_free(entries: &[Entry], at: usize) -> bool
     }
 }
 
-/// Returns the entry of the code at index `position`, which has this key; an empty one where 32
-/// bits do not hold the index.
+/// Returns the entry of the code at index `position`, which has this key, or an empty one if the
+/// index does not fit into 32 bits.
 #[inline(always)]
 fn entry_with(position: usize, code: Code, key: u64) -> Entry
     ensures short { (text : List ℕ) (codes : List Code) → slice_get codes position ≡ Some code
@@ -157,7 +157,7 @@ fn entry_with(position: usize, code: Code, key: u64) -> Entry
     }
 }
 
-/// Writes the entry at `at`; nothing where that is out of range.
+/// Writes the entry at `at`, if that is in range.
 #[inline(always)]
 fn put(entries: &mut [Entry], at: usize, entry: Entry)
     ensures { entries.new ≡ set entries.old at entry }

@@ -13,7 +13,7 @@ pub enum HeadFault {
     EndOfInput = 2,
     /// A phrase begins with no command (fault 3).
     UnknownCommand = 3,
-    /// What belongs into the body, or no `$end` after `$enddefinitions` (fault 4).
+    /// A keyword that belongs into the body, or no `$end` after `$enddefinitions` (fault 4).
     OutOfPlace = 4,
     /// No time scale of number and unit after `$timescale` (fault 5).
     BadTimescale = 5,
@@ -21,11 +21,11 @@ pub enum HeadFault {
     BadScope = 6,
     /// No type, size, code and reference after `$var` (fault 7).
     BadVariable = 7,
-    /// A code has two sizes, or is an event and none (fault 8).
+    /// A code has two sizes, or is both an event and none (fault 8).
     CodeDiffers = 8,
-    /// An `$upscope` where no scope is open (fault 9).
+    /// An `$upscope` while no scope is open (fault 9).
     NoScope = 9,
-    /// A `$scope` where 1,000 scopes are open (fault 10).
+    /// A `$scope` while 1,000 scopes are open (fault 10).
     TooDeep = 10,
     /// More declarations than are allowed (fault 11).
     TooMany = 11,

@@ -1,4 +1,4 @@
-// A draft becomes a head.
+// How a draft becomes a head.
 ghost use Rattle.std.specs.Prelude.{◌≡◌, ℕ, List, IfOk, IfErr};
 ghost use Rattle.vcd_head.specs.Names.{HeaderPhrase, IsDraftOf, Views, header_of, shown};
 

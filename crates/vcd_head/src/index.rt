@@ -6,17 +6,17 @@ use std::alloc::{AllocError, Global};
 use std::cmp::Ordering;
 use vcd_view::{Code, code_in, text_in};
 
-// The bytes of a code that a prefix has.
+// How many bytes of a code a prefix has.
 const PREFIX_BYTES: usize = 8;
 
-// The most bytes of a code that a rank has.
+// How many bytes of a code a rank has at most.
 const RANK_BYTES: usize = 4;
 
 // How many indexes a rank can distinguish.
 const PLACES: usize = 16_777_216;
 
-// The first bytes of a code as a number, which is less where they come before others, and its
-// index.
+// The first bytes of a code as a number, and its index. The number is less if the bytes come before
+// others.
 #[derive(Clone, Copy)]
 pub(crate) struct Prefix {
     pub(crate) number: u64,
@@ -33,8 +33,8 @@ pub(crate) fn index_of(alloc: Global, text: &[u8], codes: &[Code]) -> Result<Vec
     }
 }
 
-/// Returns the indexes of short codes in the order of their bytes; none where some are long. Ranks
-/// are sorted, and then reduced to the indexes in the same memory.
+/// Returns the indexes of short codes in the order of their bytes. `None` if some are long. It
+/// sorts ranks, and then reduces them to the indexes in the same memory.
 fn index_by_ranks(
     alloc: Global,
     text: &[u8],
@@ -52,8 +52,8 @@ fn index_by_ranks(
     Ok(Some(index))
 }
 
-/// Returns the ranks of the codes, in their order of declaration, if a rank has all of the bytes
-/// and the index of each.
+/// Returns the ranks of the codes, in their order of declaration. `None` if a rank does not hold
+/// all bytes of each code, and its index.
 fn ranks_of(alloc: Global, text: &[u8], codes: &[Code]) -> Result<Option<Vec<usize>>, AllocError>
     ensures { IfOk result (λ some. IfSome some (λ ranks. AreRanks text.now codes.now ranks.items)) }
 {
@@ -71,9 +71,8 @@ fn ranks_of(alloc: Global, text: &[u8], codes: &[Code]) -> Result<Option<Vec<usi
     Ok(Some(ranks))
 }
 
-/// Returns the bytes of a code, their number and its index as one number, which is less where the
-/// bytes come before others.
-// Two ranks are compared as numbers, and the codes themselves are not read.
+/// Returns the bytes of a code, their number and its index as one number, which is less if the
+/// bytes come before others. Ranks are compared as numbers, without a look at the codes.
 #[inline(always)]
 fn rank_of(bytes: &[u8], position: usize) -> usize
     requires short { length bytes.now ≤ 4 }
@@ -125,7 +124,7 @@ fn places_of(alloc: Global, prefixes: &[Prefix]) -> Result<Vec<usize>, AllocErro
     Ok(positions)
 }
 
-/// Returns the order of two codes by their bytes, which are looked at only where their prefixes are
+/// Returns the order of two codes by their bytes. It looks at the bytes only if the prefixes are
 /// the same.
 #[inline(always)]
 fn order_of(text: &[u8], codes: &[Code], a: Prefix, b: Prefix) -> Ordering
@@ -164,7 +163,7 @@ fn prefix_of(bytes: &[u8], count: usize) -> u64
     number
 }
 
-/// Returns the byte at an index, zero where there is none.
+/// Returns the byte at an index, or zero if there is none.
 #[inline(always)]
 fn byte_at(bytes: &[u8], position: usize) -> u64
     ensures byte { result ≡ get_or bytes.now position 0 }

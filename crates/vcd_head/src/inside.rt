@@ -1,5 +1,4 @@
-// The names that continue inside the open scopes, so that a row is compared by its own name
-// alone.
+// The names that continue inside the open scopes, so that a row is compared only by its own name.
 ghost use Rattle.std.specs.Prelude.{[], ◌≡◌, ◌<◌, ◌≤◌, suc, Bool, List, length, map, string_bytes, take, IfSome};
 ghost use Rattle.vcd_head.specs.Names.{AnyOpen, AnyRow, AnyVariable, AreSame, ComparesAt, EntersScope, FlagsSelected, GivesAround, Header, IsOpen, IsOrder, IsRun, KeepsOpen, Matches, SelectsAt, StaysOpen, front, is_selected, names_of, row_path, scopes_text, selects_path};
 
@@ -8,7 +7,7 @@ use crate::names::{GROUP_NAMES, Group, NameRun};
 use crate::selection::selects;
 use vcd_view::{HeadView, Kind};
 
-// How many scopes may be open, and one for what is outside of all.
+// How many scopes may be open, and one more for what is outside of all scopes.
 pub(crate) const MAX_OPEN: usize = 1001;
 
 // The names that continue inside a scope.
@@ -34,9 +33,9 @@ impl Inside {
 }
 
 // The scopes that are open, the innermost last. A scope is entered at the first variable in it, so
-// that a name that selects all in it selects something. What is held of a scope is right whatever
-// order rows are taken in, and is looked at where it is of the scope around a row. So a name that
-// selects a whole scope costs nothing at its other rows.
+// that a name that selects all of a scope selects something. What is kept of a scope is right
+// whatever order rows are taken in, and it is looked at only if the scope is around the row. So a
+// name that selects a whole scope costs nothing at its other rows.
 #[derive(Drop)]
 pub(crate) struct Open<'o> {
     inside: &'o mut [Inside; MAX_OPEN],
@@ -47,8 +46,8 @@ pub(crate) struct Open<'o> {
 }
 
 impl<'o> Open<'o> {
-    /// Returns what is open before the first row: nothing but what is outside of all scopes. It is
-    /// held in `inside`, whatever was there before.
+    /// Returns what is open before the first row: only what is outside of all scopes. It is kept in
+    /// `inside`, whatever was there before.
     pub(crate) fn new(group: &Group<'_>, inside: &'o mut [Inside; MAX_OPEN]) -> Self
         ensures { (h : Header) (flags : List Bool) → IsOrder (names_of group.now) group.now.order.now
             → AreSame (names_of group.now) flags → IsOpen h group.now flags result }
@@ -61,9 +60,9 @@ impl<'o> Open<'o> {
         }
     }
 
-    /// Takes the next row. Returns whether it is a variable's that some name selects, or any
-    /// variable's where there are no names, and notes which names select it, beside those that had
-    /// matched before.
+    /// Takes the next row. Returns whether it is a variable that some name selects, or any variable
+    /// if there are no names. It also notes which names select it, besides those that matched
+    /// before.
     #[inline(always)]
     pub(crate) fn take(
         &mut self,
@@ -130,7 +129,7 @@ impl<'o> Open<'o> {
         }
     }
 
-    /// Enters the scope of a row, where it is in the innermost one that was entered.
+    /// Enters the scope of a row, if it is in the innermost one that was entered.
     fn enter(
         &mut self,
         view: HeadView<'_>,
@@ -151,8 +150,8 @@ impl<'o> Open<'o> {
         });
     }
 
-    /// Keeps the names that continue in one more scope, now the innermost one entered. Where 1,000
-    /// are entered nothing changes, and `compare` looks at each name by itself.
+    /// Keeps the names that continue in one more scope, which is now the innermost one entered. If
+    /// 1,000 are entered, nothing changes, and `compare` looks at each name by itself.
     fn hold(&mut self, inner: Inside)
         ensures { StaysOpen inner self.old self.new }
     {
@@ -163,7 +162,8 @@ impl<'o> Open<'o> {
         }
     }
 
-    /// Tells which names select the variable of a row, whose scopes were entered.
+    /// Returns whether some name selects the variable of a row, whose scopes were entered, and
+    /// notes which ones do.
     #[inline(always)]
     fn compare(
         &self,
@@ -180,8 +180,7 @@ impl<'o> Open<'o> {
         }
     }
 
-    /// Returns what is inside the scope around a row, where it is the innermost one that was
-    /// entered.
+    /// Returns what is inside the scope around a row, if it is the innermost one that was entered.
     #[inline(always)]
     fn around(&self, view: HeadView<'_>, row: usize) -> Option<Inside>
         ensures row { IfSome result (λ _. row < length view.entry.rows.now) }
@@ -196,7 +195,8 @@ impl<'o> Open<'o> {
     }
 }
 
-/// Tells whether some name selects the variable of a row, and which ones do, by a look at each.
+/// Returns whether some name selects the variable of a row, by a look at each name, and notes which
+/// ones do.
 fn compare_each(
     view: HeadView<'_>,
     row: usize,

@@ -1,32 +1,35 @@
-//! Reading the header of a dump, and all that is made of it: what names select, paths, headers as
-//! they are written.
+//! Reads the header of a dump, and makes all else of it: what names select, paths, headers as they
+//! are written.
 //!
 //! `read_head` reads a header from a feed, up to the `$end` of `$enddefinitions`, into a `Head`,
-//! which owns its memory; `read_head_with_hasher` hashes its codes by what the caller chooses,
-//! against crafted ones. All else works on its `HeadView`: the path of a variable (`put_path`), the
-//! variables that names select (`select`, as marks), the header of marked declarations
-//! (`put_head`), and, over the heads themselves, the header of a merged dump (`put_merged_head`).
+//! which owns its memory. `read_head_with_hasher` hashes its codes with what the caller chooses,
+//! against crafted codes. All else works on its `HeadView`: the path of a variable (`put_path`),
+//! the variables that names select (`select`, as marks), and the header of marked declarations
+//! (`put_head`). The header of a merged dump is written from the heads themselves
+//! (`put_merged_head`).
+//!
 //! The view and its rows, the look-up of codes (`find`), the room that an engine needs (`need`) and
-//! the codes of a merge (`put_code`) are of `vcd_view`, so that who reads a body needs no more; a
-//! caller finds them here.
+//! the codes of a merge (`put_code`) are in `vcd_view`, so that the reader of a body needs no more
+//! than that crate. Callers find them here too.
 //!
 //! # The relations
 //!
 //! While a header is read, `Reads most input placed before feed` says how far: the tokens given are
-//! these good phrases, and then these first tokens of the next one. In the end `GivesHead`: the
-//! tokens of a whole header were given, and the head shows it. Else `Fails`: the header's fault, at
-//! its line; out of memory, that no token given so far has a fault.
+//! these good phrases, and then these first tokens of the next one. In the end there is
+//! `GivesHead`: the tokens of a whole header were given, and the head shows it. Otherwise there is
+//! `Fails`: the header's fault, at its line; or, if memory is refused, that no token given so far
+//! has a fault.
 //!
-//! Each function over a view takes any view, and its result is that of the definitions where the
-//! view is of a header of them (`IsViewOf view h`). What the entries of a head say of its codes is
-//! always so (`right`).
+//! Each function over a view takes any view, and its result is that of the definitions if the view
+//! is of a header of them (`IsViewOf view h`). The entries of a head are always right about its
+//! codes (`right`).
 //!
 //! # The modules
 //!
 //! - `read`, `phrases`: the whole header; one phrase of it
 //! - `tokens`, `texts`, `words`: the next token; texts up to `$end`; tests of tokens
 //! - `scopes`, `variable`, `scale`: what a phrase says
-//! - `ahead`, `ahead_scopes`: variables and scopes whose phrases are whole in the chunk
+//! - `ahead`, `ahead_scopes`: variables and scopes whose phrases lie completely in the chunk
 //! - `declarations`, `rows`, `code_place`: what these are checked for, however they are read; what
 //!   becomes of the head: rows, and the index of a code
 //! - `draft`, `codes`, `rising`, `code_key`, `finish`: a header while it is read, its codes, the
@@ -43,15 +46,16 @@
 //!
 //! In `specs/` callers read `Shown`, `Reads` (`ReadsHead`), `Written`, `Fault`, `Marks`, `Merged`
 //! and `Moments`; of the view `Views`, `ViewShown`, `Over`, `Finds`, `Needs` and `NewCode`; and the
-//! definitions that these cite, as `Model`. `Names` brings what the clauses cite under one path.
+//! definitions that these cite, as `Model`. `Names` collects what the contracts cite under one
+//! path.
 //!
 //! # Limits
 //!
-//! At most 16,777,216 declarations, 1,000 open scopes, 16,777,215 bits a variable, and
-//! 4,294,967,295 bytes a type, a name or a code. Memory is taken by `read_head` alone.
+//! At most 16,777,216 declarations, 1,000 open scopes, 16,777,215 bits in a variable, and
+//! 4,294,967,295 bytes in a type, a name or a code. Only `read_head` takes memory.
 //!
-//! Not promised: what a call gives over a view that is of no header, and what `select` leaves in
-//! the marks where a name selects nothing.
+//! Not promised: the result of a call over a view that is of no header, and what `select` leaves in
+//! the marks if a name selects nothing.
 #![tactic(auto)]
 
 mod ahead;

@@ -8,8 +8,8 @@ use crate::write::{put_lines, put_scope, put_variable, text_of_exponent};
 use vcd_text::{Sink, WriteFailed, put, put_number};
 use vcd_view::{HeadView, Kind, NewCode};
 
-/// Returns the least power of ten of the heads' time scales, in seconds; a missing one counts as
-/// 1s, and 0 where there is no head.
+/// Returns the least power of ten of the heads' time scales, in seconds. A missing scale counts as
+/// 1 s. The result is 0 if there is no head.
 pub fn least_exponent(heads: &[Head]) -> i8
     ensures { (hs : List Header) → ShowHeaders heads.now hs → result ≡ least_of hs }
 {
@@ -24,8 +24,8 @@ pub fn least_exponent(heads: &[Head]) -> i8
     least.unwrap_or(0)
 }
 
-// The scopes that are open at a row of an input. The line that opens one is written at the first
-// variable inside it, so each is written once, and none that has no variable.
+// The scopes that are open at a row of an input. The line that opens a scope is written at the
+// first variable inside it, so each is written at most once, and only if it has a variable.
 #[derive(Clone, Copy)]
 pub(crate) struct OpenScopes {
     // How many scopes, the innermost, are not written yet.
@@ -69,8 +69,8 @@ fn put_openings<W: Sink>(
     Ok(())
 }
 
-/// Writes the line of an `$upscope` at which these scopes are open: none where the line of the
-/// scope that it closes is not written.
+/// Writes the line of an `$upscope` at which these scopes are open, if the line of the scope that
+/// it closes is written.
 fn put_closing<W: Sink>(scopes: OpenScopes, w: &mut W) -> Result<(), WriteFailed>
     requires failures { (W.device w.old).failures < 2 ^ 64 - 1 }
     ensures { PutsTo W.device w.old w.new (closing scopes.pending scopes.written) result }
@@ -94,7 +94,7 @@ fn put_closings<W: Sink>(count: usize, w: &mut W) -> Result<(), WriteFailed>
 }
 
 /// Writes what is due at a row of an input, at which these scopes are open: the line of a variable,
-/// with a new code, after those of the scopes that it is the first one in; the line of an
+/// with a new code, after the lines of the scopes in which it is the first; or the line of an
 /// `$upscope`. The codes are numbered from `first` on.
 fn put_input_row<W: Sink>(
     view: HeadView<'_>,
@@ -140,8 +140,9 @@ fn put_input_rows<W: Sink>(view: HeadView<'_>, first: u64, w: &mut W) -> Result<
     put_closings(scopes.written, w)
 }
 
-/// Writes the head of an input, by its number from 1: its scope, and in it the variables with new
-/// codes, numbered from `first` on, and the scopes around these.
+/// Writes what the head of a merged dump has of an input: the scope of the input, named by its
+/// number from 1, and in it the variables with new codes, numbered from `first` on, and the scopes
+/// around these.
 fn put_input_head<W: Sink>(
     view: HeadView<'_>,
     number: u64,
@@ -178,7 +179,7 @@ fn put_input_heads<W: Sink>(heads: &[Head], w: &mut W) -> Result<(), WriteFailed
 
 /// Writes the head of the merged dump of inputs with these heads, at most 64: the least of their
 /// time scales, for each input a scope with its variables and the scopes around these, and
-/// `$enddefinitions`. The codes are new ones, in the order of the inputs. Where a write fails, a
+/// `$enddefinitions`. The codes are new ones, in the order of the inputs. If a write fails, a
 /// prefix was written.
 pub fn put_merged_head<W: Sink>(heads: &[Head], w: &mut W) -> Result<(), WriteFailed>
     requires heads { length heads.now ≤ 64 }

@@ -15,8 +15,8 @@ pub struct Moment {
 }
 
 impl Moment {
-    /// Returns the moment `number` units after the time 0, or ticks where `unit` is empty. None
-    /// where `unit` is neither empty nor `s`, `ms`, `us`, `ns`, `ps` or `fs`.
+    /// Returns the moment `number` units after the time 0, or ticks if `unit` is empty. `None` if
+    /// `unit` is neither empty nor `s`, `ms`, `us`, `ns`, `ps` or `fs`.
     pub fn from_parts(number: u64, unit: &[u8]) -> Option<Moment>
         ensures { option_map asked result ≡ with_unit number unit.now }
     {
@@ -49,14 +49,14 @@ impl TickFault {
     }
 }
 
-/// Returns a moment in ticks of the header's time scale: where it is between two ticks, the later
-/// one if `up`, else the earlier one. It is exact for every unit and every scale. Without a unit
-/// the number is that of the ticks, whatever the scale.
+/// Returns a moment in ticks of the header's time scale. If it is between two ticks, the result is
+/// the later one if `up` is true, otherwise the earlier one. It is exact for every unit and every
+/// scale. Without a unit the number is that of the ticks, whatever the scale.
 ///
 /// # Errors
 ///
-/// `NoTimescale` where there is a unit and the header declares no time scale, else `OutOfRange`
-/// where there would be 2^64 ticks or more.
+/// `NoTimescale` if there is a unit and the header declares no time scale; `OutOfRange` if there
+/// would be 2^64 ticks or more.
 pub fn ticks(view: HeadView<'_>, moment: Moment, up: bool) -> Result<u64, TickFault>
     ensures ticks { told result
         ≡ moment_ticks (option_map (λ (s : Scale). s.exponent) view.entry.scale) (asked moment) up }
@@ -72,8 +72,8 @@ pub fn ticks(view: HeadView<'_>, moment: Moment, up: bool) -> Result<u64, TickFa
     unit_ticks(moment.number, unit, scale.exponent, up).ok_or(TickFault::OutOfRange)
 }
 
-/// Returns `number` units in ticks, if they are fewer than 2^64. Unit and tick are powers of ten in
-/// seconds.
+/// Returns `number` units in ticks, if they are fewer than 2^64. `unit` and `tick` are powers of
+/// ten in seconds.
 fn unit_ticks(number: u64, unit: i8, tick: i8, up: bool) -> Option<u64>
     ensures { SomeIff result (ticks number unit tick up < 2 ^ 64) (ticks number unit tick up) }
 {

@@ -1,5 +1,5 @@
-// Names in the order of their bytes. Those that begin with the front of a path are neighbours, so
-// two indexes of the order follow them, one byte of the path after the other.
+// Names in the order of their bytes. Names that begin with the same front of a path are neighbours,
+// so two indexes of the order follow them, one byte of the path after the other.
 ghost use Rattle.std.specs.Prelude.{◌≡◌, ◌==◌, ◌&&◌, ◌+◌, ◌-◌, ◌<◌, ◌≤◌, [], ◌∷◌, ◌++◌, ◌^◌, ℕ, List, Bool, length, take, drop, map, get_or, bytes_eq, string_bytes, IsPermutation};
 ghost use Rattle.vcd_head.specs.NameOrder.{All, AreSame, AreShared, Contains, IsOrder, IsSortedBy, IsSplit, Matches, Rises, comes_before, next_bytes, next_in, order_in, selects_path};
 
@@ -8,9 +8,8 @@ use std::cmp::Ordering;
 // How many names are followed together.
 pub(crate) const GROUP_NAMES: usize = 16_384;
 
-// Names, and their indexes in the order of their bytes. Sorted, so the time grows with names and
-// rows and not with their product: with 64 names at a time `pick` of 200,000 variables in one scope
-// by 1,000 names took nearly twice as long.
+// Names, and their indexes in the order of their bytes. As they are sorted, the time does not grow
+// with the product of names and rows.
 #[derive(Drop)]
 pub(crate) struct Group<'n> {
     pub(crate) names: &'n [String],
@@ -25,7 +24,7 @@ pub(crate) struct NameRun {
     // The index of the first of them in the order, and the one after that of the last.
     first: usize,
     end: usize,
-    // The bytes of the front, where there is such a name.
+    // The bytes of the front, if there is such a name.
     passed: usize,
     // Whether some name selects all paths that continue after the front.
     whole: bool,
@@ -70,8 +69,8 @@ impl<'n> Group<'n> {
         }
     }
 
-    /// Returns 1 plus the byte after the first `passed` of the name at an index of the order, 0
-    /// where the name ends before.
+    /// Returns 1 plus the byte after the first `passed` bytes of the name at an index of the order,
+    /// or 0 if the name ends before.
     #[inline(always)]
     fn next_at(&self, at: usize, passed: usize) -> usize
         ensures next { result ≡ next_in (names_of self.now) self.now.order.now passed at }
@@ -84,8 +83,8 @@ impl<'n> Group<'n> {
         }
     }
 
-    /// Returns the first index of the order between two whose next byte, plus 1, is not less than
-    /// this; the last one where all are less.
+    /// Returns the first index of the order between two whose next byte, plus 1, is at least
+    /// `least`; the last index if there is none.
     #[inline(always)]
     fn first_from(&self, first: usize, end: usize, passed: usize, least: usize) -> usize
         ensures range { first ≤ end → (first ≤ result) × (result ≤ end) }
@@ -193,9 +192,9 @@ impl<'n> Group<'n> {
         )
     }
 
-    /// Returns the run after some of these bytes, one at least, and how many they are: as many as
-    /// all names of the run continue with, and the next one.
-    // Without this 30,000 names with a dot each over 30,000 variables took eight times as long.
+    /// Returns the run after some of these bytes, at least one, and how many they are: all that all
+    /// names of the run continue with, and one more.
+    // Without this, 30,000 names with a dot each over 30,000 variables took eight times as long.
     #[inline(always)]
     fn hop(&self, run: NameRun, bytes: &[u8], matched: &mut [bool; GROUP_NAMES]) -> (NameRun, usize)
         ensures some { 0 < length bytes.now → 0 < result.1 }
@@ -214,7 +213,7 @@ impl<'n> Group<'n> {
         }
     }
 
-    /// Returns the run after some bytes, and flags the names that end before a dot in them.
+    /// Returns the run after these bytes, and flags the names that end before a dot in them.
     pub(crate) fn follow(
         &self,
         run: NameRun,
@@ -251,8 +250,8 @@ impl<'n> Group<'n> {
         self.step(named, b'.', matched)
     }
 
-    /// Flags the names that select a variable with this name of its own, and returns whether there
-    /// are some.
+    /// Flags the names that select a variable whose own name is this, and returns whether there are
+    /// some.
     pub(crate) fn selects(
         &self,
         run: NameRun,
@@ -309,7 +308,7 @@ fn sort(positions: &mut [u16], names: &[String])
     positions.sort_unstable_by(|a, b| order_by(names, *a, *b));
 }
 
-/// Returns the order of two names by their bytes.
+/// Returns the order of the names at two indexes, by their bytes.
 #[inline(always)]
 fn order_by(names: &[String], a: u16, b: u16) -> Ordering
     ensures { result ≡ order_in (map string_bytes names.now) a b }
@@ -317,7 +316,7 @@ fn order_by(names: &[String], a: u16, b: u16) -> Ordering
     name_at(names, usize::from(a)).cmp(name_at(names, usize::from(b)))
 }
 
-/// Returns the bytes of the name at an index, none where there is no such index.
+/// Returns the bytes of the name at an index, or none if there is no such index.
 #[inline(always)]
 fn name_at(names: &[String], position: usize) -> &[u8]
     ensures { result.now ≡ get_or (map string_bytes names.now) position [] }
@@ -336,7 +335,7 @@ fn bytes_after(bytes: &[u8], passed: usize) -> &[u8]
     bytes.get(passed..).unwrap_or(&[])
 }
 
-/// Returns how many bytes two texts and a third one begin with.
+/// Returns with how many bytes all three texts begin.
 #[inline(always)]
 fn shared(first: &[u8], last: &[u8], bytes: &[u8]) -> usize
     ensures within { result ≤ length bytes.now }

@@ -14,7 +14,8 @@ use std::alloc::Global;
 use vcd_text::{Feed, Source};
 use vcd_view::{Keyword, keyword_of};
 
-/// Reads the rest of a command that the standard does not have; refuses what no phrase begins with.
+/// Reads the rest of a command that the standard does not have. Fails if the token begins no
+/// phrase.
 fn read_other<S: Source>(
     feed: &mut Feed<'_, '_, '_, '_, S>,
     draft: &mut Draft,

@@ -14,13 +14,14 @@ use vcd_text::{Feed, Source};
 use vcd_view::CodeSeed;
 
 /// Reads a header up to the `$end` of `$enddefinitions`, with at most `most` declarations (at most
-/// 16,777,216). The feed is then after that token. After a fault nothing of the head is left, and
-/// the feed's token is the last one given: empty where the input or its source ended the reading,
-/// else the one at fault. Over windows of 4 GiB or more a type, a name or a code of as many bytes
-/// is out of memory.
+/// 16,777,216). The feed is then after that token.
 ///
-/// Codes are hashed by numbers that all may know, so that codes can be crafted which take long to
-/// find: a dump that is not trusted is read by `read_head_with_hasher`.
+/// After a fault nothing of the head is left, and the feed's token is the last one given: empty if
+/// the input or its source ended the reading, otherwise the one at fault. A type, a name or a code
+/// of 4 GiB or more, for which the windows have to be as long, counts as `OutOfMemory`.
+///
+/// Codes are hashed with numbers that everybody may know, so codes can be crafted that take long to
+/// find. Read dumps that are not trusted with `read_head_with_hasher`.
 pub fn read_head<S: Source>(
     alloc: Global,
     feed: &mut Feed<'_, '_, '_, '_, S>,
@@ -35,14 +36,15 @@ pub fn read_head<S: Source>(
 }
 
 /// Reads a header up to the `$end` of `$enddefinitions`, with at most `most` declarations (at most
-/// 16,777,216). The feed is then after that token. After a fault nothing of the head is left, and
-/// the feed's token is the last one given: empty where the input or its source ended the reading,
-/// else the one at fault. Over windows of 4 GiB or more a type, a name or a code of as many bytes
-/// is out of memory.
+/// 16,777,216). The feed is then after that token.
 ///
-/// Codes are hashed by numbers that the hasher gives; what is read is the same by each. Where
-/// nobody knows these numbers who made the dump, as with `RandomState`, no choice of codes takes
-/// long to find.
+/// After a fault nothing of the head is left, and the feed's token is the last one given: empty if
+/// the input or its source ended the reading, otherwise the one at fault. A type, a name or a code
+/// of 4 GiB or more, for which the windows have to be as long, counts as `OutOfMemory`.
+///
+/// Codes are hashed with numbers that the hasher gives. What is read does not depend on them. If
+/// the author of the dump does not know these numbers, as with `RandomState`, no choice of codes
+/// takes long to find.
 pub fn read_head_with_hasher<S: Source, B: BuildHasher>(
     alloc: Global,
     feed: &mut Feed<'_, '_, '_, '_, S>,

@@ -1,11 +1,11 @@
-// Rows as they are read, and as they are held.
+// Rows as they are read, and as they are stored.
 ghost use Rattle.std.specs.Prelude.{◌≡◌, ◌+◌, ◌^◌, ◌<◌, ◌≤◌, [], ◌∷◌, ◌++◌, IfOk, IfErr, vec_len};
 ghost use Rattle.vcd_head.specs.Names.{IsNarrow, row_of};
 
 use crate::fault::HeadFault;
 use vcd_view::{Kind, Row};
 
-// A row before some of its numbers are held in 32 bits.
+// A row before some of its numbers are stored in 32 bits.
 #[derive(Clone, Copy)]
 pub(crate) struct WideRow {
     pub(crate) kind: Kind,
@@ -17,8 +17,8 @@ pub(crate) struct WideRow {
     pub(crate) code: usize,
 }
 
-/// Returns the length of a token in 32 bits. Only a token of 4 GiB or more has none, for which
-/// windows of as many bytes are lent: it is out of memory.
+/// Returns the length of a token in 32 bits. Fails with `OutOfMemory` for a token of 4 GiB or more,
+/// which needs windows that are as long.
 #[inline(always)]
 pub(crate) fn token_len(len: usize) -> Result<u32, HeadFault>
     ensures held { IfOk result (λ held. held ≡ len) }
@@ -27,8 +27,8 @@ pub(crate) fn token_len(len: usize) -> Result<u32, HeadFault>
     u32::try_from(len).or(Err(HeadFault::OutOfMemory))
 }
 
-/// Returns the number of a row or of a code in 32 bits, which hold that of each declaration that is
-/// allowed.
+/// Returns the number of a row or of a code in 32 bits. The number of each declaration that is
+/// allowed fits.
 #[inline(always)]
 fn in_32_bits(number: usize) -> u32
     ensures { number < 2 ^ 32 → result ≡ number }
@@ -47,7 +47,7 @@ pub(crate) fn push(rows: &mut Vec<Row>, row: WideRow) -> Result<(), HeadFault>
 {
     let word = token_len(row.word)?;
     let name = token_len(row.name)?;
-    // A `push` would return the row where there is no memory, and be called for each.
+    // Not `push`, which returns the row if there is no memory.
     rows.reserve(1)?;
     rows.push_reserved(Row {
         kind: row.kind,

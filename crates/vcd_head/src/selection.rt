@@ -7,7 +7,7 @@ use crate::inside::{Inside, MAX_OPEN, Open};
 use crate::names::{GROUP_NAMES, Group, put_names};
 use vcd_view::{HeadView, Kind};
 
-// What a name says of a path whose prefix it was compared with.
+// What a name says of a path, once it was compared with a prefix of the path.
 pub(crate) enum Match<'n> {
     // This much of the name is left.
     Rest(&'n [u8]),
@@ -75,7 +75,8 @@ fn mark(view: HeadView<'_>, row: usize, marks: &mut [u8])
 }
 
 /// Sets the marks of a row and of the scopes around it, and returns the scope around the row,
-/// counted from 1. `marked` is a scope, counted from 1, that is marked with those around it.
+/// counted from 1. `marked`, counted from 1 too, is a scope that is already marked with those
+/// around it.
 fn mark_row(view: HeadView<'_>, row: usize, marked: usize, marks: &mut [u8]) -> usize
     requires { row < length marks.old }
     ensures marks { AnyRow view.entry row (λ h. AllMarked (scopes_at h.declarations marked) marks.old
@@ -93,7 +94,7 @@ fn mark_row(view: HeadView<'_>, row: usize, marked: usize, marks: &mut [u8]) -> 
     parent
 }
 
-/// Returns 1 plus the row of the scope around a row, 0 where there is none.
+/// Returns 1 plus the row of the scope around a row, or 0 if there is none.
 fn parent_of(view: HeadView<'_>, row: usize) -> usize
     ensures { (h : Header) → IsViewOf view.entry h → row < length h.declarations
         → result ≡ counted_from_one (parent (take row h.declarations)) }
@@ -105,8 +106,7 @@ fn parent_of(view: HeadView<'_>, row: usize) -> usize
 }
 
 /// Sets the marks of all variables and of the scopes around them.
-// No names are sorted or followed: their 88 KB of stack would be cleared, and `cut` of a dump of
-// 1 KB would take 9 % more page faults.
+// It needs no names in order, and so not their 88 KB of stack.
 fn mark_all(view: HeadView<'_>, marks: &mut [u8])
     requires { length marks.old ≡ length view.rows.now }
     ensures marks { (h : Header) → IsViewOf view.entry h
@@ -136,7 +136,7 @@ fn is_variable(view: HeadView<'_>, row: usize) -> bool
     }
 }
 
-/// Sets the marks of the variables that some name selects and of the scopes around them; returns
+/// Sets the marks of the variables that some name selects and of the scopes around them. Returns
 /// the index of the first name that selects nothing.
 fn mark_selected(view: HeadView<'_>, names: &[String], marks: &mut [u8]) -> Option<usize>
     requires len { length marks.old ≡ length view.rows.now }
@@ -177,9 +177,9 @@ fn first_false(flags: &[bool], count: usize) -> Option<usize>
     None
 }
 
-/// Marks the variables that the names select, all where there are no names, and the scopes around
-/// them: a mark is 1 there and 0 elsewhere. Fails with the index of the first name that selects
-/// nothing; what the marks are then is not said.
+/// Marks the variables that the names select (all if there are no names) and the scopes around
+/// them: their marks are 1, and all others 0. Fails with the index of the first name that selects
+/// nothing; then the marks may be anything.
 pub fn select(view: HeadView<'_>, names: &[String], marks: &mut [u8]) -> Result<(), usize>
     requires marks { length marks.old ≡ length view.rows.now }
     ensures marks { (h : Header) → IsViewOf view.entry h

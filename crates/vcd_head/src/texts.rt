@@ -9,7 +9,7 @@ use crate::words::is_end;
 use std::alloc::Global;
 use vcd_text::{Ahead, Feed, Source};
 
-/// Passes over the tokens up to the first `$end`.
+/// Passes the tokens up to the first `$end`. Fails if there is none.
 pub(crate) fn skip_to_end<S: Source>(feed: &mut Feed<'_, '_, '_, '_, S>) -> Result<(), HeadFault>
     requires { S.failures (source_of feed.old) < 2 ^ 64 - 1 }
     ensures reads { ReadsToEnd feed.old feed.new (λ _ inner. Unit {0}) result }
@@ -43,10 +43,9 @@ pub(crate) fn append_to_end<S: Source>(
     }
 }
 
-/// Appends the tokens that come next, lie whole ahead and come before the first `$end` to the text,
-/// a space before each. Returns how many bytes were passed.
-// For texts of many short tokens: `check` of a date of tokens of one byte takes 2.2 times as many
-// instructions without it.
+/// Appends the tokens that come next, lie completely in the chunk and come before the first `$end`
+/// to the text, a space before each. Returns how many bytes were passed.
+// Without it, `check` of a date of tokens of one byte takes 2.2 times as many instructions.
 fn append_ahead(ahead: Ahead<'_>, text: &mut Vec<u8>) -> Result<usize, HeadFault>
     ensures appends { AppendsAhead ahead.entry text.old.items text.new.items result }
     ensures memory { IfErr result (λ fault. fault ≡ HeadFault.OutOfMemory) }

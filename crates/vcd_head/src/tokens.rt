@@ -7,8 +7,7 @@ use crate::words;
 use std::alloc::Global;
 use vcd_text::{Feed, Halt, Next, Source};
 
-/// Reads the next token; else returns the fault of one that is missing. The feed need not show the
-/// one before it.
+/// Reads the next token. Fails if there is none. The feed need not show the token before it.
 #[inline(always)]
 pub(crate) fn next_token<S: Source>(feed: &mut Feed<'_, '_, '_, '_, S>) -> Result<(), HeadFault>
     requires { S.failures (source_of feed.old) < 2 ^ 64 - 1 }
@@ -37,7 +36,7 @@ pub(crate) fn next_ends<S: Source>(feed: &mut Feed<'_, '_, '_, '_, S>) -> Result
     Ok(words::is_end(feed.token()))
 }
 
-/// Reads the next token and returns its bytes, or none where it is `$end`.
+/// Reads the next token, and returns its bytes. `None` if it is `$end`.
 pub(crate) fn next_word<S: Source>(
     alloc: Global,
     feed: &mut Feed<'_, '_, '_, '_, S>,

@@ -52,14 +52,15 @@ fn read_code<S: Source>(
 /// The first tokens of a variable.
 #[derive(Drop)]
 struct VariableStart {
-    /// Its type.
+    /// The type.
     word: Vec<u8>,
-    /// Its bits.
+    /// The size, in bits.
     size: usize,
     code: Vec<u8>,
 }
 
-/// Reads the type, the size and the code of a variable, beside these codes.
+/// Reads the type, the size and the code of a variable. Fails if the code does not agree with the
+/// known codes.
 fn read_variable_start<S: Source>(
     alloc: Global,
     feed: &mut Feed<'_, '_, '_, '_, S>,

@@ -113,8 +113,8 @@ pub(crate) fn exponent_of(scale: &[u8]) -> Option<i8>
     None
 }
 
-/// Returns the power of ten of a time scale, in seconds: that of its unit plus `power`, that of its
-/// number. `None` where no unit has this name.
+/// Returns the power of ten of a time scale, in seconds: that of its unit plus `power`, which is
+/// that of its number. `None` if no unit has this name.
 fn raised(unit: &[u8], power: i8) -> Option<i8>
     requires low { pos 0 ≤ℤ power }
     requires high { power ≤ℤ pos 2 }

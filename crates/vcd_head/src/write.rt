@@ -25,7 +25,7 @@ pub(crate) fn put_lines<W: Sink>(w: &mut W, keyword: &[u8], text: &[u8]) -> Resu
     put_texts(w, &[keyword, b"\n\t", text, b"\n$end\n"])
 }
 
-/// Writes a keyword, a text and `$end`, on three lines; nothing where there is no text.
+/// Writes a keyword, a text and `$end`, on three lines, or nothing if there is no text.
 fn put_section<W: Sink>(w: &mut W, keyword: &[u8], text: &[u8]) -> Result<(), WriteFailed>
     requires failures { (W.device w.old).failures < 2 ^ 64 - 1 }
     ensures { PutsWhere W.device w.old w.new result (λ takes. (k : Keyword)
@@ -37,8 +37,8 @@ fn put_section<W: Sink>(w: &mut W, keyword: &[u8], text: &[u8]) -> Result<(), Wr
     put_lines(w, keyword, text)
 }
 
-/// Returns the number and the unit of the time scale of an exponent; no bytes where no scale has
-/// it.
+/// Returns the number and the unit of the time scale with this exponent, or no bytes if no scale
+/// has it.
 pub(crate) fn text_of_exponent(exponent: i8) -> &'static [u8]
     ensures { result.now ≡ scale_text exponent }
 {
@@ -65,7 +65,7 @@ pub(crate) fn text_of_exponent(exponent: i8) -> &'static [u8]
     }
 }
 
-/// Returns the number and the unit of a time scale; no bytes where there is none.
+/// Returns the number and the unit of a time scale, or no bytes if there is none.
 fn text_of_scale(scale: Option<Scale>) -> &'static [u8]
     ensures { result.now ≡ unwrap_or
         (option_map scale_text (option_map (λ x. x.exponent) scale)) [] }
@@ -122,7 +122,7 @@ pub(crate) fn put_variable<W: Sink>(
     put_texts(w, &[b" ", code, b" ", reference, b" $end\n"])
 }
 
-/// Writes the line that closes the scope of a row, where that is marked.
+/// Writes the line that closes the scope of a row, if the scope is marked.
 fn put_up<W: Sink>(marks: &[u8], scope: usize, w: &mut W) -> Result<(), WriteFailed>
     requires failures { (W.device w.old).failures < 2 ^ 64 - 1 }
     ensures { PutsTo W.device w.old w.new (up_lines_at (is_marked marks.now) (scope ∷ [])) result }
@@ -133,8 +133,8 @@ fn put_up<W: Sink>(marks: &[u8], scope: usize, w: &mut W) -> Result<(), WriteFai
     Ok(())
 }
 
-/// Writes the line of the declaration of a row: a scope or a variable where it is marked, an
-/// `$upscope` where the scope that it closes is. A variable has its own code.
+/// Writes the line of the declaration of a row: a scope or a variable if it is marked, an
+/// `$upscope` if the scope that it closes is marked. A variable has its own code.
 fn put_row<W: Sink>(
     view: HeadView<'_>,
     marks: &[u8],
@@ -210,15 +210,15 @@ fn put_declarations<W: Sink>(view: HeadView<'_>, marks: &[u8], w: &mut W) -> Res
     put_closing(view, marks, w)
 }
 
-/// Writes the header of the marked declarations: date, version and time scale where there are some,
+/// Writes the header of the marked declarations: date, version and time scale if there are some,
 /// the marked scopes and variables in order, an `$upscope` for each marked scope, and
-/// `$enddefinitions`. Where a write fails, a prefix was written.
+/// `$enddefinitions`. If a write fails, a prefix was written.
 pub fn put_head<W: Sink>(view: HeadView<'_>, marks: &[u8], w: &mut W) -> Result<(), WriteFailed>
     requires failures { (W.device w.old).failures < 2 ^ 64 - 1 }
     ensures takes { TakesHeader view.entry (W.device w.old) (W.device w.new)
         (λ h. head_text h (is_marked marks.now)) result }
 
-    // The marks that names give make it the header for these names.
+    // If names gave the marks, this is the header for these names.
     ensures selected { (h : Header) (names : List (List ℕ)) → IsViewOf view.entry h
         → marks.now ≡ marks_of names h.declarations
         → Takes (W.device w.old) (W.device w.new) (head_for h names) result }

@@ -117,8 +117,8 @@ const NESTED_LAST: Code = Code {
     event: true,
 };
 
-// Whether that header has seven rows, and three codes, the last one and their order as they are to
-// be.
+// Whether that header has seven rows and three codes, and the last code and their order are as
+// expected.
 fn has_nested_codes(view: HeadView<'_>) -> bool {
     view.rows.len() == 7
         && view.codes.len() == 3

@@ -1,4 +1,4 @@
-//! The tests of `vcd_head`, `vcd_view` and `vcd_words`, over public functions alone. They are a
+//! The tests of `vcd_head`, `vcd_view` and `vcd_words`, which use only public functions. They are a
 //! crate of their own so that the libraries are proved once: a crate with tests in it is proved
 //! again with them.
 #![tactic(auto)]

@@ -79,7 +79,7 @@ const TIMES: [(Words<'static, 'static>, Times<'static>); 47] = [
     (Words::Cut("5", "4"), Err(UseFault::FromAboveTo)),
     (Words::Cut("x", "y"), Err(UseFault::BadTime("x"))),
     (Words::Cut("5", "4NS"), Err(UseFault::BadTime("4NS"))),
-    // The times of a sample stand between commas, and rise.
+    // The times of a sample are between commas, and increase.
     (Words::Sample("7", None), Ok((&[7], &[None]))),
     (
         Words::Sample("0,1,20", None),

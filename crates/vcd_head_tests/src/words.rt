@@ -1,4 +1,4 @@
-// Command lines: which are taken, and what they ask for.
+// Command lines: which are accepted, and what they ask for.
 ghost use Rattle.std.specs.Prelude.{◌≡◌, ◌≤◌, IfOk, true};
 ghost use Rattle.vcd_words.specs.Job.{is_asked};
 
@@ -8,11 +8,11 @@ use std::alloc::{AllocError, Global};
 use std::process::Abort;
 use vcd_words::{Job, UseFault, Want, Words, command_of, input_of, job_of, parse_status, want_of};
 
-// The token limit where none is asked for.
+// The token limit if no word gives one.
 const LIMIT: usize = 1_048_576;
 
-// What the parse of these words returns: nothing where they are taken, else its kind and the exit
-// status.
+// What the parse of these words returns: nothing if they are accepted, otherwise its kind and the
+// exit status.
 fn answer(alloc: Global, words: &[&str]) -> Result<Option<(ErrorKind, u8)>, AllocError> {
     match command_of(alloc)?.try_get_matches_from(words) {
         Ok(_) => Ok(None),
@@ -20,7 +20,7 @@ fn answer(alloc: Global, words: &[&str]) -> Result<Option<(ErrorKind, u8)>, Allo
     }
 }
 
-// What the parse of words returns that are taken, that ask for a text, and that are refused.
+// What the parse of words returns that are accepted, that ask for a text, and that are refused.
 const TAKEN: Option<(ErrorKind, u8)> = None;
 
 const HELP: Option<(ErrorKind, u8)> = Some((ErrorKind::DisplayHelp, 0));
@@ -145,7 +145,7 @@ fn wanted(alloc: Global, words: Words<'_, '_>) -> Result<Want, AllocError>
     }
 }
 
-// Whether these words ask for this under this token limit.
+// Whether these words ask for this with this token limit.
 fn is_job<'a>(
     alloc: Global,
     words: &'a [&'a str],
@@ -163,7 +163,7 @@ fn is_job<'a>(
     is_answered(alloc, words, Ok(job))
 }
 
-// These words ask for this under this token limit.
+// These words ask for this with this token limit.
 fn ask<R: Abort + AllocGlobal>(rt: &R, words: &[&str], want: Words<'_, '_>, limit: usize) {
     assert!(rt; 64 <= limit && limit <= 16_777_216);
     assert_eq!(rt;

@@ -10,7 +10,7 @@ abbrev pub input_named : Text → Option Text
 input_named word = cond (is_standard_input word) None (Some word)
 
 -- the inputs of a command: of a merge those of its words, in their order; of any other that of its
--- word, or standard input where there is none
+-- word, or standard input if there is none
 abbrev pub inputs_of : Command → (file : Option Text) → List (Option Text)
 inputs_of (Command.Merge files) file = map input_named files
 inputs_of command file = option_and_then input_named file ∷ []

@@ -4,7 +4,7 @@ use Rattle.std.specs.Io.KnownBytes.{append_known}
 use Rattle.vcd_host.specs.Buffer.{kept}
 use Rattle.vcd_host.specs.declared.buffered.Buffered.{Buffered}
 
--- the bytes of the device and then those that wait, where the former are known
+-- the bytes of the device and then those that wait, if the former are known
 abbrev pub taken : {D : Type 0} → (D → Option (List ℕ)) → Buffered D → Option (List ℕ)
 taken contents sink = append_known (contents sink.device) (kept sink.buffer)
 

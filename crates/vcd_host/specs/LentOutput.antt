@@ -6,7 +6,7 @@ use Rattle.vcd_host.specs.declared.lent_output.LentOutput.{LentOutput}
 abbrev pub written : LentOutput → List ℕ
 written sink = take sink.used sink.bytes.now ++ sink.gone.bytes
 
--- The same after the name of the loan. So who knows that what is held has grown, and no more, knows
--- that these are still the bytes that were lent.
+-- All that was written, after a number that names the loan. So if this only grows, the bytes are
+-- still those that were lent.
 abbrev pub held : LentOutput → List ℕ
 held sink = sink.bytes.ghost_name ∷ written sink

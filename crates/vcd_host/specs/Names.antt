@@ -1,4 +1,4 @@
--- What the clauses of this crate speak of, under one path.
+-- What the contracts of this crate cite, under one path.
 pub use Rattle.std.specs.Io.KnownBytes.{Keeps}
 pub use Rattle.vcd_words.specs.Words.{input_asked}
 pub use Rattle.vcd_host.specs.Asked.{input_named, inputs_for}

@@ -1,4 +1,4 @@
--- Inputs that are opened one by one, under which names; and why they are not.
+-- Inputs that are opened one by one, their names, and why some are not opened.
 use Rattle.std.specs.Prelude.{◌≡◌, ◌⊎◌, ℕ, List, [], ◌∷◌, ◌++◌, codes, map, string_bytes, String, Option, Some, None, option_map, Result, Ok, Err}
 use Rattle.std.specs.Borrow.{Bor}
 use Rattle.clap.specs.Words.{Text}
@@ -16,12 +16,12 @@ called (Some name) = name
 abbrev pub text_of : Option (Bor Text) → Option Text
 text_of name = option_map (λ text. text.now) name
 
--- to the names that inputs are called by, that of one more was added
+-- one more name was added to the names of the inputs
 abbrev pub AddsOne : {A : Type 0} → Option (Bor Text) → List (String A) → List (String A) → Type 0
 AddsOne name old new = map string_bytes new ≡ map string_bytes old ++ called (text_of name) ∷ []
 
--- In what follows `opens` says what a call of `open` may return for a name, and what it leaves the
--- host.
+-- In what follows `opens` says what a call of `open` may return for a name, and what it leaves of
+-- the host.
 
 -- the inputs of these names were opened, one by one in this order, and no others
 abbrev pub Opens : {H I : Type 0} → (H → Option Text → Result I OpenFault → H → Type 0) → H → List (Option Text) → List I → H → Type 0
@@ -29,7 +29,7 @@ Opens {H} {I} opens host [] [] after = after ≡ host
 Opens {H} {I} opens host (name ∷ names) (input ∷ inputs) after = (next : H) × opens host name (Ok input) next × Opens opens next names inputs after
 Opens {H} {I} opens host names inputs after = ⊥
 
--- one input more was opened, of which no read has failed
+-- one more input was opened, of which no read has failed
 abbrev pub OpensOne : {H I : Type 0} → (H → Option Text → Result I OpenFault → H → Type 0) → (I → ℕ) → Option Text → (host host' : H) → (inputs inputs' : List I) → Type 0
 OpensOne {H} {I} opens failures name host host' inputs inputs' = (input : I) × opens host name (Ok input) host' × (failures input ≡ 0) × (inputs' ≡ inputs ++ input ∷ [])
 
@@ -51,7 +51,7 @@ OpensSome {H} {I} opens names host host' =
     (before after : List (Option Text)) × (names ≡ before ++ after) × (inputs : List I) × (next : H) × Opens opens host before inputs next
     × ((host' ≡ next) ⊎ ((name : Option Text) × (rest : List (Option Text)) × (after ≡ name ∷ rest) × opens next name (Err fault.OutOfMemory) host'))
 
--- why not all of them were
+-- why not all inputs were opened
 abbrev pub StopsAmong : {H I : Type 0} → (H → Option Text → Result I OpenFault → H → Type 0) → List (Option Text) → (host host' : H) → OpenStop → Type 0
 StopsAmong {H} {I} opens names host host' (stop.Unopened said) = OpensUpTo opens names (text_of said) host host'
 StopsAmong {H} {I} opens names host host' stop.OutOfMemory = OpensSome opens names host host'

@@ -6,7 +6,7 @@ use clap::ArgMatches;
 use std::alloc::{AllocError, Global};
 use vcd_words::{files_of, input_of, is_standard_input};
 
-/// Returns the input that a word for a file names. It is none for standard input.
+/// Returns the input that a word for a file names; `None` for standard input.
 fn input_named(word: &str) -> Option<&str>
     ensures { text_of result ≡ input_named word.now }
 {
@@ -16,7 +16,7 @@ fn input_named(word: &str) -> Option<&str>
     Some(word)
 }
 
-/// Returns the only input of a command: that of its word, standard input where it has none.
+/// Returns the only input of a command: the one that its word names, or standard input.
 fn only_input<'a>(matches: &ArgMatches<'a>) -> Option<&'a str>
     ensures { text_of result ≡ option_and_then input_named (input_asked matches.now) }
 {

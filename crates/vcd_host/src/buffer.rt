@@ -1,20 +1,20 @@
-//! Bytes that wait, in memory that is taken once.
+//! Bytes that wait, in memory that is taken only once.
 ghost use Rattle.std.specs.Prelude.{◌≡◌, ◌+◌, ◌-◌, ◌<◌, ◌≤◌, ◌∷◌, ◌++◌, [], true, length, take, drop, vec_len, IfOk};
 
 use std::alloc::{AllocError, Global};
 use std::simd::prelude::*;
 
-/// The most bytes that wait.
-// 65,536 are no faster, and a reader of a live pipe would wait longer.
+/// How many bytes may wait.
+// 65,536 are no faster, and whoever reads a live pipe would wait longer.
 pub(crate) const ROOM: usize = 8_192;
 
-/// The most bytes that are copied by one copy of this many, whatever their number.
+/// How many bytes a copy of a fixed length copies at most.
 pub(crate) const SHORT: usize = 64;
 
-/// As many bytes as one copy brings to the buffer as a number.
+/// How many bytes a copy as one number copies.
 pub(crate) const FEW: usize = 8;
 
-/// The most bytes that `push_parts` copies.
+/// How many bytes `push_parts` may copy.
 pub(crate) const PARTS: usize = 1 + SHORT + FEW;
 
 /// The bytes that a sink has taken and its device has not, one after the other.
@@ -22,8 +22,8 @@ pub(crate) const PARTS: usize = 1 + SHORT + FEW;
 pub(crate) struct Buffer {
     bytes: Vec<u8>,
     pub(crate) len: usize,
-    // 1 more than the bytes that waited when the last write failed, or less: a byte that is taken
-    // moves on from there, and no call that copies has to note that it went well.
+    // At most 1 more than the bytes that waited when the last write failed. A byte that is taken
+    // later is beyond it, so no call that copies has to note that it succeeded.
     pub(crate) failed_at: usize,
     ghost size: { vec_len bytes ≡ 8192 },
     ghost room: { len ≤ 8192 },
@@ -31,8 +31,7 @@ pub(crate) struct Buffer {
 }
 
 /// Copies bytes over as many others.
-// As many as `merge` writes most often are read before one is written: else the compiler asks
-// whether the two overlap. Without these arms `merge` of scalars takes 5 % more.
+// Short copies have arms of their own: without them `merge` of scalars takes 5 % more.
 #[inline(always)]
 pub(crate) fn copy(from: &[u8], to: &mut [u8])
     requires { length to.old ≡ length from.now }
@@ -73,7 +72,7 @@ pub(crate) fn copy_short(to: &mut [u8], position: usize, from: &[u8])
     u8x64::from_slice(from).copy_to_slice(&mut to[position..]);
 }
 
-/// Returns these bytes, brought together in a number, so that one write copies them.
+/// Returns these bytes, through one number, so that one write copies them.
 #[inline(always)]
 fn as_word(bytes: [u8; 8]) -> [u8; 8]
     ensures { result ≡ bytes }
@@ -91,9 +90,8 @@ pub(crate) fn copy_few(to: &mut [u8], position: usize, from: [u8; 8])
     to[position..position + 8].copy_from_slice(&as_word(from));
 }
 
-/// Copies a byte, the first n of `from` and the eight of `end` to an offset.
-// The front is always one copy of 64: a copy of a length that is not known is a call, 12.2 more an
-// item of Verilator's.
+/// Copies a byte, the first n bytes of `from` and the eight of `end` to an offset.
+// The front is always one copy of 64 bytes: a copy of an unknown length is a call.
 #[inline(always)]
 pub(crate) fn copy_parts(
     to: &mut [u8],
@@ -162,8 +160,8 @@ impl Buffer {
         self.len += n;
     }
 
-    /// Returns whether n bytes may be pushed as the front of these by `push_front` and
-    /// `push_parts`: they are few, and there is room for as many as those copy.
+    /// Returns whether the first n of these bytes may be pushed by `push_front` and `push_parts`:
+    /// they are few, and there is room for as many bytes as those copy.
     #[inline(always)]
     pub(crate) fn has_room(&self, from: &[u8], n: usize) -> bool
         ensures few { result ≡ true → n ≤ 64 }
@@ -173,7 +171,7 @@ impl Buffer {
         n <= SHORT && from.len() >= SHORT && self.len <= ROOM - PARTS
     }
 
-    /// Appends the first n of these bytes, by one copy of 64.
+    /// Appends the first n bytes of these, by one copy of 64.
     #[inline(always)]
     pub(crate) fn push_front(&mut self, from: &[u8], n: usize)
         requires few { n ≤ 64 }
@@ -186,7 +184,8 @@ impl Buffer {
         self.len += n;
     }
 
-    /// Appends a byte, the first n of `from` and the first m of `end`, by copies of known lengths.
+    /// Appends a byte, the first n bytes of `from` and the first m of `end`, by copies of known
+    /// lengths.
     #[inline(always)]
     pub(crate) fn push_parts(&mut self, first: u8, from: &[u8], n: usize, end: [u8; 8], m: usize)
         requires few { n ≤ 64 }
@@ -201,7 +200,7 @@ impl Buffer {
         self.len = position + 1 + n + m;
     }
 
-    /// Notes that a write has failed, and no byte was taken since.
+    /// Notes that a write has failed, and that no byte was taken since.
     pub(crate) fn note_failure(&mut self)
         ensures kept { kept self.new ≡ kept self.old }
         ensures len { self.new.len ≡ self.old.len }

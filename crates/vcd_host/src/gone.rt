@@ -1,10 +1,10 @@
-//! Bytes that were let go.
+//! Bytes that were dropped.
 ghost use Rattle.std.specs.Prelude.{◌≡◌, ℕ, List, [], ◌++◌};
 ghost use Rattle.std.specs.Borrow.{ftrue};
 
 use std::marker::{Model, PhantomData};
 
-/// The bytes that were let go, one after the other. They take no memory: only clauses read them.
+/// The bytes that were dropped, one after the other. They take no memory: only contracts read them.
 #[derive(Drop)]
 pub(crate) struct Gone {
     marker: PhantomData<u8>,
@@ -25,7 +25,7 @@ impl Gone {
         }
     }
 
-    /// Lets these bytes go, for which there is no room. They are remembered in the logic alone.
+    /// Drops these bytes, for which there is no room. Only the contracts know them.
     #[inline(always)]
     pub(crate) fn push(&mut self, _bytes: &[u8])
         ensures { self.new.bytes ≡ self.old.bytes ++ _bytes.now }

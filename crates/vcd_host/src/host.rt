@@ -13,23 +13,23 @@ pub enum OpenFault {
     OutOfMemory,
 }
 
-/// Where inputs are opened.
+/// What opens the inputs.
 pub trait Host {
     /// An input that is open.
     type Input: Source + Drop;
 
-    // What a call of `open` with this name may return, and what it leaves the host. A contract that
-    // speaks of it for every host says which calls were made: there is no other way to it.
+    // What a call of `open` with this name may return, and what it leaves of the host. A contract
+    // over every host uses it to say which calls were made; there is no other way to say that.
     ghost opens: { Self → Option (List ℕ) → Result Self.Input OpenFault → Self → Type 0 };
 
-    /// Opens the file of this name, or standard input where there is none.
+    /// Opens the file of this name, or standard input if there is none.
     fn open(&mut self, name: Option<&str>) -> Result<Self::Input, OpenFault>
         ensures opens { opens self.old (option_map (λ n. n.now) name.entry) result self.new }
         ensures fresh { IfOk result (λ input. Self.Input.failures input ≡ 0) };
 
-    /// Returns how many bytes the reads of an input give at most, where the host knows it. The
-    /// provided one knows nothing.
-    fn most_of(_input: &Self::Input) -> Option<usize>
+    /// Returns how many bytes the reads of an input give at most, if the host knows it. The
+    /// provided function knows nothing.
+    fn max_bytes_of(_input: &Self::Input) -> Option<usize>
         ensures { IfSome (Self.Input.rest _input.now)
             (λ text. IfSome result (λ most. length text ≤ most)) }
     {
@@ -39,17 +39,17 @@ pub trait Host {
 
 /// A sink that may keep bytes in a buffer until it is flushed.
 pub trait Output: Sink {
-    // What a call of `flush` leaves the sink, where it is done and where it fails.
+    // What a call of `flush` leaves of the sink, if the call succeeds and if it fails.
     ghost flushes: { Self → Bool → Self → Type 0 };
 
-    /// Passes on what is in the buffer. It is no write that is counted.
+    /// Passes on what is in the buffer. A failure is not counted as one of a write.
     fn flush(&mut self) -> Result<(), WriteFailed>
         ensures flushes { flushes self.old (is_ok result) self.new }
         ensures held { Keeps (Self.device self.old).held (Self.device self.new).held }
         ensures failures { (Self.device self.new).failures ≡ (Self.device self.old).failures };
 }
 
-/// It keeps nothing in a buffer.
+/// It has no buffer.
 impl Output for Watch<Vec<u8>> {
     ghost flushes = { λ old done new. (done ≡ true) × (new ≡ old) };
 

@@ -1,4 +1,4 @@
-//! An output that is bytes that were lent.
+//! An output into bytes that were lent.
 ghost use Rattle.std.specs.Prelude.{◌≡◌, ◌-◌, ◌^◌, ◌<◌, ◌≤◌, ◌++◌, [], IfSome, Some, length, take, false, true};
 
 use crate::buffer::{FEW, PARTS, SHORT, copy, copy_few, copy_parts, copy_short};
@@ -6,21 +6,21 @@ use crate::gone::Gone;
 use crate::host::Output;
 use vcd_text::{Sink, WriteFailed};
 
-/// From this number on bytes that find no room are not counted.
+/// Once this many bytes found no room, they are not counted any more.
 const UNCOUNTED: u64 = 9_223_372_036_854_775_808;
 
-/// Bytes that were lent, which are filled from the front. What finds no room there is counted and
-/// let go. No write fails.
+/// Bytes that were lent, and are filled from the front. Bytes that find no room there are counted
+/// and dropped. No write fails.
 #[derive(Drop)]
 pub struct LentOutput<'a> {
     bytes: &'a mut [u8],
     used: usize,
-    // How many bytes found no room, where they are fewer than 2^63.
+    // How many bytes found no room, if fewer than 2^63.
     over: u64,
     gone: Gone,
     ghost within: { used ≤ length bytes.now },
     ghost number: { over < 2 ^ 63 → over ≡ length gone.bytes },
-    // Only what finds no room is let go.
+    // Bytes are dropped only once there is no room.
     ghost order: { 0 < over → used ≡ length bytes.now },
 }
 
@@ -28,7 +28,7 @@ impl<'a> LentOutput<'a> {
     ghost use Rattle.vcd_host.specs.Fills.{Fills};
     ghost use Rattle.vcd_host.specs.LentOutput.{held, written};
 
-    /// Returns an output that fills these bytes from the first one on. None is filled yet.
+    /// Returns an output that fills these bytes, from the first one on. None is filled yet.
     pub fn new(bytes: &'a mut [u8]) -> LentOutput<'a>
         ensures loan { result.bytes.ghost_name ≡ bytes.entry.ghost_name }
         ensures empty { written result ≡ [] }
@@ -41,8 +41,8 @@ impl<'a> LentOutput<'a> {
         }
     }
 
-    /// Returns how many bytes were written, if fewer than 2^63 found no room. As many of them as
-    /// there is room for are at the front of the bytes that were lent.
+    /// Returns how many bytes were written, if fewer than 2^63 found no room. Those for which there
+    /// was room are at the front of the bytes that were lent.
     pub fn len(&self) -> Option<u64>
         ensures { IfSome result (λ n. Fills self.now.bytes.now n (written self.now)) }
     {
@@ -52,8 +52,8 @@ impl<'a> LentOutput<'a> {
         Some(self.used as u64 + self.over)
     }
 
-    /// Takes bytes that fill the room or more, and returns how many: from the front those
-    /// for which there is, or all of them where there is no room at all.
+    /// Takes bytes that fill the room or more, and returns how many: those from the front for which
+    /// there is room, or all of them if there is no room at all.
     #[cold]
     #[inline(never)]
     fn write_over(&mut self, from: &[u8]) -> usize
@@ -136,7 +136,7 @@ impl Sink for LentOutput<'_> {
     }
 }
 
-/// It keeps nothing in a buffer.
+/// It has no buffer.
 impl Output for LentOutput<'_> {
     ghost flushes = { λ old done new. (done ≡ true) × (new ≡ old) };
 

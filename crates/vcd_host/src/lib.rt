@@ -12,7 +12,7 @@
 //! - `buffer`: bytes that wait, in memory that is taken once
 //! - `buffered`: an output whose bytes wait in a buffer
 //! - `lent_output`: an output that is bytes that were lent
-//! - `gone`: what found no room there, which only clauses read
+//! - `gone`: what found no room there, which only contracts read
 //!
 //! In `specs/`: `Asked`; `Opens`, which inputs were opened; `Buffer`, `Buffered`, `LentOutput`,
 //! what an output has taken; `Fills`, what is at the front of bytes that were lent.
@@ -30,4 +30,4 @@ pub use asked::inputs_of;
 pub use buffered::Buffered;
 pub use host::{Host, OpenFault, Output};
 pub use lent_output::LentOutput;
-pub use opened::{OpenStop, Opened, called, most_of_all, open_inputs};
+pub use opened::{OpenStop, Opened, called, max_bytes_of_all, open_inputs};

@@ -26,7 +26,7 @@ pub struct Opened<I: Drop> {
 }
 
 impl<I: Drop> Opened<I> {
-    /// Adds an input.
+    /// Adds an input that was opened under this name; `None` is standard input.
     fn push(&mut self, alloc: Global, name: Option<&str>, reader: I) -> Result<(), AllocError>
         ensures readers { OnOk result (self.new.readers.items
             ≡ self.old.readers.items ++ reader ∷ []) }
@@ -98,17 +98,17 @@ pub fn open_inputs<'a, H: Host>(
     Ok(opened)
 }
 
-/// Returns how many bytes each of these inputs gives at most, where the host knows it of all.
-pub fn most_of_all<H: Host>(inputs: &[H::Input]) -> Option<usize>
+/// Returns how many bytes any of these inputs gives at most, if the host knows it of all.
+pub fn max_bytes_of_all<H: Host>(inputs: &[H::Input]) -> Option<usize>
     ensures { IfSome result (λ most.
         All (λ r. IfSome (H.Input.rest r) (λ text. length text ≤ most)) inputs.now) }
 {
     let mut longest = 0;
     for input in inputs {
-        let Some(most) = H::most_of(input) else {
+        let Some(bytes) = H::max_bytes_of(input) else {
             return None;
         };
-        longest = longest.max(most);
+        longest = longest.max(bytes);
     }
     Some(longest)
 }

@@ -46,7 +46,7 @@ use Rattle.vcd_laws.proofs.CutAgain.{between, kept_between, cut_insides, cut_may
 
 -- ---- where items end
 
--- a timestamp above a time ends a cut where the time after the items is above it
+-- a timestamp above a time ends a cut if the time after the items is above it
 ends_is : (codes : List IdCode) (b t : ℕ) (o : Bool) (xs : List BodyItem) → AreFit codes t o xs
     → t ≤ b → ends_cut b xs ≡ nat_lt b (time_behind t xs)
 ends_is codes b t o [] fit l = sym (le-ltb b t l)
@@ -63,7 +63,7 @@ ends_is codes b t o (BodyItem.Begin s ∷ xs) fit l = ends_is codes b t true xs 
 ends_is codes b t o (BodyItem.End ∷ xs) fit l = ends_is codes b t false xs fit.1 l
 ends_is codes b t o (BodyItem.Changes c ∷ xs) fit l = ends_is codes b t o xs fit.1 l
 
--- the last timestamp is the time after the items, where there is a timestamp
+-- the last timestamp is the time after the items, if there is a timestamp
 abbrev LastMark : ℕ → List BodyItem → Type 0
 LastMark t xs = ((last_mark xs ≡ None) × (time_behind t xs ≡ t))
     ⊎ (last_mark xs ≡ Some (time_behind t xs))

@@ -14,7 +14,7 @@ use Rattle.vcd_laws.specs.Due.{due, due_of_merge}
 use Rattle.vcd_laws.proofs.CutOff.{cut_off_is_a_prefix}
 use Rattle.vcd_laws.proofs.DueText.{due_is_never_revised, due_is_left_at_a_halt}
 
--- what is due with so many tokens of a text
+-- what is due with this many tokens of a text
 abbrev dues : Want → String → List ℕ → List (List ℕ)
 dues want s ns = map (λ n. due want 100 (take n (tokens_of (written s)))) ns
 
@@ -76,7 +76,7 @@ list_due : dues Want.Listing dump (7 ∷ 8 ∷ 13 ∷ []) ≡ written "" ∷ wri
 unfolding model due
 list_due = refl
 
--- nothing where a name selects nothing, and nothing where the header has a fault
+-- nothing if a name selects nothing, and nothing if the header has a fault
 nothing_due : dues (Want.Pick (codes "a" ∷ codes "b" ∷ [])) dump (8 ∷ 13 ∷ []) ++ dues (Want.Pick (codes "a" ∷ [])) "$upscope $end $enddefinitions $end" (1 ∷ 4 ∷ []) ≡ [] ∷ [] ∷ [] ∷ [] ∷ []
 unfolding model due
 nothing_due = refl
@@ -91,7 +91,7 @@ fault_due = refl
 
 -- ---- a merge
 
--- what is due with so many tokens of each of two texts
+-- what is due with this many tokens of each of two texts
 abbrev merged : String → String → ℕ → ℕ → List ℕ
 merged a b m n = due_of_merge (Seen.First (take m (tokens_of (written a))) ∷ Seen.First (take n (tokens_of (written b))) ∷ [])
 
@@ -119,7 +119,7 @@ ended_due : due_of_merge (Seen.First (take 11 (tokens_of (written one))) ∷ See
 unfolding model due_of_merge
 ended_due = refl
 
--- .. and where it is so of all, what closes the text is due
+-- .. and if it is so of all, what closes the text is due
 closing_due : due_of_merge (Seen.All (stream_of limit (clean one)) ∷ Seen.All (stream_of limit (clean two)) ∷ []) ≡ head ++ written "#5;1!;#6;0\";#9;"
 unfolding model due_of_merge
 closing_due = refl
@@ -143,6 +143,6 @@ first_of_a_pick : IsPrefixOf (due pick declarations_allowed (take 11 (tokens_of 
 unfolding model
 first_of_a_pick = due_is_never_revised pick limit (codes "x.vcd") (take 11 (tokens_of (written dump))) (clean dump) (λ e. cc, λ e. cc) (drop 11 (tokens_of (written dump)), refl)
 
--- where the source fails there, the output begins the one over the whole
+-- if the source fails there, the output begins the one over the whole
 cut_off_pick : IsPrefixOf (run_of pick limit (codes "x.vcd") failing).output (run_of pick limit (codes "x.vcd") (clean dump)).output
 cut_off_pick = cut_off_is_a_prefix pick limit (codes "x.vcd") failing (clean dump) (λ e. cc, λ e. cc) (refl, (written "0 0!", refl))

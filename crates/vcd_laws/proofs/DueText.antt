@@ -126,7 +126,7 @@ not_early : (task : Request) (h : Header) (items : List BodyItem) (name : List �
 unfolding over_body
 not_early task h items name fault e = rw (e, over_body) refl
 
--- This text begins this output. It is the whole output where the source was halted, and where the
+-- This text begins this output. It is the whole output if the source was halted, and if the
 -- run is settled.
 abbrev Written : Stream → Bool → List ℕ → List ℕ → Type 0
 Written s settled text output = IsPrefixOf text output
@@ -135,7 +135,7 @@ Written s settled text output = IsPrefixOf text output
 all_written : (s : Stream) (settled : Bool) (text output : List ℕ) → output ≡ text → Written s settled text output
 all_written s settled text output e = (same_text text output e, λ h. e, λ h. e)
 
--- a body has a fault where the source was halted
+-- a body has a fault if the source was halted
 pub halted_fault : (s : Stream) (codes : List IdCode) (ts : List Token) → s.halt ≢ None
     → body_fault_of s (read_body codes ts) ≢ None
 unfolding read_body reading_of
@@ -154,7 +154,7 @@ halted_fault s codes ts halted none = by_ending (read_body codes ts).ending refl
         by_open (inr (x, ended)) = by_halt s.halt halted ended
     by_ending AtLast e = not_last codes ts [] [] e
 
--- .. and where one of the tokens has one
+-- .. and if one of the tokens has one
 faulty_fault : (s : Stream) (r : Reading BodyPhrase) → is_faulty r.ending ≡ true → body_fault_of s r ≢ None
 faulty_fault s r h none = by_ending r.ending refl h
   where

@@ -49,7 +49,7 @@ phrase_declares t ts p e b = by_keyword (keyword_of t) refl b e
     by_keyword None f b e = cc
     by_keyword (Some k) f b e = declares k ts p b (rw f at e)
 
--- the first token of a phrase, where another number of declarations is allowed
+-- the first token of a phrase, if another number of declarations is allowed
 start_passes : (most m : ℕ) (ds : List Declaration) (t : List ℕ) (k : Option Keyword)
     → (begins_declaration k ≡ true → length ds < m)
     → first_failed (start_of most ds t k) ≡ None → first_failed (start_of m ds t k) ≡ None
@@ -152,7 +152,7 @@ few_declarations most m stream e few =
     let is = (header_reading_is_unique most stream r).1 refl in
     sym ((header_reading_is_unique m stream r).0 (reads_alike most m stream.tokens r e few is))
 
--- ---- any header, where more are allowed than it has
+-- ---- any header, if more are allowed than it has
 
 start_same : (most m : ℕ) (ds : List Declaration) (t : List ℕ) (k : Option Keyword) → length ds < most → length ds < m
     → first_failed (start_of most ds t k) ≡ first_failed (start_of m ds t k)

@@ -27,7 +27,7 @@ run_front (b ∷ xs) ys l = by_white (is_white_space b) refl l (run_front xs ys)
         let n : length (before_first is_white_space (b ∷ xs)) ≡ suc (length (before_first is_white_space xs)) = ap (λ (t : List ℕ). length t) (plain_run b xs e) in
         plain_run b (xs ++ ys) e ∙ ap (λ t. b ∷ t) (more (omega arith)) ∙ sym (plain_run b xs e)
 
--- a run that is longer than this in the longer text is so in the front, where that is long enough
+-- a run that is longer than this in the longer text is so in the front, if that is long enough
 run_long : (xs ys : List ℕ) (m : ℕ) → m < length (before_first is_white_space (xs ++ ys)) → m < length xs
     → m < length (before_first is_white_space xs)
 run_long xs ys m h l = by_length (cases_lt (length (before_first is_white_space xs)) (length xs))
@@ -37,7 +37,7 @@ run_long xs ys m h l = by_length (cases_lt (length (before_first is_white_space 
     by_length (inl s) = let same = ap (λ (t : List ℕ). length t) (run_front xs ys s) in omega arith
     by_length (inr s) = omega arith
 
--- a run ends no earlier where it begins later
+-- a run ends no earlier if it begins later
 ends_rise : (xs : List ℕ) (i : ℕ) → end_at xs i ≤ end_at xs (suc i)
 ends_rise [] zero = omega arith
 ends_rise [] (suc i) = omega arith

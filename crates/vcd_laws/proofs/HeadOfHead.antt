@@ -19,7 +19,7 @@ use Rattle.vcd_laws.proofs.PickTwice.{no_open}
 abbrev selects : List (List ℕ) → List ℕ → Bool
 selects names path = is_empty names || list_any (selects_path path) names
 
--- closing rows alone
+-- only closing rows
 abbrev AllUps : List Declaration → Type 0
 AllUps [] = ⊤
 AllUps (d ∷ ds) = (d ≡ Declaration.Up) × AllUps ds
@@ -192,7 +192,7 @@ module _ (first wanted both : List (List ℕ)) (all : List Declaration) (declare
       (at.same ∙ ap (map (λ (x : Open). x.1)) whole)
       ∙ sym (path_is earlier s (Declaration.Var v) at.opens)
 
-  -- so the other names select it there exactly where both select it
+  -- so the other names select it there if and only if both select it
   same_selection : (earlier w back : List Declaration) (s t : List Open) (v : Variable)
       → Beside earlier w s t → all ≡ earlier ++ Declaration.Var v ∷ back
       → is_selected first earlier (Declaration.Var v) ≡ true
@@ -340,7 +340,7 @@ module _ (first wanted both : List (List ℕ)) (all : List Declaration) (declare
 
   -- ---- all rows
 
-  -- open scopes that were written are marked again where they are marked for both; the others are
+  -- open scopes that were written are marked again if they are marked for both; the others are
   -- not marked for both
   Matched : List Open → List Open → Type 0
   Matched [] t = t ≡ []

@@ -94,7 +94,7 @@ module _ (names : List (List ℕ)) where
       here true e f = rw (e, f) refl
       here false e f = refl
 
-  -- an open one is marked from here on exactly where a selected variable is in its scope
+  -- an open one is marked from here on if and only if a selected variable is in its scope
   place_used : (j : ℕ) (n : List ℕ) (below : List Open) (ds earlier : List Declaration)
       (above : List Open) → HasOpen earlier (above ++ (j, n) ∷ below) → AreDeclared earlier ds
       → j < length earlier → NotThere j below
@@ -132,7 +132,7 @@ module _ (names : List (List ℕ)) where
       here true f = rw (f, or_true (j == length earlier)) refl
       here false f = refl
 
-  -- a scope is marked exactly where a selected variable is in it
+  -- a scope is marked if and only if a selected variable is in it
   pub scope_mark : (front back : List Declaration) (type name : List ℕ) (s : List Open)
       → HasOpen front s → AreDeclared front (Declaration.Scope type name ∷ back)
       → is_among (marked_places names (front ++ Declaration.Scope type name ∷ back)) (length front)

@@ -35,7 +35,7 @@ use Rattle.vcd_laws.proofs.Unsettled.{two_ends}
 use Rattle.vcd_laws.proofs.UnsettledMerge.{least, faults_of, none_reduced}
 use Rattle.vcd_laws.proofs.DueText.{same_text, longer_text, fault_output, halted_fault}
 
--- ---- inputs that continue where they have a fault
+-- ---- inputs that continue if they have a fault
 
 -- a dump without a fault is the same; one with a fault may have more items, and any fault or none
 record Grows (d d' : Dump) : Type 0 where
@@ -205,7 +205,7 @@ name_free names others ds = by_first (first_fault ds) refl
     by_first None e = whole_text names ds e ∙ sym (whole_text others ds e)
     by_first (Some f) e = fault_text names ds f e ∙ sym (fault_text others ds f e)
 
--- where inputs continue, so does the output
+-- if inputs continue, so does the output
 text_grows : (names others : List (List ℕ)) (ds ds' : List Dump) → AllGrow ds ds'
     → IsPrefixOf (merge_outcome names ds).output (merge_outcome others ds').output
 text_grows names others ds ds' g = by_first (first_fault ds) refl

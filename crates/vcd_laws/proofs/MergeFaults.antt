@@ -153,7 +153,7 @@ EndsOrNames limit name names inputs done = EndsWell done
     ⊎ (NamesFaultOfOne limit name names inputs done
     ⊎ ((os : List Opened) × OpenAll limit inputs os × NamesTooLarge os names done))
 
--- where a header has a fault
+-- if a header has a fault
 header_named : (limit : ℕ) (name : List ℕ) (names : List (List ℕ)) (inputs : List Input) (f : HeaderFault limit [] inputs)
     → EndsOrNames limit name names inputs (outcome Want.Merge limit names inputs)
 header_named limit name names inputs f =

@@ -260,7 +260,7 @@ latest-map M test test' (e ∷ es) h =
     let a = h.0 in
     newer_same (test (M e)) (test' e) (value_in (M e)) (value_in e) (latest test (map M es)) (latest test' es) a.0 (λ q. a.1 (sym a.0 ∙ q)) (latest-map M test test' es h.1)
 
--- a scaled time is at most a time where it is at most the floor of that time
+-- a scaled time is at most a time if it is at most the floor of that time
 le_floor : (f u t : ℕ) → 0 < f → nat_le (f * u) t ≡ nat_le u (t / f)
 le_floor f u t p = by_order (cases_lt (t / f) u)
   where

@@ -191,7 +191,7 @@ version_in_body = refl
 
 -- ---- reports
 
--- digits and a real text always differ, and real texts where their bytes do
+-- digits and a real text always differ, and real texts if their bytes do
 digits_and_reals : on (Want.Edges []) "$var wire 1 ! a $end;$enddefinitions $end;0!;r1 !;1!;r1 !;r1.0 !;" ≡ gives "a 4 0 0;" "" 0
 unfolding model
 digits_and_reals = refl
@@ -212,7 +212,7 @@ aliases : on (sample (1 ∷ []) []) "$var wire 2 ! a $end;$var event 1 # e $end;
 unfolding model
 aliases = refl
 
--- a name that selects events alone is no fault
+-- a name that selects only events is no fault
 event_alone : on (sample (1 ∷ 2 ∷ []) (codes "e" ∷ [])) "$var wire 1 ! a $end;$var real 1 \" r $end;$var event 1 # e $end;$var wire 2 % u $end;$enddefinitions $end;#1;1#;" ≡ gives "" "" 0
 unfolding model
 event_alone = refl
@@ -262,7 +262,7 @@ later_header : outcome Want.Merge limit (codes "a.vcd" ∷ codes "b.vcd" ∷ [])
 unfolding model
 later_header = refl
 
--- the greatest timestamp closes, also where it is of an input without changes
+-- the greatest timestamp closes, also if it is of an input without changes
 greatest_mark_closes : outcome Want.Merge limit (codes "a.vcd" ∷ codes "b.vcd" ∷ []) (clean "$timescale 1us $end;$var wire 1 ! a $end;$enddefinitions $end;#1;1!;" ∷ clean "$timescale 10ns $end;$var wire 1 ! a $end;$enddefinitions $end;#3;#250;" ∷ []) ≡ gives "$timescale;^10ns;$end;$scope module in1 $end;$var wire 1 ! a $end;$upscope $end;$scope module in2 $end;$var wire 1 \" a $end;$upscope $end;$enddefinitions $end;#100;1!;#250;" "" 0
 unfolding model
 greatest_mark_closes = refl

@@ -215,7 +215,7 @@ times_again codes us t o (e ∷ es) h i =
     by_test true more = ap (λ l. e.time ∷ l) more
     by_test false more = more
 
--- the text of what is picked, where the last timestamp is this
+-- the text of what is picked, if the last timestamp is this
 abbrev picked_text : List Selected → List Entry → Option ℕ → List ℕ
 picked_text us es mark =
     text_after [] (filter (picks us) es) ++ closing (map (λ e. e.time) (filter (picks us) es)) mark

@@ -41,7 +41,7 @@ alone_alike : (names : List (List ℕ)) (k h : Header)
     → first_unmatched names h.declarations ≡ None → SelectAlike [] names k h
 alone_alike names k h e matched = record { selection = e; here = refl; there = matched }
 
--- a test that holds where two others hold
+-- a test that holds if two others hold
 pub both_tests : {X : Type 0} (p q r : X → Bool) (xs : List X)
     → ((x : X) → In x xs → r x ≡ (p x && q x)) → filter p (filter q xs) ≡ filter r xs
 both_tests p q r [] h = refl

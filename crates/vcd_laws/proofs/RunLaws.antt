@@ -103,7 +103,7 @@ merge_run_keeps limit names inputs h =
 
 -- ---- one input
 
--- an outcome where some name may select nothing
+-- an outcome if some name may select nothing
 named : List (List ℕ) → Option ℕ → Outcome → Outcome
 named names place done = elim place [ Some i ↦ unmatched_outcome (name_at names i) | None ↦ done ]
 

@@ -113,7 +113,7 @@ module _ (limit : ℕ) (name : List ℕ) (input : Input) (o : Opened) (opens : O
       inl (h.0, subst EndsWell (sym (opened_run want limit name input o opens ∙ e)) h.1)
   ends_so want done e (inr h) = inr (h.0, opened_run want limit name input o opens ∙ e ∙ h.1)
 
-  -- where names select something, and a timestamp ends the run only where it is one that may
+  -- if names select something, and a timestamp ends the run only if it is one that may
   over_names : (want : Want) (task : Request) (place : Option ℕ) → place ≡ None
       → (IsTrue (list_any (ends_early task) (items_in o)) → EndsBefore o.header (items_in o) want)
       → over_opened want (name ∷ []) (o ∷ []) ≡ elim place [
@@ -175,7 +175,7 @@ module _ (limit : ℕ) (name : List ℕ) (input : Input) (o : Opened) (opens : O
       ends_so Want.Merge (merge_outcome (name ∷ []) (dumps_of (o ∷ []))) refl
       (inr (merge_alone name o (opens_good limit input o opens)))
 
-  -- the fault that `check` names, where there is one
+  -- the fault that `check` names, if there is one
   pub check_ends : (output : List ℕ) × (run_of Want.Check limit name input ≡ ended output name (fault_in o))
   check_ends = by_case (suits_ends Want.Check tt)
     where

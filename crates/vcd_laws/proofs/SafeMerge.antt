@@ -143,7 +143,7 @@ each_is_of hs done (o ∷ os) n e =
     by_fault (Some x) f more =
         (record { earlier = done; input = o; later = os; inputs = refl; place = e; fault = f }, more)
 
--- where there is no fault, no timestamp is too large
+-- if there is no fault, no timestamp is too large
 none_large : (hs : List Header) (os : List Opened) (n : ℕ) → AllByRecursion (λ o. fault_in o ≡ None) os
     → faults_rest hs n (map (dump_in hs) os) ≡ []
     → AllByRecursion (λ o. find (placed_is_too_large (factor hs o.header)) (body_of o).placed ≡ None) os

@@ -104,7 +104,7 @@ edges_named : on (Want.Edges []) faulty ≡ gives "" "vcdkit: (stdin):3: time go
 unfolding model
 edges_named = refl
 
--- a cut and a sample name it where no timestamp is above their last time
+-- a cut and a sample name it if no timestamp is above their last time
 cut_named : on (cut "0" "5") faulty ≡ gives "$var wire 1 ! a $end;$enddefinitions $end;#0;$dumpvars;$end;#5;1!;" "vcdkit: (stdin):3: time goes back;" 1
 unfolding model
 cut_named = refl
@@ -179,7 +179,7 @@ named_of_faulty : EndsOrNames limit stdin (codes "a.vcd" ∷ codes "b.vcd" ∷ [
 unfolding model
 named_of_faulty = merge_names_the_fault limit stdin (codes "a.vcd" ∷ codes "b.vcd" ∷ []) (clean good ∷ clean faulty ∷ []) (omega arith)
 
--- Where no more declarations are left than were read, the next one has another fault than it has
+-- If no more declarations are left than were read, the next one has another fault than it has
 -- alone: so there are to be fewer in all than may be read.
 abbrev one_declaration : List ℕ
 one_declaration = codes "$var wire 1 ! a $end $upscope $end"

@@ -187,7 +187,7 @@ whole_of : (stream other : Stream) (r s : Reading BodyPhrase) → stream.halt �
     → ends_well stream r ≡ ends_well other s
 whole_of stream other r s h p b = rw (h, p, b) refl
 
--- where one of two such readings is whole, the other is
+-- if one of two such readings is whole, the other is
 pub same_whole : (stream other : Stream) (r s : Reading BodyPhrase) → stream.halt ≡ other.halt
     → SameReading r s → body_fault_of other s ≡ None → body_fault_of stream r ≡ None
 same_whole stream other r s h same none =

@@ -23,7 +23,7 @@ both_parts : (s : ℕ → Bool) (ts : List ℕ) → ((t u : ℕ) → t < u → s
     → IsStrictlyIncreasing ts → filter s ts ++ filter (λ t. not (s t)) ts ≡ ts
 both_parts s ts d up = sym (split_times s (λ t. true) ts d (λ t e. refl) up) ∙ all_true ts
 
--- ---- where a timestamp ended the run
+-- ---- if a timestamp ended the run
 
 -- the items up to the first that passes a test, and the others
 record IsCut (test : BodyItem → Bool) (items : List BodyItem) : Type 0 where

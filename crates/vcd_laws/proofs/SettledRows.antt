@@ -37,7 +37,7 @@ pick_to_the_fault : settled (Want.Pick (codes "a" ∷ [])) dump (8 ∷ 10 ∷ 11
 unfolding model
 pick_to_the_fault = refl
 
--- a list, and a name that selects nothing, need the header alone
+-- a list, and a name that selects nothing, need only the header
 list_to_the_header : settled Want.Listing dump (7 ∷ 8 ∷ 9 ∷ []) ≡ false ∷ true ∷ true ∷ []
 unfolding model
 list_to_the_header = refl
@@ -73,7 +73,7 @@ sample_past_its_first_time : settled (Want.Sample (at 1 ∷ at 5 ∷ []) []) (wr
 unfolding model
 sample_past_its_first_time = refl
 
--- where a time has a unit and the header has no scale, the header settles it
+-- if a time has a unit and the header has no scale, the header settles it
 cut_without_a_scale : settled (Want.Cut (record { number = 1; unit = Some (pos 0) }) (at 5)) (written "$enddefinitions $end #1") (1 ∷ 2 ∷ 3 ∷ []) ≡ false ∷ true ∷ true ∷ []
 unfolding model
 cut_without_a_scale = refl
@@ -115,7 +115,7 @@ header_to_its_end : map (λ n. is_header_over 100 (take n (tokens_of dump))) (0 
 unfolding model
 header_to_its_end = refl
 
--- one declaration is one too many where none is allowed
+-- one declaration is one too many if none is allowed
 no_declaration_allowed : map (λ n. is_settled Want.Check 0 (take n (tokens_of dump))) (0 ∷ 8 ∷ []) ≡ false ∷ true ∷ []
 unfolding model
 no_declaration_allowed = refl
@@ -179,7 +179,7 @@ late_alone : map (λ n. is_settled Want.Merge 100 (take n (tokens_of late))) (14
 unfolding model
 late_alone = refl
 
--- an input that ends before it is known to go no further where all of it is known
+-- an input that ends before it is known to go no further if all of it is known
 ends_before_it : map is_settled_merge ((first 15 late ∷ all (written "$timescale 100 ps $end $enddefinitions $end #40") ∷ []) ∷ (first 15 late ∷ first 7 (written "$timescale 100 ps $end $enddefinitions $end #40") ∷ []) ∷ []) ≡ true ∷ false ∷ []
 unfolding model
 ends_before_it = refl
@@ -252,7 +252,7 @@ final_of_a_merge = settled_merge_is_final limit (codes "a.vcd" ∷ codes "b.vcd"
       ((drop 15 (tokens_of (written "$timescale 100 ps $end $var wire 1 ! b $end $enddefinitions $end #40 1! #60 #50 1!")), refl), tt),
     )
 
--- where the other input has not come so far, it is open, also where all of the first is known
+-- if the other input has not come so far, it is open, also if all of the first is known
 open_of_a_merge : (inputs : List Input) × (others : List Input)
     × ((outcome Want.Merge limit (codes "a.vcd" ∷ codes "b.vcd" ∷ []) inputs).status ≢ (outcome Want.Merge limit (codes "a.vcd" ∷ codes "b.vcd" ∷ []) others).status)
 unfolding model

@@ -25,7 +25,7 @@ use Rattle.vcd_model.proofs.SoFarLemmas.{behind_phrase, at_token, token_step}
 
 -- ---- readings
 
--- a reading, where more tokens are left
+-- a reading, if more tokens are left
 abbrev pub with_more : {P : Type 0} → Reading P → List Token → Reading P
 with_more r ys = record { placed = r.placed; before = r.before; ending = r.ending; rest = r.rest ++ ys }
 
@@ -176,7 +176,7 @@ faulty_fault s u r q e h = by_ending r.ending refl h
 abbrev pub opened_at : Header → Stream → List Token → Opened
 opened_at h s ts = record { header = h; stream = s; rest = ts }
 
--- both the same, where the tokens read first have a fault
+-- both the same, if the tokens read first have a fault
 record AreAlike (o p : Opened) : Type 0 where
   items : items_in o ≡ items_in p
   fault : fault_in o ≡ fault_in p
@@ -266,7 +266,7 @@ module _ (task : Request) (h : Header) (name : List ℕ) (s u : Stream) (ts xs y
           ∙ ap (over_body task h (items_in other) name) a.fault
       by_fault false f e = early_one s xs e ∙ sym (early_one u ys e)
 
-  -- where names may select nothing
+  -- if names may select nothing
   abbrev named : Option ℕ → Opened → Outcome
   named place o = elim place [
     | Some i ↦ unmatched_outcome (name_at (names_of task) i)

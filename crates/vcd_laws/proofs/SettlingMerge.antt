@@ -50,7 +50,7 @@ either f a x P p q = by_test (key_lt x.key a.key)
     by_test true = q
     by_test false = p
 
--- where x is not after f and a is, x is the lesser
+-- if x is not after f and a is, x is the lesser
 lesser : (f a x : KeyedFault) → key_lt f.key x.key ≡ false → Later f a → earlier_fault a x ≡ x
 lesser f a x n l = by_test (key_lt x.key a.key) refl
   where
@@ -88,7 +88,7 @@ follows f a b xs ys (Nothing) (inr (l, m)) h = absurd (never_later f (subst (λ 
 follows f a b xs ys (Same x xs' ys' more) w h = follows f (earlier_fault a x) (earlier_fault b x) xs' ys' more (follow_same f a b x w) h
 follows f a b xs ys (More y xs' ys' late more) w h = follows f a (earlier_fault b y) xs' ys' more (follow_more f a b y late w) h
 
--- where a fault after f came before all others
+-- if a fault after f came before all others
 starts : (f b : KeyedFault) (xs ys : List KeyedFault) → Extends f xs ys → Later f b
     → reduce earlier_fault xs ≡ Some f → fold earlier_fault b ys ≡ f
 starts f b xs ys (Nothing) l h = cc
@@ -294,7 +294,7 @@ pub dump_is : (scale : ℕ) (h : Header) (own : Option Fault) (r : Reading BodyP
 unfolding dump_of
 dump_is scale h own r = refl
 
--- where a timestamp is too large, or the fault is known, the dump is known
+-- if a timestamp is too large, or the fault is known, the dump is known
 mark_known : (scale : ℕ) (h : Header) (a b : Option Fault) (ps more : List (Placed BodyPhrase)) (p : Placed BodyPhrase)
     → find (placed_is_too_large scale) ps ≡ Some p → dump_with scale h a (ps ++ more) ≡ dump_with scale h b ps
 mark_known scale h a b ps more p e =
@@ -307,7 +307,7 @@ mark_known scale h a b ps more p e =
 abbrev Continues : Dump → Dump → Type 0
 Continues d d' = (d' ≡ d) ⊎ ((d'.header ≡ d.header) × (d.fault ≡ None) × ((more : List BodyItem) × (d'.items ≡ d.items ++ more)))
 
--- where no timestamp is too large
+-- if no timestamp is too large
 none_known : (scale : ℕ) (h : Header) (a b : Option Fault) (ps more : List (Placed BodyPhrase))
     → find (placed_is_too_large scale) ps ≡ None → b ≡ None
     → Continues (dump_with scale h b ps) (dump_with scale h a (ps ++ more))
@@ -369,7 +369,7 @@ body_known scale h s rest xs =
     by_mark None e more parts = by_ending (read_body h.codes rest).ending refl e more parts
 
 -- an input of which this is known: its dump is the known one, or it continues from that; and not
--- where all is known
+-- if all is known
 abbrev pub DumpOf : List Header → SeenBody → Dump → Type 0
 DumpOf hs s d' = (d' ≡ dump_seen hs s) ⊎ ((is_some s.whole ≡ false) × (d'.header ≡ (dump_seen hs s).header) × ((dump_seen hs s).fault ≡ None) × ((more : List BodyItem) × (d'.items ≡ (dump_seen hs s).items ++ more)))
 

@@ -1,4 +1,4 @@
--- What is written of a body has tokens no longer than the token limit, where its codes are shorter.
+-- What is written of a body has tokens no longer than the token limit, if its codes are shorter.
 use Rattle.std.proofs.Common.{◌≡◌, ◌≢◌, ℕ, ◌<◌, ◌≤◌, ◌^◌, ◌==◌, Bool, true, false, cond, List, [], ◌∷◌, ◌++◌, length, map, filter, flat_map, Option, Some, None, refl, sym, ap, ◌∙◌, subst, arith}
 use Rattle.std.specs.List.{AllByRecursion, list_any}
 use Rattle.std.specs.Str.{str_to_ascii_lowercase}

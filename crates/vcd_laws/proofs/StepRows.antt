@@ -104,7 +104,7 @@ entry_of_an_item = refl
 abbrev at_five : Bool → BodyItem → Entry
 at_five inside item = record { time = 5; inside = inside; item = item }
 
--- What each adds where no time is written yet, where its own is and where another is: a change, one
+-- What each adds if no time is written yet, if its own is and if another is: a change, one
 -- in a section, a trigger of an event, one in a section, a begin, an end and a timestamp.
 lines_due : map (λ written. map (due_with written) (at_five false (digit false "!" "1") ∷ at_five true (digit false "!" "x") ∷ at_five false (digit true "!" "x") ∷ at_five true (digit true "!" "1") ∷ at_five false (BodyItem.Begin SectionKind.All) ∷ at_five true BodyItem.End ∷ at_five false (BodyItem.Time 9) ∷ [])) (None ∷ Some 5 ∷ Some 4 ∷ []) ≡ (written "#5;1!;" ∷ written "#5;x!;" ∷ written "#5;1!;" ∷ [] ∷ [] ∷ [] ∷ [] ∷ []) ∷ (written "1!;" ∷ written "x!;" ∷ written "1!;" ∷ [] ∷ [] ∷ [] ∷ [] ∷ []) ∷ (written "#5;1!;" ∷ written "#5;x!;" ∷ written "#5;1!;" ∷ [] ∷ [] ∷ [] ∷ [] ∷ []) ∷ []
 unfolding model

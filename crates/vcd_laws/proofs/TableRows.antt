@@ -161,7 +161,7 @@ sections_in_a_header = refl
 
 -- ---- limits of a header
 
--- the fault of a token that begins a phrase after as many open scopes, where this many
+-- the fault of a token that begins a phrase after as many open scopes, if this many
 -- declarations are allowed
 abbrev behind_scopes : ℕ → ℕ → String → Option ℕ
 behind_scopes most scopes token = header_fault most (replicate scopes (HeaderPhrase.Declares (Declaration.Scope (codes "module") (codes "s")))) [] (codes token)
@@ -194,12 +194,12 @@ types_of_variables : faults_after ("$var" ∷ []) ("wire" ∷ "1" ∷ "$var" ∷
 unfolding model
 types_of_variables = refl
 
--- a code of each byte alone, and of two bytes
+-- a code of each single byte, and of two bytes
 bytes_of_codes : map (λ token. header_fault 16777216 [] (codes "$var" ∷ codes "wire" ∷ codes "1" ∷ []) token) ((31 ∷ []) ∷ (33 ∷ []) ∷ (126 ∷ []) ∷ (127 ∷ []) ∷ (255 ∷ []) ∷ (33 ∷ 126 ∷ []) ∷ (33 ∷ 127 ∷ []) ∷ (127 ∷ 33 ∷ []) ∷ []) ≡ Some 7 ∷ None ∷ None ∷ Some 7 ∷ Some 7 ∷ None ∷ Some 7 ∷ Some 7 ∷ []
 unfolding model
 bytes_of_codes = refl
 
--- the first token of a reference alone is checked
+-- only the first token of a reference is checked
 references : faults_after ("$var" ∷ "wire" ∷ "1" ∷ "!" ∷ []) ("a" ∷ "$var" ∷ "$end" ∷ []) ++ faults_after ("$var" ∷ "wire" ∷ "1" ∷ "!" ∷ "a" ∷ []) ("b" ∷ "$var" ∷ "$end" ∷ []) ≡ None ∷ None ∷ Some 7 ∷ None ∷ None ∷ None ∷ []
 unfolding model
 references = refl
@@ -271,7 +271,7 @@ first_names_that_select_nothing : map (λ names. first_unmatched (map (λ s. cod
 unfolding model
 first_names_that_select_nothing = refl
 
--- a code is selected where a selected variable carries it, whichever is the first with it
+-- a code is selected if a selected variable carries it, whichever is the first with it
 codes_that_are_selected : map (λ name. map (selects_code (selected (codes name ∷ []) declared)) three) ("s" ∷ "f" ∷ "b" ∷ []) ≡ (true ∷ false ∷ false ∷ []) ∷ (true ∷ false ∷ false ∷ []) ∷ (false ∷ false ∷ false ∷ []) ∷ []
 unfolding model
 codes_that_are_selected = refl
@@ -434,7 +434,7 @@ slot_too_many r = let p = r.slots in omega arith
 mark_too_many : IsRoom one (record { values = 64; slots = 1; marks = 2 }) → ⊥
 mark_too_many r = let p = r.marks in omega arith
 
--- a merge has room for marks alone
+-- a merge has room only for marks
 room_of_a_merge : marks_alone 5 ≡ record { values = 0; slots = 0; marks = 5 }
 unfolding model
 room_of_a_merge = refl

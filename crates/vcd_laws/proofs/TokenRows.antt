@@ -34,7 +34,7 @@ ends_between_white_space : map (end_of_tokens (written ";^ ab c; ")) (0 ∷ 1 �
 unfolding model
 ends_between_white_space = refl
 
--- where there are fewer tokens it is the end of all
+-- if there are fewer tokens it is the end of all
 ends_of_fewer : map (end_of_tokens (written "ab c ")) (2 ∷ 3 ∷ 9 ∷ []) ≡ 4 ∷ 4 ∷ 4 ∷ []
 unfolding model
 ends_of_fewer = refl

@@ -132,7 +132,7 @@ long_code_fits : outcome Want.Check 65 (stdin ∷ [])
 unfolding model
 long_code_fits = refl
 
--- Scopes that a header leaves open are closed where it is written: each is a declaration more.
+-- Scopes that a header leaves open are closed if it is written: each is a declaration more.
 abbrev left_open : List ℕ
 left_open = codes
     "$scope module a $end $scope module b $end $var wire 1 x v $end $enddefinitions $end"

@@ -35,7 +35,7 @@ use Rattle.vcd_laws.proofs.Settling.{opening, opened_with, opened_at, opens_by, 
 
 -- ---- an end that is open
 
--- the status is 3 where the source failed, and not where it ended
+-- the status is 3 if the source failed, and not if it ended
 abbrev OpenEnd : Stream → Outcome → Type 0
 OpenEnd s done = (s.halt ≡ Some 31 → done.status ≡ 3) × (s.halt ≡ None → done.status ≢ 3)
 
@@ -113,7 +113,7 @@ body_open task h name s ts e =
     let n = neither (is_faulty r.ending) (list_any (ends_early task) (body_items r)) e in
     rw (n.1, over_body) (end_open task h (body_items r) name s (body_fault_of s r) (open_fault s r (at_its_end h.codes ts n.0)))
 
--- where names may select nothing
+-- if names may select nothing
 named_open : (task : Request) (h : Header) (name : List ℕ) (s : Stream) (ts : List Token)
     (place : Option ℕ) → (is_some place || body_settles task h ts) ≡ false
     → OpenEnd s (elim place as (λ _. Outcome) [

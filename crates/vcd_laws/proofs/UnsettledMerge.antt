@@ -223,7 +223,7 @@ first_ends scale s u first = by_mark (find (placed_is_too_large scale) (read_bod
           λ x f. only_fault (dump_with scale s.header (fault_met r.ending) r.placed).fault (record { number = 20; line = p.line }) x fault refl f,
         )
 
--- an opened input that has just the known tokens, and halts so where its source may continue
+-- an opened input that has just the known tokens, and halts so if its source may continue
 abbrev Halts : Option ℕ → Option Stream → Opened → Type 0
 Halts w None o = o.stream.halt ≡ w
 Halts w (Some stream) o = (o.stream ≡ stream) × (stream.halt ≢ Some 31)
@@ -459,7 +459,7 @@ failed_or R hs done (s ∷ ss) (d' ∷ ds') n e all r =
         subst (λ (o : Option Fault). AllByRecursion (FailedOr R hs (done ++ s ∷ ss)) (with_key (key_after (factor hs d'.header) n d'.items) o (faults_rest hs (n + 1) ds'))) (sym (failed_missing u d'.fault w lacks))
         (inl (rw number refl), more)
 
--- where the least fault is known, all that may continue are past it
+-- if the least fault is known, all that may continue are past it
 past_known : (f g : KeyedFault) (hs : List Header) (n : ℕ) (ss : List SeenBody) (ds' : List Dump)
     → AllEnd (Some 31) hs ss ds' → key_lt g.key f.key ≡ false
     → NotOf g.key.input n hs ss
@@ -486,7 +486,7 @@ past_known f g hs n (s ∷ ss) (d' ∷ ds') all le not low =
         (strict (key_after (factor hs (dump_seen hs s).header) n (dump_seen hs s).items) g.key own (λ same. not.0 ends (sym same))) in
         rw (past, or_true (is_at_its_end s (dump_seen hs s)), more) refl
 
--- where there is no fault at all, no input continues
+-- if there is no fault at all, no input continues
 none_past : (x : Option KeyedFault) (hs : List Header) (n : ℕ) (ss : List SeenBody) (ds' : List Dump)
     → AllEnd (Some 31) hs ss ds' → faults_rest hs n ds' ≡ [] → are_past x hs n ss ≡ true
 none_past x hs n [] [] all e = refl
@@ -551,7 +551,7 @@ failed_bodies names ss ds' all headers e = by_first (first_fault ds') refl
 
 -- ---- headers
 
--- an input that gives what is known, and then ends so where its source may continue
+-- an input that gives what is known, and then ends so if its source may continue
 abbrev Gives : Option ℕ → ℕ → Seen → Input → Type 0
 Gives w limit (Seen.First ts) i = (line : ℕ) × (stream_of limit i ≡ record { tokens = ts; halt = w; line = line })
 Gives w limit (Seen.All stream) i = (stream_of limit i ≡ stream) × (stream.halt ≢ Some 31)

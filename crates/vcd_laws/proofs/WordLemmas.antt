@@ -21,7 +21,7 @@ number_fits digits e =
     let outer = and_parts (is_decimal digits && nat_le (length digits) 20) (nat_lt (decimal_value digits) (2 ^ 64)) e in
     ltb-true (decimal_value digits) (2 ^ 64) outer.1
 
--- a word that is one of these has the exponent of a unit, where each of these has
+-- a word that is one of these has the exponent of a unit, if each of these has
 unit_among : (word : List ℕ) (units : List (List ℕ)) → AllByRecursion (λ u. is_unit (exponent_of (49 ∷ u)) ≡ true) units → list_any (bytes_eq word) units ≡ true → is_unit (exponent_of (49 ∷ word)) ≡ true
 unit_among word [] all e = cc
 unit_among word (u ∷ us) all e =
@@ -62,7 +62,7 @@ time_is word m e = from_option (moment_of word) (λ n f. moment_is word n f) e
 
 -- ---- times
 
--- one more time, where there is one
+-- one more time, if there is one
 more_times : (t : Result Moment UseFault) (ts : Result (List Moment) UseFault) (ms : List Moment) → with_time t ts ≡ Ok ms → (m : Moment) × (others : List Moment) × (t ≡ Ok m) × (ts ≡ Ok others) × (ms ≡ m ∷ others)
 more_times (Ok m) (Ok others) ms e = let same : m ∷ others ≡ ms = cc in (m, others, refl, refl, sym same)
 more_times (Ok m) (Err f) ms e = cc

@@ -1,4 +1,4 @@
--- The codes that variables carry, where those with one code agree.
+-- The codes that variables carry, if those with one code agree.
 use Rattle.std.proofs.Common.{◌≡◌, ℕ, suc, ◌==◌, Bool, true, false, cond, ◌&&◌, ◌||◌, List, [], ◌∷◌, ◌++◌, map, filter, filter_map, find, bytes_eq, Option, Some, None, Contains, ◌⊎◌, inl, inr, refl, sym, ap, ◌∙◌, subst, arith}
 use Rattle.std.specs.List.{AllByRecursion, list_any, cons_option}
 use Rattle.std.proofs.lemmas.List.{append_assoc, append-nil}

@@ -81,7 +81,7 @@ module _ (rename : List ℕ → List ℕ) (marked : ℕ → Bool) (names : List 
   abbrev pub is_marked : Open → Bool
   is_marked e = marked e.0
 
-  -- the variable is marked where it is selected, and then the scopes around it are
+  -- the variable is marked if it is selected, and then the scopes around it are
   pub record IsMarkedRight (earlier : List Declaration) (v : Variable) : Type 0 where
     pub own : marked (length earlier) ≡ is_selected names earlier (Declaration.Var v)
     pub around : is_selected names earlier (Declaration.Var v) ≡ true
@@ -227,7 +227,7 @@ module _ (rename : List ℕ → List ℕ) (marked : ℕ → Bool) (names : List 
   filter_all [] h = refl
   filter_all (e ∷ s) h = rw h.0 (ap (λ l. e ∷ l) (filter_all s h.1))
 
-  -- the path of a selected variable, where it is written
+  -- the path of a selected variable, if it is written
   path_written : (earlier w : List Declaration) (s t : List Open) (v : Variable)
       → Stands earlier w s t → AllByRecursion (λ i. marked i ≡ true) (enclosing earlier)
       → path_of w (Declaration.Var (with_code rename marked v))

@@ -1,4 +1,4 @@
--- Where `check` ends well, so does every other command; a fault that it names is theirs too.
+-- If `check` ends well, so does every other command; if it names a fault, the others do too.
 use Rattle.std.specs.Prelude.{◌≡◌, ◌≢◌, ◌⊎◌, ℕ, ℤ, ◌≤◌, IsTrue, Bool, List, [], ◌∷◌, ◌++◌, length, map, Option, None, Ok, ◌<◌, Some, sum_by, find}
 use Rattle.std.specs.List.{AllByRecursion, list_any}
 use Rattle.std.specs.List.Sorted.{IsStrictlyIncreasing}
@@ -33,7 +33,7 @@ NamesFault done name f = done ≡ fault_outcome done.output name f
 abbrev pub AreTicks : Option ℤ → List Moment → List ℕ → Type 0
 AreTicks scale times ts = map (λ m. moment_ticks scale m Bool.false) times ≡ map (λ t. Ok t) ts
 
--- what is asked of one input suits its header: its times are ticks of it and are in order, and each
+-- what is asked of one input fits its header: its times are ticks of it and are in order, and each
 -- name selects something
 abbrev pub Suits : Header → Want → Type 0
 Suits h Want.Check = Unit {0}
@@ -59,16 +59,16 @@ EndsBefore h items (Want.Sample times names) =
     × IsTrue (list_any (ends_early (Request.Sample ts names)) items)
 EndsBefore h items want = ⊥
 
--- where `check` has status 0, whatever suits the header ends well
+-- if `check` has status 0, every job that fits the header ends well
 abbrev pub CheckedIsSafe : Type 0
 CheckedIsSafe = (limit : ℕ) (name : List ℕ) (input : Input)
     → (run_of Want.Check limit name input).status ≡ 0
     → (o : Opened) × Opens limit input o
     × ((want : Want) → Suits o.header want → EndsWell (run_of want limit name input))
 
--- Where `check` has another status, it names a fault that the other commands name too. A fault of
--- the header is named by each. One of the body is named by each that suits the header, but for
--- those that need no more than the items before it: these end well.
+-- If `check` has another status, it names a fault that the other commands name too. Each of them
+-- names a fault of the header. Each that fits the header names a fault of the body, except those
+-- that need no more than the items before it: these end well.
 abbrev pub CheckNamesTheFault : Type 0
 CheckNamesTheFault = (limit : ℕ) (name : List ℕ) (input : Input)
     → (run_of Want.Check limit name input).status ≢ 0
@@ -79,14 +79,14 @@ CheckNamesTheFault = (limit : ℕ) (name : List ℕ) (input : Input)
     → (EndsBefore o.header (items_in o) want × EndsWell (run_of want limit name input))
     ⊎ NamesFault (run_of want limit name input) name f)))
 
--- where `pick` or `edges` has status 0, `check` ends well
+-- if `pick` or `edges` has status 0, `check` ends well
 abbrev pub CleanIsChecked : Type 0
 CleanIsChecked = (limit : ℕ) (name : List ℕ) (names : List (List ℕ)) (input : Input)
     → ((run_of (Want.Pick names) limit name input).status ≡ 0)
     ⊎ ((run_of (Want.Edges names) limit name input).status ≡ 0)
     → EndsWell (run_of Want.Check limit name input)
 
--- the header of an input that is read alone
+-- the header of an input that is the only one
 abbrev pub header_in : ℕ → Input → Header
 header_in limit input =
     header_of (phrases_of (read_header declarations_allowed (stream_of limit input)).placed)
@@ -107,8 +107,8 @@ pub record NamesTooLarge (os : List Opened) (names : List (List ℕ)) (done : Ou
   pub named : NamesFault done (name_at names (length earlier))
       (record { number = 20; line = mark.line })
 
--- where `check` of each input has status 0, and all have no more declarations than may be read in a
--- run, `merge` ends well, or names a timestamp that is too large where one is
+-- if `check` of each input has status 0, and all have no more declarations than may be read in a
+-- run, `merge` ends well, or names a timestamp that is too large if there is one
 abbrev pub CheckedMergeIsSafe : Type 0
 CheckedMergeIsSafe = (limit : ℕ) (name : List ℕ) (names : List (List ℕ)) (inputs : List Input)
     → AllByRecursion (λ i. (run_of Want.Check limit name i).status ≡ 0) inputs
@@ -118,7 +118,7 @@ CheckedMergeIsSafe = (limit : ℕ) (name : List ℕ) (names : List (List ℕ)) (
     × EndsWell (outcome Want.Merge limit names inputs))
     ⊎ NamesTooLarge os names (outcome Want.Merge limit names inputs))
 
--- the run of a merge names the fault that `check` names of one of these inputs alone
+-- the run of a merge names the fault that `check` names of one of these inputs
 pub record NamesFaultOfOne (limit : ℕ) (name : List ℕ) (names : List (List ℕ)) (inputs : List Input)
     (done : Outcome) : Type 0 where
   pub earlier : List Input
@@ -129,8 +129,8 @@ pub record NamesFaultOfOne (limit : ℕ) (name : List ℕ) (names : List (List �
   pub checked : NamesFault (run_of Want.Check limit name input) name fault
   pub named : NamesFault done (name_at names (length earlier)) fault
 
--- where inputs have fewer declarations in all than may be read in a run, their merge ends well, or
--- names what `check` names of one of them, or names a timestamp that is too large where one is
+-- if inputs have fewer declarations in all than may be read in a run, their merge ends well, or
+-- names what `check` names of one of them, or names a timestamp that is too large if there is one
 abbrev pub MergeNamesTheFault : Type 0
 MergeNamesTheFault = (limit : ℕ) (name : List ℕ) (names : List (List ℕ)) (inputs : List Input)
     → sum_by (λ i. length (header_in limit i).declarations) inputs < declarations_allowed

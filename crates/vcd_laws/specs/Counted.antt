@@ -60,7 +60,7 @@ abbrev pub pick_times : Header → List (List ℕ) → List BodyItem → List �
 pick_times h names items = map (λ e. e.time) (pick_kept h names items) ++ as_list (last_mark items)
 
 -- `check` of what `pick` wrote counts the selected variables and what is kept; the last timestamp
--- is that of the input, where it has one
+-- is that of the input, if it has one
 abbrev pub CheckOfPick : Type 0
 CheckOfPick = (limit : ℕ) (name : List ℕ) (names : List (List ℕ)) (input : Input) (o : Opened)
     → IsReadable (Want.Pick names) limit name input o
@@ -74,8 +74,8 @@ CheckOfPick = (limit : ℕ) (name : List ℕ) (names : List (List ℕ)) (input :
       last = last_or None (pick_times o.header names (items_in o));
     })
 
--- the last time that `cut` writes: b where a timestamp above it ends the run, else the last
--- timestamp of the input where that is above a
+-- the last time that `cut` writes: b if a timestamp above it ends the run, otherwise the last
+-- timestamp of the input if that is above a
 abbrev pub cut_closing : ℕ → ℕ → List BodyItem → List ℕ
 cut_closing a b items = cond (ends_cut b items) (b ∷ [])
     (filter (nat_lt a) (as_list (last_mark items)))
@@ -114,7 +114,7 @@ abbrev pub merged_changes : Dump → ℕ
 merged_changes d = length (kept_by (λ e. is_change e.item) (entries d.items))
 
 -- `check` of what `merge` wrote counts the scopes, variables, codes and kept changes of all inputs,
--- and a scope more for each
+-- and one more scope for each
 abbrev pub CheckOfMerge : Type 0
 CheckOfMerge = (limit : ℕ) (name : List ℕ) (names : List (List ℕ)) (inputs : List Input)
     (os : List Opened)

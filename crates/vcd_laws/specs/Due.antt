@@ -1,6 +1,6 @@
 -- What is due once the first tokens of an input are known: the longest text with which the output
--- begins, whatever follows them. A program that wrote more would be wrong for some input that begins
--- so. One that writes less withholds what is known.
+-- begins, whatever follows them. A program that wrote more would be wrong for some input that
+-- begins like this. A program that writes less withholds what is known.
 use Rattle.std.specs.Prelude.{◌≡◌, ◌≢◌, ◌↔◌, ◌⊎◌, ℕ, IsTrue, cond, List, [], ◌∷◌, ◌++◌, map, Option, Some, None, Result, Ok, Err}
 use Rattle.std.specs.List.{AllByRecursion}
 use Rattle.vcd_model.specs.Backward.{up_to_first}
@@ -26,8 +26,8 @@ use Rattle.vcd_laws.specs.Final.{BeginsWith, AreSeen, Prefix, first_tokens, IsSh
 
 -- ---- one input
 
--- What is due with the first tokens of a body: the text of the items that are whole with them, up to
--- a timestamp that ends the run. It is nothing if a name selects nothing.
+-- What is due with the first tokens of a body: the text of the items that are whole with them, up
+-- to a timestamp that ends the run. It is nothing if a name selects nothing.
 abbrev pub due_of_body : Option ℕ → Request → Header → List Token → List ℕ
 due_of_body (Some unmatched) task h ts = []
 due_of_body None task h ts = open_text task h (up_to_first (ends_early task) (body_items (read_body h.codes ts)))
@@ -129,7 +129,7 @@ GivesNoMore limit (Seen.First ts) input =
     ((stream_of limit input).tokens ≡ ts) × ((stream_of limit input).halt ≢ None)
 GivesNoMore limit (Seen.All stream) input = stream_of limit input ≡ stream
 
--- so it is for each input, in order
+-- no source gives more than is known of its input, for each input in order
 abbrev pub GiveNoMore : ℕ → List Seen → List Input → Type 0
 GiveNoMore limit [] [] = Unit {0}
 GiveNoMore limit [] (input ∷ inputs) = ⊥
@@ -163,7 +163,7 @@ IsMore (Seen.First ts) (Seen.All stream) = IsPrefixOf ts stream.tokens
 IsMore (Seen.All stream) (Seen.First us) = ⊥
 IsMore (Seen.All stream) (Seen.All other) = other ≡ stream
 
--- so it is for each input, in order
+-- the second says at least as much as the first of each input, in order
 abbrev pub AreMore : List Seen → List Seen → Type 0
 AreMore [] [] = Unit {0}
 AreMore [] (m ∷ more) = ⊥
@@ -201,7 +201,7 @@ AreCutOff (cut ∷ cuts) [] = ⊥
 AreCutOff (cut ∷ cuts) (input ∷ inputs) =
     (IsCutOff cut input ⊎ (cut ≡ input)) × AreCutOff cuts inputs
 
--- so it is for a merge, of whose sources some fail earlier
+-- if some sources of a merge fail earlier, the output is a prefix of what it would have been
 abbrev pub CutOffMergeIsAPrefix : Type 0
 CutOffMergeIsAPrefix = (limit : ℕ) (names : List (List ℕ)) (cuts inputs : List Input)
     → AreCutOff cuts inputs
@@ -209,8 +209,8 @@ CutOffMergeIsAPrefix = (limit : ℕ) (names : List (List ℕ)) (cuts inputs : Li
     (outcome Want.Merge limit names inputs).output
 
 -- A text begins the output over every input that begins with these bytes if and only if it begins
--- the output of a run whose source gives only them and then fails. So such a run leaves all that was
--- known of the output once they were read, and no more.
+-- the output of a run whose source gives only them and then fails. So such a run leaves all that
+-- was known of the output once they were read, and no more.
 abbrev pub CutOffIsAllThatIsKnown : Type 0
 CutOffIsAllThatIsKnown = (want : Want) (limit : ℕ) (name text : List ℕ) (cut : Input)
     → IsOverOne want → cut.mark ≡ Mark.Failed
@@ -218,7 +218,7 @@ CutOffIsAllThatIsKnown = (want : Want) (limit : ℕ) (name text : List ℕ) (cut
     → IsPrefixOf text (run_of want limit name input).output)
     ↔ IsPrefixOf text (run_of want limit name cut).output
 
--- so it is for a merge, of whose inputs some may have been read to their end
+-- the same for a merge, some of whose inputs may have been read to their end
 abbrev pub CutOffMergeIsAllThatIsKnown : Type 0
 CutOffMergeIsAllThatIsKnown = (limit : ℕ) (names : List (List ℕ)) (text : List ℕ)
     (cuts : List Input)

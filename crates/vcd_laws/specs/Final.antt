@@ -1,4 +1,4 @@
--- What settles a run is final, and less leaves it open.
+-- What settles a run is final, and what does not settle it leaves it open.
 use Rattle.std.specs.Prelude.{◌≡◌, ◌≢◌, ℕ, ◌≤◌, ◌+◌, IsTrue, IsFalse, Bool, true, List, [], ◌∷◌, ◌++◌, length, map, ◌^◌, ◌<◌, Some, take}
 use Rattle.std.specs.List.{AllByRecursion}
 use Rattle.vcd_model.specs.Input.{Input}
@@ -18,16 +18,16 @@ use Rattle.vcd_laws.specs.Checked.{run_of}
 abbrev pub BeginsWith : ℕ → Input → List Token → Type 0
 BeginsWith limit input ts = IsPrefixOf ts (stream_of limit input).tokens
 
--- whatever follows first tokens that settle a run, its outcome is the same
+-- the outcome is the same whatever follows the first tokens that settle a run
 abbrev pub SettledIsFinal : Type 0
 SettledIsFinal = (want : Want) (limit : ℕ) (name : List ℕ) (ts : List Token) (a b : Input)
     → IsTrue (is_settled want declarations_allowed ts)
     → BeginsWith limit a ts → BeginsWith limit b ts
     → run_of want limit name a ≡ run_of want limit name b
 
--- Of one input of a merge, whatever the others are, the first tokens settle what it adds: whatever
--- follows them, the outcome is the same. As many declarations are allowed as the inputs before it
--- leave.
+-- If the first tokens of one input of a merge settle what it adds, the outcome is the same whatever
+-- follows them, and whatever the other inputs are. The declarations that the inputs before it leave
+-- are allowed.
 abbrev pub SettledIsFinalInMerge : Type 0
 SettledIsFinalInMerge = (limit : ℕ) (names : List (List ℕ)) (earlier later : List Input)
     (os : List Opened) (ts : List Token) (a b : Input)
@@ -49,8 +49,7 @@ AreSeen limit [] (input ∷ inputs) = ⊥
 AreSeen limit (s ∷ ss) [] = ⊥
 AreSeen limit (s ∷ ss) (input ∷ inputs) = IsSeen limit s input × AreSeen limit ss inputs
 
--- where what is known of the inputs settles a merge, all inputs of which it is true have one
--- outcome
+-- if what is known of the inputs settles a merge, all inputs of which it is true have one outcome
 abbrev pub SettledMergeIsFinal : Type 0
 SettledMergeIsFinal = (limit : ℕ) (names : List (List ℕ)) (seen : List Seen)
     (inputs others : List Input)
@@ -68,13 +67,13 @@ abbrev pub is_settled_alone : ℕ → Seen → Bool
 is_settled_alone most (Seen.First ts) = is_settled Want.Merge most ts
 is_settled_alone most (Seen.All stream) = true
 
--- so it is of each of these inputs, in order
+-- what is known of each of these inputs settles what it adds, in order
 abbrev pub AreSettledAlone : List Header → List Seen → Type 0
 AreSettledAlone hs [] = Unit {0}
 AreSettledAlone hs (s ∷ ss) = IsTrue (is_settled_alone (allowed_after hs) s)
     × AreSettledAlone (hs ++ header_seen hs s ∷ []) ss
 
--- where what is known of each input settles what it adds, what is known of all settles the merge
+-- if what is known of each input settles what it adds, what is known of all settles the merge
 abbrev pub SettledAloneSettlesMerge : Type 0
 SettledAloneSettlesMerge = (seen : List Seen) → AreSettledAlone [] seen
     → IsTrue (is_settled_merge seen)

@@ -15,8 +15,8 @@ use Rattle.vcd_model.specs.Outcome.{Opened, dumps_of}
 use Rattle.vcd_model.specs.Laws.{stream_over, merged_codes}
 use Rattle.vcd_laws.specs.KeptValues.{Opens, OpenAll}
 
--- the most declarations of a head that is written for this header: one more for each scope that the
--- header leaves open
+-- how many declarations a head that is written for this header has at most: one more for each scope
+-- that the header leaves open
 abbrev pub most_declared : Header → ℕ
 most_declared h = length h.declarations + open_scopes h.declarations
 
@@ -29,20 +29,20 @@ pub record IsHeadFor (h : Header) (names : List (List ℕ)) (k : Header) : Type 
   pub codes : (c : IdCode) → Contains k.codes c
       ↔ (Contains h.codes c × IsTrue (selects_code (selected names h.declarations) c))
 
--- A text, halts aside, is read as a header that says this, and the tokens that are left are those
--- of another text.
-pub record IsReadAs (most : ℕ) (text : List ℕ) (Says : Header → Type 0)
+-- A text is read as a header that says this, apart from halts, and the tokens that are left are
+-- those of another text.
+pub record IsReadAs (allowed : ℕ) (text : List ℕ) (Says : Header → Type 0)
     (others : List ℕ) : Type 0 where
-  pub whole : header_fault_of (stream_over text) (read_header most (stream_over text)) ≡ None
-  pub says : Says (header_of (phrases_of (read_header most (stream_over text)).placed))
-  pub left : texts_of (read_header most (stream_over text)).rest ≡ texts_of (tokens_of others)
+  pub whole : header_fault_of (stream_over text) (read_header allowed (stream_over text)) ≡ None
+  pub says : Says (header_of (phrases_of (read_header allowed (stream_over text)).placed))
+  pub left : texts_of (read_header allowed (stream_over text)).rest ≡ texts_of (tokens_of others)
 
 -- a head is read again as what it was written from, whatever text follows it
 abbrev pub HeadIsReadBack : Type 0
 HeadIsReadBack = (limit : ℕ) (input : Input) (o : Opened) (names : List (List ℕ)) (text : List ℕ)
-    (most : ℕ)
-    → Opens limit input o → most_declared o.header ≤ most
-    → IsReadAs most (head_for o.header names ++ text) (IsHeadFor o.header names) text
+    (allowed : ℕ)
+    → Opens limit input o → most_declared o.header ≤ allowed
+    → IsReadAs allowed (head_for o.header names ++ text) (IsHeadFor o.header names) text
 
 -- each scope of a header is opened inside fewer than 999 others
 abbrev pub IsShallow : Header → Type 0
@@ -73,15 +73,16 @@ pub record IsMergedHead (hs : List Header) (k : Header) : Type 0 where
       (each (λ earlier h. map (merged_variable earlier h) (selected [] h.declarations)) hs)
   pub codes : (c : IdCode) → Contains k.codes c ↔ Contains (merged_codes hs) c
 
--- the most declarations of a merged head: those of each input's head, and two for its own scope
+-- how many declarations a merged head has at most: those of each input's head, and two for its own
+-- scope
 abbrev pub most_merged : List Header → ℕ
 most_merged hs = sum_by (λ h. most_declared h + 2) hs
 
 -- a merged head is read again as what it was written from, whatever text follows it
 abbrev pub MergedHeadIsReadBack : Type 0
 MergedHeadIsReadBack = (limit : ℕ) (inputs : List Input) (os : List Opened) (text : List ℕ)
-    (most : ℕ)
+    (allowed : ℕ)
     → OpenAll limit inputs os → AllByRecursion IsShallow (headers_of (dumps_of os))
-    → most_merged (headers_of (dumps_of os)) ≤ most → most < 2 ^ 63
-    → IsReadAs most (merged_head (headers_of (dumps_of os)) ++ text)
+    → most_merged (headers_of (dumps_of os)) ≤ allowed → allowed < 2 ^ 63
+    → IsReadAs allowed (merged_head (headers_of (dumps_of os)) ++ text)
     (IsMergedHead (headers_of (dumps_of os))) text

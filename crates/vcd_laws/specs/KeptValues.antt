@@ -28,7 +28,7 @@ pub record KeepsValues (declared : List IdCode) (text : List ℕ) (InTime : ℕ 
   pub values : (c : IdCode) (t : ℕ) → Contains declared c → IsFalse c.event → InTime t
       → value_at (body_items (read_text declared text)) c t ≡ value_at items c t
 
--- the output is this head, and after it a text that is such
+-- the output is this head, and after it a text that gives these values
 abbrev pub IsBehind : List ℕ → List ℕ → (List ℕ → Type 0) → Type 0
 IsBehind head output P = (text : List ℕ) × (output ≡ head ++ text) × P text
 

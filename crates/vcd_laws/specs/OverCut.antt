@@ -59,12 +59,12 @@ SampleOfCutAnywhere = (limit : ℕ) (name : List ℕ) (from to : Moment) (times 
     ≡ clean_outcome (flat_map (λ t. flat_map (line_of_cut a b (items_in o) t)
     (selected wanted o.header.declarations)) ts)
 
--- the element, where there is one
+-- the element, if there is one
 abbrev pub as_list : {X : Type 0} → Option X → List X
 as_list None = []
 as_list (Some x) = x ∷ []
 
--- the values that a code takes in a cut: the one before it, where there is one, and those of the
+-- the values that a code takes in a cut: the one before it, if there is one, and those of the
 -- changes that are kept
 abbrev pub values_in_cut : ℕ → ℕ → List BodyItem → IdCode → List Value
 values_in_cut a b items c =
@@ -87,8 +87,8 @@ cut_row a b items s =
     let counts = counts_in_cut a b items (code_of s.variable) in
     words (s.path ∷ decimal counts.changes ∷ decimal counts.rises ∷ decimal counts.falls ∷ [])
 
--- `edges` of what `cut` wrote counts from the value before the first of its times, where there is
--- one, to that at the second
+-- `edges` of what `cut` wrote counts from the value before the first of its times, if there is one,
+-- to that at the second
 abbrev pub EdgesOfCut : Type 0
 EdgesOfCut = (limit : ℕ) (name : List ℕ) (from to : Moment) (wanted : List (List ℕ)) (input : Input)
     (o : Opened) (a b : ℕ)

@@ -85,7 +85,7 @@ EdgesOfMerge = (limit : ℕ) (name : List ℕ) (names : List (List ℕ)) (inputs
     ≡ clean_outcome (flat_map (merged_row (length earlier + 1) (items_in o))
     (selected wanted o.header.declarations))
 
--- the names of an input's variables in a merge: under the input's scope, or the scope alone
+-- the names of an input's variables in a merge: under the input's scope, or the scope itself
 abbrev pub names_in : ℕ → List (List ℕ) → List (List ℕ)
 names_in n [] = input_scope n ∷ []
 names_in n (w ∷ wanted) = names_under n (w ∷ wanted)

@@ -87,7 +87,7 @@ PickTwice = (limit : ℕ) (name : List ℕ) (names : List (List ℕ)) (input : I
     → over_written (Want.Pick names) (Want.Pick names) limit name input
     ≡ outcome (Want.Pick names) limit (name ∷ []) (input ∷ [])
 
--- `pick` of what `pick` wrote is `pick` of the input, for what the names of both select, where the
+-- `pick` of what `pick` wrote is `pick` of the input, for what the names of both select, if the
 -- input has a timestamp
 abbrev pub PickOfPick : Type 0
 PickOfPick = (limit : ℕ) (name : List ℕ) (names wanted both : List (List ℕ)) (input : Input)

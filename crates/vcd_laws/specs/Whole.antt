@@ -22,8 +22,8 @@ use Rattle.vcd_laws.specs.Dumps.{input_of, IsReadable}
 abbrev pub ups_kept : (ℕ → Bool) → List ℕ → List Declaration
 ups_kept marked scopes = flat_map (λ i. cond (marked i) (Declaration.Up ∷ []) []) scopes
 
--- what is left of a declaration that has these before it: an `$upscope` where the scope that it
--- closes is marked
+-- what is left of a declaration that has these before it; an `$upscope` is left if the scope that
+-- it closes is marked
 abbrev pub row_kept : (ℕ → Bool) → List Declaration → Declaration → List Declaration
 row_kept marked earlier (Declaration.Scope type name) =
     cond (marked (length earlier)) (Declaration.Scope type name ∷ []) []
@@ -31,8 +31,8 @@ row_kept marked earlier (Declaration.Var v) =
     cond (marked (length earlier)) (Declaration.Var v ∷ []) []
 row_kept marked earlier Declaration.Up = ups_kept marked (take 1 (enclosing earlier))
 
--- what is left of declarations: the variables that names select, the scopes around them, an
--- `$upscope` where one of these is closed, and at the end one for each that is still open
+-- what is left of declarations: the variables that names select, the scopes around them, the
+-- `$upscope` of each of these that is closed, and at the end one for each that is still open
 abbrev pub declarations_kept : List (List ℕ) → List Declaration → List Declaration
 declarations_kept names ds =
     let marked = is_among (marked_places names ds) in
@@ -48,7 +48,7 @@ pub record Given : Type 0 where
   pub code : IdCode
   pub value : Option Value
 
--- what an entry gives, where it is a change
+-- what an entry gives, if it is a change
 abbrev pub given_by : Entry → Option Given
 given_by e = option_map (λ c. record {
   time = e.time;
@@ -61,8 +61,8 @@ given_by e = option_map (λ c. record {
 abbrev pub given : List Entry → List Given
 given es = filter_map given_by es
 
--- what the start section of a cut gives at time a: each code that is no event its value before a,
--- where it has one
+-- what the start section of a cut gives at time a: to each code that is no event its value before
+-- a, if it has one
 abbrev pub given_before : Header → ℕ → List BodyItem → List Given
 given_before h a items = filter_map (λ c. option_map (λ v. record {
   time = a;

@@ -1,5 +1,5 @@
-//! The laws over the definitions: on what commands write, how runs end, and what settles them; and
-//! those of `vcd_model`, which proofs of code rest on.
+//! The laws about the definitions: on what commands write, how runs end, and what settles them; and
+//! the laws of `vcd_model`, which proofs of code use.
 
 ghost use Rattle.vcd_laws.specs.Jobs.{JobsAreValid};
 ghost use Rattle.vcd_laws.specs.KeptValues.{PickKeeps, CutKeeps, MergeKeepsChanges, MergeKeepsChangesBefore, MergeKeeps, PickRunKeeps, CutRunKeeps, MergeRunKeeps};
@@ -141,7 +141,7 @@ pub fn pick_twice()
     ensures { PickTwice }
 {}
 
-/// `pick` of what `pick` wrote is `pick` of its input, for what both select, where it has a
+/// `pick` of what `pick` wrote is `pick` of its input, for what both select, if it has a
 /// timestamp.
 pub fn pick_of_pick()
     ensures { PickOfPick }
@@ -258,23 +258,23 @@ pub fn check_of_merge()
     ensures { CheckOfMerge }
 {}
 
-/// Where `check` ends well, every other command that suits the header ends well.
+/// If `check` ends well, every other command whose names and times fit the header ends well.
 pub fn checked_is_safe()
     ensures { CheckedIsSafe }
 {}
 
-/// Where `check` names a fault, every other command that suits the header names it too, or ends
-/// well before it.
+/// If `check` names a fault, every other command whose names and times fit the header names it too,
+/// or ends well before it.
 pub fn check_names_the_fault()
     ensures { CheckNamesTheFault }
 {}
 
-/// Where `pick` or `edges` ends well, so does `check`.
+/// If `pick` or `edges` ends well, so does `check`.
 pub fn clean_is_checked()
     ensures { CleanIsChecked }
 {}
 
-/// Where `check` of each input ends well, their merge ends well, or names a timestamp that is too
+/// If `check` of each input ends well, their merge ends well, or names a timestamp that is too
 /// large.
 pub fn checked_merge_is_safe()
     ensures { CheckedMergeIsSafe }
@@ -286,33 +286,35 @@ pub fn merge_names_the_fault()
     ensures { MergeNamesTheFault }
 {}
 
-/// Whatever follows first tokens that settle a run, its outcome is the same.
+/// The outcome of a run is the same whatever follows the first tokens that settle it.
 pub fn settled_is_final()
     ensures { SettledIsFinal }
 {}
 
-/// Whatever follows first tokens that settle an input of a merge, the outcome is the same.
+/// The outcome of a merge is the same whatever follows the first tokens that settle one of its
+/// inputs.
 pub fn settled_is_final_in_merge()
     ensures { SettledIsFinalInMerge }
 {}
 
-/// Whatever follows what is known of all inputs and settles their merge, its outcome is the same.
+/// The outcome of a merge is the same whatever follows what is known of all its inputs and settles
+/// it.
 pub fn settled_merge_is_final()
     ensures { SettledMergeIsFinal }
 {}
 
-/// What settles each input of a merge alone settles the merge.
+/// What settles each input of a merge by itself settles the merge.
 pub fn settled_alone_settles_merge()
     ensures { SettledAloneSettlesMerge }
 {}
 
-/// First tokens that do not settle a run leave it open: two inputs begin with them, and end in
+/// If first tokens do not settle a run, they leave it open: two inputs begin with them, and end in
 /// different ways.
 pub fn unsettled_is_open()
     ensures { UnsettledIsOpen }
 {}
 
-/// What is known of inputs and does not settle their merge leaves it open: two lists of inputs
+/// If what is known of inputs does not settle their merge, it leaves it open: two lists of inputs
 /// agree with it, and end in different ways.
 pub fn unsettled_merge_is_open()
     ensures { UnsettledMergeIsOpen }

@@ -26,7 +26,7 @@ use Rattle.vcd_merge.specs.declared.seat.Seat.{Seat}
 abbrev pub seat_with : Seat → Regs → ℕ → Seat
 seat_with s r time = record { parked = s.parked; regs = r; factor = s.factor; time = time; first = s.first; finished = s.finished }
 
--- what is due with an item here was written, or a prefix of it where a write failed
+-- what is due with an item here was written, or a prefix of it if a write failed
 abbrev pub PutsDue : {A E : Type 0} → List Code → List ℕ → Item → Regs → ℕ → ℕ → Option ℕ → Option ℕ → Device → Device → Result A E → Type 0
 PutsDue codes text item r time number written written' out out' result = (v : HeadView) (scale first : ℕ) (h : Header) (items : List BodyItem) (x : BodyItem) → v.codes.now ≡ codes → IsViewOf v h → AreRegsAfter items r → time ≡ scale * time_after items → number ≡ first → first + length h.codes < 2 ^ 64 → IsItem h.codes text item x
     → Takes out out' (due_with written (entry_for scale first h items x)) result × IfOk result (λ _. written' ≡ written_with written (entry_for scale first h items x))
@@ -35,7 +35,7 @@ PutsDue codes text item r time number written written' out out' result = (v : He
 abbrev pub MergeStage : Type 0
 MergeStage = Stage Merging (Unit {0})
 
--- of the same input, and for the same turn
+-- the seat of the same input, in the same turn
 pub record SameMerging (m m' : Merging) : Type 0 where
   pub factor : m'.factor ≡ m.factor
   pub first : m'.first ≡ m.first
@@ -70,7 +70,7 @@ pub record IsAhead (scale : ℕ) (h : Header) (limit lines : ℕ) (bytes : List 
   pub time_is : time ≡ scale * r.time
 
 module _ (scale first : ℕ) (h : Header) (limit lines : ℕ) (bytes : List ℕ) (behind : List BodyItem) where
-  -- one item more, and what is due with it was written
+  -- one more item, and what is due with it was written
   pub record OneAhead (b : StageAhead) (x : BodyItem) (n : ℕ) (r : Regs) (time : ℕ) (written : Option ℕ) (out : Device) : Type 0 where
     pub ahead : IsAhead scale h limit lines bytes behind n (b.items ++ x ∷ []) r time
     pub written_is : written ≡ written_with b.written (entry_for scale first h (behind ++ b.items) x)

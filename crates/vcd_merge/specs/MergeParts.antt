@@ -8,7 +8,7 @@ use Rattle.vcd_merge.specs.Seat.{IsSeated, Spot}
 abbrev pub part_len : ℕ → List ℕ → ℕ
 part_len n xs = length xs / n
 
--- the part of the input at an index, where each has `len`
+-- the part of the input at an index, if each part has `len`
 abbrev pub part : ℕ → ℕ → List ℕ → List ℕ
 part len index xs = take len (drop (index * len) xs)
 

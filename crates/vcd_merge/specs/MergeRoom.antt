@@ -12,7 +12,7 @@ use Rattle.vcd_merge.specs.declared.windows.Windows.{Windows}
 abbrev pub kept_of : Head → ViewSize
 kept_of h = view_size (shown h)
 
--- those of all heads, all in all
+-- the lengths of what all heads keep together
 abbrev pub kept_in : List Head → ViewSize
 kept_in heads = record {
   text = sum_by (λ (h : Head). (kept_of h).text) heads;
@@ -26,11 +26,11 @@ kept_in heads = record {
 abbrev pub windows_size : Windows → WindowSize
 windows_size w = record { chunk = length w.chunks.now; token = length w.tokens.now; value = length w.values.now }
 
--- where no windows are lent
+-- no windows are lent
 abbrev pub no_windows : WindowSize
 no_windows = record { chunk = 0; token = 0; value = 0 }
 
 -- what these heads keep and windows of these lengths count at most the bound of the headers that
--- are shown, with 512 bytes an input to spare
+-- are shown, with 512 bytes to spare for each input
 abbrev pub MergeIsWithinBound : (limit : ℕ) → List Head → WindowSize → Type 0
 MergeIsWithinBound limit heads w = (hs : List Header) → ShowHeaders heads hs → FitsBound limit hs w (kept_in heads) no_room

@@ -42,7 +42,8 @@ known_whole o = record { header = o.header; rest = o.rest; whole = Some o.stream
 abbrev pub known_first : Header → List Token → SeenBody
 known_first h ts = record { header = h; rest = ts; whole = None }
 
--- these first tokens of the input at an index settle the merge, were all of the others known
+-- these first tokens of the input at an index would settle the merge if all of the others were
+-- known
 abbrev pub settles_among : List Opened → ℕ → Header → List Token → Bool
 settles_among os k h ts = bodies_settle (slice_set (map known_whole os) k (known_first h ts))
 
@@ -66,22 +67,22 @@ HasEnded limit hs l items = HasDump (factor hs l.header) limit l.header l.front 
 abbrev pub BeginsWith : (limit : ℕ) → List Header → Lane → List BodyItem → Type 0
 BeginsWith limit hs l items = (more : List BodyItem) × (fault : Option Fault) × HasDump (factor hs l.header) limit l.header l.front l.input (items ++ more) fault
 
--- of inputs that have given these items, no other than the one at this index has one to come before
--- this key: each comes after it, or has ended
+-- the inputs have given these items, and no other input than the one at this index has an item
+-- before this key: its next item comes after the key, or it has ended
 abbrev pub NoneBefore : (limit : ℕ) → List Header → List Lane → List Dump → ℕ → Key → Type 0
 NoneBefore limit hs lanes merged k key = (j : ℕ) (l : Lane) (d : Dump) → j ≢ k → slice_get lanes j ≡ Some l → slice_get merged j ≡ Some d
     → HasEnded limit hs l d.items ⊎ (key_lt key (key_after (factor hs l.header) j d.items) ≡ true)
 
--- What the source of the input at an index has still, once the inputs have given these items: no
--- more was read of it than a chunk past a token for which it was asked after `items` of its own,
--- which was its turn.
+-- What the source of the input at an index still has, once the inputs have given these items: no
+-- more was read of it than a chunk past a token for which it was asked after `items` of its own, in
+-- its turn.
 pub record ReadOnTurn (limit chunk : ℕ) (hs : List Header) (lanes : List Lane) (merged : List Dump) (k : ℕ) (l : Lane) (left : Input) (rest : Option (List ℕ)) : Type 0 where
   pub items : List BodyItem
   pub first : NoneBefore limit hs lanes merged k (key_after (factor hs l.header) k items)
   pub no_more : ReadsNoMore limit chunk l items left rest
 
--- Each input was read on its turn alone. No read runs ahead of the output: the inputs have these
--- first items, what is due with them is on the output, and each was read on its turn after them.
+-- Each input was read only in its turn. No read runs ahead of the output: the inputs have these
+-- first items, what is due with them is on the output, and each was read in its turn after them.
 pub data AreReadOnTurn (limit chunk : ℕ) (hs : List Header) (lanes : List Lane) (old new : List Supply) (lefts : List Input) (out out' : Device) : Type 0 where
   Unread : (same : new ≡ old) → AreReadOnTurn limit chunk hs lanes old new lefts out out'
   OnTurn : (merged : List Dump) (headers : headers_of merged ≡ hs) (begins : (k : ℕ) (l : Lane) (d : Dump) → slice_get lanes k ≡ Some l → slice_get merged k ≡ Some d → BeginsWith limit hs l d.items)
@@ -90,8 +91,8 @@ pub data AreReadOnTurn (limit chunk : ℕ) (hs : List Header) (lanes : List Lane
       → AreReadOnTurn limit chunk hs lanes old new lefts out out'
 
 -- After these headers and their tokens, a merge over these inputs has this outcome; `old` and `new`
--- are their sources before and after it. Of each of them no more was read than what settles the
--- merge, and a chunk: even where all of the others were known. Nor was any read before its turn.
+-- are their sources before and after it. Of each input no more was read than what settles the
+-- merge, and a chunk, even if all of the others were known. Nor was any read before its turn.
 pub record Follows (limit chunk : ℕ) (lanes : List Lane) (names : List (List ℕ)) (old new : List Supply) (out out' : Device) (result : Result Done Stop) : Type 0 where
   pub lefts : List Input
   pub are_left : AreLeft limit chunk lanes old new lefts

@@ -9,15 +9,15 @@ use Rattle.vcd_merge.specs.Seat.{GaveParked, Lane, Spot}
 use Rattle.vcd_merge.specs.declared.merge_state.Merge.{Merge}
 use Rattle.vcd_merge.specs.declared.seat.Seat.{Seat}
 
--- a seat where the merge begins: where its feed is, and what is known of its items, is left alone
+-- a seat where the merge begins: its feed, and what is known of its items, stay as they are
 abbrev pub begun : ℕ → ℕ → Seat → Seat
 begun scale first s = record { parked = s.parked; regs = s.regs; factor = scale; time = 0; first = first; finished = false }
 
--- each seat is so, whatever its factor and its first number are
+-- each seat is one where the merge begins, whatever its factor and its first number are
 abbrev pub AreOpen : List Seat → List Seat → Type 0
 AreOpen old new = (k : ℕ) (s s' : Seat) → slice_get old k ≡ Some s → slice_get new k ≡ Some s' → s' ≡ begun s'.factor s'.first s
 
--- each has the factor and the first number of its header among these
+-- each seat has the factor and the first number of its header among these
 abbrev pub AreBegun : List Header → List Seat → List Seat → Type 0
 AreBegun hs old new = (k : ℕ) (h : Header) (s s' : Seat) → slice_get hs k ≡ Some h → slice_get old k ≡ Some s → slice_get new k ≡ Some s' → s' ≡ begun (factor hs h) (first_number (take k hs)) s
 

@@ -33,7 +33,7 @@ use Rattle.vcd_merge.specs.declared.windows.Windows.{Windows}
 abbrev pub is_going : Merge → Bool
 is_going m = m.going
 
--- how many bytes and ends are left to be looked at at most: each step takes it down
+-- how many bytes and ends are left to be looked at, at most: each step takes some of them
 abbrev pub left_of : List Seat → ℕ
 left_of seats = sum_by (λ (s : Seat). cond s.finished 0 (2 ^ 63 - parked_seen s.parked)) seats
 
@@ -41,8 +41,8 @@ left_of seats = sum_by (λ (s : Seat). cond s.finished 0 (2 ^ 63 - parked_seen s
 abbrev pub failures_with : {A : Type 0} → List ℕ → ℕ → Result A Stop → List ℕ
 failures_with ns k result = slice_set ns k (get_or ns k 0 + reads_failed result)
 
--- a failed read was the last one of the source that it names, where these say of each source
--- whether its last one failed
+-- a failed read was the last one of the source that it names; `last_failed` says of each source
+-- whether its last read failed
 abbrev pub EndsAtReadOf : {A : Type 0} → List Bool → Result A Stop → Type 0
 EndsAtReadOf last_failed result = (input : ℕ) → result ≡ Err (Read input) → slice_get last_failed input ≡ Some true
 
@@ -75,14 +75,15 @@ pub record IsReady {X : Type 0} (s : Standing X) : Type 0 where
   pub seated : AreSeated s.chunks s.tokens s.seats
   pub some : (k : ℕ) × IsNext s.seats k
 
--- what is left of an input where a read failed after n bytes
+-- what is left of an input if a read failed after n bytes
 abbrev pub cut_at : Option ℕ → Input → Input
 cut_at None i = i
 cut_at (Some n) i = failed_after n i
 
 -- What a step from s to s' has read after these items. It is the turn of the input at this index:
--- of it alone was read, and no more than a chunk past a token that comes after its items. Where a
--- read failed after n bytes, its source has the others still. The other sources and seats stay.
+-- only of it something was read, and no more than a chunk past a token that comes after its items.
+-- If a read failed after n bytes, its source still has the others. The other sources and seats
+-- stay.
 pub record ReadsOne {X : Type 0} (rest : X → Option (List ℕ)) (lanes : List Lane) (ds : List Dump) (s s' : Standing X) (k : ℕ) (cut : Option ℕ) : Type 0 where
   pub next : IsNext s.seats k
   pub lane : Lane
@@ -111,7 +112,7 @@ abbrev pub GoBefore : List Header → List Dump → List Seat → Type 0
 GoBefore hs ds seats = (k : ℕ) (d : Dump) (s : Seat) → slice_get ds k ≡ Some d → slice_get seats k ≡ Some s → s.finished ≡ false
     → AllByRecursion (λ y. key_lt y.key (key_after (factor hs d.header) k d.items) ≡ true) (keyed_rest hs 0 [] ds)
 
--- each seat tells the time of its input, and whether there was a timestamp
+-- each seat says the time of its input, and whether there was a timestamp
 pub record AreMarked (hs : List Header) (ds : List Dump) (seats : List Seat) : Type 0 where
   pub dumps_are : headers_of ds ≡ hs
   pub many : length ds ≡ length seats
@@ -119,7 +120,7 @@ pub record AreMarked (hs : List Header) (ds : List Dump) (seats : List Seat) : T
   pub marked : (k : ℕ) (d : Dump) (s : Seat) → slice_get ds k ≡ Some d → slice_get seats k ≡ Some s → s.regs.marked ≡ not (is_empty (marks d.items))
 
 module _ {X : Type 0} (rest : X → Option (List ℕ)) (hs : List Header) (lanes : List Lane) where
-  -- each input, with its header, has given the items of its dump, and its seat tells where it is
+  -- each input, with its header, has given the items of its dump, and its seat says where it is
   pub record AreGiven (ds : List Dump) (s : Standing X) : Type 0 where
     pub lanes_are : map (λ l. l.header) lanes ≡ hs
     pub dumps_are : headers_of ds ≡ hs
@@ -130,7 +131,7 @@ module _ {X : Type 0} (rest : X → Option (List ℕ)) (hs : List Header) (lanes
         → AtSeat (factor hs l.header) (first_number (take k hs)) l d.items p
     pub before : GoBefore hs ds s.seats
 
-  -- and the merge knows what was written
+  -- the merge knows the time whose line was written last
   pub record Holds (ds : List Dump) (s : Standing X) : Type 0 where
     pub given : AreGiven ds s
     pub written : s.written ≡ last_written (merged_items ds)
@@ -139,7 +140,7 @@ module _ {X : Type 0} (rest : X → Option (List ℕ)) (hs : List Header) (lanes
   abbrev pub next_item : ℕ → Dump → BodyItem → Keyed
   next_item k d x = keyed_after (factor hs d.header) k (renamed (take k hs) d.header) d.items x
 
-  -- it is the turn of the input at this index, and after its items it has this fault; where a read
+  -- it is the turn of the input at this index, and after its items it has this fault; if a read
   -- failed, what is left of it is cut
   pub record HasFault (ds : List Dump) (s : Standing X) (input line fault : ℕ) (cut : Option ℕ) : Type 0 where
     pub next : IsNext s.seats input
@@ -163,7 +164,7 @@ module _ {X : Type 0} (rest : X → Option (List ℕ)) (hs : List Header) (lanes
     pub finishes : Finishes s.seats s'.seats input
     pub reads : ReadsOne rest lanes ds s s' input None
 
-  -- all inputs have finished, after an item more or after these; and what follows was written, all
+  -- all inputs have finished, after one more item or after these; and what follows was written, all
   -- of it or a prefix
   pub record IsEnd (ds : List Dump) (s s' : Standing X) (out out' : Device) : Type 0 where
     pub given : AreGiven ds s'
@@ -180,16 +181,16 @@ module _ {X : Type 0} (rest : X → Option (List ℕ)) (hs : List Header) (lanes
     pub reads : ReadsOne rest lanes ds s s' input None
 
   -- what is kept back could not be passed on before the input whose turn it is was read: nothing
-  -- was read, and nothing written
+  -- was read or written
   pub record KeepsBack (s s' : Standing X) (out out' : Device) : Type 0 where
     pub input : ℕ
     pub next : IsNext s.seats input
     pub writes : WritesSome out out' []
     pub unread : (j : ℕ) → option_map rest (slice_get s'.sources j) ≡ option_map rest (slice_get s.sources j)
 
-  -- What a step from s after these items returns, by what it leaves. Where the merge has not ended,
-  -- an item was taken, or an input has finished that had not. A write fails with an item, at the
-  -- end, or before a read.
+  -- What a step from s after these items returns, by what it leaves. If the merge has not ended, an
+  -- item was taken, or an input has finished that had not. A write fails with an item, at the end,
+  -- or before a read.
   abbrev pub Gives : List Dump → Standing X → Standing X → Device → Device → Result More Stop → Type 0
   Gives ds s s' out out' (Ok Again) =
       ((k : ℕ) × (d : Dump) × (x : BodyItem) × Takes ds s' k d x × (s'.written ≡ last_written (merged_items (with_item ds k d x)))

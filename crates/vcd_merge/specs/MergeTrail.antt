@@ -42,7 +42,7 @@ spot_in rest a = record { seat = a.seat; rest = rest a.source; chunk = a.chunk; 
 abbrev pub stage_with : {X : Type 0} {g : Ghosts X} → List BodyItem → Option ℕ → Seat → Feed X g → Device → Stage X
 stage_with items written s f out = stage items written (record s { parked = f.parked }) f.source.now f.chunk.now f.token.now out
 
--- one item more, after which the time of the input is before this one
+-- one more item, after which the time of the input is before this one
 pub record TakesOn {X : Type 0} (rest : X → Option (List ℕ)) (failures : X → ℕ) (scale first : ℕ) (l : Lane) (before : ℕ) (a b : Stage X) : Type 0 where
   pub item : BodyItem
   pub items_are : b.items ≡ a.items ++ item ∷ []
@@ -72,12 +72,12 @@ pub record Reaches {X : Type 0} (rest : X → Option (List ℕ)) (failures : X �
   pub chunk : length mid.chunk ≡ length b.chunk
   pub token : length mid.token ≡ length b.token
 
--- what is kept back could not be passed on before the next item: nothing was read, nor written
+-- what is kept back could not be passed on before the next item: nothing was read or written
 abbrev pub StaysBack : {X A : Type 0} → (X → Option (List ℕ)) → Stage X → Spot → Device → Result A Stop → Type 0
 StaysBack rest a s out (Err Write) = WritesSome a.out out [] × (s.rest ≡ rest a.source)
 StaysBack rest a s out result = ⊥
 
--- and then the step that ends them
+-- items, and then the step that ends them
 pub record RunTurns {X A : Type 0} (rest : X → Option (List ℕ)) (failures : X → ℕ) (k scale first : ℕ) (l : Lane) (before : ℕ) (a : Stage X) (written : Option ℕ) (s : Spot) (out : Device) (result : Result A Stop) : Type 0 where
   pub mid : Stage X
   pub trail : Trail rest failures scale first l before a mid
@@ -128,8 +128,8 @@ pub record ReadInTurn (limit chunk : ℕ) (hs : List Header) (ds : List Dump) (s
   pub reached : IsReached hs ds seats k (key_after (factor hs l.header) k items)
   pub no_more : ReadsNoMore limit chunk l items left rest
 
--- What a turn of one input leaves: it has taken some items, to `mid`, and the last
--- step gives this. With one item alone there is that step and no other.
+-- What a turn of one input leaves: it has taken some items, to `mid`, and the last step gives this.
+-- If it takes only one item, there is only that step.
 pub record RunGives {X : Type 0} (rest : X → Option (List ℕ)) (failures : X → ℕ) (hs : List Header) (lanes : List Lane) (alone : Bool) (ds : List Dump) (s s' : Standing X) (out out' : Device) (result : Result More Stop) : Type 0 where
   pub dumps : List Dump
   pub mid : Standing X
@@ -150,8 +150,8 @@ pub record RunGives {X : Type 0} (rest : X → Option (List ℕ)) (failures : X 
   pub last : Gives rest hs lanes dumps mid s' between out' result
   pub by_one : alone ≡ true → (dumps ≡ ds) × (mid ≡ s) × (between ≡ out)
 
--- What the turn of an input leaves whatever the inputs are: it alone was touched, the lengths stay,
--- and its failed calls are counted.
+-- What the turn of an input leaves whatever the inputs are: only that input was used, the lengths
+-- stay, and its failed calls are counted.
 pub record Touches {X A : Type 0} (rest : X → Option (List ℕ)) (failures : X → ℕ) (s s' : Standing X) (out out' : Device) (k : ℕ) (result : Result A Stop) : Type 0 where
   pub seats : length s'.seats ≡ length s.seats
   pub chunks : length s'.chunks ≡ length s.chunks
@@ -163,15 +163,14 @@ pub record Touches {X A : Type 0} (rest : X → Option (List ℕ)) (failures : X
   pub untouched : (j : ℕ) → j ≢ k → (slice_get s'.sources j ≡ slice_get s.sources j) × (part (part_len (length s.seats) s.tokens) j s'.values ≡ part (part_len (length s.seats) s.tokens) j s.values)
   pub writes : CountsWrites out out' result
 
--- What a step of a merge leaves whatever the inputs are: the input whose turn it was was touched,
--- and where the merge has not ended, less is left to be looked at.
+-- What a step of a merge leaves whatever the inputs are: the input whose turn it was was used, and
+-- if the merge has not ended, less is left to be looked at.
 pub record RunLeaves {X : Type 0} (rest : X → Option (List ℕ)) (failures : X → ℕ) (s s' : Standing X) (out out' : Device) (k : ℕ) (result : Result More Stop) : Type 0 where
   pub ready : result ≡ Ok Again → IsReady s'
   pub touches : Touches rest failures s s' out out' k result
   pub left : result ≡ Ok Again → left_of s'.seats < left_of s.seats
 
--- What the turn of the next input gives and leaves, where each turn ends at this
--- time at the latest.
+-- What the turn of the next input gives and leaves, if each turn ends at this time at the latest.
 pub record Runs {X : Type 0} (rest : X → Option (List ℕ)) (failures : X → ℕ) (until : ℕ) (s s' : Standing X) (out out' : Device) (result : Result More Stop) : Type 0 where
   pub gives : (alone : Bool) (hs : List Header) (lanes : List Lane) (ds : List Dump) → (alone ≡ true → until ≡ 0) → Holds rest hs lanes ds s → RunGives rest failures hs lanes alone ds s s' out out' result
   pub input : ℕ

@@ -1,4 +1,5 @@
--- What the clauses of this crate speak of, under one path: of the crates below, and of its own.
+-- What the contracts of this crate cite, under one path: names of the crates below, and of this
+-- one.
 pub use Rattle.vcd_model.specs.HeadText.{least_exponent, merged_head}
 pub use Rattle.vcd_model.specs.Header.{Header}
 pub use Rattle.vcd_model.specs.ItemText.{time_due}

@@ -19,7 +19,7 @@ pub record Waits (seats : List Seat) (n out j : ℕ) : Type 0 where
   pub there : slice_get seats j ≡ Some seat
   pub unfinished : seat.finished ≡ false
 
--- in the first `len` indexes there are just these inputs, each before those in smaller indexes
+-- in the first `len` indexes there are exactly these inputs, each before those in smaller indexes
 pub record AreInOrder (In : ℕ → Type 0) (time : ℕ → ℕ) (inputs : List ℕ) (len : ℕ) : Type 0 where
   pub there : (p : ℕ) → p < len → In (get_or inputs p 0)
   pub all : (j : ℕ) → In j → (p : ℕ) × (p < len) × (get_or inputs p 0 ≡ j)
@@ -29,11 +29,11 @@ pub record AreInOrder (In : ℕ → Type 0) (time : ℕ → ℕ) (inputs : List 
 abbrev pub IsOrder : List Seat → (n out : ℕ) → (inputs : List ℕ) → (len : ℕ) → Type 0
 IsOrder seats n out = AreInOrder (Waits seats n out) (time_of seats)
 
--- all that have not finished wait
+-- all inputs that have not finished wait
 abbrev pub AllWait : List Seat → (inputs : List ℕ) → (len : ℕ) → Type 0
 AllWait seats = IsOrder seats (length seats) (length seats)
 
--- some wait, and this input is none of them
+-- some inputs wait, and this one is not among them
 abbrev pub MayJoin : List Seat → (input : ℕ) → (inputs : List ℕ) → (len : ℕ) → Type 0
 MayJoin seats input inputs len = (n : ℕ) × (out : ℕ) × (n ≤ length seats) × IsOrder seats n out inputs len × ((n ≤ input) ⊎ (input ≡ out))
 

@@ -50,7 +50,7 @@ abbrev pub spot_with : {X : Type 0} {g : Ghosts X} → Seat → Feed X g → Spo
 spot_with {X} {g} s f = record { seat = record s { parked = f.parked }; rest = g.rest f.source.now; chunk = f.chunk.now; token = f.token.now }
 
 -- after the tokens of its header an input has given whole phrases with these items, and the
--- registers tell what is known of them
+-- registers say what is known of them
 pub record GaveParked (codes : List IdCode) (i : Input) (front : List Token) (items : List BodyItem) (rest : Option (List ℕ)) (chunk token : List ℕ) (p : Parked) (r : Regs) : Type 0 where
   pub given : List Token
   pub placed : List (Placed BodyPhrase)
@@ -76,7 +76,7 @@ pub record AtSeat (scale first : ℕ) (l : Lane) (items : List BodyItem) (s : Sp
   pub first_is : s.seat.first ≡ first
   -- no number of a code is too great
   pub few : first + length l.header.codes < 2 ^ 64
-  -- where it has finished, these are all its items, and it has no fault
+  -- if it has finished, these are all its items, and it has no fault
   pub finished : s.seat.finished ≡ true → HasDump scale (length s.token) l.header l.front l.input items None
 
 -- whatever the input is: the parked feed fits its windows, and no failed read was returned
@@ -86,13 +86,13 @@ pub record IsSeated (chunk limit : ℕ) (s : Seat) : Type 0 where
 
 -- ---- a step of one input
 
--- the seat stays the same input's
+-- the seat is still that of the same input
 pub record SameSeat (old new : Seat) : Type 0 where
   pub factor : new.factor ≡ old.factor
   pub first : new.first ≡ old.first
 
 -- Of an input, of which this is left and whose source has this rest, at most a chunk was read past
--- a token that was asked for where those before it had just these items: so no more than what
+-- a token that was asked for after tokens with exactly these items. So no more was read than what
 -- settles any work that such tokens do not settle, whatever the source was before, and however many
 -- of its reads have failed.
 abbrev pub ReadsNoMore : (limit chunk : ℕ) → Lane → List BodyItem → Input → Option (List ℕ) → Type 0
@@ -103,11 +103,11 @@ ReadsNoMore limit chunk l items left rest = (old : Supply) (failures : ℕ) (set
 abbrev pub HasReadNoMore : Lane → List BodyItem → Input → Spot → Type 0
 HasReadNoMore l items left s = ReadsNoMore (length s.token) (length s.chunk) l items left s.rest
 
--- one item more was given, and what is due with it was written
+-- one more item was given, and what is due with it was written
 abbrev pub GivesOne : ℕ → ℕ → Lane → List BodyItem → Option ℕ → Option ℕ → Spot → BodyItem → Type 0
 GivesOne scale first l items written written' s x = (s.seat.finished ≡ false) × AtSeat scale first l (items ++ x ∷ []) s × (written' ≡ written_with written (entry_for scale first l.header items x)) × HasReadNoMore l items l.input s
 
--- what the step of input number k after these items leaves: an item more, or that it has finished;
+-- what the step of input number k after these items leaves: one more item, or that it has finished,
 -- or why the merge stops
 abbrev pub Turns : {A : Type 0} → ℕ → ℕ → ℕ → Lane → List BodyItem → Option ℕ → Option ℕ → Spot → Device → Device → Result A Stop → Type 0
 Turns k scale first l items written written' s out out' (Ok u) =

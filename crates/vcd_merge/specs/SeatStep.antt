@@ -9,8 +9,8 @@ use Rattle.vcd_body.specs.Answer.{EndsAtRead, reads_failed, writes_failed}
 use Rattle.vcd_body.specs.declared.answer.Stop.{Stop}
 use Rattle.vcd_merge.specs.declared.seat.Seat.{Seat}
 
--- the loans and lengths stay; a failed read is returned where the source failed, in its last read;
--- and the feed has moved on, or it has finished
+-- the loans and lengths stay; a failed read is returned if the source failed, in its last read; and
+-- the feed has moved on, or it has finished
 pub record Moved {X : Type 0} {g : Ghosts X} {A : Type 0} (failures : X → ℕ) (old new : Feed X g) (s : Seat) (result : Result A Stop) : Type 0 where
   pub loans : SameLoans old new
   pub limit : limit_of new ≡ limit_of old
@@ -21,6 +21,6 @@ pub record Moved {X : Type 0} {g : Ghosts X} {A : Type 0} (failures : X → ℕ)
   pub progress : IfOk result (λ _. s.finished ≡ false → seen old < seen new)
   pub bounded : seen new < 2 ^ 63
 
--- a write has failed where that is why it stopped, the last one, and else none
+-- if the step stopped at a failed write, one has failed, the last one; otherwise none has
 abbrev pub CountsWrites : {A : Type 0} → Device → Device → Result A Stop → Type 0
 CountsWrites out out' result = failures_then (writes_failed result) out' ≡ out.failures + writes_failed result

@@ -12,7 +12,7 @@ use vcd_body::{Done, More, Stop, put_time_unless};
 use vcd_head::{Head, put_merged_head};
 use vcd_text::{Sink, Source, WriteFailed};
 
-/// Returns the greatest time of all inputs, scaled; `None` where none had a timestamp.
+/// Returns the greatest time of all inputs, scaled; `None` if none had a timestamp.
 fn greatest_time(seats: &[Seat]) -> Option<u64>
     ensures { result ≡ greatest_time seats.now }
 {
@@ -29,7 +29,7 @@ fn greatest_time(seats: &[Seat]) -> Option<u64>
 }
 
 /// Takes the turn of an input, as `resume_turn` does, over its seat, its source and its parts of
-/// the windows. Those of other inputs are not touched. Fails where `take_item` does.
+/// the windows. Nothing of other inputs changes. Fails if `take_item` does.
 #[inline(always)]
 fn run_turn<S: Source, W: Sink>(
     heads: &[Head],
@@ -87,7 +87,7 @@ impl<'h, 's> Merge<'h, 's> {
     ///
     /// # Errors
     ///
-    /// `Stop::Write` where a write failed; a prefix of the header was written.
+    /// `Stop::Write` if a write failed; a prefix of the header was written.
     pub fn start<W: Sink>(
         heads: &'h [Head],
         seats: &'s mut [Seat],
@@ -125,7 +125,7 @@ impl<'h, 's> Merge<'h, 's> {
 }
 
 /// Writes what is due at the end of all inputs: the line of the greatest time, unless it was
-/// written last. Fails where a write does.
+/// written last. Fails if a write does.
 fn close<W: Sink>(seats: &[Seat], written: Option<u64>, out: &mut W) -> Result<(), WriteFailed>
     requires { (W.device out.old).failures < 2 ^ 64 - 1 }
     ensures takes { (hs : List Header) (ds : List Dump) → AreMarked hs ds seats.now
@@ -139,8 +139,8 @@ fn close<W: Sink>(seats: &[Seat], written: Option<u64>, out: &mut W) -> Result<(
     }
 }
 
-/// Takes the next turn, and puts its input back into the order; after the last one writes what is
-/// due at the end. Fails where `take_item` or a write does.
+/// Takes the next turn, and puts its input back into the order. After the last turn it writes what
+/// is due at the end. Fails if `take_item` or a write does.
 #[inline(always)]
 fn run_next<S: Source, W: Sink>(
     heads: &[Head],
@@ -175,7 +175,7 @@ fn run_next<S: Source, W: Sink>(
     Ok(More::Ended(Done::Whole))
 }
 
-/// Takes the next turn of a merge, as `run_next` does. After any answer but `Again` the merge is
+/// Takes the next turn of a merge, as `run_next` does. After any answer except `Again` the merge is
 /// over.
 #[inline(always)]
 fn run_step<S: Source, W: Sink>(
@@ -212,8 +212,9 @@ fn run_step<S: Source, W: Sink>(
     answer
 }
 
-/// Returns the order of these inputs. Each turn ends at `until` at the latest. The seats stay.
-// They come as a `&mut`: a proof learns nothing of what a shared borrow of a field reads.
+/// Returns the order of these inputs. Each turn ends at `until` at the latest. The seats do not
+/// change.
+// They come as a `&mut`, since a proof learns nothing of what a shared borrow of a field reads.
 fn order_of(seats: &mut [Seat], until: u64) -> TurnOrder
     requires { length seats.old ≤ 64 }
     ensures order { AllWait seats.old result.inputs result.len }
@@ -225,13 +226,13 @@ fn order_of(seats: &mut [Seat], until: u64) -> TurnOrder
 
 /// Takes the next item of the input whose turn it is, and writes what is due with it, or at the end
 /// of all inputs. At the end of one input while others have items, nothing is written, and the
-/// input counts as finished. Before a read `out` passes on what it keeps back; where that fails,
-/// nothing is read. After any answer but `Again` the merge is over.
+/// input counts as finished. Before a read `out` passes on what it keeps back; if that fails,
+/// nothing is read. After any answer except `Again` the merge is over.
 ///
 /// # Errors
 ///
 /// The fault of the input whose turn it is, or a failed read of it: nothing was written.
-/// `Stop::Write` where a write failed.
+/// `Stop::Write` if a write failed.
 pub fn merge_step<S: Source, W: Sink>(
     merge: &mut Merge<'_, '_>,
     sources: &mut [S],
@@ -276,7 +277,7 @@ pub fn merge_step<S: Source, W: Sink>(
 }
 
 impl<'h, 's> Merge<'h, 's> {
-    /// Takes all steps that are left, to the end of the merge. Fails where a step does.
+    /// Takes all steps that are left, to the end of the merge. Fails if a step does.
     pub fn finish<S: Source, W: Sink>(
         &mut self,
         sources: &mut [S],
@@ -291,8 +292,8 @@ impl<'h, 's> Merge<'h, 's> {
             (part_len (length self.old.seats.now) windows.old.tokens.now) self.old.heads.now
             (windows_size windows.old) }
 
-        // Where the merge holds these items, and the output has what is due with them, it is the
-        // merge of its inputs.
+        // If the merge holds these items, and the output has what is due with them, it is the merge
+        // of its inputs.
         ensures gives { (hs : List Header) (lanes : List Lane) (ds : List Dump)
             (names : List (List ℕ)) (begin : Device)
             → Holds S.rest hs lanes ds (standing_of self.old sources.old windows.old)

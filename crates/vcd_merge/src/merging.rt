@@ -1,4 +1,4 @@
-//! The turn of one input of a merge, over its source and its parts of the windows alone.
+//! The turn of one input of a merge, over its own source and its parts of the windows.
 ghost use Rattle.std.specs.Prelude.{◌≡◌, ◌≢◌, ℕ, ◌+◌, ◌-◌, ◌^◌, ◌<◌, ◌≤◌, ◌++◌, [], List, Option, Some, None, length, slice_get, IfOk, IfSome, MatchOption, Ok, true, false, is_some, ◌&&◌};
 ghost use Rattle.vcd_merge.specs.Names.{Advances, AheadTurns, AtSeat, BodyItem, bytes_of, CallEnd, chunk_len_of, Code, Counts, CountsWrites, Device, EndsAtRead, failures_after, Fits, HasNotFailed, IsGoodText, IsRun, IsSeated, Lane, limit_of, longest_of, Moved, NamesInput, parked_of, parked_seen, parts, passed_of, Puts, PutsDue, reads_failed, RunTurns, SameLoans, SameSeat, seat_with, seen, shown, source_of, spot, spot_with, stage, stage_with, time_due, Turns, Views};
 ghost use Rattle.vcd_body.specs.declared.answer.Stop.TheVariants as stop;
@@ -24,7 +24,7 @@ fn is_left_out(event: bool, inside: bool) -> bool
     event && inside
 }
 
-/// Writes the line of `time`, unless it was written last. Fails where a write does.
+/// Writes the line of `time`, unless it was written last. Fails if a write does.
 #[inline(always)]
 fn put_due_time<W: Sink>(
     time: u64,
@@ -44,9 +44,8 @@ fn put_due_time<W: Sink>(
 }
 
 /// Writes a change of the code at index `code`, under its new code, after the line of its time. An
-/// event inside a section is dropped. Fails where a write does.
-// Cold, and not inlined, for the walk over the items in the chunk: the look-up there gives the size
-// of most codes. It takes no struct: that would be cleared for each item.
+/// event inside a section is dropped. Fails if a write does.
+// Not inlined, and takes no struct, since it is rare.
 #[cold]
 #[inline(never)]
 fn put_unsized<W: Sink>(
@@ -141,7 +140,7 @@ impl Visit<()> for Merging {
             return Ok(());
         };
         if change.size_or_zero == 0 {
-            // A copy, so that `written` stays in a register on the other path.
+            // A copy is lent, so that `written` itself can stay in a register.
             let mut last = self.written;
             let inside = regs.section.is_some();
             let (time, first) = (self.time, self.first);
@@ -234,7 +233,7 @@ fn time_too_large(input: usize, line: u64) -> Stop
 ///
 /// # Errors
 ///
-/// The fault of the dump, also a time that is too large; a failed read; `Stop::Write` where a write
+/// The fault of the dump, also a time that is too large; a failed read; `Stop::Write` if a write
 /// failed.
 #[inline(always)]
 fn take_item<S: Source, W: Sink>(
@@ -285,8 +284,8 @@ fn take_item<S: Source, W: Sink>(
 }
 
 /// Takes the items of a turn from its input's feed: one, and those after it while the input's time
-/// is below the turn's end. Before a read `out` passes on what it keeps back. Fails where
-/// `take_item` does.
+/// is below the turn's end. Before a read `out` passes on what it keeps back. Fails if `take_item`
+/// does.
 // So most items cost no look at the seats and no new feed.
 #[inline(always)]
 fn take_turn<S: Source, W: Sink>(
@@ -324,8 +323,8 @@ fn take_turn<S: Source, W: Sink>(
     }
 }
 
-/// Takes the turn of an input over its source and its parts of the windows alone: resumes its feed,
-/// takes the items of the turn, and parks the feed. Fails where `take_item` does.
+/// Takes the turn of an input over its own source and its parts of the windows: resumes its feed,
+/// takes the items of the turn, and parks the feed. Fails if `take_item` does.
 #[inline(always)]
 pub(crate) fn resume_turn<S: Source, W: Sink>(
     head: &Head,

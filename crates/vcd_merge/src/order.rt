@@ -44,8 +44,8 @@ fn end_before(seats: &[Seat], input: usize, other: usize) -> u64
     }
 }
 
-/// The inputs that wait for their turn, the next one last.
-// Sorted: a pass over all seats for each turn would grow with their number.
+/// The inputs that wait for their turn, the next one last. They are sorted, so that a turn needs no
+/// look at all seats.
 #[derive(Clone, Copy)]
 pub(crate) struct TurnOrder {
     inputs: [u8; 64],
@@ -58,7 +58,7 @@ pub(crate) struct TurnOrder {
 impl TurnOrder {
     ghost use Rattle.std.specs.Prelude.{◌≤◌};
 
-    /// Returns the index at which to insert an input: those from there on come before it, those
+    /// Returns the index at which to insert an input. Those from there on come before it, and those
     /// below do not.
     #[inline(always)]
     fn index_for(&self, input: usize, seats: &[Seat]) -> usize
@@ -153,8 +153,8 @@ impl TurnOrder {
         self.len == 0
     }
 
-    /// Returns the time below which `input` comes before all of the first `count` that wait:
-    /// `u64::MAX` where that is none.
+    /// Returns the time below which `input` comes before all of the first `count` that wait, or
+    /// `u64::MAX` if `count` is 0.
     #[inline(always)]
     fn end_of(&self, input: usize, count: usize, seats: &[Seat]) -> u64
         requires count { count ≤ self.now.len }
@@ -167,7 +167,7 @@ impl TurnOrder {
         end_before(seats, input, self.inputs[count - 1] as usize)
     }
 
-    /// Takes out the next input, and returns its turn. `None` where all inputs have finished.
+    /// Takes out the next input, and returns its turn. `None` if all inputs have finished.
     #[inline(always)]
     pub(crate) fn take_next(&mut self, seats: &[Seat]) -> Option<Turn>
         requires { AllWait seats.now self.old.inputs self.old.len }

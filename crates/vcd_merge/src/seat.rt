@@ -5,7 +5,7 @@ use vcd_body::Regs;
 use vcd_text::Parked;
 
 /// An input of a merge between two of its items: its parked feed, its registers, and what the merge
-/// adds.
+/// adds to these.
 #[derive(Clone, Copy, PartialEq, Eq, Debug)]
 pub struct Seat {
     /// Its parked feed.

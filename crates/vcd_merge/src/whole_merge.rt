@@ -14,8 +14,8 @@ use vcd_text::{Sink, Source};
 ///
 /// # Errors
 ///
-/// The first fault of the inputs in the order of time, or a failed read, after what comes before
-/// it; `Stop::Write` where a write failed, after a prefix.
+/// The first fault of the inputs in the order of time, or a failed read, after the output that
+/// comes before it; `Stop::Write` if a write failed, after a prefix.
 pub fn merge<S: Source, W: Sink>(
     heads: &[Head],
     sources: &mut [S],

@@ -37,7 +37,7 @@ not_started a p e =
     let o = or_parts (a == 0) (list_any (nat_le a) (marks p)) e in
     all_below a 0 (marks p) [] (above_zero a o.0) (ap (list_any (nat_le a)) (append-nil (marks p)) ∙ o.1)
 
--- it is written where the time has come
+-- it is written if the time has come
 pub started_is : (a : ℕ) (p : List BodyItem) → is_started a p ≡ nat_le a (time_after p)
 started_is a p = by_case (is_started a p) refl
   where
@@ -118,14 +118,14 @@ module _ (h : Header) (a b : ℕ) (p : List BodyItem) (on : ends_cut b p ≡ fal
       let ends : ends_cut b (p ++ x ∷ []) ≡ true = list_any-append (is_mark_above b) p (x ∷ []) ∙ rw (on, e) refl in
       whole_is h a b (p ++ x ∷ []) ∙ rw (all, ends) refl
 
-  -- where the start section is written
+  -- if the start section is written
   started_text : is_started a p ≡ true → so_far h a p ≡ (head_for h [] ++ start_section h a p) ++ text_after (a ∷ []) (cut_entries a p)
   started_text s = rw s refl
 
   started_next : (x : BodyItem) → is_started a p ≡ true → so_far h a (p ++ x ∷ []) ≡ (head_for h [] ++ start_section h a p) ++ text_after (a ∷ []) (cut_entries a (p ++ x ∷ []))
   started_next x s = rw (started_more a p (x ∷ []) s, section_stays h a p (x ∷ []) (due a p s)) refl
 
-  -- where it does not
+  -- if it does not
   unstarted_text : is_started a p ≡ false → so_far h a p ≡ head_for h []
   unstarted_text s = rw (s, none_kept a p s) (append-nil _ ∙ append-nil (head_for h []))
 

@@ -1,4 +1,4 @@
--- The dump that an input is in a merge, by the first phrases of its body: all their items where
+-- The dump that an input is in a merge, by the first phrases of its body: all their items if
 -- these are small.
 use Rattle.std.proofs.Common.{◌≡◌, ℕ, Bool, true, false, List, [], ◌∷◌, ◌++◌, Option, Some, None, refl, sym, ap, ◌∙◌, append-nil, one-add}
 use Rattle.std.specs.Prelude.{find}
@@ -40,7 +40,7 @@ placed_small scale (p ∷ ps) h = by_phrase p.phrase p.line h (placed_small scal
 pub items_append : (a b : List (Placed BodyPhrase)) → items_of (phrases_of (a ++ b)) ≡ items_of (phrases_of a) ++ items_of (phrases_of b)
 items_append a b = rw (map-append, filter_map-append) refl
 
--- the fault of a timestamp that is too large, where there is one
+-- the fault of a timestamp that is too large, if there is one
 abbrev pub mark_or : Option Fault → Option (Placed BodyPhrase) → Option Fault
 mark_or own o = elim o [ Some p ↦ Some (record { number = 20; line = p.line }) | None ↦ own ]
 
@@ -56,11 +56,11 @@ dump_begins scale h own r ps more e small =
     ∙ ap (λ (o : Option (Placed BodyPhrase)). record { header = h; items = items_of (phrases_of (ps ++ before_first t more)); fault = mark_or own o }) (find_past t ps more s)
     ∙ ap (λ (l : List BodyItem). record { header = h; items = l; fault = mark_or own (find t more) }) (items_append ps (before_first t more))
 
--- where all items are small, the dump has all of them and the body's own fault
+-- if all items are small, the dump has all of them and the body's own fault
 pub dump_whole : (scale : ℕ) (h : Header) (own : Option Fault) (r : Reading BodyPhrase) → AllByRecursion (λ x. is_too_large scale x ≡ false) (body_items r) → dump_of scale h own r ≡ record { header = h; items = body_items r; fault = own }
 dump_whole scale h own r small = dump_begins scale h own r r.placed [] (sym (append-nil r.placed)) small ∙ ap (λ l. record { header = h; items = l; fault = own }) (append-nil (body_items r))
 
--- where a timestamp that is too large follows, it ends the dump
+-- if a timestamp that is too large follows, it ends the dump
 pub dump_marked : (scale : ℕ) (h : Header) (own : Option Fault) (r : Reading BodyPhrase) (ps more : List (Placed BodyPhrase)) (p : Placed BodyPhrase) → r.placed ≡ ps ++ p ∷ more → AllByRecursion (λ x. is_too_large scale x ≡ false) (items_of (phrases_of ps))
     → placed_is_too_large scale p ≡ true → dump_of scale h own r ≡ record { header = h; items = items_of (phrases_of ps); fault = Some (record { number = 20; line = p.line }) }
 dump_marked scale h own r ps more p e small large =

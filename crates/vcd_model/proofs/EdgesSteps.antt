@@ -64,7 +64,7 @@ final_is c items = last_value_is c (λ u. true) items ∙ latest_given c [] item
 
 -- ---- the counts
 
--- a value beside the one before it, where there is one
+-- a value beside the one before it, if there is one
 abbrev beside : Option Value → Value → List (Value × Value)
 beside None v = []
 beside (Some u) v = (u, v) ∷ []
@@ -74,7 +74,7 @@ neighbours-more [] v = refl
 neighbours-more (u ∷ []) v = refl
 neighbours-more (u ∷ w ∷ vs) v = ap (λ l. (u, w) ∷ l) (neighbours-more (w ∷ vs) v)
 
--- counts with one value more, where this one was the last
+-- counts with one value more, if this one was the last
 abbrev pub with_value : Counts → Option Value → Value → Counts
 with_value n None v = n
 with_value n (Some u) v = record {
@@ -123,7 +123,7 @@ module _ (c : IdCode) (items : List BodyItem) where
   pub counts_new : (d : Change) → same_code c d.code ≡ true → c.event ≡ false → counts_for (items ++ BodyItem.Changes d ∷ []) c ≡ with_value (counts_for items c) (final_value items c) (value_of d)
   counts_new d e event = rw (event, values_new c items d e, counts_more (values_of items c) (value_of d), final_is c items) refl
 
-  -- a trigger of it, where it is one
+  -- a trigger of it, if it is one
   pub counts_mark : (d : Change) → same_code c d.code ≡ true → c.event ≡ true → counts_for (items ++ BodyItem.Changes d ∷ []) c ≡ with_mark (counts_for items c) (leaves_open items)
   counts_mark d e event = rw (event, events_more (BodyItem.Changes d), e) refl
 

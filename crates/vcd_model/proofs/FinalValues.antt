@@ -1,4 +1,4 @@
--- The values of codes after all items, with one item more; and where they are those before a time,
+-- The values of codes after all items, with one item more; and when they are those before a time,
 -- or at it.
 use Rattle.std.proofs.Common.{◌≡◌, ℕ, ◌≤◌, ◌<◌, Bool, true, false, ◌&&◌, nat_lt, nat_le, List, [], ◌∷◌, ◌++◌, Some, refl, sym, ap, ◌∙◌, subst, arith}
 use Rattle.std.specs.List.{AllByRecursion}

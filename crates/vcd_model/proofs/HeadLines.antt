@@ -133,7 +133,7 @@ declarations_words earlier (d ∷ ds) rest are =
 
 -- ---- a whole head
 
--- the tokens of a date or a version, none where there is no text
+-- the tokens of a date or a version, none if there is no text
 abbrev pub text_tokens : Keyword → List (List ℕ) → List (List ℕ)
 text_tokens k [] = []
 text_tokens k (w ∷ ws) = keyword_text k ∷ (w ∷ ws) ++ end_text ∷ []
@@ -142,7 +142,7 @@ abbrev pub scale_tokens : Option ℤ → List (List ℕ)
 scale_tokens None = []
 scale_tokens (Some e) = keyword_text Keyword.Timescale ∷ scale_text e ∷ end_text ∷ []
 
--- the phrase of a date or a version, none where there is no text
+-- the phrase of a date or a version, none if there is no text
 abbrev pub text_phrases : (List (List ℕ) → HeaderPhrase) → List (List ℕ) → List HeaderPhrase
 text_phrases f [] = []
 text_phrases f (w ∷ ws) = f (w ∷ ws) ∷ []

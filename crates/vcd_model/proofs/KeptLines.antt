@@ -1,4 +1,4 @@
--- The text of kept items where one item more comes: it is enough to know the time whose line was
+-- The text of kept items if one item more comes: it is enough to know the time whose line was
 -- written last.
 use Rattle.std.proofs.Common.{◌≡◌, ℕ, ◌≤◌, Bool, true, false, cond, ◌&&◌, ◌||◌, ◌==◌, List, [], ◌∷◌, ◌++◌, map, Option, Some, None, refl, sym, ap, ◌∙◌, subst, arith}
 use Rattle.std.specs.List.{list_any, last_or}
@@ -18,7 +18,7 @@ use Rattle.vcd_model.proofs.Times.{time_after-append}
 abbrev pub kept_times : (Entry → Bool) → List BodyItem → List ℕ
 kept_times chosen items = map (λ e. e.time) (kept_by chosen (entries items))
 
--- the time of the last kept entry, none where there is none
+-- the time of the last kept entry, none if there is none
 abbrev pub last_time : (Entry → Bool) → List BodyItem → Option ℕ
 last_time chosen items = last_or None (kept_times chosen items)
 
@@ -60,7 +60,7 @@ kept_rise chosen b (x ∷ q) =
     by_keep true later = (omega arith, later)
     by_keep false later = later
 
--- where times rise up to t, t is among them just where it is the last
+-- if times rise up to t, t is among them if and only if it is the last
 pub last_is_enough : (t u : ℕ) (ts : List ℕ) → Rise u t ts → time_unless (u ∷ ts) t ≡ time_due (last_or (Some u) ts) t
 last_is_enough t u [] r = by_test (u == t)
   where
@@ -76,7 +76,7 @@ last_is_enough t u (v ∷ ts) r = by_test (u == t) refl (last_is_enough t v ts r
         ap (λ (b : Bool). cond (b || list_any (λ w. w == t) ts) [] (time_line t)) (sym there) ∙ later
     by_test false e later = later
 
--- where the line of the time after all items is asked for, a look at the last written time is
+-- if the line of the time after all items is asked for, a look at the last written time is
 -- enough
 pub time_unless_last : (chosen : Entry → Bool) (items : List BodyItem) → time_unless (kept_times chosen items) (time_after items) ≡ time_due (last_time chosen items) (time_after items)
 time_unless_last chosen items = by_times (kept_times chosen items) (kept_rise chosen [] items)
@@ -94,11 +94,11 @@ kept_more chosen items x k e =
     ∙ kept_by-append chosen (entries items) (entry_after items x ∷ [])
     ∙ ap (λ (b : Bool). kept_by chosen (entries items) ++ cond b (entry_after items x ∷ []) []) e
 
--- .. where that one is not kept
+-- .. if that one is not kept
 pub kept_same : (chosen : Entry → Bool) (items : List BodyItem) (x : BodyItem) → keeps chosen items x ≡ false → kept_by chosen (entries (items ++ x ∷ [])) ≡ kept_by chosen (entries items)
 kept_same chosen items x e = kept_more chosen items x false e ∙ append-nil (kept_by chosen (entries items))
 
--- a kept item adds its line, after the line of its time where that is due
+-- a kept item adds its line, after the line of its time if that is due
 pub text_kept : (chosen : Entry → Bool) (items : List BodyItem) (x : BodyItem) → keeps chosen items x ≡ true
     → text_after [] (kept_by chosen (entries (items ++ x ∷ []))) ≡ text_after [] (kept_by chosen (entries items)) ++ (time_due (last_time chosen items) (time_after items) ++ item_line x)
 text_kept chosen items x e =
@@ -132,12 +132,12 @@ last_dropped chosen items x e = ap (λ es. last_or None (map (λ e. e.time) es))
 abbrev pub picked_by : Header → List (List ℕ) → Entry → Bool
 picked_by h names e = is_picked (selected names h.declarations) e.item
 
--- before the first item the head alone is written
+-- before the first item only the head is written
 pub pick_open_none : (h : Header) (names : List (List ℕ)) → pick_open h names [] ≡ head_for h names
 unfolding pick_open
 pick_open_none h names = append-nil (head_for h names)
 
--- a kept item adds its line, after the line of its time where that is due
+-- a kept item adds its line, after the line of its time if that is due
 pub pick_open_kept : (h : Header) (names : List (List ℕ)) (items : List BodyItem) (x : BodyItem) → keeps (picked_by h names) items x ≡ true
     → pick_open h names (items ++ x ∷ []) ≡ pick_open h names items ++ (time_due (last_time (picked_by h names) items) (time_after items) ++ item_line x)
 unfolding pick_open
@@ -155,7 +155,7 @@ pub pick_close_none : (h : Header) (names : List (List ℕ)) (items : List BodyI
 unfolding pick_close
 pick_close_none h names items e = ap (closing (kept_times (picked_by h names) items)) e
 
--- where the last timestamp is the greatest, its line follows where it is due
+-- if the last timestamp is the greatest, its line follows if it is due
 pub pick_close_some : (h : Header) (names : List (List ℕ)) (items : List BodyItem) (t : ℕ) → last_mark items ≡ Some t → t ≡ time_after items → pick_close h names items ≡ time_due (last_time (picked_by h names) items) t
 unfolding pick_close
 pick_close_some h names items t e same =

@@ -1,4 +1,4 @@
--- The outcome of a merge, by what was merged of its inputs: where one of them has the first fault,
+-- The outcome of a merge, by what was merged of its inputs: if one of them has the first fault,
 -- and where they continue.
 use Rattle.std.proofs.Common.{◌≡◌, ℕ, ◌+◌, ◌<◌, ◌≤◌, Bool, true, false, cond, ◌==◌, List, [], ◌∷◌, ◌++◌, Option, Some, None, refl, sym, ap, subst, ◌∙◌, arith, ◌⊎◌, inl, inr, append-nil, append_assoc}
 use Rattle.std.specs.Prelude.{filter, filter_map, fold, option_map, ⊤}

@@ -1,4 +1,4 @@
--- The merged list, where an input gives one item more, and where the inputs are whole.
+-- The merged list, if an input gives one item more, and if the inputs are whole.
 use Rattle.std.proofs.Common.{◌≡◌, ℕ, zero, suc, ◌+◌, true, List, [], ◌∷◌, ◌++◌, length, take, slice_get, Some, refl, sym, ap, subst, ◌∙◌, arith, append-nil, append_assoc}
 use Rattle.std.specs.Prelude.{flat_map}
 use Rattle.std.specs.List.{AllByRecursion}
@@ -78,7 +78,7 @@ module _ (hs : List Header) (ds : List Dump) (k : ℕ) (d : Dump) (x : BodyItem)
   split : (xs : List Keyed) × (ys : List Keyed) × (keyed_rest hs 0 [] ds ≡ xs ++ ys) × (keyed_rest hs 0 [] (with_item ds k d x) ≡ xs ++ item ∷ ys)
   split = let s = split_at hs 0 k [] ds k d x (omega arith) at in rw headers at s
 
-  -- where it is after all others, it goes to the end of the merged list
+  -- if it is after all others, it goes to the end of the merged list
   pub merged_more : AllByRecursion (λ y. key_lt y.key (key_after (factor hs d.header) k d.items) ≡ true) (keyed_rest hs 0 [] ds) → merged_items (with_item ds k d x) ≡ merged_items ds ++ item ∷ []
   merged_more before =
       let s = split in

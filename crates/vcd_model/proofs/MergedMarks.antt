@@ -12,7 +12,7 @@ use Rattle.vcd_model.proofs.Times.{time_after-append}
 
 -- ---- the greatest of numbers
 
--- the greater of two, where there are two
+-- the greater of two, if there are two
 abbrev pub greater_of : Option ℕ → Option ℕ → Option ℕ
 greater_of None b = b
 greater_of (Some x) None = Some x
@@ -50,7 +50,7 @@ reduce_is (t ∷ u ∷ us) = ap (λ n. Some n) (fold_max t u us) ∙ ap (greater
 abbrev mark_in : Keyed → Option ℕ
 mark_in k = time_mark k.entry.item
 
--- the greatest timestamp of these items, none where there is none
+-- the greatest timestamp of these items, none if there is none
 abbrev pub greatest_in : List Keyed → Option ℕ
 greatest_in [] = None
 greatest_in (k ∷ ks) = greater_of (mark_in k) (greatest_in ks)
@@ -111,7 +111,7 @@ keyed_greatest s n rename before (BodyItem.Changes c ∷ items) = keyed_greatest
 
 -- ---- no item is later
 
--- where the last time of an input is at most t, all its items are at times up to t
+-- if the last time of an input is at most t, all its items are at times up to t
 pub own_most : (s n t : ℕ) (rename : List ℕ → List ℕ) (before items : List BodyItem) → s * time_after (before ++ items) ≤ t → AllByRecursion (λ y. y.key.time ≤ t) (each_after (keyed_after s n rename) before items)
 own_most s n t rename before [] h = tt
 own_most s n t rename before (x ∷ items) h =

@@ -1,4 +1,4 @@
--- The text of a merge, where one item more comes after all others.
+-- The text of a merge, if one item more comes after all others.
 use Rattle.std.proofs.Common.{◌≡◌, ℕ, ◌+◌, ◌*◌, ◌≤◌, Bool, true, false, cond, ◌&&◌, List, [], ◌∷◌, ◌++◌, map, Option, Some, None, refl, sym, ap, ◌∙◌, subst, arith, append-nil, append_assoc, inl, inr}
 use Rattle.std.specs.List.{AllByRecursion, last_or}
 use Rattle.std.proofs.lemmas.List.{map-append}
@@ -49,7 +49,7 @@ zero_least : (ks : List Keyed) → AllByRecursion (λ k. 0 ≤ k.key.time) ks
 zero_least [] = tt
 zero_least (k ∷ ks) = (omega arith, zero_least ks)
 
--- where all items are at times up to t
+-- if all items are at times up to t
 pub unless_last : (ks : List Keyed) (t : ℕ) → IsSorted ks → AllByRecursion IsTimed ks → AllByRecursion (λ k. k.key.time ≤ t) ks → time_unless (merged_times ks) t ≡ time_due (last_or None (merged_times ks)) t
 unless_last ks t sorted timed most = by_times (merged_times ks) (rise_kept 0 t ks sorted timed (zero_least ks) most (omega arith))
   where

@@ -220,7 +220,7 @@ goes_on_other names times x e = by_last (last_or None times) x e
     by_last (Some t) BodyItem.End e = refl
     by_last (Some t) (BodyItem.Changes c) e = refl
 
--- where there were some left, it does just where none is
+-- if there were some left, it does if and only if none is
 module _ (names : List (List ℕ)) (items : List BodyItem) (t : ℕ) (done : List ℕ) where
   pub ended : (below others : List ℕ) → others ≡ [] → below ++ others ≢ [] → AreSettled false items (below ++ others) → AllByRecursion (λ u. u < t) below → ends_early (Request.Sample (done ++ (below ++ others)) names) (BodyItem.Time t) ≡ true
   ended [] others none some unsettled low = absurd (some none)

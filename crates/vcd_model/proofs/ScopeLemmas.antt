@@ -9,7 +9,7 @@ use Rattle.std.specs.List.{AllByRecursion}
 use Rattle.std.proofs.lemmas.List.Sums.{sum_by-cons, sum_by-append}
 use Rattle.vcd_model.specs.Declarations.{Declaration, Variable, is_scope, is_up, is_balanced, open_scopes, enclosing_back, enclosing, name_of, names_at}
 
--- the enclosing scopes, looking back over these declarations where `closed` more scopes are closed
+-- the enclosing scopes, looking back over these declarations if `closed` more scopes are closed
 -- than opened in between
 walk : ℕ → List Declaration → List ℕ
 walk closed [] = []

@@ -11,7 +11,7 @@ module _ {P : Type 0} (g : Grammar P) where
   behind_phrase placed ts true = record { placed = placed; before = []; ending = AtLast; rest = ts }
   behind_phrase placed ts false = read_from g placed [] ts
 
-  -- reading on at a token with this fault, where this phrase is whole with it
+  -- reading on at a token with this fault, if this phrase is whole with it
   abbrev pub at_token : List (Placed P) → List (List ℕ) → Token → List Token → Option ℕ → Option P → Reading P
   at_token placed before t ts (Some n) q = record { placed = placed; before = before; ending = AtFault (record { number = n; line = t.line }); rest = t ∷ ts }
   at_token placed before t ts None None = read_from g placed (before ++ t.bytes ∷ []) ts

@@ -1,5 +1,5 @@
--- The merged items input by input, and what each adds to the output where it comes after all others
--- (profile). No other definition uses these words: the contracts of a merge in steps do.
+-- The merged items input by input, and what each adds to the output if it comes after all others
+-- (profile). Only the contracts of a merge in steps use these words.
 use Rattle.std.specs.Prelude.{ℕ, ◌+◌, Bool, cond, ◌&&◌, List, [], ◌∷◌, ◌++◌, slice_set, Option, Some}
 use Rattle.vcd_model.specs.Backward.{each}
 use Rattle.vcd_model.specs.Header.{Header}
@@ -14,12 +14,12 @@ use Rattle.vcd_model.specs.Merge.{Dump, Keyed, factor, is_change, keyed_after}
 abbrev pub keyed_own : List Header → ℕ → List Header → Dump → List Keyed
 keyed_own hs n es d = each (keyed_after (factor hs d.header) n (renamed es d.header)) d.items
 
--- the items of inputs in a row, where n inputs with these headers come before them
+-- the items of inputs in a row, if n inputs with these headers come before them
 abbrev pub keyed_rest : List Header → ℕ → List Header → List Dump → List Keyed
 keyed_rest hs n es [] = []
 keyed_rest hs n es (d ∷ ds) = keyed_own hs n es d ++ keyed_rest hs (n + 1) (es ++ d.header ∷ []) ds
 
--- one item more of the input at an index
+-- one more item of the input at an index
 abbrev pub with_item : List Dump → ℕ → Dump → BodyItem → List Dump
 with_item ds k d x = slice_set ds k (record { header = d.header; items = d.items ++ x ∷ []; fault = d.fault })
 

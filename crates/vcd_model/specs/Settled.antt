@@ -32,7 +32,7 @@ header_settles task h = is_some (first_unmatched (names_of task) h.declarations)
 abbrev pub is_settled_behind : Request → Header → List Token → Bool
 is_settled_behind task h ts = header_settles task h || body_settles task h ts
 
--- whether they settle it, where times that ticks cannot express are refused
+-- whether they settle it, if times that ticks cannot express are refused
 abbrev pub is_settled_by : Result Request Refusal → Header → List Token → Bool
 is_settled_by (Ok task) h ts = is_settled_behind task h ts
 is_settled_by (Err refusal) h ts = true

@@ -19,7 +19,7 @@ pub data Seen : Type 0 where
   All : (stream : Stream) → Seen
 
 -- an input whose header is whole: the tokens that are known after it, and what the source gives
--- where all of that is known
+-- if all of that is known
 pub record SeenBody : Type 0 where
   pub header : Header
   pub rest : List Token
@@ -43,17 +43,17 @@ abbrev pub tokens_seen : Seen → List Token
 tokens_seen (First tokens) = tokens
 tokens_seen (All stream) = stream.tokens
 
--- what the source gives, where all of it is known
+-- what the source gives, if all of it is known
 abbrev pub whole_of : Seen → Option Stream
 whole_of (First tokens) = None
 whole_of (All stream) = Some stream
 
--- a header that ends with its tokens has a fault where these are all
+-- a header that ends with its tokens has a fault if these are all
 abbrev pub header_ends : Option Stream → SeenHeaders
 header_ends None = NotWhole
 header_ends (Some stream) = Faulty
 
--- an input by what a reading of its header met, and the inputs after it where that is whole
+-- an input by what a reading of its header met, and the inputs after it if that is whole
 abbrev pub seen_at : Seen → Reading HeaderPhrase → Ending → SeenHeaders → SeenHeaders
 seen_at s r (AtFault fault) others = Faulty
 seen_at s r AtEnd others = header_ends (whole_of s)
@@ -91,7 +91,7 @@ dump_seen hs s =
 abbrev pub is_at_its_end : SeenBody → Dump → Bool
 is_at_its_end s d = is_some s.whole || is_some d.fault
 
--- what more comes of input number n comes after the first fault, where there is one
+-- what more comes of input number n comes after the first fault, if there is one
 abbrev pub is_past : Option KeyedFault → List Header → ℕ → Dump → Bool
 is_past None hs n d = false
 is_past (Some f) hs n d = key_lt f.key (key_after (factor hs d.header) n d.items)

@@ -18,7 +18,7 @@ pub data Command : Type 0 where
   Edges : (names : List (List ℕ)) → Command
   Merge : (files : List (List ℕ)) → Command
 
--- a command, and the word after `--token-limit` where there is one
+-- a command, and the word after `--token-limit` if there is one
 pub record Words : Type 0 where
   pub command : Command
   pub limit : Option (List ℕ)
@@ -58,7 +58,7 @@ has_words (Pick names) = not (is_empty names)
 has_words (Merge files) = not (is_empty files)
 has_words command = true
 
--- the token limit where no word says another
+-- the token limit if no word gives another
 abbrev pub default_limit : ℕ
 default_limit = 1048576
 
@@ -71,7 +71,7 @@ abbrev pub limit_of : Option (List ℕ) → Result ℕ UseFault
 limit_of None = Ok default_limit
 limit_of (Some word) = cond (is_limit word) (Ok (decimal_value word)) (Err (BadLimit word))
 
--- a time, where there is one
+-- a time, if there is one, otherwise the fault
 abbrev pub time_or : List ℕ → Option Moment → Result Moment UseFault
 time_or word (Some m) = Ok m
 time_or word None = Err (BadTime word)
@@ -91,13 +91,13 @@ abbrev pub times_of : List (List ℕ) → Result (List Moment) UseFault
 times_of [] = Ok []
 times_of (word ∷ words) = with_time (time_of word) (times_of words)
 
--- a cut; where no time has a unit, it does not end before it begins
+-- a cut; if no time has a unit, it does not end before it begins
 abbrev pub cut_of : Result Moment UseFault → Result Moment UseFault → Result Want UseFault
 cut_of (Ok from) (Ok to) = cond (not (has_unit (from ∷ to ∷ [])) && nat_lt to.number from.number) (Err FromAboveTo) (Ok (Want.Cut from to))
 cut_of (Ok from) (Err f) = Err f
 cut_of (Err f) to = Err f
 
--- a sample; where no time has a unit, the times rise
+-- a sample; if no time has a unit, the times rise
 abbrev pub sample_of : List (List ℕ) → Result (List Moment) UseFault → Result Want UseFault
 sample_of names (Ok times) = cond (not (has_unit times) && not (do_rise (map (λ m. m.number) times))) (Err NotRising) (Ok (Want.Sample times names))
 sample_of names (Err f) = Err f

@@ -17,7 +17,7 @@ use Rattle.vcd_program.specs.declared.machine.Measured.TheVariants.{AtMost, Unkn
 use Rattle.vcd_program.specs.declared.machine.Stream.{Stream}
 use Rattle.vcd_program.specs.declared.machine.Stream.TheVariants.{File, Input, Refused}
 
--- the bytes, where they are known, are at most so many, where this number is known
+-- if the bytes are known, and so is this number, they are at most that many
 abbrev pub GivesAtMost : Option (List ℕ) → Option ℕ → Type 0
 GivesAtMost bytes most = IfSome bytes (λ text. IfSome most (λ n. length text ≤ n))
 
@@ -26,8 +26,8 @@ abbrev pub measured_left : {R : Type 0} → (R → Option (List ℕ)) → Measur
 measured_left of_reader (AtMost reader) = take_remaining of_reader reader
 measured_left of_reader (Unknown reader) = of_reader reader
 
--- the bytes that reads of an input give from here on, where those of its file or of standard input
--- are known
+-- the bytes that reads of an input give from here on, if those of its file or of standard input are
+-- known
 abbrev pub bytes_left : {F I : Type 0} → (F → Option (List ℕ)) → (I → Option (List ℕ)) → Stream F I → Option (List ℕ)
 bytes_left of_file of_input (File file) = of_file file.device
 bytes_left of_file of_input (Input input) = of_input input.device
@@ -38,8 +38,8 @@ abbrev pub read_as : {F I : Type 0} → Bool → Stream F I → Stream F I
 read_as true stream = stream
 read_as false stream = Refused
 
--- What a host returns whose machine opens files so and gives such a standard input: where there is a
--- name the file of this name, else standard input.
+-- What a host returns whose machine opens files and gives standard input in this way: the file of
+-- this name if there is a name, otherwise standard input.
 abbrev pub OpenedOn : {M F I : Type 0} → (M → List ℕ → Result F Error → Type 0) → (M → I → Type 0) → MachineHost M → Option (List ℕ) → Result (Watch (Stream F I)) OpenFault → Type 0
 OpenedOn opens gives host None (Ok watch) = (input : _) × gives host.machine.now input × (watch.device ≡ read_as host.is_seeded (Input (record { device = input })))
 OpenedOn opens gives host None (Err fault) = ⊥
@@ -47,12 +47,12 @@ OpenedOn opens gives host (Some name) (Ok watch) = (file : _) × opens host.mach
 OpenedOn opens gives host (Some name) (Err Unopened) = (error : Error) × opens host.machine.now name (Err error) × (error_kind error ≢ kind.OutOfMemory)
 OpenedOn opens gives host (Some name) (Err OutOfMemory) = (error : Error) × opens host.machine.now name (Err error) × (error_kind error ≡ kind.OutOfMemory)
 
--- so an input is opened, and the host stays the same
+-- an input is opened as above, and the host stays the same
 abbrev pub OpensOn : {M F I : Type 0} → (M → List ℕ → Result F Error → Type 0) → (M → I → Type 0) → MachineHost M → Option (List ℕ) → Result (Watch (Stream F I)) OpenFault → MachineHost M → Type 0
 OpensOn opens gives old name result new = OpenedOn opens gives old name result × (new ≡ old)
 
--- What the program leaves that is run on these words over this machine: that of a host which is this
--- machine.
+-- What the program leaves that is run on these words over this machine: that of a host which is
+-- this machine.
 abbrev pub RunsOver : {M F I W : Type 0} → (M → List ℕ → Result F Error → Type 0) → (M → I → Type 0) → (F → Option (List ℕ)) → (I → Option (List ℕ)) → (W → Device) → (W → Bool → W → Type 0) → M → Bool → List Text → (out : Device) → (out' : W) → (err err' : Device) → ℕ → Type 0
 RunsOver {M} {F} {I} opens gives of_file of_input device flushes machine is_seeded words out out' err err' status =
     (host host' : MachineHost M) × (host.machine.now ≡ machine) × (host.is_seeded ≡ is_seeded)

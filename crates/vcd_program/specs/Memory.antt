@@ -84,8 +84,8 @@ abbrev pub HaveTexts : List MemoryFile → (input : Text) → List (Option Text)
 HaveTexts files input names texts = map (λ name. bytes_among files input name) names ≡ map (λ text. Some text) texts
 
 -- What is left of words that were parsed: over files that are all there the outcome of the words
--- and of their bytes. Where the words ask for no job, nothing was opened; where a file is not
--- there, those before it were.
+-- and of their bytes. If the words ask for no job, nothing was opened; if a file is not there,
+-- those before it were.
 pub data IsLeftOf (words : Option Words) (asked : List (Option Text)) (files : List MemoryFile) (input : Text) (left : End) : Type 0 where
   Refused : (fault : UseFault) (is : job_of words ≡ Err fault) (leaves : IsLeft left [] (command_outcome words [] [])) → IsLeftOf words asked files input left
   Ran : (job : Job) (is : job_of words ≡ Ok job) (texts : List Text) (have : HaveTexts files input asked texts) (leaves : IsLeft left asked (command_outcome words (map called asked) (map whole texts))) → IsLeftOf words asked files input left
@@ -111,7 +111,7 @@ IsLeftAs words files input output message status = (opened : List (Option Text))
 
 -- ---- the same in bytes that were lent
 
--- What is left of any words, the program's name first, where output and message went to bytes that
+-- What is left of any words, the program's name first, if output and message went to bytes that
 -- were lent: each of the two as far as there is room for it, and how long it is.
 pub record IsLeftIn (words : List Text) (files : List MemoryFile) (input out : Text) (output : ℕ) (err : Text) (message : ℕ) (status : ℕ) : Type 0 where
   pub left : End

@@ -1,4 +1,4 @@
--- What the clauses of this crate speak of, under one path.
+-- What the contracts of this crate cite, under one path.
 pub use Rattle.vcd_text.specs.Watch.{failed_calls}
 pub use Rattle.vcd_words.specs.Words.{AsksFor}
 pub use Rattle.vcdkit.specs.Calls.{MayFailOnce}

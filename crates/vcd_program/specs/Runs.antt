@@ -34,16 +34,16 @@ names_wanted (Want.Sample times names) = names
 names_wanted (Want.Edges names) = names
 names_wanted want = []
 
--- over any inputs: the job ends done or failed, and says which; for a failed read only where one of
--- the input that is named failed, its last one, and of no other, and likewise for a write
+-- over any inputs the job succeeds or fails, and says which; it fails with a failed read only if a
+-- read of the input that is named failed, its last one, and none of another; likewise for a write
 abbrev pub EndsSo : (names asked : List Text) (before after : List ℕ) (last_failed : List Bool) (out out' err err' : Device) (status : ℕ) → Type 0
 EndsSo names asked before after last_failed out out' err err' status =
     (why : _) × CountsReads before after why × (failures_then (writes_failed why) out' ≡ out.failures + writes_failed why) × (status ≡ end_status why) × Shows err err' (end_message names asked why)
     × EndsAtReadOf last_failed why
 
 -- over inputs with these names and texts: the outcome of the words and of what was read of each; no
--- more was read than what settles it, and of a merge none before its turn; or nothing where memory
--- ran out
+-- more was read than what settles it, and of a merge none before its turn; or nothing if memory ran
+-- out
 pub data Leaves (words : Option Words) (want : Want) (limit : ℕ) (names texts : List Text) (old new : List Supply) (out out' err err' : Device) (status : ℕ) : Type 0 where
   WithOutcome : (inputs : List Input) (read : AreRead (is_settled want) limit 65536 [] texts old new inputs) (needed : AreNeeded want limit 65536 old new inputs) (in_turn : AreInTurn want limit 65536 texts old new inputs out out') (leaves : IsOutcome (command_outcome words names inputs) out out' err err' status)
       → Leaves words want limit names texts old new out out' err err' status
@@ -71,8 +71,8 @@ pub data Runs {H I : Type 0} (opens : H → Option Text → Result I OpenFault �
 
 -- ---- what any words leave
 
--- what is left where a parse of this kind gave no matches: help and the version on the output, all
--- else on the error stream; which text is not said
+-- what is left if a parse of this kind gave no matches: help and the version on the output, all
+-- else on the error stream; it is not said which text
 abbrev pub answer_outcome : ErrorKind → Text → Outcome
 answer_outcome kind text = cond (parse_status_of kind == 0) (clean_outcome text) (record { output = []; message = text; status = parse_status_of kind })
 
@@ -100,7 +100,7 @@ RunsWords words opens g w e host host' out out' err err' status = RunsOn words o
 
 -- ---- what is left in the end
 
--- What is left once the output `before`, with this left in it, was flushed: all of that; where the
+-- What is left once the output `before`, with this left in it, was flushed: all of that; if the
 -- flush failed, its line is said, unless the machine's fault was said already.
 pub data Finishes {W : Type 0} (device : W → Device) (flushes : W → Bool → W → Type 0) (Left : (out err : Device) → ℕ → Type 0) (out' : W) (err' : Device) (status : ℕ) : Type 0 where
   Flushed : (before : W) (left : Left (device before) err' status) (flushed : flushes before true out') (held : Keeps (device before).held (device out').held) (same : (device out').failures ≡ (device before).failures)

@@ -5,14 +5,15 @@ ghost use Rattle.vcd_program.specs.Names.{Answers, AsksFor, Finishes, kind_of, M
 use clap::{ArgMatches, Error};
 use std::alloc::Global;
 use std::hash::BuildHasher;
-use vcd_host::{Host, OpenStop, Output, called, inputs_of, most_of_all, open_inputs};
+use vcd_host::{Host, OpenStop, Output, called, inputs_of, max_bytes_of_all, open_inputs};
 use vcd_text::{Sink, put};
 use vcd_words::{Job, UseFault, answer_text, command_of, job_of, parse_status};
 use vcdkit::{open_fault, run_within, use_fault, write_fault};
 
 /// Opens the inputs that the matches of this job name, runs it over them, and returns the exit
-/// status. `out` is not flushed. Where memory runs out or an input does not open, nothing is
-/// written, and `err` gets the line. The chunk is that of every job of the command line.
+/// status. It does not flush `out`. If memory runs out or an input cannot be opened, nothing is
+/// written to `out`, and `err` gets a line. The chunk is the one that all jobs of the command line
+/// have.
 fn run_job<H: Host, W: Sink, E: Sink, B: BuildHasher>(
     alloc: Global,
     job: Job,
@@ -34,7 +35,7 @@ fn run_job<H: Host, W: Sink, E: Sink, B: BuildHasher>(
     };
     match open_inputs(alloc, asked.as_slice(), host) {
         Ok(mut inputs) => {
-            let longest = most_of_all::<H>(&inputs.readers);
+            let longest = max_bytes_of_all::<H>(&inputs.readers);
             run_within(
                 alloc,
                 job,
@@ -52,7 +53,7 @@ fn run_job<H: Host, W: Sink, E: Sink, B: BuildHasher>(
 }
 
 /// Runs the job that the matches ask for over the inputs that they name, and returns the exit
-/// status. `out` is not flushed.
+/// status. It does not flush `out`.
 fn run_matches<H: Host, W: Sink, E: Sink, B: BuildHasher>(
     alloc: Global,
     matches: &ArgMatches<'_>,
@@ -72,8 +73,8 @@ fn run_matches<H: Host, W: Sink, E: Sink, B: BuildHasher>(
     }
 }
 
-/// Says what a parse answered that gave no matches, help and the version on the output and all else
-/// on the error stream, and returns the exit status.
+/// Writes what a parse answered that gave no matches, and returns the exit status. Help and the
+/// version go to the output, all else to the error stream.
 fn answer<W: Sink, E: Sink>(alloc: Global, error: &Error, out: &mut W, err: &mut E) -> u8
     requires sinks { MayFailOnce W.Sink E.Sink out.old err.old }
     ensures answers { Answers (kind_of error.now)
@@ -97,7 +98,7 @@ fn answer<W: Sink, E: Sink>(alloc: Global, error: &Error, out: &mut W, err: &mut
     status
 }
 
-/// Parses the words, and does what they ask for. `out` is not flushed.
+/// Parses the words, and does what they ask for. It does not flush `out`.
 fn run_words<H: Host, W: Sink, E: Sink, B: BuildHasher>(
     alloc: Global,
     words: &[String],
@@ -120,10 +121,10 @@ fn run_words<H: Host, W: Sink, E: Sink, B: BuildHasher>(
     }
 }
 
-/// Runs what the words ask for, the program's name first among them, flushes the output, and
-/// returns the exit status: that of the definitions for the words and the inputs; 3 for an input
-/// that cannot be opened, where memory ran out and for a failed read or write; 0 for help and the
-/// version.
+/// Runs what the words ask for, of which the first is the program's name, flushes the output, and
+/// returns the exit status. That is the status of the definitions for the words and the inputs; or
+/// 3 if an input cannot be opened, if memory runs out, or if a read or a write fails; or 0 for help
+/// and the version.
 pub fn run_program<H: Host, W: Output, E: Sink, B: BuildHasher>(
     alloc: Global,
     words: &[String],

@@ -1,11 +1,11 @@
 //! The program over any host: from its words to its output, its message and its status.
 //!
 //! `run_program` parses the words, opens the inputs that they name, in order, runs the job over
-//! them, flushes the output and returns the status. Where inputs are opened is a `Host`, where
-//! output goes an `Output`, both of `vcd_host`. Its contract says which inputs were opened, in
-//! which order and under which names, and what was left: the outcome that the definitions have for
-//! the words and the inputs, or the line and the status of what went wrong before (`Runs`). Over a
-//! host in memory the outcome is that of the words and the bytes of the files (`run_in_memory`,
+//! them, flushes the output and returns the status. A `Host` opens inputs, and an `Output` takes
+//! the output; both are in `vcd_host`. The contract says which inputs were opened, in which order
+//! and under which names. It also says what was left: the outcome that the definitions have for the
+//! words and the inputs, or the line and the status of what went wrong before (`Runs`). Over a host
+//! in memory the outcome is that of the words and the bytes of the files (`run_in_memory`,
 //! `run_into_memory`, `specs/Memory`).
 //!
 //! # The modules

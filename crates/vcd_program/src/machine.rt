@@ -19,7 +19,7 @@ use vcdkit::{Again, use_fault};
 /// Bytes that are read up to their end, or up to a number that is known.
 #[derive(Drop)]
 pub enum Measured<R> {
-    /// At most so many bytes of the reader.
+    /// At most the number of bytes of the reader to which it is limited.
     AtMost(Take<R>),
     /// All bytes of the reader, of which there may be any number.
     Unknown(R),
@@ -34,8 +34,8 @@ impl<R: Read> Measured<R> {
         }
     }
 
-    /// Returns a number of bytes that reads do not exceed, `None` if none is known.
-    fn most(&self) -> Option<usize>
+    /// Returns a number of bytes that reads do not exceed; `None` if none is known.
+    fn max_bytes(&self) -> Option<usize>
         ensures { GivesAtMost (measured_left R.remaining self.now) result }
     {
         match self {
@@ -56,14 +56,13 @@ impl<R: Read> Read for Measured<R> {
     }
 }
 
-/// The length up to which a file is read only to the length that it had when it was opened: that of
-/// the windows of a job without a token limit of its own. A longer file needs windows of this
-/// length anyway.
+/// A file of at most this length is read only to the length that it had when it was opened. A
+/// longer file needs windows of this length anyway, which is the default token limit.
 const MAX_SHORT_FILE: u64 = 1_048_576;
 
-/// Returns the length of a short file, `None` if this is no regular file, if it is longer than
-/// `MAX_SHORT_FILE`, or if its length is unknown. A file of length 0 may give bytes, as those do
-/// that the machine makes while they are read.
+/// Returns the length of a short file. `None` if this is no regular file, if it is longer than
+/// `MAX_SHORT_FILE`, or if its length is unknown. A file of length 0 may give bytes: the machine
+/// makes the bytes of some files while they are read.
 fn short_len(about: io::Result<Metadata>) -> Option<u64> {
     let about = about.ok()?;
     let len = about.len();
@@ -76,9 +75,9 @@ fn short_len(about: io::Result<Metadata>) -> Option<u64> {
 /// Where the machine shows what standard input is.
 const STANDARD_INPUT: &str = "/proc/self/fd/0";
 
-/// Where a process opens its files and finds its standard input. The host is proved over any such
-/// machine, so of the process's own all that is not proved is that `open` and `input` are what they
-/// say.
+/// A machine, where a process opens its files and finds its standard input. The host is proved over
+/// any machine. So all that is not proved of the process's own machine is that `open` and `input`
+/// are what they say.
 trait Machine {
     /// A file that is open.
     type File: Read + Drop;
@@ -100,18 +99,19 @@ trait Machine {
     fn input(&self) -> Self::Input
         ensures { gives self.now result };
 
-    /// Returns a number of bytes that reads of a file do not exceed, `None` if none is known.
-    fn most_of_file(file: &Self::File) -> Option<usize>
+    /// Returns a number of bytes that reads of a file do not exceed; `None` if none is known.
+    fn max_bytes_of_file(file: &Self::File) -> Option<usize>
         ensures { GivesAtMost (Self.File.remaining file.now) result };
 
-    /// Returns a number of bytes that reads of standard input do not exceed, `None` if none is
+    /// Returns a number of bytes that reads of standard input do not exceed; `None` if none is
     /// known.
-    fn most_of_input(input: &Self::Input) -> Option<usize>
+    fn max_bytes_of_input(input: &Self::Input) -> Option<usize>
         ensures { GivesAtMost (Self.Input.remaining input.now) result };
 }
 
 /// The machine that the process runs on. A short file is read up to the length that it has when it
-/// is opened, so its windows need not be longer. No clause says which file or stream a call gives.
+/// is opened, so its windows need not be longer. No contract says which file or stream a call
+/// gives.
 impl Machine for HostRuntime {
     type File = Measured<File>;
 
@@ -132,12 +132,12 @@ impl Machine for HostRuntime {
         Measured::new(self.stdin(), len)
     }
 
-    fn most_of_file(file: &Measured<File>) -> Option<usize> {
-        file.most()
+    fn max_bytes_of_file(file: &Measured<File>) -> Option<usize> {
+        file.max_bytes()
     }
 
-    fn most_of_input(input: &Measured<Stdin>) -> Option<usize> {
-        input.most()
+    fn max_bytes_of_input(input: &Measured<Stdin>) -> Option<usize> {
+        input.max_bytes()
     }
 }
 
@@ -152,7 +152,7 @@ pub enum Stream<F, I> {
     Refused,
 }
 
-// Over files and inputs whose bytes are known it gives these, so no failed read is its end.
+// Reads of a file or input whose bytes are known give these; of `Refused` no bytes are known.
 impl<F: Read, I: Read> Read for Stream<F, I> {
     ghost remaining = { λ stream. bytes_left F.remaining I.remaining stream };
 
@@ -169,7 +169,7 @@ impl<F: Read, I: Read> Read for Stream<F, I> {
 #[derive(Drop)]
 struct MachineHost<'r, M> {
     machine: &'r M,
-    /// Whether the machine gave random numbers. Where it gave none, each read of an input fails.
+    /// Whether the machine gave random numbers. If it gave none, each read of an input fails.
     is_seeded: bool,
 }
 
@@ -202,20 +202,19 @@ impl<M: Machine> Host for MachineHost<'_, M> {
         }
     }
 
-    fn most_of(input: &Watch<Stream<M::File, M::Input>>) -> Option<usize>
+    fn max_bytes_of(input: &Watch<Stream<M::File, M::Input>>) -> Option<usize>
         ensures { GivesAtMost
             (⟦<Watch<Stream<M::File, M::Input>> as Source>⟧.rest input.now) result }
     {
         match &input.device {
-            Stream::File(file) => M::most_of_file(&file.device),
-            Stream::Input(input) => M::most_of_input(&input.device),
+            Stream::File(file) => M::max_bytes_of_file(&file.device),
+            Stream::Input(input) => M::max_bytes_of_input(&input.device),
             Stream::Refused => None,
         }
     }
 }
 
-/// Returns the words of the command line, the program's name first. They are bad where one is no
-/// text.
+/// Returns the arguments, the program's name first. Fails if one of them is not UTF-8.
 fn words_of<R: Env + AllocGlobal>(rt: &R) -> Result<Vec<String>, UseFault<'static>> {
     let words = env::args(rt).map_err(|error| match error.kind() {
         ErrorKind::OutOfMemory => UseFault::OutOfMemory,
@@ -224,8 +223,8 @@ fn words_of<R: Env + AllocGlobal>(rt: &R) -> Result<Vec<String>, UseFault<'stati
     Ok(words.collect(rt.alloc())?)
 }
 
-/// Runs the program on these words over the inputs of this machine, and returns the exit status, as
-/// `run_program` does. Where the machine gave no random numbers, no input can be read.
+/// Runs the program with these arguments over the inputs of this machine, and returns the exit
+/// status, as `run_program` does. If the machine gave no random numbers, no input can be read.
 fn run_over<M: Machine, W: Output, E: Sink, B: BuildHasher>(
     alloc: Global,
     machine: &M,
@@ -245,8 +244,8 @@ fn run_over<M: Machine, W: Output, E: Sink, B: BuildHasher>(
     run_program(alloc, words, &mut host, out, err, hasher)
 }
 
-/// Runs the program on these words over the files and the streams of the process, and returns the
-/// exit status. Messages are written on `err`.
+/// Runs the program with these arguments over the files and the streams of the process, and returns
+/// the exit status. Messages go to `err`.
 fn run_words<E: Sink, B: BuildHasher>(
     rt: &HostRuntime,
     words: &[String],
@@ -263,12 +262,12 @@ fn run_words<E: Sink, B: BuildHasher>(
     }
 }
 
-/// Runs the program on these words, its own name first among them, over the files, the standard
-/// input and the standard output of the process, and returns the exit status. Messages are written
-/// on `err`.
+/// Runs the program with these arguments, its own name first among them, over the files, the
+/// standard input and the standard output of the process, and returns the exit status. Messages go
+/// to `err`.
 ///
-/// Identifier codes are hashed by random numbers of the machine, so that nobody can make a dump
-/// whose codes are slow to find. Where the machine gives none, the first input cannot be read.
+/// Identifier codes are hashed with random numbers of the machine, so that nobody can make a dump
+/// whose codes are slow to find. If the machine gives none, the first input cannot be read.
 pub fn run_words_on_machine<E: Sink>(rt: &HostRuntime, words: &[String], err: &mut E) -> u8
     requires { (E.device err.old).failures < 2 ^ 64 - 2 }
     ensures { result ≤ 3 }
@@ -285,7 +284,7 @@ pub fn run_words_on_machine<E: Sink>(rt: &HostRuntime, words: &[String], err: &m
 /// The highest descriptor of a standard stream.
 const MAX_STANDARD: i32 = 2;
 
-/// Opens a folder on the first standard stream that is closed, and returns it, `None` if all are
+/// Opens a folder on the first standard stream that is closed, and returns it; `None` if all are
 /// open. Reads and writes of a folder fail, as they do on a closed stream.
 fn stand_in(rt: &HostRuntime) -> Option<File> {
     let folder = File::open(rt, "/").ok()?;
@@ -295,12 +294,12 @@ fn stand_in(rt: &HostRuntime) -> Option<File> {
     None
 }
 
-/// Runs the program on the arguments, the files and the streams of the process, and returns the
-/// exit status: as `run_words_on_machine`, that of `run_program`. It is 2 if an argument is not
-/// UTF-8, and 3 if there is no memory for the arguments; standard error says so.
+/// Runs the program with the arguments, the files and the streams of the process, and returns the
+/// exit status, as `run_words_on_machine` does. It is 2 if an argument is not UTF-8, and 3 if there
+/// is no memory for the arguments; then a message goes to standard error.
 ///
-/// The system gives a file that is opened the lowest free descriptor, which is that of a standard
-/// stream if this is closed. So until the end something else is open there.
+/// The system gives a file that is opened the lowest free descriptor. If a standard stream is
+/// closed, that is its descriptor, so a folder is open there until the end (`stand_in`).
 pub fn run_on_machine(rt: &HostRuntime) -> u8
     ensures { result ≤ 3 }
 {

@@ -25,11 +25,11 @@ pub struct Memory<'a> {
     pub files: &'a [MemoryFile<'a>],
     /// The bytes of standard input.
     pub input: &'a [u8],
-    /// What was opened or tried, in order: the names of files, and none for standard input.
+    /// What was opened or tried, in order: the names of files, and `None` for standard input.
     pub opened: Vec<Option<String>>,
 }
 
-/// Copies a name, where there is one.
+/// Copies a name, if there is one.
 fn copied(alloc: Global, name: Option<&str>) -> Result<Option<String>, AllocError>
     ensures { IfOk result (λ copy. option_map string_bytes copy ≡ text_of name.entry) }
 {
@@ -88,7 +88,7 @@ impl<'a> Host for Memory<'a> {
         }
     }
 
-    fn most_of(input: &Bytes<'a>) -> Option<usize> {
+    fn max_bytes_of(input: &Bytes<'a>) -> Option<usize> {
         Some(input.rest.len())
     }
 }
@@ -96,7 +96,7 @@ impl<'a> Host for Memory<'a> {
 /// What a program left.
 #[derive(Drop)]
 pub struct Left {
-    /// What was opened or tried, in order: the names of files, and none for standard input.
+    /// What was opened or tried, in order: the names of files, and `None` for standard input.
     pub opened: Vec<Option<String>>,
     /// The bytes on standard output.
     pub output: Vec<u8>,
@@ -106,12 +106,11 @@ pub struct Left {
     pub status: u8,
 }
 
-/// Runs the program on these words, its own name first among them, over files in memory, and
-/// returns what it left. An error says that memory for the output, for the message or for the notes
-/// ran out.
+/// Runs the program with these arguments, its own name first among them, over files in memory, and
+/// returns what it left. Fails if memory for the output, for the message or for the notes runs out.
 ///
-/// Identifier codes are hashed by numbers that all may know, so that codes can be crafted which
-/// take long to find: dumps that are not trusted are for `run_into_memory`.
+/// Codes are hashed with numbers that everybody may know, so codes can be crafted that take long to
+/// find. Use `run_into_memory` for dumps that are not trusted.
 pub fn run_in_memory(
     alloc: Global,
     words: &[String],
@@ -141,19 +140,19 @@ pub fn run_in_memory(
     })
 }
 
-/// What a program left where its output and its message went to bytes that were lent.
+/// What a program left, if its output and its message went into bytes that were lent.
 #[derive(Clone, Copy, PartialEq, Eq, Debug)]
 pub struct Filled {
-    /// How many bytes the output has, also where there was room for fewer.
+    /// How many bytes the output has, even if there was room for fewer.
     pub output: u64,
-    /// How many bytes the message has, also where there was room for fewer.
+    /// How many bytes the message has, even if there was room for fewer.
     pub message: u64,
     /// The exit status.
     pub status: u8,
 }
 
-/// Runs the program on these words over files in memory, with an output and an error stream to
-/// which nothing was written yet, and returns its exit status.
+/// Runs the program with these arguments over files in memory, with an output and an error stream
+/// to which nothing was written yet, and returns its exit status.
 fn run_into_lent<B: BuildHasher>(
     alloc: Global,
     words: &[String],
@@ -173,11 +172,12 @@ fn run_into_lent<B: BuildHasher>(
     run_program(alloc, words, memory, out, err, hasher)
 }
 
-/// Runs the program on these words, its own name first among them, over files in memory, and
-/// returns its status and how long output and message are, if of each fewer than 2^63 bytes found
-/// no room. As much as there is room for is at the front of the bytes that were lent.
+/// Runs the program with these arguments, its own name first among them, over files in memory, and
+/// returns its status and the lengths of output and message. `None` if 2^63 bytes or more of one of
+/// them found no room. Those for which there is room are at the front of the bytes that were lent.
 ///
-/// Identifier codes are hashed by numbers that the hasher gives; what is left is the same by each.
+/// Identifier codes are hashed with numbers that the hasher gives; what is left does not depend on
+/// them.
 pub fn run_into_memory<B: BuildHasher>(
     alloc: Global,
     words: &[String],

@@ -5,8 +5,8 @@ use std::io::Write;
 use vcd_host::{Buffered, Output};
 use vcd_text::{Sink, put, put_few, put_parts};
 
-// Notes how many bytes each write brings. It takes 3,000 of them at most where it is `narrow`, and
-// fails at the write of one number.
+// Notes how many bytes each write brings. It takes at most 3,000 of them if it is `narrow`, and
+// fails at one write, given by its number.
 #[derive(Drop)]
 struct Noted {
     sizes: Vec<usize>,
@@ -42,7 +42,7 @@ impl Write for Noted {
     }
 }
 
-// The blocks of texts of these lengths, where no write fails and the sink is dropped at the end.
+// The blocks of texts of these lengths, if no write fails and the sink is dropped at the end.
 fn blocks_of(alloc: Global, lens: &[usize]) -> Result<Vec<usize>, AllocError> {
     let bytes = [b'x'; 9_000];
     let mut device = Noted::new(alloc, false, usize::MAX);
@@ -62,8 +62,8 @@ fn are(alloc: Global, lens: &[usize], blocks: &[usize]) -> Result<bool, AllocErr
     Ok(blocks_of(alloc, lens)?.as_slice() == blocks)
 }
 
-// The blocks of three texts where the buffer has room for the second one as a whole, but not for
-// the parts of the third one.
+// The blocks of three texts if the buffer has room for the second one as a whole, but not for the
+// parts of the third one.
 fn blocks_of_parts(alloc: Global) -> Result<Vec<usize>, AllocError> {
     let bytes = [b'x'; 9_000];
     let mut device = Noted::new(alloc, false, usize::MAX);
@@ -107,7 +107,7 @@ fn is(sizes: &Vec<usize>, wanted: &[usize]) -> bool {
     sizes.as_slice() == wanted
 }
 
-// The blocks and the failed writes where the second write fails, and what is left is flushed again.
+// The blocks and the failed writes if the second write fails, and what is left is flushed again.
 fn blocks_flushed_twice(alloc: Global) -> Result<(Vec<usize>, u64), AllocError> {
     let mut device = Noted::new(alloc, true, 1);
     let failures = {
@@ -128,7 +128,7 @@ fn what_a_failed_flush_left_is_flushed_again(rt: HostRuntime) {
     assert_eq!(rt; left, Ok((true, 0)));
 }
 
-// The blocks and the failed writes where the first write fails, and with it the second put.
+// The blocks and the failed writes if the first write fails, and with it the second put.
 fn blocks_failed(alloc: Global) -> Result<(Vec<usize>, u64), AllocError> {
     let mut device = Noted::new(alloc, false, 0);
     let failures = {
@@ -151,8 +151,8 @@ fn failed_writes_are_counted_once(rt: HostRuntime) {
     assert_eq!(rt; left, Ok((true, 1)));
 }
 
-// The blocks and the failed writes where the second write fails, each text is passed on, and the
-// last of them twice.
+// The blocks and the failed writes if the second write fails, each text is passed on, and the last
+// of them twice.
 fn blocks_passed_on(alloc: Global) -> Result<(Vec<usize>, u64), AllocError> {
     let mut device = Noted::new(alloc, false, 1);
     let failures = {

@@ -361,7 +361,7 @@ pub(crate) fn words_of(alloc: Global, words: &[&str]) -> Result<Vec<String>, All
     Ok(texts)
 }
 
-// The first row that is not as it says, from 0; the count of rows where each is.
+// The first row that is not as expected, from 0; the number of rows if all are.
 fn first_wrong(alloc: Global) -> Result<usize, AllocError> {
     for (place, row) in ROWS.iter().enumerate() {
         let words = words_of(alloc, row.words)?;

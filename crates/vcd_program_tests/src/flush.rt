@@ -7,7 +7,7 @@ use vcd_program::{Memory, run_program};
 use vcd_text::Watch;
 use vcd_text::doubles::Narrow;
 
-// The status and the message of these words over this input, where the output cannot be flushed.
+// The status and the message of these words over this input, if the output cannot be flushed.
 fn run_unflushed(alloc: Global, word: &str, input: &[u8]) -> Result<(u8, Vec<u8>), AllocError> {
     let words = words_of(alloc, &[word])?;
     let mut memory = Memory {
@@ -29,13 +29,13 @@ fn run_unflushed(alloc: Global, word: &str, input: &[u8]) -> Result<(u8, Vec<u8>
     Ok((status, err.device))
 }
 
-// Whether just this is said, with status 3.
+// Whether exactly this is said, with status 3.
 fn is_said(alloc: Global, word: &str, input: &[u8], line: &[u8]) -> Result<bool, AllocError> {
     let (status, message) = run_unflushed(alloc, word, input)?;
     Ok(status == 3 && message.as_slice() == line)
 }
 
-// A job that is done, and the version.
+// A job that succeeds, and the version.
 fn is_flush_said(alloc: Global) -> Result<bool, AllocError> {
     let dump = b"$timescale 1ns $end $var wire 1 ! a $end $enddefinitions $end\n#5\n1!\n";
     Ok(

@@ -117,7 +117,7 @@ decimal_value-append (x ∷ xs) ys =
 both : (xs ys : List ℕ) → list_all is_ascii_digit xs ≡ true → list_all is_ascii_digit ys ≡ true → spelled (xs ++ ys) ≡ Some (decimal_value (xs ++ ys))
 both xs ys front back = rw (list_all-append is_ascii_digit xs ys, front, back) refl
 
--- the number of both, where the power of ten has as many zeros as the second part digits
+-- the number of both, if the power of ten has as many zeros as the second part digits
 pub two_spelled : (xs ys : List ℕ) (high low power : ℕ) → power ≡ 10 ^ length ys → spelled xs ≡ Some high → spelled ys ≡ Some low → Some (high * power + low) ≡ spelled (xs ++ ys)
 two_spelled xs ys high low power is front back =
     let h = of_spelled xs high front in
@@ -125,7 +125,7 @@ two_spelled xs ys high low power is front back =
     let value : decimal_value (xs ++ ys) ≡ high * power + low = rw (decimal_value-append xs ys, h.1, l.1, is) refl in
     ap Some (sym value) ∙ sym (both xs ys h.0 l.0)
 
--- which is small, where there are at most 16
+-- which is small, if there are at most 16
 pub two_below : (xs ys : List ℕ) (high low power : ℕ) → power ≡ 10 ^ length ys → spelled xs ≡ Some high → spelled ys ≡ Some low → length (xs ++ ys) ≤ 16 → high * power + low < 2 ^ 64
 two_below xs ys high low power is front back few =
     let all = of_spelled (xs ++ ys) (high * power + low) (sym (two_spelled xs ys high low power is front back)) in

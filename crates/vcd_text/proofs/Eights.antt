@@ -18,7 +18,7 @@ use Rattle.vcd_text.proofs.Masks.{masked}
 not_none : (n m : ℕ) → n ≡ 1 → n + 2 * m ≡ 0 → ⊥
 not_none n m e h = omega arith
 
--- where no bit is set, each lane passes
+-- if no bit is set, each lane passes
 none_set : (v : List ℕ) → mask_l (map (λ x. not (is_ascii_digit x)) v) ≡ 0 → list_all is_ascii_digit v ≡ true
 none_set [] e = refl
 none_set (x ∷ v) e = by_test (is_ascii_digit x) (none_set v) refl e
@@ -30,7 +30,7 @@ none_set (x ∷ v) e = by_test (is_ascii_digit x) (none_set v) refl e
 abbrev above_9 : ℕ → ℕ
 above_9 x = cond (nat_lt 9 ((x + (2 ^ 8 - 48)) % 2 ^ 8)) 255 0
 
--- a lane is above 9 where its byte is no digit
+-- a lane is above 9 if its byte is no digit
 pub all_digits : (v : List ℕ) → length v ≡ 8 → Each1 (Fits w8) v → mask_l (map (top 7) (zip2 (λ a b. cond (nat_lt a b) 255 0) (replicate 8 9) (zip2 (λ x y. (x + (2 ^ 8 - y)) % 2 ^ 8) v (replicate 8 48)))) % 2 ^ 64 ≡ 0
     → list_all is_ascii_digit v ≡ true
 all_digits v long fits none =

@@ -1,4 +1,4 @@
--- A turn of a feed where whole tokens come first in the chunk.
+-- A step of a feed if whole tokens come first in the chunk.
 use Rattle.std.proofs.Common.{◌≡◌, ℕ, ◌+◌, ◌-◌, ◌≤◌, ◌<◌, true, false, List, [], ◌∷◌, ◌++◌, length, take, drop, ap, sym, subst, ◌∙◌, arith, inl, inr, length-drop}
 use Rattle.std.specs.Prelude.{slice_index, slice_range}
 use Rattle.std.proofs.lemmas.List.{drop-drop, get_or-drop}
@@ -115,7 +115,7 @@ rest_first limit lines n d chunk p new ts w le at stop =
     let rest = passed_after limit lines d (slice_range chunk p.at p.stop) 0 n ts (subst (λ k. PassedFrom limit lines (slice_range chunk p.at p.stop) k ts n) e w) in
     rw (at, stop) (lines + line_feeds_in (take d (slice_range chunk p.at p.stop)), n - d, subst (λ bs. Passed limit (lines + line_feeds_in (take d (slice_range chunk p.at p.stop))) bs (n - d) ts) (slice-drop chunk p.at p.stop d le) rest)
 
--- what lasts over the turns of one answer, where whole tokens lie ahead: nothing was read, and no
+-- what lasts over the steps of one answer, if whole tokens lie ahead: nothing was read, and no
 -- token has begun
 pub record Stays {X : Type 0} (source source' : X) (limit : ℕ) (chunk : List ℕ) (p : Parked) (t : Token) (ts : List Token) : Type 0 where
   pub source_is : source' ≡ source

@@ -19,7 +19,7 @@ each_byte : (f : ℕ → ℕ) (p : ℕ → Bool) → agree_below (λ x. top 7 (f
 each_byte f p all [] fits = refl
 each_byte f p all (x ∷ xs) fits = ap₂ (λ a b. a ∷ b) (agree_below_at (λ y. top 7 (f y)) p 256 x all fits.0.fits) (each_byte f p all xs fits.1)
 
--- the mask of lanes that were computed from v by f, whose top bits say where p holds
+-- the mask of lanes that were computed from v by f, whose top bits say whether p holds
 pub masked : (f : ℕ → ℕ) (p : ℕ → Bool) (v z : List ℕ) → length v ≤ 64 → Each1 (Fits w8) v → z ≡ map f v → agree_below (λ x. top 7 (f x)) p 256 ≡ true
     → mask_l (map (top 7) z) % 2 ^ 64 ≡ mask_l (map p v)
 masked f p v z short fits e all =
@@ -91,7 +91,7 @@ others_before xs i n mask r front t le none k lt = elim (cases_lt k i) [
 abbrev pub bits-of : ℕ → ℕ → White
 bits-of bits next = record { bits = bits; next = next }
 
--- where no bit is set, the bytes before `next` are others
+-- if no bit is set, the bytes before `next` are others
 pub bits-none : (chunk : List ℕ) (at stop : ℕ) (w : White) → w.bits ≡ 0 → BitsAreWhite chunk at stop w → (j : ℕ) → at ≤ j → j < w.next → is_white_space (get_or chunk j 0) ≡ false
 bits-none chunk at stop w e m j le lt = m.other j le lt (λ _. no_bits w.bits (j + 64 - w.next) e)
 
@@ -128,7 +128,7 @@ bits-on chunk at at' stop w bit mask m set below kept no_more gone is =
       other = λ j le lt none. m.other j (omega arith) lt (λ h. sym (kept (j + 64 - w.next) (omega arith) (omega arith)) ∙ none h);
     }
 
--- where no byte was looked over yet
+-- if no byte was looked over yet
 pub bits-empty : (chunk : List ℕ) (at stop : ℕ) → at ≤ stop → BitsAreWhite chunk at stop (bits-of 0 at)
 bits-empty chunk at stop le = record {
   within = le;
@@ -168,7 +168,7 @@ tells-none chunk at next mask front t e j le lt = elim (cases_lt j next) [
       subst (λ i. is_white_space (get_or chunk i 0) ≡ false) back (t.other (j - next) (omega arith) (no_bits mask (j - next) e)))
 ]
 
--- lanes of 1 where p holds, and 0 elsewhere
+-- lanes of 1 if p holds, and 0 elsewhere
 abbrev pub ones : (ℕ → Bool) → List ℕ → List ℕ
 ones p v = map (λ x. cond (p x) 1 0) v
 

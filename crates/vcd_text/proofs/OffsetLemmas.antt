@@ -59,7 +59,7 @@ module _ (rest : Option (List ℕ)) (chunk c : List ℕ) (same : length c ≡ le
   halt_near Ended h n = no-halt limit i given (p.line_feeds + 1) (λ place. Near (length c) (Some left) place i) h.1
   halt_near (Halted halt) h n = IfSome_then (halt_place limit i) h.3 (λ place m. near place m)
 
--- where a feed is parked, another may continue
+-- if a feed is parked, another may continue
 pub goes_on_at : (rest : Option (List ℕ)) (chunk token : List ℕ) (p : Parked) (i : Input) (given : List Token) → HasGivenParked rest chunk token p i given → HasGivenTo (length chunk) (length token) (offset_of p) i given
 goes_on_at rest chunk token p i given h c t same limit = record {
   at = subst (λ n. InPhase (unwrap_or (phase_at (answer_number p.phase)) Going) n (Some (drop (looked p) i.bytes)) c (registers_at (offset_of p)) i given) (sym limit) (in_phase rest chunk c same (length token) p i given p.phase h.at);

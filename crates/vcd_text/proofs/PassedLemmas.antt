@@ -252,7 +252,7 @@ module _ (bytes : List ℕ) (at : ℕ) (w : White) (bit : ℕ) (m : BitsAreWhite
   pub marked_only : (limit n : ℕ) → IsRun limit bytes at n → n ≡ w.next + bit - 64 - at
   marked_only limit n r = run_is limit bytes at (w.next + bit - 64 - at) n (bits-before bytes at (length bytes) w bit _ m set below refl) (bits-at bytes at (length bytes) w bit _ m set refl) r
 
-  -- the next token begins here, where this byte is another
+  -- the next token begins here, if this byte is another
   pub marked_first : (limit start n : ℕ) → w.next + bit - 64 - at ≢ 0 → AreWhite bytes at start → IsRun limit bytes start n → n ≡ w.next + bit - 64 - at
   marked_first limit start n some front r = elim (cases_lt at start) [
     | inl lt ↦ (let e : at + 0 ≡ at = omega arith in

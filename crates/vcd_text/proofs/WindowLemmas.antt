@@ -1,4 +1,4 @@
--- A turn of a feed, in the text.
+-- A step of a feed, in the text.
 use Rattle.std.proofs.Common.{◌≡◌, ℕ, zero, suc, ◌+◌, ◌-◌, ◌^◌, ◌≤◌, ◌<◌, Bool, true, false, List, [], ◌∷◌, ◌++◌, length, take, drop, refl, ap, sym, ◌∙◌, subst, arith, ◌⊎◌, inl, inr, add-zero, zero-add, append-nil, length-drop, length-append}
 use Rattle.std.specs.Prelude.{slice_index, slice_range, ◌==◌, nat_lt, if◌then◌else◌, Option, Some, None, Ok, Err}
 use Rattle.std.proofs.lemmas.List.{drop_more, take-take, length-take, length-take-le}
@@ -94,7 +94,7 @@ gathered-within limit rest chunk token token' p text given d r full s w =
       line = λ h. rw less w.line;
     }
 
--- a byte further on, where a token ends
+-- a byte further on, if a token ends
 end-on : (limit : ℕ) (rest : Option (List ℕ)) (chunk text : List ℕ) (given : List Token) (at end p r line_feeds : ℕ) → AtPlace limit rest chunk text given at end p r line_feeds
     → end ≤ length chunk → at < end → p + 1 < 2 ^ 63 → r < p → is_white_space (slice_index chunk at) ≡ true
     → AtPlace limit rest chunk text (given ++ token_to text r p ∷ []) (at + 1) end (p + 1) (p + 1) (line_feeds + line_feeds_in (slice_range chunk at (at + 1)))
@@ -280,7 +280,7 @@ skip-ready limit rest chunk token old new text given r begun skips w = elim (zer
   | inr some ↦ rw (begun some) (record { within = w; line = w.line some; begins = λ none h. absurd (omega arith) })
 ]
 
--- what lasts over the turns of one answer
+-- what lasts over the steps of one answer
 pub record Turns (limit : ℕ) (stands : Input → List Token → Type 0) (rest : Option (List ℕ)) (chunk token : List ℕ) (size : ℕ) (p : Parked) : Type 0 where
   pub fits : Fits p size limit
   pub going : p.phase ≡ Going
@@ -377,7 +377,7 @@ fail-gives limit rest rest' chunk chunk' token old mid last i given r clean fill
     let near = near-short (length chunk') rest' (looked old) stopped (simp length-take (omega arith)) in
     rw (is, last-is, at) (halted-stands limit rest' chunk' token (record old { size = 0; line = old.line_feeds + 1; phase = Halted ReadFailed }) stopped given ReadFailed refl refl near refl (fail-ends limit rest chunk token old i.bytes given w) (no-halt-cut limit rest chunk token old i.bytes given w))
 
--- the registers, where the last token is let go
+-- the registers, if the last token is let go
 abbrev pub cleared : Parked → Parked
 cleared p = record p { size = 0 }
 
@@ -414,7 +414,7 @@ finish-near limit rest rest' chunk chunk' token p i given used none some w =
     let end = end-of-token limit i.bytes (looked p) (looked p - p.size) given place.live place.within (omega (arith, w.at.begun)) (λ lt. absurd (omega arith)) in
     near-short (length chunk') rest' (end_of_tokens i.bytes (suc (length given))) i (omega arith)
 
--- where the source fails it has all that was not looked at
+-- if the source fails it has all that was not looked at
 pub fail-rest : (limit : ℕ) (rest rest' : Option (List ℕ)) (chunk chunk' token : List ℕ) (old mid : Parked) (i : Input) (given : List Token) → old.end ≤ old.at → Fills rest rest' chunk' old mid fill-failed → Within limit rest chunk token old i.bytes given
     → HasRest rest' (looked old) i
 fail-rest limit rest rest' chunk chunk' token old mid i given used fills w =

@@ -15,8 +15,8 @@ pub data CallEnd : Type 0 where
 abbrev pub HasNotFailed : {X : Type 0} {g : Ghosts X} → Feed X g → Type 0
 HasNotFailed f = answer_of f ≢ Some (Err halt.ReadFailed)
 
--- The loans and lengths stay, and what was looked at grows. The end is a failure of the source just
--- where the source failed, and nothing was read after that.
+-- The loans and lengths stay, and what was looked at grows. The end is a failure of the source if
+-- and only if the source failed, and nothing was read after that.
 pub record Advances {X : Type 0} {g : Ghosts X} (failures : X → ℕ) (old new : Feed X g) (end : CallEnd) : Type 0 where
   pub loans : SameLoans old new
   pub limit : limit_of new ≡ limit_of old
@@ -27,7 +27,7 @@ pub record Advances {X : Type 0} {g : Ghosts X} (failures : X → ℕ) (old new 
   pub last : end ≡ Fails → HasNotFailed old → g.last_failed (source_of new) ≡ true
   pub same : end ≢ Fails → failures (source_of new) ≡ failures (source_of old)
 
--- So it advances, by a byte or more where the call succeeds, and not beyond the bytes that an input
+-- So it advances, by a byte or more if the call succeeds, and not beyond the bytes that an input
 -- may have.
 pub record GoesFurther {X A E : Type 0} {g : Ghosts X} (failures : X → ℕ) (old new : Feed X g) (end : CallEnd) (result : Result A E) : Type 0 where
   pub advances : Advances failures old new end

@@ -27,7 +27,7 @@ bytes_of a = a.bytes.now
 abbrev pub passed_of : Ahead → ℕ
 passed_of a = a.at
 
--- the most bytes that a token may have
+-- how many bytes a token may have
 abbrev pub longest_of : Ahead → ℕ
 longest_of a = a.limit
 

@@ -1,5 +1,5 @@
--- What the calls of a feed ask and leave, and under the same path the other names of which the
--- clauses of a feed speak.
+-- What the calls of a feed require and leave, and under the same path the other names that the
+-- contracts of a feed cite.
 use Rattle.std.specs.Prelude.{◌≡◌, ◌≢◌, ℕ, ◌<◌, List, [], ◌∷◌, ◌++◌, length, IfSome, None, Some, Result, Ok, Err}
 pub use Rattle.vcd_model.specs.Input.{Input}
 use Rattle.vcd_model.specs.Tokens.{Token}
@@ -22,7 +22,7 @@ pub record MayLend (chunk token value : List ℕ) : Type 0 where
   pub token_some : 0 < length token
   pub same_limit : length value ≡ length token
 
--- of the source, which is lent with these, nothing was read
+-- the source is lent with these, and nothing of it was read
 pub record Begins {X : Type 0} {g : Ghosts X} (source : X) (chunk window : List ℕ) (f : Feed X g) : Type 0 where
   pub stands : IfSome (g.rest source) (λ text. HasGiven (whole text) [] f)
   pub no_token : token_of f ≡ record { bytes = []; line = 1 }
@@ -44,7 +44,7 @@ pub record StandsStill {X : Type 0} {g : Ghosts X} (old new : Feed X g) : Type 0
   pub chunk_len : chunk_len_of new ≡ chunk_len_of old
   pub loans : SameLoans old new
 
--- the first n bytes ahead are just these whole tokens
+-- the first n bytes ahead are exactly these whole tokens
 abbrev pub PassesTo : {X : Type 0} {g : Ghosts X} → Feed X g → ℕ → List Token → Type 0
 PassesTo f n tokens = Passed (limit_of f) (lines_of f) (ahead_of f) n tokens
 
@@ -52,7 +52,7 @@ PassesTo f n tokens = Passed (limit_of f) (lines_of f) (ahead_of f) n tokens
 abbrev pub LieAhead : {X : Type 0} {g : Ghosts X} → Feed X g → List Token → Type 0
 LieAhead f tokens = AreFirst (limit_of f) (ahead_of f) tokens
 
--- where tokens have been given, these have been too
+-- if some tokens were given, these were given too
 abbrev pub GivesAllTo : {X : Type 0} {g : Ghosts X} → ℕ → (old new : Feed X g) → Type 0
 GivesAllTo n old new = (ts : List Token) → PassesTo old n ts → (i : Input) (given : List Token) → HasGiven i given old → HasGiven i (given ++ ts) new
 
@@ -81,7 +81,7 @@ pub record TakesFirst {X : Type 0} {g : Ghosts X} (old new : Feed X g) (t : Toke
   pub source : source_of new ≡ source_of old
   pub rest : LieAhead new ts
 
--- where whole tokens lie ahead, the next one is given, and nothing is read for it
+-- if whole tokens lie ahead, the next one is given, and nothing is read for it
 abbrev pub TakesAhead : {X : Type 0} {g : Ghosts X} → (old new : Feed X g) → Result Next Halt → Type 0
 TakesAhead old new result = (t : Token) (ts : List Token) → LieAhead old (t ∷ ts) → (result ≡ Ok token) × TakesFirst old new t ts
 
@@ -90,7 +90,7 @@ pub record Answers {X : Type 0} {g : Ghosts X} (old new : Feed X g) (result : Re
   -- the end and a halt are returned again, and nothing is read
   pub settles : result ≢ Ok token → answer_of new ≡ Some result
   pub again : IfSome (answer_of old) (λ answer. (result ≡ answer) × (source_of new ≡ source_of old))
-  -- No halt is known yet where a token is returned. So a failed read is first returned by the call
+  -- No halt is known yet if a token is returned. So a failed read is first returned by the call
   -- in which the source failed.
   pub going : result ≡ Ok token → (halt : Halt) → answer_of new ≢ Some (Err halt)
   pub shows : result ≡ Ok token → (token_of new).bytes ≢ []

@@ -14,7 +14,7 @@ abbrev pub places_from : List ℕ → ℕ → ℕ → List ℕ
 places_from text a n = filter (begins_token text) (range_with_len a n)
 
 -- the bytes before offset p were looked at, and no halt is at one of them. A token that has not
--- ended begins at offset r (none where r is p), and these tokens have ended before it
+-- ended begins at offset r (none if r is p), and these tokens have ended before it
 pub record HasLookedAt (limit : ℕ) (text : List ℕ) (p r : ℕ) (given : List Token) : Type 0 where
   pub order : r ≤ p
   pub counted : p < 2 ^ 63

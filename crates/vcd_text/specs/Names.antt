@@ -1,4 +1,4 @@
--- What the clauses of this crate speak of below the feed, under one path. None of it names the type
+-- What the contracts of this crate cite below the feed, under one path. None of it names the type
 -- `Feed`, so the file of that type may import it. What is said of a feed is in `Calls`.
 pub use Rattle.std.specs.Char.{is_ascii_digit}
 pub use Rattle.std.specs.Int.{bit_at}

@@ -5,7 +5,7 @@ use Rattle.vcd_model.specs.Bytes.{is_white_space}
 use Rattle.vcd_model.specs.Tokens.{Token}
 use Rattle.vcd_text.specs.Window.{line_feeds_in}
 
--- the line of the byte at an offset, where this many line feeds come before these bytes
+-- the line of the byte at an offset, if this many line feeds come before these bytes
 abbrev pub line_ahead : ℕ → List ℕ → ℕ → ℕ
 line_ahead lines bytes at = 1 + lines + line_feeds_in (take at bytes)
 
@@ -28,14 +28,14 @@ pub record AreWhite (bytes : List ℕ) (from to : ℕ) : Type 0 where
   pub order : from ≤ to
   pub white : (k : ℕ) → from ≤ k → k < to → is_white_space (slice_index bytes k) ≡ true
 
--- from this offset on there are just these tokens, up to offset n: white bytes before each, none or
--- more, then the token, and one white byte that ends it
+-- from this offset on there are exactly these tokens, up to offset n: any white bytes before each,
+-- then the token, and one white byte that ends it
 abbrev pub PassedFrom : ℕ → ℕ → List ℕ → ℕ → List Token → ℕ → Type 0
 PassedFrom limit lines bytes at [] n = n ≡ at
 PassedFrom limit lines bytes at (t ∷ ts) n = (start : ℕ) × AreWhite bytes at start × StandsAt limit lines bytes start t × PassedFrom limit lines bytes (start + length t.bytes + 1) ts n
 
--- The first n bytes are just these tokens, each of at most `limit` bytes, not empty, with one white
--- byte after it, and white space before it or none. Before the bytes there are this many line
+-- The first n bytes are exactly these tokens, each of at most `limit` bytes and not empty, with any
+-- white space before it and one white byte after it. Before the bytes there are this many line
 -- feeds.
 abbrev pub Passed : ℕ → ℕ → List ℕ → ℕ → List Token → Type 0
 Passed limit lines bytes n ts = PassedFrom limit lines bytes 0 ts n

@@ -1,4 +1,4 @@
--- What a watch knows beside its device.
+-- What a watch knows besides its device.
 use Rattle.std.specs.Prelude.{ℕ, Bool}
 use Rattle.vcd_text.specs.declared.device.Watch.{Watch}
 

@@ -37,7 +37,7 @@ ended chunk p d = record p { at = p.at + d + 1; size = p.size + d; line_feeds = 
 abbrev pub stepped_past : List ℕ → ℕ → Parked → Parked
 stepped_past chunk at p = record p { at = at + 1; line_feeds = p.line_feeds + (if slice_index chunk at == 10 then 1 else 0) }
 
--- the registers after n bytes that were looked over ahead, and no token is shown
+-- the registers after n bytes that an `Ahead` has passed; no token is shown
 abbrev pub gone_on : List ℕ → Parked → ℕ → Parked
 gone_on chunk p n = record p { at = p.at + n; size = 0; line_feeds = p.line_feeds + line_feeds_in (slice_range chunk p.at (p.at + n)) }
 

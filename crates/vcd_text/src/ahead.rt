@@ -1,16 +1,16 @@
-//! A look ahead over the bytes of a chunk, in a caller's loop: most tokens cost no change of the
+//! The tokens that lie completely in a chunk: a caller's loop reads them without a change of the
 //! feed.
 ghost use Rattle.std.specs.Prelude.{◌≡◌, ◌≢◌, ℕ, ◌+◌, ◌^◌, ◌<◌, ◌≤◌, true, false, List, length, slice_get, slice_index, IfSome, None, Some};
 ghost use Rattle.vcd_text.specs.Names.{AreWhite, BitsAreWhite, IsRun, bit_at, is_white_space};
 
 use crate::scan::{is_white_space, low_16, lowest, run_len, white_64, without};
 
-// White space that was seen ahead.
+// White space that was seen ahead. Each byte before `next` was looked at.
 #[derive(Clone, Copy)]
 pub(crate) struct White {
-    // Bit k is set where byte `next - 64 + k` is white and was not passed.
+    // Bit k is set if byte `next - 64 + k` is white and was not passed.
     pub(crate) bits: u64,
-    // The bytes before it were looked over.
+    // The offset after the last byte that was looked at.
     pub(crate) next: usize,
 }
 
@@ -76,12 +76,13 @@ impl White {
 
 /// The tokens ahead in a feed's chunk, up to one for which the feed itself is needed. A copy of it
 /// is a position to go back to.
-// Offset, lines and token of a feed are memory that each token changes. Here they are registers,
-// and line feeds are counted once for all items (`count_line_feeds`).
+// In a caller's loop these fields are registers, and the feed counts line feeds once for all tokens
+// (`count_line_feeds`).
 #[derive(Clone, Copy)]
 pub struct Ahead<'a> {
     bytes: &'a [u8],
-    // How many bytes were passed. The next token begins here, or after white bytes from here on.
+    // How many bytes were passed. The next token begins here, or after the white bytes that begin
+    // here.
     at: usize,
     limit: usize,
     white: White,
@@ -107,8 +108,8 @@ impl<'a> Ahead<'a> {
         }
     }
 
-    /// Returns how many bytes were passed, for `Feed::pass`: those up to the last token that was
-    /// given, and the one white byte after it.
+    /// Returns how many bytes were passed, for `Feed::pass`: up to the last token that was given,
+    /// and one white byte after it.
     #[inline(always)]
     pub fn passed(&self) -> usize
         ensures passed { result ≡ passed_of self.now }
@@ -117,8 +118,8 @@ impl<'a> Ahead<'a> {
         self.at
     }
 
-    /// Returns the bytes that it looks over, so that a caller can look at more of them than a
-    /// token's in one load.
+    /// Returns the bytes in which it looks for tokens, so that a caller can look at more of them
+    /// than one token has.
     #[inline(always)]
     pub fn bytes(&self) -> &'a [u8]
         ensures { result.now ≡ bytes_of self.now }
@@ -126,9 +127,10 @@ impl<'a> Ahead<'a> {
         self.bytes
     }
 
-    /// Returns the next token, if it is whole ahead. White bytes before it are passed with it.
-    /// `None` where it is not whole, too long, or near the end of the bytes: that is left to
-    /// `Feed::next`.
+    /// Returns the next token, and passes it and the white bytes before it.
+    ///
+    /// `None` if it does not lie completely in the chunk, is longer than the limit, or ends fewer
+    /// than 64 bytes before the end of the chunk: then `Feed::next` reads it.
     // With a loop over the white bytes here, `check` of vectors takes 5 % more instructions.
     #[inline(always)]
     pub fn next(&mut self) -> Option<&'a [u8]>
@@ -147,9 +149,11 @@ impl<'a> Ahead<'a> {
         self.take(start, white)
     }
 
-    /// Returns the next token, if it begins right here, has two bytes and a line feed after them.
-    /// `None` else; then `next` may give one. It looks at these three bytes alone, and forgets what
-    /// white space it has seen: it is for a run of such tokens.
+    /// Returns the next token, if it begins at the next byte and has two bytes and a line feed
+    /// after them.
+    ///
+    /// Otherwise `None`; then `next` may return one. It looks only at these three bytes, and
+    /// forgets the white space that it has seen. It is for a run of such tokens.
     #[inline(always)]
     pub fn next_short(&mut self) -> Option<&'a [u8]>
         ensures takes { IfSome result (λ token. TakesToken self.old self.new token.now) }
@@ -163,10 +167,12 @@ impl<'a> Ahead<'a> {
         self.take(at, White::before(at + 3))
     }
 
-    /// Returns the next token, if it begins right here, has at most 15 bytes and a line feed after
-    /// them. `None` else, and also where fewer than 16 bytes are left, where it has a control byte,
-    /// or where it is longer than the limit; then `next` may give one. It looks at 16 bytes in one
-    /// load, and forgets what white space it has seen: it is for a run of lines.
+    /// Returns the next token, if it begins at the next byte and has at most 15 bytes and a line
+    /// feed after them.
+    ///
+    /// Otherwise `None`, also if fewer than 16 bytes are left, if the token has a control byte, or
+    /// if it is longer than the limit; then `next` may return one. It looks at 16 bytes in one
+    /// step, and forgets the white space that it has seen. It is for a run of lines.
     #[inline(always)]
     pub fn next_in_16(&mut self) -> Option<&'a [u8]>
         ensures takes { IfSome result (λ token. TakesToken self.old self.new token.now) }
@@ -189,8 +195,10 @@ impl<'a> Ahead<'a> {
         self.take(at, White::before(at + len + 1))
     }
 
-    /// Returns the next token, if it is whole, also near the end of the bytes; `None` where it is
-    /// not whole or too long. It looks at one byte after the other: it is for the end of a chunk.
+    /// Returns the next token, also near the end of the chunk. `None` if it does not lie completely
+    /// in the chunk or is longer than the limit.
+    ///
+    /// It looks at one byte after the other, so it is only for the last bytes of a chunk.
     pub fn next_slowly(&mut self) -> Option<&'a [u8]>
         ensures takes { IfSome result (λ token. TakesToken self.old self.new token.now) }
         ensures within { passed_of self.new ≤ length (bytes_of self.old) }
@@ -204,9 +212,11 @@ impl<'a> Ahead<'a> {
         self.take(start, White::before(end + 1))
     }
 
-    /// Returns whether the next token begins right here, has two bytes and a line feed after them.
-    /// It is false also where the limit is one byte, and where one of the two is a control byte:
-    /// then `next` tells. Once it is true, the limit is 2 or more and need not be asked again.
+    /// Returns whether the next token begins at the next byte and has two bytes and a line feed
+    /// after them, and the limit allows two bytes.
+    ///
+    /// It is false for a token with a control byte. Once it is true, the limit is 2 or more, so a
+    /// loop need not ask for it again.
     #[inline(always)]
     pub fn two_byte_line_comes(&self) -> bool
         ensures { result ≡ true
@@ -215,7 +225,7 @@ impl<'a> Ahead<'a> {
         self.limit >= 2 && is_two_byte_line(self.bytes, self.at)
     }
 
-    /// Returns the first byte of the next token; `None` where only white bytes are ahead.
+    /// Returns the first byte of the next token; `None` if only white bytes are left.
     #[inline(always)]
     pub fn first_byte(&self) -> Option<u8>
         ensures some { IfSome result (λ byte. (start : ℕ)
@@ -229,8 +239,8 @@ impl<'a> Ahead<'a> {
         self.bytes.get(start).copied()
     }
 
-    /// Forgets what white space it has seen, before a loop over `next_short` and `next_in_16`: so
-    /// the loop need not keep it.
+    /// Forgets the white space that it has seen, before a loop over `next_short` and `next_in_16`,
+    /// which does not need it.
     #[inline(always)]
     pub fn forget(&mut self)
         ensures { (passed_of self.new ≡ passed_of self.old) × (bytes_of self.new ≡ bytes_of self.old)
@@ -247,8 +257,8 @@ impl<'a> Ahead<'a> {
         };
     }
 
-    /// Takes the token at an offset, before which all bytes are white. `None` where it is longer
-    /// than the limit.
+    /// Returns the token at an offset, before which all bytes are white, and passes it. `None` if
+    /// it is longer than the limit.
     #[inline(always)]
     fn take(&mut self, start: usize, white: White) -> Option<&'a [u8]>
         requires order { start ≤ white.next }
@@ -280,8 +290,8 @@ impl<'a> Ahead<'a> {
     }
 }
 
-/// Returns whether two bytes above the space, so not white, come at this offset, and then a line
-/// feed. Before a control byte it is false.
+/// Returns whether two bytes above the space and then a line feed begin at this offset. It is false
+/// if one of the two is a control byte.
 #[inline(always)]
 fn is_two_byte_line(bytes: &[u8], at: usize) -> bool
     requires { at ≤ length bytes.now }
@@ -293,9 +303,9 @@ fn is_two_byte_line(bytes: &[u8], at: usize) -> bool
     bytes.len() - at >= 3 && bytes[at + 2] == b'\n' && bytes[at] > b' ' && bytes[at + 1] > b' '
 }
 
-/// Returns the offset at which the white bytes from another one on end.
-// Not inlined, like `look_ahead`. Both return numbers alone: what is returned through memory would
-// be cleared for each token.
+/// Returns the offset of the first byte from `from` on that is not white, or the length if there is
+/// none.
+// Not inlined, and returns only a number, like `look_ahead`.
 #[inline(never)]
 fn past_white(bytes: &[u8], from: usize) -> usize
     requires { from ≤ length bytes.now }
@@ -311,8 +321,9 @@ fn past_white(bytes: &[u8], from: usize) -> usize
     at
 }
 
-/// Returns where the white bytes from this one on end.
-// Mostly the next byte is not white, as after the LF of CR LF: then no call is made.
+/// Returns the offset of the first byte after the white one at `at` that is not white, or the
+/// length if there is none.
+// Mostly that is the next byte, also after the LF of CR LF. Then no call is made.
 #[inline(always)]
 fn white_end(bytes: &[u8], at: usize) -> usize
     requires { (at < length bytes.now) × (is_white_space (slice_index bytes.now at) ≡ true) }
@@ -328,9 +339,11 @@ fn white_end(bytes: &[u8], at: usize) -> usize
     past_white(bytes, at)
 }
 
-/// Returns the white space that is known ahead, or else comes next. `None` where none is known, and
-/// no whole 64 bytes from `known.next` on have any; the last bytes, fewer than 64, may have some.
-// Most tokens end at a white byte that is known already: then no look is made.
+/// Returns the white space that is known ahead, or if there is none the next.
+///
+/// `None` if none is known and no complete 64 bytes from `known.next` on have any. The last bytes,
+/// fewer than 64, may have some.
+// Most tokens end at a white byte that is already known. Then no bytes are looked at.
 #[inline(always)]
 fn white_ahead(bytes: &[u8], known: White) -> Option<White>
     requires { known.next ≤ length bytes.now }
@@ -354,8 +367,8 @@ fn white_ahead(bytes: &[u8], known: White) -> Option<White>
     Some(white)
 }
 
-/// Returns the white space that comes next, by looks at 64 bytes: no bits where fewer are left
-/// before any.
+/// Returns the white space that comes next, found in steps of 64 bytes: no bits if fewer bytes are
+/// left before any.
 #[inline(never)]
 fn look_ahead(bytes: &[u8], from: usize) -> White
     requires { from ≤ length bytes.now }

@@ -6,8 +6,8 @@ ghost use Rattle.vcd_text.specs.Calls.{Fits, parked_answer, parked_seen};
 use crate::registers::Parked;
 use std::io;
 
-/// Returns a parked feed that counts this many bytes as looked at, without a line feed. It shows no
-/// token of them. A feed that continues from it comes to the last byte that an input may have,
+/// Returns a parked feed that counts this many bytes as looked at, without a line feed, and shows
+/// no token of them. A feed that continues from it reaches the last byte that an input may have,
 /// without a reader of that many bytes.
 pub fn parked_after(bytes: u64) -> Parked
     requires { bytes < 2 ^ 63 }
@@ -21,31 +21,32 @@ pub fn parked_after(bytes: u64) -> Parked
     }
 }
 
-/// A reader that gives its bytes, at most `most` a call, and then is at its end. It may fail at one
-/// call, or from its end on.
+/// A reader that gives its bytes, at most `size` in each call, and then is at its end. It may fail
+/// at one call, or from its end on.
 #[derive(Drop)]
 pub struct Pieces<'a> {
-    /// What it has still to give.
+    /// The bytes that it has not given yet.
     pub bytes: &'a [u8],
     /// How many bytes a call gives at most.
-    pub most: usize,
+    pub size: usize,
     /// How many calls there were.
     pub calls: u64,
-    /// The call that fails, counted from 1; none where it is 0.
+    /// The call that fails, counted from 1; 0 if none does.
     pub fails_at: u64,
-    /// Each call fails once all bytes are given.
+    /// Whether each call fails once all bytes are given.
     pub broken: bool,
 }
 
 impl<'a> Pieces<'a> {
-    /// Returns a reader of these bytes that never fails, and gives at most `most` of them a call.
-    pub fn new(bytes: &'a [u8], most: usize) -> Self
+    /// Returns a reader of these bytes that never fails, and gives at most `size` of them in each
+    /// call.
+    pub fn new(bytes: &'a [u8], size: usize) -> Self
         ensures bytes { result.bytes.now ≡ bytes.now }
-        ensures rest { (result.most ≡ most) × (result.calls ≡ 0) × (result.fails_at ≡ 0) }
+        ensures rest { (result.size ≡ size) × (result.calls ≡ 0) × (result.fails_at ≡ 0) }
     {
         Pieces {
             bytes,
-            most,
+            size,
             calls: 0,
             fails_at: 0,
             broken: false,
@@ -59,7 +60,7 @@ impl io::Read for Pieces<'_> {
         if self.calls == self.fails_at || self.broken && self.bytes.is_empty() {
             return Err(io::Error::from(io::ErrorKind::Other));
         }
-        let n = self.most.min(into.len()).min(self.bytes.len());
+        let n = self.size.min(into.len()).min(self.bytes.len());
         let (front, back) = self.bytes.split_at(n);
         into[..n].copy_from_slice(front);
         self.bytes = back;
@@ -67,10 +68,10 @@ impl io::Read for Pieces<'_> {
     }
 }
 
-/// The most bytes for which a `Narrow` has room.
+/// How many bytes a `Narrow` has room for at most.
 pub const MAX_HELD: usize = 1024;
 
-/// A writer that takes at most three bytes a call. Once it is full, writes and flushes fail.
+/// A writer that takes at most three bytes in each call. Once it is full, writes and flushes fail.
 #[derive(Drop)]
 pub struct Narrow {
     bytes: [u8; MAX_HELD],
@@ -83,7 +84,7 @@ pub struct Narrow {
 impl Narrow {
     ghost use Rattle.vcd_text.specs.Doubles.{held_by};
 
-    /// Returns a writer with room for this many bytes, which holds none yet.
+    /// Returns a writer with room for this many bytes, which has taken none yet.
     pub fn new(room: usize) -> Self
         requires { room ≤ 1024 }
         ensures { held_by result ≡ [] }
@@ -95,7 +96,7 @@ impl Narrow {
         }
     }
 
-    /// Returns the bytes that it took so far.
+    /// Returns the bytes that it has taken.
     pub fn held(&self) -> &[u8]
         ensures { result.now ≡ held_by self.now }
     {

@@ -4,16 +4,16 @@ ghost use Rattle.vcd_text.specs.Names.{spelled, spelled_below};
 
 use std::simd::prelude::*;
 
-/// What each of eight digits is worth.
+// What each of eight digits is worth.
 const WORTH: [u32; 8] = [10_000_000, 1_000_000, 100_000, 10_000, 1_000, 100, 10, 1];
 
-// After eight bytes that clear a lane, eight that keep one.
+// Eight bytes that clear a lane, and then eight that keep one.
 const KEPT: [u8; 16] = [
     0, 0, 0, 0, 0, 0, 0, 0, 255, 255, 255, 255, 255, 255, 255, 255,
 ];
 
-/// Returns the number that the `n` bytes before `to` spell, by a look at the eight before it, or
-/// `None` where one is no digit.
+/// Returns the number that the `n` bytes before `to` spell, by a look at the eight bytes before
+/// `to`. `None` if one of the `n` is no digit.
 #[inline(always)]
 fn few_digits(bytes: &[u8], to: usize, n: usize) -> Option<u64>
     requires within { (8 ≤ to) × (to ≤ length bytes.now) }
@@ -29,11 +29,11 @@ fn few_digits(bytes: &[u8], to: usize, n: usize) -> Option<u64>
     Some(u64::from(worth.strict_reduce_sum()))
 }
 
-/// Returns the number that the bytes from one offset up to another spell, as `decimal_of` does;
-/// `None` where that has none.
-// At most 16 are read by one or two looks at eight bytes: digit by digit the times of a dump of
-// Icarus Verilog take 25 of 104 instructions an item of its `check`. With more than eight digits no
-// look begins before the first: a turn of a merge begins at its time.
+/// Returns the number that the bytes from one offset up to another spell. `None` if `decimal_of`
+/// returns `None` for them.
+// At most 16 digits are read in one or two steps of eight bytes. Digit by digit, the times of a
+// dump of Icarus Verilog take 25 of 104 instructions for each item of its `check`. For more than
+// eight digits no step begins before the first digit, because a turn of a merge begins at its time.
 #[inline(always)]
 pub fn decimal_at(bytes: &[u8], from: usize, to: usize) -> Option<u64>
     requires { (from ≤ to) × (to ≤ length bytes.now) }
@@ -53,8 +53,8 @@ pub fn decimal_at(bytes: &[u8], from: usize, to: usize) -> Option<u64>
     Some(high * power + low)
 }
 
-/// Returns the number that decimal digits spell, or `None` where there is no digit, a byte is none,
-/// or the number is 2^64 or more. Leading zeros are accepted, a sign is not.
+/// Returns the number that decimal digits spell. `None` if there is no digit, if a byte is not a
+/// digit, or if the number is 2^64 or more. Leading zeros are accepted, a sign is not.
 #[inline(never)]
 pub fn decimal_of(digits: &[u8]) -> Option<u64>
     ensures { result ≡ spelled_below digits.now }

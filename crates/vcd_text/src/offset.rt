@@ -5,8 +5,8 @@ ghost use Rattle.vcd_text.specs.Names.{IsOffset, answer_number, offset_of, phase
 use crate::answer::Halt;
 use crate::registers::{Parked, Phase};
 
-/// How far a feed has come: numbers alone, which may be kept outside of the program. Another feed
-/// continues there, over the bytes that were not looked at.
+/// How far a feed has come. It is only numbers, which a caller may keep outside of the program.
+/// Another feed continues there, over the bytes that were not looked at.
 #[repr(C)]
 #[derive(Clone, Copy, PartialEq, Eq, Debug)]
 pub struct Offset {
@@ -16,8 +16,8 @@ pub struct Offset {
     pub line_feeds: u64,
     /// The line of the last answer.
     pub line: u64,
-    /// What every later call answers: 0 while that is open, 1 for the end, and 1 more than the
-    /// fault's number for a halt.
+    /// What every later call answers: 0 while that is open, 1 for the end, and for a halt 1 more
+    /// than the number of its fault.
     pub answer: u64,
 }
 
@@ -32,7 +32,7 @@ fn answer_number(phase: Phase) -> u64
     }
 }
 
-/// Returns what every later call answers, by its number. `None` for a number that none has.
+/// Returns what every later call answers, by its number. `None` if no answer has this number.
 fn phase_at(answer: u64) -> Option<Phase>
     ensures { result ≡ phase_at answer }
 {
@@ -62,7 +62,7 @@ pub(crate) fn offset_of(parked: Parked) -> Offset
 }
 
 /// Returns the registers of a feed that has come to this offset, with nothing in its chunk. `None`
-/// where no feed comes to it.
+/// if no feed comes to it.
 pub(crate) fn registers_at(offset: Offset) -> Option<Parked>
     ensures registers { MatchOption result ⊤ (λ p. p ≡ registers_at offset) }
     ensures counted { MatchOption result ⊤

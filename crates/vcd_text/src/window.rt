@@ -1,4 +1,4 @@
-// One turn of a feed: from the chunk to the token window, and then the next chunk.
+// The steps of a feed: from the chunk to the token window, and then the next chunk.
 ghost use Rattle.std.specs.Prelude.{◌≡◌, ℕ, ◌+◌, ◌-◌, ◌^◌, ◌<◌, ◌≤◌, ◌≢◌, ◌++◌, length, take, slice_range, true, false};
 ghost use Rattle.vcd_text.specs.Names.{Collects, Fills, Finishes, Fits, GoesOnIn, Halts, KeepsFit, MayGoOn, Skips, StillFits, is_white_at, looked, stepped_past};
 
@@ -7,12 +7,12 @@ use crate::device::Source;
 use crate::registers::{Parked, Phase};
 use crate::scan::{is_white_space, low_16, lowest, run_len, white_len};
 
-/// How much of the token that is gathered the chunk had.
+/// How much of a token the chunk had.
 #[derive(Clone, Copy)]
 pub(crate) enum Collected {
     // The token has ended.
     Whole,
-    // The bytes that may be looked at are used up.
+    // All bytes that may be looked at are used up, and the token has not ended.
     Part,
     // The token has more bytes than its window.
     TooLong,
@@ -26,10 +26,10 @@ pub(crate) enum Filled {
     Failed,
 }
 
-// The most bytes of an input that may be looked at.
+// How many bytes of an input may be looked at.
 const INPUT_LIMIT: u64 = (1 << 63) - 1;
 
-/// Passes over white space, where no token has begun.
+/// Moves past white space, if no token has begun.
 #[inline(always)]
 pub(crate) fn skip(chunk: &[u8], parked: &mut Parked)
     requires { MayGoOn (length chunk.now) parked.old }
@@ -47,8 +47,8 @@ pub(crate) fn skip(chunk: &[u8], parked: &mut Parked)
     parked.line = parked.line_feeds + 1;
 }
 
-/// Copies bytes of the chunk to the token window, up to the token's end, and returns whether that
-/// was there.
+/// Copies bytes of the chunk to the token window, up to the end of the token, and returns whether
+/// the chunk had that end.
 #[inline(always)]
 pub(crate) fn collect(chunk: &[u8], token: &mut [u8], parked: &mut Parked) -> Collected
     requires registers { MayGoOn (length chunk.now) parked.old }
@@ -91,8 +91,8 @@ fn step_past(chunk: &[u8], end: usize, parked: &mut Parked)
     parked.at = end + 1;
 }
 
-/// Returns how many bytes come before the first white byte: of a short token by one look at 16.
-// A look at 64 bytes by the table of `white_64` takes more for a short token.
+/// Returns how many bytes come before the first white byte.
+// A short token takes one look at 16 bytes, which is less than one at 64 (`white_64`).
 #[inline(always)]
 fn token_len(bytes: &[u8]) -> usize
     ensures within { result ≤ length bytes.now }
@@ -111,9 +111,9 @@ fn token_len(bytes: &[u8]) -> usize
     run_len(bytes)
 }
 
-/// Copies `n` bytes of the chunk after the first `size` of the token window: of a short token by
-/// one copy of 16 bytes, where 16 are there and have room.
-// A copy of a length that is not known is a call.
+/// Copies `n` bytes of the chunk to the token window, after its first `size` bytes.
+// A short token is one copy of 16 bytes, if both slices have 16: a copy of an unknown length is a
+// call.
 #[inline(always)]
 fn append(token: &mut [u8], size: usize, chunk: &[u8], at: usize, n: usize)
     requires room { size + n ≤ length token.old }
@@ -173,7 +173,7 @@ pub(crate) fn halted(parked: &mut Parked, halt: Halt) -> Halt
     halt
 }
 
-/// Ends the feed where its source has ended, and returns `Token` where the end closes one, else
+/// Ends the feed at the end of its source. Returns `Token` if that end closes a token, otherwise
 /// `Finish`.
 pub(crate) fn finish(parked: &mut Parked) -> Next
     requires { parked.old.line_feeds < 2 ^ 63 }

@@ -11,13 +11,13 @@ use vcd_text::{
     put_few, put_number, put_parts, text_of,
 };
 
-// The most bytes of a record of answers.
-const MAX_TOLD: usize = 1024;
+// How many bytes a record of answers may have.
+const MAX_RECORD: usize = 1024;
 
-// A record of answers, one after the other. What has no room is left out.
+// A record of answers, one after the other. An answer that has no room is left out.
 #[derive(Drop)]
 struct Report {
-    bytes: [u8; MAX_TOLD],
+    bytes: [u8; MAX_RECORD],
     len: usize,
     ghost size: { length bytes ≡ 1024 },
     ghost room: { len ≤ 1024 },
@@ -26,13 +26,13 @@ struct Report {
 impl Report {
     fn new() -> Report {
         Report {
-            bytes: [0; MAX_TOLD],
+            bytes: [0; MAX_RECORD],
             len: 0,
         }
     }
 
     fn push(&mut self, bytes: &[u8]) {
-        let n = bytes.len().min(MAX_TOLD - self.len);
+        let n = bytes.len().min(MAX_RECORD - self.len);
         self.bytes[self.len..self.len + n].copy_from_slice(&bytes[..n]);
         self.len += n;
     }
@@ -52,16 +52,17 @@ impl Report {
     }
 }
 
-// Gives at most `most` bytes a call, and fails at the call number `fails_at`, counted from 1.
-fn failing(bytes: &[u8], most: usize, fails_at: u64) -> Watch<Pieces<'_>>
+// Returns a reader that gives at most `size` bytes in each call, and fails at the call number
+// `fails_at`, counted from 1.
+fn failing(bytes: &[u8], size: usize, fails_at: u64) -> Watch<Pieces<'_>>
     ensures { failed_calls result ≡ 0 }
 {
-    let mut pieces = Pieces::new(bytes, most);
+    let mut pieces = Pieces::new(bytes, size);
     pieces.fails_at = fails_at;
     Watch::new(pieces)
 }
 
-// Tells an answer that is no token, with its line.
+// Records an answer that is no token, with its line.
 fn report_end(answer: Result<Next, Halt>, line: u64, report: &mut Report) {
     match answer {
         Ok(_) => report.push(b"end"),
@@ -73,8 +74,8 @@ fn report_end(answer: Result<Next, Halt>, line: u64, report: &mut Report) {
     report.push_line(line);
 }
 
-// Tells the next token, or the end or the number of the halt, with its line, and returns whether it
-// was a token.
+// Records the next token, or the end or the number of the halt, with its line, and returns whether
+// it was a token.
 fn report_next(feed: &mut Feed<'_, '_, '_, '_, Watch<Pieces<'_>>>, report: &mut Report) -> bool
     requires { failed_calls (source_of feed.old) < 2 ^ 64 - 1 }
     ensures token { result ≡ true
@@ -94,7 +95,7 @@ fn report_next(feed: &mut Feed<'_, '_, '_, '_, Watch<Pieces<'_>>>, report: &mut 
     true
 }
 
-// Tells each token that is left, and the end or the halt.
+// Records each token that is left, and the end or the halt.
 fn report_rest(feed: &mut Feed<'_, '_, '_, '_, Watch<Pieces<'_>>>, report: &mut Report)
     requires { failed_calls (source_of feed.old) < 2 ^ 64 - 1 }
 {
@@ -105,7 +106,7 @@ fn report_rest(feed: &mut Feed<'_, '_, '_, '_, Watch<Pieces<'_>>>, report: &mut 
     }
 }
 
-// Tells the tokens of a source.
+// Records the tokens of a source.
 fn report_all(source: &mut Watch<Pieces<'_>>, chunk_len: usize, limit: usize, report: &mut Report)
     requires source { failed_calls source.old ≡ 0 }
     requires chunk_len { (0 < chunk_len) × (chunk_len ≤ 1300) }
@@ -123,7 +124,7 @@ fn report_all(source: &mut Watch<Pieces<'_>>, chunk_len: usize, limit: usize, re
     report_rest(&mut feed, report);
 }
 
-// Whether the tokens of a source give this record.
+// Returns whether the tokens of a source give this record.
 fn reports(mut source: Watch<Pieces<'_>>, chunk_len: usize, limit: usize, want: &[u8]) -> bool
     requires source { failed_calls source ≡ 0 }
     requires chunk_len { (0 < chunk_len) × (chunk_len ≤ 1300) }
@@ -134,8 +135,8 @@ fn reports(mut source: Watch<Pieces<'_>>, chunk_len: usize, limit: usize, want: 
     report.text() == want
 }
 
-// Tells the next token ahead and how many bytes were passed with it, and returns whether there was
-// one.
+// Records the next token ahead and how many bytes were passed with it, and returns whether there
+// was one.
 fn report_one_ahead(ahead: &mut Ahead<'_>, report: &mut Report) -> bool {
     let Some(token) = ahead.next() else {
         report.push(b"- ");
@@ -177,19 +178,19 @@ fn tokens_are_whole_over_any_reads(rt: HostRuntime) {
     for (bytes, limit, want) in &TOKENS {
         assert!(rt; 0 < *limit && *limit <= 300);
         for chunk_len in 1..12 {
-            for most in 1..8 {
-                let source = Watch::new(Pieces::new(bytes, most));
+            for size in 1..8 {
+                let source = Watch::new(Pieces::new(bytes, size));
                 assert!(rt;
                     reports(source, chunk_len, *limit, want),
-                    "of {chunk_len} by {most}"
+                    "of {chunk_len} by {size}"
                 );
             }
         }
     }
 }
 
-// Whether three answers over a text, where this many bytes count as looked at before it, give this
-// record.
+// Returns whether three answers over a text give this record, if this many bytes count as looked at
+// before it.
 fn reports_after(counted: u64, bytes: &[u8], limit: usize, want: &[u8]) -> bool
     requires counted { counted < 2 ^ 63 }
     requires limit { (0 < limit) × (limit ≤ 8) }
@@ -212,8 +213,8 @@ fn reports_after(counted: u64, bytes: &[u8], limit: usize, want: &[u8]) -> bool
     report.text() == want
 }
 
-// Bytes that count as looked at, a text, the token limit, and the record of the answers. Where byte
-// number 2^63 is also one too many for a token, it is too much input.
+// Bytes that count as looked at, a text, the token limit, and the record of the answers. If byte
+// number 2^63 is also one too many for a token, the input is too long.
 const LAST_BYTES: [(u64, &[u8], usize, &[u8]); 4] = [
     (
         (1 << 63) - 3,
@@ -273,8 +274,8 @@ fn a_feed_goes_on_where_it_was_parked(rt: HostRuntime) {
 }
 
 // Indented lines that end with a carriage return and a line feed, two spaces, and a run of white
-// bytes longer than 64. None is given where a token is too long; then the white bytes before it
-// stay too.
+// bytes longer than 64. If a token is too long, none is given, and the white bytes before it stay
+// too.
 #[test]
 fn white_bytes_before_a_token_are_passed_with_it(rt: HostRuntime) {
     let mut bytes = [b' '; 300];
@@ -299,7 +300,7 @@ fn white_bytes_before_a_token_are_passed_with_it(rt: HostRuntime) {
     );
 }
 
-// None is given where a token is too long, and where fewer than 64 bytes are left.
+// No token is given if it is too long, or if fewer than 64 bytes are left.
 #[test]
 fn the_feed_goes_on_after_tokens_ahead(rt: HostRuntime) {
     let mut bytes = [b'x'; 160];
@@ -328,7 +329,8 @@ fn the_feed_goes_on_after_tokens_ahead(rt: HostRuntime) {
     );
 }
 
-// Near the end of the bytes too. The last one is not whole, since no white byte comes after it.
+// Tokens near the end of the bytes too. The last one is not whole, since no white byte comes after
+// it.
 #[test]
 fn whole_tokens_are_found_slowly(rt: HostRuntime) {
     let mut source = Watch::new(Pieces::new(b"a  bc\ndef", 9));
@@ -344,7 +346,7 @@ fn whole_tokens_are_found_slowly(rt: HostRuntime) {
     assert_eq!(rt; ahead.passed(), 4);
 }
 
-// A device that works at every other call alone: a signal interrupts its reads, and its writes take
+// A device of which only every other call works: a signal interrupts its reads, and its writes take
 // nothing.
 #[derive(Drop)]
 struct Stutter {
@@ -389,7 +391,7 @@ impl io::Write for Stutter {
     }
 }
 
-// Tells what a read gives, and how many have failed.
+// Records what a read gives, and how many have failed.
 fn report_read(source: &mut Watch<Stutter>, report: &mut Report)
     requires { failed_calls source.old < 2 ^ 64 - 1 }
     ensures { failed_calls source.new ≤ failed_calls source.old + 1 }
@@ -415,7 +417,7 @@ fn a_watch_counts_each_failed_read(rt: HostRuntime) {
     );
 }
 
-// Tells how many of these bytes a write takes, and how many have failed.
+// Records how many of these bytes a write takes, and how many have failed.
 fn report_write(sink: &mut Watch<Stutter>, bytes: &[u8], report: &mut Report)
     requires { failed_calls sink.old < 2 ^ 64 - 1 }
     ensures { failed_calls sink.new ≤ failed_calls sink.old + 1 }
@@ -427,7 +429,7 @@ fn report_write(sink: &mut Watch<Stutter>, bytes: &[u8], report: &mut Report)
     report.push_line(Sink::failures(sink));
 }
 
-// Nothing of nothing is no failure.
+// A write of no bytes that takes none does not fail.
 #[test]
 fn a_watch_counts_a_write_that_takes_nothing(rt: HostRuntime) {
     let mut sink = Watch::new(Stutter::new());
@@ -443,7 +445,7 @@ fn a_watch_counts_a_write_that_takes_nothing(rt: HostRuntime) {
     );
 }
 
-// Writes a text with one of the functions that do.
+// Writes a text with one of the functions of `output`.
 fn put_by(by: usize, sink: &mut Watch<Narrow>) -> Result<(), WriteFailed>
     requires { failed_calls sink.old < 2 ^ 64 - 1 }
 {
@@ -499,7 +501,7 @@ const DIGITS: [(&[u8], Option<u64>); 17] = [
     (b"123456781234567x", None),
 ];
 
-// Other bytes, between which offsets of them digits are, and the number.
+// Other bytes with digits among them; then the offsets of digits, and the number that they spell.
 const AMONG: &[u8] = b"#12345678 #9876543210123456 #12x4 #7\n";
 
 const BETWEEN: [(usize, usize, Option<u64>); 8] = [

@@ -1,13 +1,13 @@
-//! What is done with dumps whose headers were read: the surface for callers, and the laws on what
-//! is written.
+//! What is done with dumps whose headers were read: the functions for callers, and the laws about
+//! what is written.
 //!
 //! `check`, `list`, `pick`, `cut`, `sample`, `edges` and `merge` are one command each. An `Engine`,
-//! of a task that has `Begun`, and a `Merge` are the runs in parts: `step` and `merge_step` take
-//! one item each. `Done`, `More` and `Stop` say how they end. None of them takes memory.
+//! of a task that has `Begun`, and a `Merge` are the same runs in parts: `step` and `merge_step`
+//! take one item each. `Done`, `More` and `Stop` say how they end. None of them takes memory.
 //!
-//! All code is in the crates below, side by side, so that no crate waits for this one: the commands
-//! over one dump in `vcd_engine`, the merge in `vcd_merge`, and how a run ends in `vcd_body`. Each
-//! function of `laws`, of `vcd_laws`, has a law over the definitions as its contract.
+//! All code is in crates below this one, so that no crate of the program waits for it: the commands
+//! over one dump are in `vcd_engine`, the merge in `vcd_merge`, and how a run ends in `vcd_body`.
+//! Each function of `laws`, of `vcd_laws`, has a law over the definitions as its contract.
 //!
 //! In `specs/` callers read `TaskRun` (`Follows`), `Engine`, `Step` and `Room` of the commands over
 //! one dump; `MergeRun`, `MergeStart`, `MergeStep`, `MergeParts`, `MergeRoom`, `MergeOrder` and

@@ -48,7 +48,7 @@ const WORKED: [Worked; 16] = [
         fault: 0,
         line: 0,
     },
-    // In a section too, and where no value changes.
+    // In a section too, and if no value changes.
     Worked {
         head: HEAD_A,
         body: b"#0\n$dumpvars\n0!\nb0 \"\n$end\n#1\nx!\n#2\n1!\n#3\n0!\n#4\n1!\n1!\nb1 \"\n#5\n\
@@ -256,7 +256,7 @@ fn is_found(alloc: Global, worked: Worked, most: usize) -> Result<bool, AllocErr
     )
 }
 
-// Whether all worked dumps are found so, with an array of this length.
+// Whether all worked dumps are found, with an array of this length.
 fn are_found(alloc: Global, most: usize) -> Result<bool, AllocError> {
     for worked in WORKED.iter() {
         if !is_found(alloc, *worked, most)? {

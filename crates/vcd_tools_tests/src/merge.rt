@@ -249,7 +249,7 @@ const BEFORE_ODD: &[u8] =
         $scope module in2 $end\n$var wire 1 \" a $end\n$upscope $end\n$enddefinitions $end\n\
         #1\n1\"\n#2\n1!\n#5\n0!\n";
 
-// 18,446 s are the most in femtoseconds.
+// 18,446 s are the greatest number of seconds that fits in femtoseconds.
 const LONG: &[u8] =
     b"$timescale 1s $end\n$var wire 1 ! a $end\n$enddefinitions $end\n#18446\n1!\n#18447\n0!\n";
 
@@ -291,7 +291,7 @@ const MERGES: [(&[&[u8]], &[u8], Result<Done, Stop>); 10] = [
             fault: 3,
         }),
     ),
-    // Of one time, what the inputs before the one with the fault have is written, and no more.
+    // What the inputs before the one with the fault have at its time is written, and no more.
     (
         &[BAD_AT_FIVE, ODD],
         BEFORE_ODD,

@@ -9,7 +9,7 @@ use vcd_head::Head;
 use vcd_text::{Sink, Source};
 use vcd_tools::{Done, Merge, More, Seat, Stop, Windows, merge, merge_step};
 
-// Takes all items of a merge, one a step.
+// Takes all items of a merge, one in each step.
 fn take_steps<S: Source, W: Sink>(
     merge: &mut Merge<'_, '_>,
     sources: &mut [S],

@@ -29,7 +29,7 @@ rest_last s state (a ∷ b ∷ c ∷ d ∷ e ∷ f ∷ []) n l = refl
 rest_last s state (a ∷ b ∷ c ∷ d ∷ e ∷ f ∷ g ∷ []) n l = refl
 rest_last s state (a ∷ b ∷ c ∷ d ∷ e ∷ f ∷ g ∷ h ∷ rest) n l = absurd (omega (arith, l))
 
--- eight bytes alone
+-- only eight bytes
 pub word_alone : (s : CodeSeed) (state : ℕ) (bytes : List ℕ) → length bytes ≡ 8 → hashed s state bytes ≡ mixed s state (from_le_bytes w64 bytes)
 word_alone s state [] l = absurd (omega (arith, l))
 word_alone s state (a ∷ []) l = absurd (omega (arith, l))

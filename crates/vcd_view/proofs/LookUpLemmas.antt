@@ -27,7 +27,7 @@ use Rattle.vcd_view.proofs.ListLemmas.{slice_get-seam, bytes_flip, to_all}
 
 -- ---- the codes of a view
 
--- the code that the code reads where there is none
+-- the code that the code reads if there is none
 abbrev pub blank : Code
 blank = record { start = 0; len = 0; size = 0; event = false }
 
@@ -157,7 +157,7 @@ between_below ks index t low high m h b e = record {
 apart_from : (x t : List ℕ) (o : Ordering) → slice_cmp nat_cmp x t ≡ o → is_eq o ≡ false → bytes_eq t x ≡ false
 apart_from x t o e d = bytes_flip t x ∙ sym (is_eq-slice_cmp x t) ∙ ap is_eq e ∙ d
 
--- where nothing is left between, no code has the text
+-- if nothing is left between, no code has the text
 pub none_between : (ks : List IdCode) (index t : List ℕ) (low : ℕ) → IsIndex ks index → IsBetween ks index t low low → Finds ks t None
 none_between ks index t low h b = none_with ks t (λ p l.
     let has = Contains-permutation (range_with_len 0 (length ks)) index p h.positions (p, rw length-range_with_len l, get_or-range_with_len 0 (length ks) p p l ∙ zero-add p) in
@@ -171,7 +171,7 @@ none_between ks index t low h b = none_with ks t (λ p l.
 pub equal_bytes : (x t : List ℕ) → slice_cmp nat_cmp x t ≡ Equal → x ≡ t
 equal_bytes x t e = (bytes_eq-Decides x t).0 (sym (is_eq-slice_cmp x t) ∙ ap is_eq e)
 
--- where the order is equal, it is the code that is looked up
+-- if the order is equal, it is the code that is looked up
 pub found_equal : (ks : List IdCode) (index t : List ℕ) (m : ℕ) → IsIndex ks index → m < length index → order_at ks index t m ≡ Equal → Finds ks t (Some (get_or index m 0))
 found_equal ks index t m h l e =
     let p = get_or index m 0 in

@@ -36,7 +36,7 @@ says_some s h i p r v at e = counted_some (parent (take i h.declarations)) p (sy
 
 -- ---- from a declaration to its enclosing scope
 
--- a row and the scopes around it, where there is one
+-- a row and the scopes around it, if there is one
 abbrev pub with_scopes : List Declaration → Option ℕ → List ℕ
 with_scopes ds None = []
 with_scopes ds (Some p) = p ∷ enclosing (take p ds)

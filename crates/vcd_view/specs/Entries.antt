@@ -6,12 +6,12 @@ use Rattle.vcd_view.specs.declared.view.Code.{Code}
 use Rattle.vcd_view.specs.declared.view.Entry.{Entry}
 use Rattle.vcd_view.specs.Keys.{key_in}
 
--- this many bytes of a text from an index on, none where it has fewer
+-- this many bytes of a text from an index on, none if it has fewer
 abbrev pub text_in : List ℕ → ℕ → ℕ → List ℕ
 text_in text start len = cond (nat_le (start + len) (length text)) (slice_range text start (start + len)) []
 
--- the size of a code, 0 for an event and where 32 bits do not hold it: this many digits a change of
--- the code may have in any case
+-- the size of a code, or 0 for an event or if the size does not fit into 32 bits: a change of the
+-- code may have this many digits in any case
 abbrev pub size_or_zero_of : Code → ℕ
 size_or_zero_of c = cond (c.event || nat_le (2 ^ 32) c.size) 0 c.size
 
@@ -24,15 +24,15 @@ is_entry_of text e c = (e.key == key_in (text_in text c.start c.len)) && (e.size
 abbrev pub is_right : List ℕ → List Code → Entry → Bool
 is_right text codes e = (e.key == 0) || (nat_le (2 ^ 63) e.key || unwrap_or (option_map (is_entry_of text e) (slice_get codes e.position)) false)
 
--- each entry is
+-- each entry is right
 abbrev pub are_right : List ℕ → List Code → List Entry → Bool
 are_right text codes es = list_all (is_right text codes) es
 
--- so each is after a call where it was before
+-- if each entry was right before a call, each is after it
 abbrev pub KeepsRight : List ℕ → List Code → (old new : List Entry) → Type 0
 KeepsRight text codes old new = are_right text codes old ≡ true → are_right text codes new ≡ true
 
--- the number with a lower digit after it, in 64 bits
+-- the number with one more digit below its lowest, in 64 bits
 abbrev pub above : ℕ → ℕ → ℕ
 above n b = ((n * 99) % 2 ^ 64 + (b + (2 ^ 64 - 32)) % 2 ^ 64) % 2 ^ 64
 

@@ -6,7 +6,7 @@ use Rattle.vcd_view.specs.declared.view.Code.{Code}
 use Rattle.vcd_view.specs.declared.look_up.Found.{Found}
 use Rattle.vcd_view.specs.Entries.{size_or_zero_of}
 
--- the index of the code with this text among these; there is none where none has it
+-- the index of the code with this text among these; `None` if none of them has it
 abbrev pub Finds : List IdCode → List ℕ → Option ℕ → Type 0
 Finds codes text (Some position) = (c : IdCode) × (slice_get codes position ≡ Some c) × (find (has_text text) codes ≡ Some c)
 Finds codes text None = find (has_text text) codes ≡ None

@@ -2,7 +2,7 @@
 use Rattle.std.specs.Prelude.{ℕ, ◌<◌, ◌+◌, ◌*◌, nat_le, cond, List, [], ◌∷◌, length}
 use Rattle.std.specs.List.{AllByRecursion}
 
--- each is a byte
+-- each element is a byte
 abbrev pub AreBytes : List ℕ → Type 0
 AreBytes bs = AllByRecursion (λ b. b < 256) bs
 

@@ -42,10 +42,10 @@ texts_of ts = map (λ (t : Token). t.bytes) ts
 abbrev pub AreWords : List Token → Type 0
 AreWords ts = NoEnds (texts_of ts)
 
--- the first n bytes ahead are just some tokens, of which none is `$end`
+-- the first n bytes ahead are exactly some tokens, of which none is `$end`
 abbrev pub PassesWordsTo : Ahead → ℕ → Type 0
 PassesWordsTo a n = (lines : ℕ) → (ts : List Token) × AreWords ts × Passed (longest_of a) lines (bytes_of a) n ts
 
--- where tokens have been given, some more have been, of which none is `$end`
+-- if some tokens were given, some more were given too, of which none is `$end`
 abbrev pub PassesWords : {X : Type 0} {g : Ghosts X} → (old new : Feed X g) → Type 0
 PassesWords old new = (ts : List Token) × AreWords ts × ((i : Input) (given : List Token) → HasGiven i given old → HasGiven i (given ++ ts) new)

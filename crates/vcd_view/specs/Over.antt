@@ -15,26 +15,26 @@ use Rattle.vcd_view.specs.declared.view.Need.{Need}
 abbrev pub AnyHeader : HeadView → (Header → Type 0) → Type 0
 AnyHeader view Holds = (h : Header) → IsViewOf view h → Holds h
 
--- so, where it has a declaration at this row
+-- this holds of any header that the view shows and that has a declaration at this row
 abbrev pub AnyRow : HeadView → ℕ → (Header → Type 0) → Type 0
 AnyRow view row Holds = (h : Header) → IsViewOf view h → row < length h.declarations → Holds h
 
--- so, of the declaration at this row
+-- this holds of any header that the view shows, and of its declaration at this row
 abbrev pub AnyDeclared : HeadView → ℕ → (Header → Declaration → Type 0) → Type 0
 AnyDeclared view row Holds = (h : Header) (d : Declaration) → IsViewOf view h → slice_get h.declarations row ≡ Some d → Holds h d
 
--- so, of the variable at this row
+-- this holds of any header that the view shows, and of its variable at this row
 abbrev pub AnyVariable : HeadView → ℕ → (Header → Variable → Type 0) → Type 0
 AnyVariable view row Holds = (h : Header) (v : Variable) → IsViewOf view h → slice_get h.declarations row ≡ Some (Declaration.Var v) → Holds h v
 
--- this holds of any codes whose bytes are in the text where it says
+-- this holds of any codes whose bytes are in the text where the list says
 abbrev pub AnyCodes : List ℕ → List Code → (List IdCode → Type 0) → Type 0
 AnyCodes text codes Holds = (ks : List IdCode) → AllZip (IsCode text) codes ks → Holds ks
 
--- so, where no two of them have the same bytes
+-- this holds of any such codes, if no two of them have the same bytes
 abbrev pub AnyHeld : List ℕ → List Code → (List IdCode → Type 0) → Type 0
 AnyHeld text codes Holds = (cs : List IdCode) → AreHeld text codes cs → Holds cs
 
--- with what is needed, each input of the header fits the bound
+-- with the room that is needed, each input of the header fits the bound
 abbrev pub FitsEachInput : HeadView → Need → Type 0
 FitsEachInput view need = (limit : ℕ) (h : Header) (w : WindowSize) → IsViewOf view h → AreWindows limit w → FitsInput limit h w (view_size (parts view)) (room need)

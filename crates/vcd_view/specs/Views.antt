@@ -15,13 +15,13 @@ use Rattle.vcd_view.specs.Keys.{AreBytes}
 use Rattle.vcd_view.specs.Shown.{HeadShown, parts}
 use Rattle.vcd_view.specs.declared.view.HeadView.{HeadView}
 
--- 1 plus the index, 0 where there is none
+-- 1 plus the index, or 0 if there is none
 abbrev pub counted_from_one : Option ℕ → ℕ
 counted_from_one None = 0
 counted_from_one (Some p) = suc p
 
--- the row's type and reference are in the text where it says: the reference's tokens, of which
--- there is one at least, with a space between
+-- the row's type and reference are in the text where the row says: the tokens of the reference, at
+-- least one, with a space between
 pub record HasTexts (text : List ℕ) (r : Row) (type : List ℕ) (reference : List (List ℕ)) : Type 0 where
   pub within : r.start + r.word + r.all ≤ length text
   pub word_len : r.word ≡ length type
@@ -50,7 +50,7 @@ AreRows text codes earlier [] (d ∷ ds) = ⊥
 AreRows text codes earlier (r ∷ rs) [] = ⊥
 AreRows text codes earlier (r ∷ rs) (d ∷ ds) = IsRow text codes earlier r d × AreRows text codes (earlier ++ d ∷ []) rs ds
 
--- the code's bytes are in the text where it says
+-- the code's bytes are in the text where the code says
 pub record IsCode (text : List ℕ) (c : Code) (k : IdCode) : Type 0 where
   pub within : c.start + c.len ≤ length text
   pub text_is : slice_range text c.start (c.start + c.len) ≡ k.text
@@ -67,8 +67,8 @@ pub record AreHeld (text : List ℕ) (list : List Code) (cs : List IdCode) : Typ
 abbrev pub code_text : List IdCode → ℕ → List ℕ
 code_text codes p = unwrap_or (option_map (λ c. c.text) (slice_get codes p)) []
 
--- the index of each code once, in rising order of their bytes: the first bytes that differ decide,
--- and a code comes before those that it begins
+-- the index of each code once, in increasing order of their bytes: the first bytes that differ
+-- decide, and a code comes before those that it begins
 pub record IsIndex (codes : List IdCode) (index : List ℕ) : Type 0 where
   pub positions : IsPermutation (range_with_len 0 (length codes)) index
   pub rising : IsStrictlySortedBy (slice_cmp nat_cmp) (map (code_text codes) index)

@@ -1,13 +1,13 @@
-// How codes are hashed: by numbers that nobody knows who makes a dump.
+//! How codes are hashed: with numbers that the author of a dump does not know.
 ghost use Rattle.std.specs.Prelude.{◌≡◌, ◌^◌, ◌<◌, length};
 ghost use Rattle.vcd_view.specs.CodeHash.{drawn, hashed, mixed};
 
 use crate::key::key_of;
 use std::hash::{BuildHasher, Hasher};
 
-/// Two numbers by which codes are hashed. Who does not know them cannot choose codes whose hashes
-/// fall together.
-// Codes crafted for a seed that is known, 100,000 of them, take 75 times as long as others.
+/// Two numbers by which codes are hashed. Somebody who does not know them cannot choose codes with
+/// equal hashes.
+// 100,000 codes that are crafted for a known seed take 75 times as long as others.
 #[derive(Clone, Copy, PartialEq, Eq, Debug)]
 pub struct CodeSeed {
     /// What a word is multiplied by, to 128 bits.
@@ -17,8 +17,8 @@ pub struct CodeSeed {
 }
 
 impl CodeSeed {
-    /// Returns the numbers that a hasher gives: each is made of its hashes of two numbers, the
-    /// first of 0 and 1, the second of 2 and 3.
+    /// Returns the seed that a hasher gives: each of its two numbers is made of two hashes,
+    /// `factor` of those of 0 and 1, `more` of those of 2 and 3.
     pub fn of<B: BuildHasher>(hasher: &B) -> CodeSeed
         ensures factor { result.factor ≡ drawn B.BuildHasher B.Hasher.Hasher hasher.now 0 }
         ensures more { result.more ≡ drawn B.BuildHasher B.Hasher.Hasher hasher.now 2 }
@@ -40,8 +40,8 @@ impl CodeSeed {
         (product >> 64) as u64
     }
 
-    /// Returns the state after these bytes: each eight of them count as one word, and what is left
-    /// as one more.
+    /// Returns the state after these bytes: each eight of them count as one word, and the rest as
+    /// one more.
     #[inline(always)]
     pub fn hashed(self, state: u64, bytes: &[u8]) -> u64
         ensures { result ≡ hashed self state bytes.now }
@@ -54,7 +54,7 @@ impl CodeSeed {
         }
     }
 
-    // Returns the state after bytes of any number.
+    // Returns the state after these bytes, of any number, by a loop over words, as `hashed` does.
     fn hashed_by_words(self, state: u64, bytes: &[u8]) -> u64
         ensures { result ≡ hashed self state bytes.now }
     {
@@ -72,7 +72,7 @@ impl CodeSeed {
     }
 }
 
-// Returns a number of 128 bits that a hasher gives: its hashes of two numbers.
+// Returns a number of 128 bits that a hasher gives: its hashes of `first` and of the next number.
 fn number_of<B: BuildHasher>(hasher: &B, first: u64) -> u128
     requires { first < 2 ^ 32 }
     ensures { result ≡ drawn B.BuildHasher B.Hasher.Hasher hasher.now first }
@@ -82,7 +82,7 @@ fn number_of<B: BuildHasher>(hasher: &B, first: u64) -> u128
     u128::from(high) * (1 << 64) + u128::from(low)
 }
 
-/// What a code's bytes are fed to.
+/// A hasher that a code's bytes are fed to.
 #[derive(Clone, Copy)]
 pub struct CodeHasher {
     seed: CodeSeed,

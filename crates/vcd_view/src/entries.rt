@@ -1,6 +1,6 @@
-// The entries by which codes are looked up: where a code's entry is, and what it holds. Any code
-// may have any entry, and two codes may share one: where an entry is decides only how fast a
-// look-up is.
+// The entries by which codes are looked up: where the entry of a code is, and what it keeps. Any
+// code may have any entry, and two codes may have the same one. Where an entry is decides only how
+// fast a look-up is.
 ghost use Rattle.std.specs.Prelude.{◌≡◌, ◌+◌, ◌-◌, ◌%◌, ◌^◌, ◌<◌, ◌≤◌, ℕ, List, true, bit_and, length, slice_get, Some, IfSome};
 ghost use Rattle.vcd_view.specs.Names.{AnyHeld, Finds, HasEntry, IsAt, above, are_right, beside, entry_after, entry_in, key_in, size_or_zero_of, number_in, index_in_entry, index_in_some};
 
@@ -14,9 +14,9 @@ use std::cmp::Ordering;
 ///
 /// Simulators number codes from `!` on in base 94, the lowest digit first, in the order of
 /// declaration. Read as a number in base 99, nearly all of these have entries of their own, side by
-/// side. As 99 is odd, each byte of any other code decides on the lowest bits too.
-// One entry of 16 bytes instead of a binary search, which takes some 340 ns a change of 27,505
-// codes. In base 94 `check` of 300 codes `aaaaa`.. takes twice as many instructions.
+/// side. As 99 is odd, each byte of any other code also decides on the lowest bits.
+// It reads one entry of 16 bytes. A binary search takes some 340 ns for each change of 27,505
+// codes. In base 94, `check` of 300 codes `aaaaa`.. takes twice as many instructions.
 #[inline(always)]
 pub fn entry_of(code: &[u8], entries: usize) -> usize
     ensures { result ≡ entry_in code.now entries }
@@ -24,9 +24,9 @@ pub fn entry_of(code: &[u8], entries: usize) -> usize
     entry_for(code_number(code), entries)
 }
 
-/// Returns the low bits of a number, as an index in a table of `entries`, a power of two: that of
-/// the own entry of a code with this number (`code_number`), or of an entry to which a hash leads.
-/// Where `entries` is 0 it is the number itself.
+/// Returns the low bits of a number, as an index in a table of `entries`, a power of two. The
+/// number is that of a code (`code_number`), for its own entry, or comes from a hash. If `entries`
+/// is 0, it is the number itself.
 #[inline(always)]
 pub fn entry_for(number: usize, entries: usize) -> usize
     ensures { result ≡ bit_and number ((entries + (2 ^ 64 - 1)) % 2 ^ 64) }
@@ -51,7 +51,7 @@ pub fn code_number(code: &[u8]) -> usize
     }
 }
 
-// Returns the number with a lower digit after it.
+// Returns the number with one more digit below its lowest.
 #[inline(always)]
 fn above(number: usize, byte: u8) -> usize
     ensures { result ≡ above number byte }
@@ -74,7 +74,7 @@ fn number_of(code: &[u8]) -> usize
     number
 }
 
-/// Returns the index of the code with this key, if the entry at `at` is that of the code; else
+/// Returns the index of the code with this key, if the entry at `at` is that of the code; otherwise
 /// `None`.
 #[inline(always)]
 pub fn index_in_entry(entries: &[Entry], at: usize, key: u64) -> Option<usize>
@@ -89,8 +89,8 @@ pub fn index_in_entry(entries: &[Entry], at: usize, key: u64) -> Option<usize>
 }
 
 /// Returns the index of the code with this key, if one of the three entries beside its own is that
-/// of the code; else `None`. They are in the 64 bytes around that, so a look at them reads at most
-/// one cache line more.
+/// of the code; otherwise `None`. They are in the 64 bytes around it, so this reads at most one
+/// more cache line.
 #[inline(always)]
 pub fn index_beside(entries: &[Entry], own: usize, key: u64) -> Option<usize>
     ensures { (code : List ℕ) → key ≡ key_in code → result ≡ index_in_some entries.now code (beside own) }
@@ -137,9 +137,9 @@ pub fn long_key(hash: u64) -> u64
 }
 
 /// Returns the index of a code, if one of the entries beside its own or one to which its hash leads
-/// is that of the code; else `None`, and the code may be there all the same.
+/// is that of the code. Otherwise `None`, and the code may still be there.
 // For codes of 8 bytes or more, and codes crafted to share entries: `check` of 100,000 takes 1.5 to
-// 2.6 times as long as of ordinary codes, by the binary search alone 8 to 13 times.
+// 2.6 times as long as for ordinary codes, and with only the binary search 8 to 13 times.
 pub(crate) fn index_by_hash(
     text: &[u8],
     codes: &[Code],
@@ -168,7 +168,8 @@ pub(crate) fn index_by_hash(
     }
 }
 
-// Returns the index that an entry with this key gives, if the hash leads to that; else `None`.
+// Returns the index that an entry with this key gives, if the hash leads to that entry; otherwise
+// `None`.
 fn index_of_key(entries: &[Entry], hash: u64, key: u64) -> Option<usize>
     ensures { IfSome result (λ position. HasEntry entries.now key position) }
 {
@@ -184,8 +185,8 @@ fn index_of_key(entries: &[Entry], hash: u64, key: u64) -> Option<usize>
     None
 }
 
-// Returns the index that an entry gives for this code of 8 bytes or more, if its hash leads to
-// that; else `None`. Another code may have the same key, so one comparison is made.
+// Returns the index that an entry gives for this code of 8 bytes or more, if its hash leads to that
+// entry; otherwise `None`. Another code may have the same key, so one comparison is made.
 fn index_of_long(
     text: &[u8],
     codes: &[Code],
@@ -207,8 +208,8 @@ fn index_of_long(
     }
 }
 
-/// Returns the most digits that a change of the code may have: its size. It is 0 where any number
-/// is allowed, and where 32 bits do not hold the size.
+/// Returns the size of the code: how many digits a change of it may have. It is 0 if any number is
+/// allowed, or if the size does not fit into 32 bits.
 pub fn size_or_zero_of(code: Code) -> u32
     ensures { result ≡ size_or_zero_of code }
 {

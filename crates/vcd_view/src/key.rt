@@ -2,7 +2,7 @@
 ghost use Rattle.std.specs.Prelude.{◌≡◌, ◌+◌, ◌*◌, ◌^◌, ◌≤◌, ◌<◌, length};
 ghost use Rattle.vcd_view.specs.Keys.{key_in, packed};
 
-// How many bytes fit at most into a key with a blank after them.
+// How many bytes fit into a key with a blank after them.
 const MAX_BYTES: usize = 7;
 
 // What closes a key.
@@ -10,8 +10,8 @@ const BLANK: u64 = b' ' as u64;
 
 /// Returns the number of a code of at most 7 bytes, which no other code has, and 0 for a longer
 /// one.
-// One to four bytes are read without a loop. A comparison of bytes is a call and two reads far
-// apart: `check` of scalars takes 17 % less.
+// One to four bytes are read without a loop. To compare bytes instead is a call and two reads far
+// apart: with this number `check` of scalars takes 17 % less.
 #[inline(always)]
 pub fn key_of(code: &[u8]) -> u64
     ensures { result ≡ key_in code.now }
@@ -29,7 +29,7 @@ pub fn key_of(code: &[u8]) -> u64
     }
 }
 
-// Returns the key of a byte and the bytes of this key after it.
+// Returns the key of these bytes with one more byte before them.
 #[inline(always)]
 fn prepended(key: u64, byte: u8) -> u64
     requires { key < 2 ^ 56 }

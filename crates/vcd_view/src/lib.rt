@@ -2,34 +2,34 @@
 //!
 //! A `HeadView` is slices that may be copied: the declarations as rows, the distinct codes, the
 //! order of their bytes, and entries that lead to them. Its methods read rows, texts and codes;
-//! `find` looks a code up. Who reads a header makes one, and who reads a body needs no more of the
-//! header than this. No memory is taken.
+//! `find` looks a code up. The reader of a header makes a view, and the reader of a body needs no
+//! more of the header than this. No memory is taken.
 //!
 //! # The relations
 //!
 //! `IsViewOf view h` says that a view is of a header of the definitions. Each function over a view
-//! takes any view, and its result is that of the definitions where this holds. What the entries of
-//! a view say of its codes is so in any view (`right`).
+//! takes any view. Its result is that of the definitions if this relation holds. The entries of any
+//! view are right about its codes (`right`).
 //!
 //! `Finds codes text position` says of a look-up that the code with this text is at this index, or
-//! that there is none; `IsSized codes found` that the size of what was found is given too.
+//! that there is none. `IsSized codes found` says that the size of the code was found too.
 //!
 //! # The modules
 //!
 //! - `view`: `HeadView` with its rows and codes, and `Need`
-//! - `look_up`, `probes`: a look at one entry, then a look by the hash, then a binary search;
-//!   comparisons, counted
-//! - `entries`, `key`: where a code's entry is, and what it holds; codes as numbers
-//! - `code_hash`: codes hashed by numbers that nobody knows
+//! - `look_up`, `probes`: a look at one entry, then by the hash, then a binary search; comparisons,
+//!   counted
+//! - `entries`, `key`: where the entry of a code is, and what it keeps; codes as numbers
+//! - `code_hash`: codes hashed with numbers that nobody knows
 //! - `room`: `need`, the room that an engine over a header needs
 //! - `keyword`: the keywords of a dump, and the words up to an `$end`
 //! - `new_code`: the codes that a merge gives
 //!
 //! In `specs/` callers read `Views` and `Shown`, `Over`, `Finds`, `Needs`, `Keywords` and
-//! `NewCode`; who fills entries, `Entries` and `Keys` too. `Names` brings what the clauses cite
-//! under one path.
+//! `NewCode`; whoever fills entries reads `Entries` and `Keys` too. `Names` collects what the
+//! contracts cite under one path.
 //!
-//! Not promised: what a call gives over a view that is of no header.
+//! Not promised: the result of a call over a view that is of no header.
 #![tactic(auto)]
 
 mod code_hash;

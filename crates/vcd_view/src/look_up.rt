@@ -1,4 +1,4 @@
-// Codes that are looked up.
+// The look-up of codes.
 ghost use Rattle.std.specs.Prelude.{List, true, ◌≡◌, ◌+◌, ◌≤◌, ◌<◌, length, option_map, IfNone, IfSome, Some};
 ghost use Rattle.vcd_view.specs.Names.{AllByRecursion, AnyCodes, AnyHeader, AreBytes, AreFew, Finds, Header, IdCode, IsIndex, IsSized, IsViewOf, are_right, bits_of, code_text, key_in};
 
@@ -14,15 +14,15 @@ use std::cmp::Ordering;
 pub struct Found {
     /// The index of the code among the distinct codes.
     pub position: usize,
-    /// The size of the code: the most digits that a change of it may have. It is 0 where its
-    /// variables are events, and where 32 bits do not hold the size; then the view's code has it.
+    /// The size of the code: how many digits a change of it may have. It is 0 if its variables are
+    /// events, or if the size does not fit into 32 bits; then the view's code has it.
     pub size_or_zero: usize,
 }
 
-/// Returns the index of a code among the distinct codes; `None` where it is not among them.
+/// Returns the index of a code among the distinct codes; `None` if it is not among them.
 ///
 /// A look at one entry finds nearly all codes that simulators give. The others are looked for by
-/// their hash, and those that are not found so by a binary search.
+/// their hash, and then by a binary search.
 #[inline(always)]
 pub fn find(view: HeadView<'_>, code: &[u8]) -> Option<usize>
     ensures found { (h : Header) → IsViewOf view.entry h → Finds h.codes code.now result }
@@ -31,8 +31,8 @@ pub fn find(view: HeadView<'_>, code: &[u8]) -> Option<usize>
     find_counted(view, code, &mut Probes::new())
 }
 
-/// Returns the index of a code among the distinct codes, with its size; `None` where it is not
-/// among them.
+/// Returns the index of a code among the distinct codes, with its size; `None` if it is not among
+/// them.
 #[inline(always)]
 pub fn find_sized(view: HeadView<'_>, code: &[u8]) -> Option<Found>
     ensures found { (h : Header) → IsViewOf view.entry h
@@ -43,11 +43,11 @@ pub fn find_sized(view: HeadView<'_>, code: &[u8]) -> Option<Found>
 }
 
 /// Returns the index of a code among the distinct codes, and counts the comparisons of codes;
-/// `None` where it is not among them.
+/// `None` if it is not among them.
 ///
-/// A code of at most 7 bytes has a number, and entries hold those: only where none that is looked
-/// at has it, the code is compared with others. The count grows by at most one more than the binary
-/// digits of the number of codes.
+/// A code of at most 7 bytes has a number, which entries keep. The code is compared with others
+/// only if no entry that is looked at has its number. The count grows by at most one more than the
+/// binary digits of the number of codes.
 #[inline(always)]
 pub fn find_counted(view: HeadView<'_>, code: &[u8], probes: &mut Probes) -> Option<usize>
     ensures found { (h : Header) → IsViewOf view.entry h → Finds h.codes code.now result }
@@ -122,9 +122,9 @@ pub fn find_in_own_entry(view: HeadView<'_>, code: &[u8]) -> Option<Found>
     }
 }
 
-// Returns the index of a code that its own entry does not hold: by its hash, or else by a binary
-// search; `None` where it is not among the distinct codes. It takes no view, so that a look-up by
-// one entry need not make one ready, and returns a number alone, which needs no memory.
+// Returns the index of a code that its own entry does not have: by its hash, or else by a binary
+// search; `None` if it is not among the distinct codes. It takes single slices and returns a
+// number, because it is not inlined.
 #[inline(never)]
 fn find_slowly(
     text: &[u8],
@@ -151,8 +151,8 @@ fn find_slowly(
     }
 }
 
-// Returns the index of a code by a binary search in the order of the codes; `None` where it is not
-// among them. Like `find_slowly`, which calls it, it takes no view.
+// Returns the index of a code by a binary search in the order of the codes; `None` if it is not
+// among them. It takes single slices, like `find_slowly`.
 #[inline(never)]
 fn search(
     text: &[u8],

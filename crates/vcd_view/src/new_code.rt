@@ -40,7 +40,7 @@ impl NewCode {
     }
 }
 
-/// Writes the code of a number. Where a write fails, a prefix was written.
+/// Writes the code with this number. If a write fails, a prefix was written.
 pub fn put_code<W: Sink>(number: u64, w: &mut W) -> Result<(), WriteFailed>
     requires failures { (W.device w.old).failures < 2 ^ 64 - 1 }
     ensures { Puts (W.device w.old) (W.device w.new) (new_code number) result }

@@ -20,8 +20,8 @@ pub enum Kind {
 #[derive(Clone, Copy, PartialEq, Eq, Debug)]
 pub struct Row {
     pub kind: Kind,
-    /// 1 plus the row of the enclosing scope (for `Up` the one that it closes), 0 where there is
-    /// none.
+    /// 1 plus the row of the enclosing scope (for `Up` of the scope that it closes), or 0 if there
+    /// is none.
     pub parent: u32,
     /// The length of the type in bytes.
     pub word: u32,
@@ -29,9 +29,9 @@ pub struct Row {
     pub name: u32,
     /// The index of a variable's code in `codes`.
     pub code: u32,
-    /// Where in the text the type begins; the reference comes right after it.
+    /// Where the type begins in the text. The reference comes right after it.
     pub start: usize,
-    /// The length of the whole reference, its tokens with a space between.
+    /// The length of the whole reference: its tokens with a space between.
     pub all: usize,
 }
 
@@ -48,15 +48,16 @@ pub struct Code {
     pub event: bool,
 }
 
-/// A code as a look-up finds it; with key 0 it is of no code.
-// The size is here since a change would else read 32 bytes of `codes`, far from all others.
+/// The entry of a code in the table of a look-up, or an empty one, with key 0.
+// It has the size because a change would otherwise read 32 bytes of `codes`, which are far away.
 #[derive(Clone, Copy, PartialEq, Eq, Debug)]
 pub struct Entry {
     /// The code as a number; of a code that has none, its hash with the highest bit set.
     pub key: u64,
     /// The index of the code in `codes`.
     pub position: u32,
-    /// The size of the code; 0 where its variables are events, or where 32 bits do not hold it.
+    /// The size of the code; 0 if its variables are events, or if the size does not fit into 32
+    /// bits.
     pub size_or_zero: u32,
 }
 
@@ -76,16 +77,16 @@ pub struct HeadView<'a> {
     pub rows: &'a [Row],
     /// The distinct codes, in order of first declaration.
     pub codes: &'a [Code],
-    /// The indexes of the codes, in rising order of their bytes.
+    /// The indexes of the codes, in increasing order of their bytes.
     pub index: &'a [usize],
-    /// Codes by their numbers and hashes, which only serve look-ups: a power of two of entries, up
-    /// to three for each code.
+    /// Codes by their numbers and hashes, only for look-ups: a power of two of entries, at most
+    /// three for each code.
     pub entries: &'a [Entry],
     /// What codes are hashed by among the entries.
     pub seed: CodeSeed,
-    /// The last date, its tokens with a space between; empty where there is none.
+    /// The last date: its tokens with a space between. It is empty if there is none.
     pub date: &'a [u8],
-    /// The last version, its tokens with a space between; empty where there is none.
+    /// The last version: its tokens with a space between. It is empty if there is none.
     pub version: &'a [u8],
     /// The last time scale.
     pub scale: Option<Scale>,
@@ -111,7 +112,7 @@ impl<'a> HeadView<'a> {
         code_in(self.codes, position)
     }
 
-    /// Returns `len` bytes of the text from an offset on; empty where it has fewer.
+    /// Returns `len` bytes of the text from an offset on; none if it has fewer.
     #[inline(always)]
     pub fn text_at(self, start: usize, len: usize) -> &'a [u8]
         ensures { result.now ≡ text_in self.entry.text.now start len }
@@ -119,8 +120,8 @@ impl<'a> HeadView<'a> {
         text_in(self.text, start, len)
     }
 
-    /// Returns the row of the scope that encloses the declaration of a row; for an `$upscope` the
-    /// one that it closes. `None` where no scope does, and after the last row.
+    /// Returns the row of the scope that encloses the declaration of a row; for an `$upscope` of
+    /// the one that it closes. `None` if no scope does, and after the last row.
     #[inline(always)]
     pub fn scope_of(self, row: usize) -> Option<usize>
         ensures earlier { IfSome result (λ scope. scope < row) }
@@ -141,8 +142,8 @@ impl<'a> HeadView<'a> {
         }
     }
 
-    /// Returns the name of the scope or the variable of a row: the first token of its reference;
-    /// empty for an `$upscope`.
+    /// Returns the name of the scope or the variable of a row: the first token of its reference. It
+    /// is empty for an `$upscope`.
     #[inline(always)]
     pub fn name_of(self, row: usize) -> &'a [u8]
         ensures { AnyDeclared self.entry row (λ _ d. result.now ≡ name_of d) }
@@ -156,8 +157,8 @@ impl<'a> HeadView<'a> {
         }
     }
 
-    /// Returns the whole reference of the scope or the variable of a row, its tokens with a space
-    /// between; empty for an `$upscope`.
+    /// Returns the whole reference of the scope or the variable of a row: its tokens with a space
+    /// between. It is empty for an `$upscope`.
     #[inline(always)]
     pub fn reference_of(self, row: usize) -> &'a [u8]
         ensures { AnyDeclared self.entry row (λ _ d. result.now ≡ reference_of d) }
@@ -179,7 +180,7 @@ impl<'a> HeadView<'a> {
         }
     }
 
-    /// Returns the power of ten of its time scale, in seconds: 0, that is 1s, where it has none.
+    /// Returns the power of ten of its time scale, in seconds: 0, that is 1 s, if it has none.
     pub fn exponent(self) -> i8
         ensures { (h : Header) → IsViewOf self.entry h → result ≡ exponent h }
     {
@@ -212,7 +213,7 @@ pub fn code_in(codes: &[Code], position: usize) -> Option<Code>
     codes.get(position).copied()
 }
 
-/// Returns `len` bytes of a text from an offset on; empty where it has fewer.
+/// Returns `len` bytes of a text from an offset on; none if it has fewer.
 #[inline(always)]
 pub fn text_in(text: &[u8], start: usize, len: usize) -> &[u8]
     ensures { result.now ≡ text_in text.now start len }
@@ -223,7 +224,7 @@ pub fn text_in(text: &[u8], start: usize, len: usize) -> &[u8]
 /// The lengths of the slices that an engine over a header works in.
 #[derive(Clone, Copy, PartialEq, Eq, Debug)]
 pub struct Need {
-    /// Bytes for the current values: for each code a quarter of its size rounded up, and at least
+    /// Bytes for the current values: for each code a quarter of its size, rounded up, and at least
     /// the 64 of a real text.
     pub values: usize,
     /// Slots, and shares: one of each for each code.

@@ -8,7 +8,7 @@ use Rattle.vcd_words.specs.declared.job.Want.{Want}
 use Rattle.vcd_words.specs.declared.job.Want.TheVariants as want
 use Rattle.vcd_words.specs.Ticks.{has_units, times_with}
 
--- what is wanted, in the definitions' words
+-- what is wanted, as the definitions say it
 abbrev pub model_want : Want → model.Want
 model_want want.Check = model.Want.Check
 model_want want.List = model.Want.Listing
@@ -18,8 +18,8 @@ model_want (want.Sample numbers units names) = model.Want.Sample (times_with num
 model_want (want.Edges names) = model.Want.Edges (map string_bytes names.items)
 model_want want.Merge = model.Want.Merge
 
--- words may ask for it: without units its times are in order, and a sample has one at least, each
--- with a unit or none
+-- words may ask for it: without units its times are in order, and a sample has at least one time,
+-- each with a unit or none
 abbrev pub is_asked : Want → Bool
 is_asked (want.Cut from to) = is_some from.unit || is_some to.unit || nat_le from.number to.number
 is_asked (want.Sample numbers units names) = (length units.items == length numbers.items) && not (is_empty numbers.items) && (has_units units.items || do_rise numbers.items)
@@ -30,7 +30,7 @@ abbrev pub is_merge : Want → Bool
 is_merge want.Merge = true
 is_merge want = false
 
--- its times are ticks, save those of a cut
+-- its times are ticks, except those of a cut
 abbrev pub HasTicks : Want → Type 0
 HasTicks want.Check = Unit {0}
 HasTicks want.List = Unit {0}

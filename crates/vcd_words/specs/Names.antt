@@ -1,4 +1,4 @@
--- What the clauses of this crate speak of, under one path.
+-- What the contracts of this crate cite, under one path.
 pub use Rattle.std.specs.Char.{is_ascii_digit}
 pub use Rattle.std.specs.List.{take_while}
 pub use Rattle.vcd_model.specs.Bytes.{decimal_value}

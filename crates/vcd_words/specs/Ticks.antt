@@ -19,19 +19,19 @@ times_with (n ∷ ns) (u ∷ us) = record { number = n; unit = u } ∷ times_wit
 abbrev pub has_units : List (Option ℤ) → Bool
 has_units units = list_any (λ unit. is_some unit) units
 
--- their ticks of this scale, rounded down, or the faults of those that have none
+-- the ticks of these times in this scale, rounded down, or the faults of those that have none
 abbrev pub all_ticks : Option ℤ → List ℕ → List (Option ℤ) → List (Result ℕ ℕ)
 all_ticks scale numbers units = map (λ m. moment_ticks scale m false) (times_with numbers units)
 
--- each has ticks, and these are they
+-- each time has ticks, and these are they
 abbrev pub AreTicks : List (Result ℕ ℕ) → List ℕ → Type 0
 AreTicks all numbers = all ≡ map (λ k. Ok k) numbers
 
--- some has none, and this is why the times are refused
+-- some time has no ticks, and this is why the times are refused
 abbrev pub AreRefused : List (Result ℕ ℕ) → Refusal → Type 0
 AreRefused all why = (list_all is_ok all ≡ false) × (model.first_refusal all ≡ model_refusal why)
 
--- over any header that the view shows a run asks for the same with these words as before, or is
+-- over any header that the view shows, a run asks for the same with these words as before, or is
 -- refused for this reason
 abbrev pub KeepsRequest : {A : Type 0} → HeadView → (old new : model.Want) → Result A Refusal → Type 0
 KeepsRequest v old new result = (h : Header) → IsViewOf v h → MatchResult result (λ _. model.request_of h.scale new ≡ model.request_of h.scale old) (λ why. model.request_of h.scale old ≡ Err (model_refusal why))

@@ -33,7 +33,7 @@ IsWhole c app = (app_of c ≡ app) × (is_broken c ≡ false)
 abbrev pub input_rule : Rule
 input_rule = record (new_rule (codes "input")) { short = Some 105; value_names = 1 }
 
--- `--token-limit N`; which texts are good is no matter of the parse
+-- `--token-limit N`; the parse does not decide which texts are good
 abbrev pub limit_rule : Rule
 limit_rule = record (new_rule (codes "token-limit")) { long = Some (codes "token-limit"); value_names = 1 }
 
@@ -41,7 +41,7 @@ limit_rule = record (new_rule (codes "token-limit")) { long = Some (codes "token
 abbrev pub names_rule : Bool → Rule
 names_rule required = record (new_rule (codes "names")) { range = Some (record { start_inclusive = 1; end_inclusive = usize_max }); value_names = 1; required = required }
 
--- an option of this name for times; which texts are times is no matter of the parse
+-- an option of this name for times; the parse does not decide which texts are times
 abbrev pub time_rule : Text → Rule
 time_rule name = record (new_rule name) { long = Some name; value_names = 1 }
 
@@ -49,7 +49,8 @@ time_rule name = record (new_rule name) { long = Some name; value_names = 1 }
 abbrev pub one_input_app : Text → App
 one_input_app name = with_rule (with_rule (new_app name) input_rule) limit_rule
 
--- `FILE` without `-i`: one argument with it, by its id, so that only one of them may be there
+-- `FILE` without `-i`. It is one argument with `-i FILE`, with the same id, so that only one of
+-- them may be there
 abbrev pub file_rule : Rule
 file_rule = record (new_rule (codes "input")) { value_names = 1 }
 
@@ -61,7 +62,7 @@ alone_app name = with_rule (one_input_app name) file_rule
 abbrev pub named_app : Text → Bool → App
 named_app name required = with_rule (one_input_app name) (names_rule required)
 
--- a time, and this word where there is none
+-- a time, and this word if there is none
 abbrev pub time_or_rule : (name word : Text) → Rule
 time_or_rule name word = record (time_rule name) { defaults = word ∷ [] }
 
@@ -110,11 +111,11 @@ word_after matches id = option_and_then (λ used. first_of id used.1) (subcomman
 abbrev pub values_after : ArgMatches → Text → List Text
 values_after matches id = unwrap_or (option_and_then (λ used. all_of id used.1) (subcommand_rows_of matches)) []
 
--- words, where there are some
+-- words, or none
 abbrev pub some_of : List Text → Option (List Text)
 some_of words = cond (is_empty words) None (Some words)
 
--- the word for a file that the matches have, none where standard input is read
+-- the word for a file that the matches have; `None` for standard input
 abbrev pub input_asked : ArgMatches → Option Text
 input_asked matches = word_after matches (codes "input")
 
@@ -122,7 +123,7 @@ input_asked matches = word_after matches (codes "input")
 abbrev pub files_asked : ArgMatches → List Text
 files_asked matches = values_after matches (codes "files")
 
--- a cut between these words, where there are both
+-- a cut between these words, if both are there
 abbrev pub cut_between : Option Text → Option Text → Option model.Command
 cut_between (Some from) (Some to) = Some (model.Command.Cut from to)
 cut_between (Some from) None = None
@@ -149,7 +150,7 @@ complete named = option_and_then (λ command. cond (model.has_words command) (So
 
 -- ---- what they ask for
 
--- the words that were used, where they have a command of the table
+-- the words that were used, if a command of the table has them
 abbrev pub words_used : ArgMatches → Option model.Words
 words_used matches = option_map (λ command. record { command = command; limit = word_after matches (codes "token-limit") }) (command_used matches)
 
@@ -157,11 +158,11 @@ words_used matches = option_map (λ command. record { command = command; limit =
 abbrev pub job_asked : ArgMatches → Result model.Job model.UseFault
 job_asked matches = model.job_of (words_used matches)
 
--- they ask for this, with this token limit
+-- the words ask for this, with this token limit
 abbrev pub AsksFor : ArgMatches → Want → ℕ → Type 0
 AsksFor matches want limit = job_asked matches ≡ Ok (record { want = model_want want; limit = limit })
 
--- borrowed names, where there are some
+-- borrowed names, or none
 abbrev pub some_names : Option (Bor (List (Bor Text))) → List Text
 some_names names = unwrap_or (option_map (λ some. map (λ name. name.now) some.now) names) []
 
@@ -185,7 +186,7 @@ words_command (words.Sample at names) = model.Command.Sample at.now (some_names 
 words_command (words.Edges names) = model.Command.Edges (some_names names)
 words_command (words.Merge files) = merge_command files.now
 
--- the fault is the one that the words have; memory is none of theirs
+-- the fault is one that the words have, and not of memory
 abbrev pub IsFaultIn : {X : Type 0} → UseFault → Result X model.UseFault → Type 0
 IsFaultIn {X} BadWords asked = asked ≡ Err model.UseFault.BadWords
 IsFaultIn {X} (BadLimit word) asked = asked ≡ Err (model.UseFault.BadLimit word.now)
@@ -196,13 +197,13 @@ IsFaultIn {X} TooManyFiles asked = asked ≡ Err model.UseFault.TooManyFiles
 IsFaultIn {X} InputTwice asked = asked ≡ Err model.UseFault.InputTwice
 IsFaultIn {X} OutOfMemory asked = ⊥
 
--- that is the fault, or memory ran out, which it does only where the words have no fault
+-- this is the fault; or memory ran out, which happens only if the words have no fault
 abbrev pub IsFaultOf : {X : Type 0} → UseFault → Result X model.UseFault → Type 0
 IsFaultOf {X} OutOfMemory asked = (x : X) × (asked ≡ Ok x)
 IsFaultOf {X} fault asked = IsFaultIn fault asked
 
--- the words ask for this, which words can ask for, or have this fault; memory may run out where
--- they have none
+-- the words ask for this, which words can ask for, or have this fault; memory may run out if they
+-- have no fault
 pub record GivesWant (wanted : Result model_job.Want model.UseFault) (result : Result Want UseFault) : Type 0 where
   pub want : IfOk result (λ want. wanted ≡ Ok (model_want want))
   pub asked : IfOk result (λ want. is_asked want ≡ true)

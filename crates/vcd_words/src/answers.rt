@@ -1,11 +1,11 @@
-//! What is said of words that give no matches: the text of `clap`, with tips that fit here.
+//! What is said of words that give no matches: the text of `clap`, with hints that fit here.
 
 use clap::Error;
 use std::alloc::{AllocError, Global};
 
-/// Texts of `clap` that mislead here, and what is said instead.
+/// Texts of `clap` that mislead here, and the texts that replace them.
 const INSTEAD: [(&str, &str); 6] = [
-    // These words ask for a file for the output, and are nothing to pass as a value.
+    // These words ask for a file for the output, and are no value to pass.
     (
         "tip: to pass '-o' as a value, use '-- -o'",
         "tip: output goes to standard output; use '> FILE'",
@@ -16,7 +16,7 @@ const INSTEAD: [(&str, &str); 6] = [
     ),
     // A word after `--` is never the value of an option.
     ("' as a value, use '-- ", "' as a file or a name, use '-- "),
-    // One input of each form is two of one argument, which `clap` calls by its first form.
+    // `clap` has one argument for both forms of an input, and names it by the first form.
     (
         "'-i <FILE>' cannot be used multiple times\n",
         "'-i <FILE>' cannot be used multiple times\n\n  \
@@ -33,7 +33,7 @@ const INSTEAD: [(&str, &str); 6] = [
     ),
 ];
 
-/// The scripts that are installed beside the program, without the `vcdkit-` of their names.
+/// The scripts that are installed besides the program, without the `vcdkit-` of their names.
 const SCRIPTS: [&str; 13] = [
     "diff",
     "endmend",
@@ -50,7 +50,7 @@ const SCRIPTS: [&str; 13] = [
     "x",
 ];
 
-/// Returns the text with what is said instead of what misleads.
+/// Returns the text, with what misleads replaced.
 fn instead_of(alloc: Global, mut text: String) -> Result<String, AllocError> {
     for (said, instead) in &INSTEAD {
         text = text.replace(alloc, *said, *instead)?;
@@ -58,7 +58,7 @@ fn instead_of(alloc: Global, mut text: String) -> Result<String, AllocError> {
     Ok(text)
 }
 
-/// Returns the text with the name of a script, if an unknown command is the end of one.
+/// Returns the text with the name of a script, if an unknown command is the end of such a name.
 fn with_script(alloc: Global, mut text: String) -> Result<String, AllocError> {
     for script in &SCRIPTS {
         let said = format!(in alloc; "subcommand '{script}'\n")?;
@@ -68,7 +68,7 @@ fn with_script(alloc: Global, mut text: String) -> Result<String, AllocError> {
     Ok(text)
 }
 
-/// Returns whether the text is of a negative number, which `clap` takes for options.
+/// Returns whether the text is about a negative number, which `clap` takes for options.
 fn is_of_negative(text: &str) -> bool {
     match text.strip_prefix("error: unexpected argument '-") {
         Some(word) => matches!(word.as_bytes(), [b'0'..=b'9', ..]),
@@ -76,7 +76,7 @@ fn is_of_negative(text: &str) -> bool {
     }
 }
 
-/// Returns the text that is said of words that give no matches.
+/// Returns the text for words that give no matches.
 pub fn answer_text(alloc: Global, error: &Error) -> Result<String, AllocError> {
     let text = instead_of(alloc, error.to_string(alloc)?)?;
     if is_of_negative(text.as_str()) {

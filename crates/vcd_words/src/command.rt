@@ -1,4 +1,4 @@
-//! The command line: which words it takes, and the exit status where it takes none.
+//! The command line: which words it accepts, and the exit status if it does not.
 ghost use Rattle.std.specs.Prelude.{◌≡◌, true, IfOk};
 ghost use Rattle.vcd_words.specs.Names.{alone_app, App, cut_app, IsLocal, IsWhole, kind_of, limit_rule, merge_app, named_app, new_app, one_input_app, parse_status_of, program_app, sample_app, time_rule, with_subcommand};
 
@@ -40,10 +40,9 @@ fn one_input<'a>(alloc: Global, name: &'a str, help: Help<'a>) -> Result<Command
         .arg(token_limit(alloc))
 }
 
-/// Returns a command over one input that takes no names: its file may come without `-i`.
+/// Returns a command over one input that takes no names. Its file may come without `-i`.
 // Both forms have one id, so they are one argument, which may be given once. `conflicts_with` would
-// refuse both forms together too, but over arguments with such rules `clap` does not say which
-// words it takes.
+// refuse both forms together too, but then `clap` does not say which words it accepts.
 fn alone<'a>(alloc: Global, name: &'a str, help: Help<'a>) -> Result<Command<'a>, AllocError>
     ensures { IfOk result (λ command. IsWhole command (alone_app name.entry.now)) }
 {
@@ -53,9 +52,9 @@ fn alone<'a>(alloc: Global, name: &'a str, help: Help<'a>) -> Result<Command<'a>
     one_input(alloc, name, help)?.arg(file)
 }
 
-/// Returns a command over one input, with its options and names of variables, without which the
-/// parse fails where they are required. A word without an option is a name here, so the file comes
-/// after `-i`.
+/// Returns a command over one input, with its options and names of variables. If the names are
+/// required, the parse fails without them. A word without an option is a name here, so the file
+/// comes after `-i`.
 fn named<'a>(
     alloc: Global,
     name: &'a str,
@@ -82,8 +81,8 @@ fn time<'a>(alloc: Global, name: &'a str, value_name: &'a str, help: &'a str) ->
         .help(help)
 }
 
-/// Returns the command `cut`, with its options and both of its times. Without them it begins at
-/// time 0, and goes to the end, since no time is above its last one.
+/// Returns the command `cut`, with its options and its two times. Without them it begins at time 0
+/// and goes to the end, since no time is above the greatest one.
 fn cut<'a>(alloc: Global) -> Result<Command<'a>, AllocError>
     ensures { IfOk result (λ command. IsWhole command cut_app) }
 {
@@ -105,8 +104,8 @@ fn cut<'a>(alloc: Global) -> Result<Command<'a>, AllocError>
     alone(alloc, "cut", help::CUT)?.arg(from)?.arg(to)
 }
 
-/// Returns the command `sample`, with its options, its times, without which the parse fails, and
-/// names of variables.
+/// Returns the command `sample`, with its options, its times, which are required, and names of
+/// variables.
 fn sample<'a>(alloc: Global) -> Result<Command<'a>, AllocError>
     ensures { IfOk result (λ command. IsWhole command sample_app) }
 {
@@ -146,7 +145,7 @@ fn add<'a>(
     program.subcommand(command?)
 }
 
-/// Returns the command `vcdkit` with its commands; fails where memory runs out.
+/// Returns the command `vcdkit` with its commands. Fails if memory runs out.
 pub fn command_of<'a>(alloc: Global) -> Result<Command<'a>, AllocError>
     ensures { IfOk result (λ command. IsWhole command program_app) }
 {
@@ -163,7 +162,7 @@ pub fn command_of<'a>(alloc: Global) -> Result<Command<'a>, AllocError>
     add(program, merge(alloc))
 }
 
-/// Returns the exit status where a parse gave no matches.
+/// Returns the exit status of a parse that gave no matches.
 pub fn parse_status(error: &Error) -> u8
     ensures { result ≡ parse_status_of (kind_of error.now) }
 {

@@ -1,4 +1,4 @@
-//! What `--help` says of each command: what it does, its usage, examples, and exit statuses.
+//! What `--help` prints for each command: what it does, its usage, examples, and exit statuses.
 
 /// The texts of one command.
 #[derive(Clone, Copy)]

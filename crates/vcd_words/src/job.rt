@@ -1,4 +1,4 @@
-//! A job: what is done, and how its input is read; and why there is none.
+//! A job: what is done, and how its input is read; or why there is no job.
 ghost use Rattle.std.specs.Prelude.{◌≡◌, ◌≤◌, IfErr, IfOk, OnOk, Some, None, true, cond, map, string_bytes};
 ghost use Rattle.vcd_words.specs.Names.{AsksFor, decimal_value, HasTicks, is_asked, is_limit, is_merge, IsFaultIn, IsFaultOf, job_asked, KeepsRequest, limit_of, model_want, names_asked, text_of, UseFault};
 
@@ -22,20 +22,20 @@ pub enum Want {
     Pick(Vec<String>),
     /// Writes the dump from the first of these times to the last.
     Cut(Moment, Moment),
-    /// Writes the values of the variables that these names select at times with these numbers, and
-    /// with these units, one a number; of all without names. Numbers are apart from units, so that
-    /// ticks can be written over them.
+    /// Writes the values of the variables that these names select (of all without names) at times
+    /// with these numbers, and these units, one for each number. Numbers and units are apart, so
+    /// that ticks can be written over the numbers.
     Sample(Vec<u64>, Vec<Option<i8>>, Vec<String>),
-    /// Counts how often the variables that these names select change, rise and fall; all without
-    /// names.
+    /// Counts how often the variables that these names select (all without names) change, rise and
+    /// fall.
     Edges(Vec<String>),
     /// Writes the changes of all inputs in one order of time.
     Merge,
 }
 
 impl Want {
-    /// Converts the times of a sample to ticks of the header that is shown, in place. Fails where
-    /// they are refused, with the reason; what the times are then is not said.
+    /// Converts the times of a sample to ticks of the header that is shown, in place. Fails with
+    /// the reason if they are refused; then the times may be anything.
     pub fn write_ticks(&mut self, view: HeadView<'_>) -> Result<(), Refusal>
         requires { is_asked self.old ≡ true }
         ensures same { KeepsRequest view.entry (model_want self.old) (model_want self.new) result }
@@ -55,15 +55,15 @@ impl Want {
         }
     }
 
-    /// Returns whether it is a merge, which alone may have several inputs.
+    /// Returns whether it is a merge. Only a merge may have several inputs.
     pub fn is_merge(&self) -> bool
         ensures { result ≡ is_merge self.now }
     {
         matches!(self, Want::Merge)
     }
 
-    /// Returns the names that have to select something; none where the command takes no names, or
-    /// all variables.
+    /// Returns the names that have to select something. There are none if the command takes no
+    /// names, or is about all variables.
     pub fn names(&self) -> &[String]
         ensures { map string_bytes result.now ≡ names_asked self.now }
     {
@@ -91,7 +91,7 @@ pub struct Job {
 /// Why there is no job.
 #[derive(Clone, Copy, PartialEq, Eq, Debug)]
 pub enum UseFault<'a> {
-    /// The words name no command, or one without the names or times that it needs.
+    /// The words name no command, or one without names or times that it needs.
     BadWords,
     /// This word is no token limit.
     BadLimit(&'a str),
@@ -99,7 +99,7 @@ pub enum UseFault<'a> {
     BadTime(&'a str),
     /// The start of a cut is above its end.
     FromAboveTo,
-    /// The times of a sample do not rise.
+    /// The times of a sample do not increase.
     NotRising,
     /// A merge has more than 64 files.
     TooManyFiles,
@@ -117,7 +117,7 @@ impl<'a> From<AllocError> for UseFault<'a> {
     }
 }
 
-/// How long a token may be where the words say nothing of it.
+/// How long a token may be if no word gives another limit, in bytes.
 const DEFAULT_LIMIT: usize = 1_048_576;
 
 // The least and the greatest token limit.
@@ -128,7 +128,7 @@ const MAX_LIMIT: u64 = 16_777_216;
 /// How much is read in one call, in bytes.
 const CHUNK: usize = 65_536;
 
-/// Returns the token limit that a word is, if it is one.
+/// Returns the token limit that a word is; `None` if it is none.
 fn limit_in(word: &str) -> Option<usize>
     ensures { result ≡ cond (is_limit word.now) (Some (decimal_value word.now)) None }
 {
@@ -139,7 +139,7 @@ fn limit_in(word: &str) -> Option<usize>
     Some(limit as usize)
 }
 
-/// Returns the token limit that is asked for by this word, or by none.
+/// Returns the token limit that this word asks for, or the default if there is no word.
 fn limit_of<'a>(word: Option<&'a str>) -> Result<usize, UseFault<'a>>
     ensures limit { IfOk result (λ limit. limit_of (text_of word.entry) ≡ Ok limit) }
     ensures range { IfOk result (λ limit. (64 ≤ limit) × (limit ≤ 16777216)) }
@@ -151,9 +151,9 @@ fn limit_of<'a>(word: Option<&'a str>) -> Result<usize, UseFault<'a>>
     }
 }
 
-/// Returns the job that the matches of the command ask for. Memory is taken for its names, once
-/// they are known to ask for a job. Fails with the first fault of the words, or where memory runs
-/// out.
+/// Returns the job that the matches of the command ask for. Fails with the first fault of the
+/// words, or if memory runs out. Memory is taken for its names, once it is known that there is a
+/// job.
 pub fn job_of<'a>(alloc: Global, matches: &ArgMatches<'a>) -> Result<Job, UseFault<'a>>
     ensures job { IfOk result (λ job. AsksFor matches.now job.task job.limit) }
     ensures chunk { IfOk result (λ job. job.chunk ≡ 65536) }

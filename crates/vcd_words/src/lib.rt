@@ -1,15 +1,15 @@
 //! The words of the command line to a job.
 //!
-//! `command_of` says which words are taken, and `job_of` which `Job` their matches ask for, or why
-//! they ask for none. Both are the definitions' (`specs/Words` of `vcd_model`). Times with units
-//! are ticks only once a header is read: `write_ticks` converts those of a sample in place.
-//! It opens no file and writes nothing.
+//! `command_of` says which words are accepted, and `job_of` which `Job` their matches ask for, or
+//! why they ask for none. Both agree with the definitions (`specs/Words` of `vcd_model`). Times
+//! with units are ticks only once a header is read: `write_ticks` converts those of a sample in
+//! place. The crate opens no file and writes nothing.
 //!
 //! # The modules
 //!
-//! - `command`: the words that the command line takes, and the status where it takes none
-//! - `help`: what `--help` says of each command
-//! - `answers`: what is said of words that it does not take
+//! - `command`: the words that the command line accepts, and the status if it does not
+//! - `help`: what `--help` prints for each command
+//! - `answers`: what is said of words that are not accepted
 //! - `words`: what the words ask for, borrowed from their matches
 //! - `job`: `Job`, `Want` with its names, `UseFault`; `job_of`
 //! - `moment_word`: the times that words are, and the fault of those that are none; a cut and a
@@ -17,8 +17,8 @@
 //! - `sample_ticks`: ticks instead of the numbers of a sample's times
 //! - `refusal`: why times are refused, once the header is read
 //!
-//! In `specs/`: `Words`, what the command line takes and asks for; `Times` and `Ticks`, its times;
-//! `Job`; `Refusal`.
+//! In `specs/`: `Words`, what the command line accepts and asks for; `Times` and `Ticks`, its
+//! times; `Job`; `Refusal`.
 #![tactic(auto)]
 
 mod answers;

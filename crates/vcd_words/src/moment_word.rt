@@ -12,7 +12,7 @@ use vcd_text::decimal_of;
 /// How many digits a number may have.
 const MAX_DIGITS: usize = 20;
 
-/// Returns the number that 1 to 20 digits are, if it is below 2^64.
+/// Returns the number that 1 to 20 digits are; `None` if it is 2^64 or more.
 pub(crate) fn number_of(digits: &[u8]) -> Option<u64>
     ensures { result ≡ cond (is_number digits.now) (Some (decimal_value digits.now)) None }
 {
@@ -29,8 +29,8 @@ fn digits_before(word: &[u8]) -> usize
     word.iter().take_while(|byte| byte.is_ascii_digit()).count()
 }
 
-/// Returns the time that a word is, if it is one: 1 to 20 digits with a value below 2^64, and then
-/// nothing or a unit, in lower case.
+/// Returns the time that a word is: 1 to 20 digits with a value below 2^64, and then nothing or a
+/// unit, in lower case. `None` if it is no time.
 pub(crate) fn moment_of(word: &str) -> Option<Moment>
     ensures { option_map asked result ≡ moment_of word.now }
 {
@@ -39,7 +39,7 @@ pub(crate) fn moment_of(word: &str) -> Option<Moment>
     Moment::from_parts(number_of(digits)?, unit)
 }
 
-/// Returns the time that a word is, or that it is none.
+/// Returns the time that a word is. Fails if it is no time.
 pub(crate) fn time_of<'a>(word: &'a str) -> Result<Moment, UseFault<'a>>
     ensures time { IfOk result (λ moment. time_of word.entry.now ≡ Ok (asked moment)) }
     ensures fault { IfErr result (λ fault. IsFaultIn fault (time_of word.entry.now)) }
@@ -48,7 +48,7 @@ pub(crate) fn time_of<'a>(word: &'a str) -> Result<Moment, UseFault<'a>>
 }
 
 /// Returns a cut between the times that these words are, or the first fault of them. Without units
-/// the first may not be above the second; with a unit that is to be seen once the time scale is
+/// the first time may not be above the second. With a unit that is checked once the time scale is
 /// known.
 pub(crate) fn cut_of<'a>(from: &'a str, to: &'a str) -> Result<Want, UseFault<'a>>
     ensures want { IfOk result (λ want. cut_in from.entry.now to.entry.now ≡ Ok (model_want want)) }
@@ -68,7 +68,7 @@ pub(crate) fn cut_of<'a>(from: &'a str, to: &'a str) -> Result<Want, UseFault<'a
 struct TimesOrder {
     /// Whether one of them has a unit.
     has_unit: bool,
-    /// Whether each number is above the one before.
+    /// Whether each number is above the one before it.
     rises: bool,
     /// The last number.
     last: Option<u64>,
@@ -86,7 +86,7 @@ impl TimesOrder {
         }
     }
 
-    /// Returns the order with one time more.
+    /// Returns the order with one more time.
     fn with(self, time: Moment) -> TimesOrder
         ensures { (times : List ModelMoment) → IsOrderOf times self
             → IsOrderOf (times ++ asked time ∷ []) result }
@@ -99,8 +99,8 @@ impl TimesOrder {
     }
 }
 
-/// Returns whether the words between the commas are the times of a sample: without units they rise.
-/// It takes no memory.
+/// Fails if the words between the commas are not the times of a sample, which increase if none has
+/// a unit. It takes no memory.
 fn check_times<'a>(at: &'a str) -> Result<(), UseFault<'a>>
     ensures times { OnOk result ((names : List (List ℕ)) → (times : List ModelMoment)
         × (times_of (parts at.entry.now) ≡ Ok times)
@@ -141,7 +141,7 @@ fn units_in(alloc: Global, at: &str) -> Result<Vec<Option<i8>>, AllocError>
 }
 
 /// Returns a sample of these names at the times between the commas, or the first fault of these
-/// words. Memory is taken once they are known to be times that a sample may have.
+/// words. Memory is taken once it is known that a sample may have these times.
 pub(crate) fn sample_of<'a>(
     alloc: Global,
     at: &'a str,

@@ -13,7 +13,7 @@ pub enum Refusal {
     OutOfRange,
     /// The start of a cut is above its end, in ticks.
     FromAboveTo,
-    /// The times of a sample do not rise, in ticks.
+    /// The times of a sample do not increase, in ticks.
     NotRising,
 }
 

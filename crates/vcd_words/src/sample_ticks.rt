@@ -1,4 +1,4 @@
-// The times of a sample in ticks: over their numbers, so that no memory is taken.
+// The times of a sample in ticks, written over their numbers, so that no memory is taken.
 ghost use Rattle.std.specs.Prelude.{◌≡◌, ◌||◌, ℕ, List, true, false, length, MatchResult, OnOk};
 ghost use Rattle.vcd_words.specs.Names.{all_ticks, AreRefused, AreTicks, do_rise, has_units, Header, IsViewOf, KeepsRequest, times_with, Want};
 
@@ -21,7 +21,7 @@ fn do_rise(times: &[u64]) -> bool
 }
 
 /// Writes times with these units in ticks of the header that is shown over their numbers, each
-/// rounded down, up to the first that has no ticks, of which it says why.
+/// rounded down. Fails with the reason at the first time that has no ticks.
 fn write_ticks(numbers: &mut [u64], units: &[Option<i8>], view: HeadView<'_>) -> Result<(), Refusal>
     requires { length units.now ≡ length numbers.old }
     ensures { (h : Header) → IsViewOf view.entry h → MatchResult result
@@ -39,8 +39,8 @@ fn write_ticks(numbers: &mut [u64], units: &[Option<i8>], view: HeadView<'_>) ->
 }
 
 /// Writes the times of a sample, with these numbers and units, in ticks of the header that is shown
-/// over their numbers, each rounded down, and leaves them without units: they are the same times.
-/// Where they are refused it says why, and what they are then is not said.
+/// over their numbers, each rounded down, and removes the units. Fails with the reason if they are
+/// refused; then the times may be anything.
 pub(crate) fn write_times(
     numbers: &mut Vec<u64>,
     units: &mut Vec<Option<i8>>,

@@ -30,7 +30,7 @@ fn word_of<'a>(matches: &ArgMatches<'a>, id: &str) -> Option<&'a str>
     options.get_str(id)
 }
 
-/// Returns the input file that the matches of the command name; none where standard input is read.
+/// Returns the input file that the matches of the command name; `None` for standard input.
 pub fn input_of<'a>(matches: &ArgMatches<'a>) -> Option<&'a str>
     ensures { option_map (λ name. name.now) result ≡ input_asked matches.now }
 {
@@ -44,7 +44,7 @@ pub(crate) fn limit_word<'a>(matches: &ArgMatches<'a>) -> Option<&'a str>
     word_of(matches, "token-limit")
 }
 
-/// Returns the words of an argument of the command that was used, where there are some.
+/// Returns the words of an argument of the command that was used; `None` if there are none.
 fn words_of<'m, 'a>(matches: &'m ArgMatches<'a>, id: &str) -> Option<&'m [&'a str]>
     ensures { texts_of result ≡ some_of (values_after matches.now id.now) }
 {
@@ -53,21 +53,21 @@ fn words_of<'m, 'a>(matches: &'m ArgMatches<'a>, id: &str) -> Option<&'m [&'a st
     (!words.is_empty()).then_some(words)
 }
 
-/// Returns the names of variables after the command that was used, where there are some.
+/// Returns the names of variables after the command that was used; `None` if there are none.
 fn names_of<'m, 'a>(matches: &'m ArgMatches<'a>) -> Option<&'m [&'a str]>
     ensures { texts_of result ≡ some_of (values_after matches.now (codes "names")) }
 {
     words_of(matches, "names")
 }
 
-/// Returns the files that the matches of a merge name; none where they name no file.
+/// Returns the files that the matches of a merge name; `None` if they name no file.
 pub fn files_of<'m, 'a>(matches: &'m ArgMatches<'a>) -> Option<&'m [&'a str]>
     ensures { texts_of result ≡ some_of (files_asked matches.now) }
 {
     words_of(matches, "files")
 }
 
-/// Returns the command of this name with its words, where it has all that it needs.
+/// Returns the command of this name with its words; `None` if something that it needs is missing.
 fn words_named<'m, 'a>(name: &str, matches: &'m ArgMatches<'a>) -> Option<Words<'m, 'a>>
     ensures { option_map words_command result ≡ complete (command_named name.now matches.now) }
 {
@@ -83,7 +83,7 @@ fn words_named<'m, 'a>(name: &str, matches: &'m ArgMatches<'a>) -> Option<Words<
     }
 }
 
-/// Returns the command that was used with its words, where it has all that it needs.
+/// Returns the command that was used with its words; `None` if something that it needs is missing.
 pub(crate) fn words_in<'m, 'a>(matches: &'m ArgMatches<'a>) -> Option<Words<'m, 'a>>
     ensures { option_map words_command result ≡ complete (command_used matches.now) }
 {
@@ -102,7 +102,7 @@ fn copied(alloc: Global, names: &[&str]) -> Result<Vec<String>, AllocError>
     Ok(copies)
 }
 
-/// Returns a copy of names, where there are some.
+/// Returns a copy of names, if there are some.
 pub(crate) fn copied_some(alloc: Global, names: Option<&[&str]>) -> Result<Vec<String>, AllocError>
     ensures { IfOk result (λ copies. map string_bytes copies.items ≡ some_names names.entry) }
 {
@@ -126,7 +126,8 @@ fn count_standard_inputs(files: &[&str]) -> usize
     files.iter().filter(|file| is_standard_input(file)).count()
 }
 
-/// Returns a merge of these files. Fails if they are too many, or more than one is standard input.
+/// Returns a merge of these files. Fails if they are too many, or if more than one is standard
+/// input.
 fn merge_of<'a>(files: &[&str]) -> Result<Want, UseFault<'a>>
     ensures { GivesWant (want_of (merge_command files.now)) result }
 {

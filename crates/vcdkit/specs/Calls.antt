@@ -1,4 +1,4 @@
--- What the calls of a run promise, by what readers and writers tell of themselves.
+-- What the calls of a run promise, as far as readers and writers describe themselves.
 use Rattle.std.specs.Prelude.{◌≡◌, ℕ, ◌+◌, ◌-◌, ◌^◌, ◌<◌, ◌≤◌, ◌⊎◌, true, All, IfSome, List, [], length, map, Option, Some, Result}
 use Rattle.vcd_model.specs.Header.{Header}
 use Rattle.vcd_model.specs.Input.{Input}
@@ -30,7 +30,7 @@ WantEnds w view want old new out out' result = (h : Header) (i : Input) (front :
     → Ends (names_asked want) (IsAfter (model_want want) (limit_of old) front h name) (limit_of old) (chunk_len_of old) i name front
     (settled_for result (is_settled_by (request_of h.scale (model_want want)) h) (λ _. true)) (supply_of old) (supply_of new) (w.device out) (w.device out') result
 
--- a job of one input was run over its reader
+-- a job with one input was run over its reader
 abbrev pub InputEnds : {X W : Type 0} → Ghosts X → Sinks W → Job → (old new : X) → (out out' : W) → Result Done Failure → Type 0
 InputEnds g w job old new out out' result = (text name : List ℕ) → g.rest old ≡ Some text
     → Ends (names_asked job.task) (IsOfJob (model_want job.task) job.limit name) job.limit job.chunk (whole text) name []
@@ -49,14 +49,15 @@ abbrev pub JobEnds : {X W : Type 0} → Ghosts X → Sinks W → Job → (old ne
 JobEnds g w job old new out out' result = (texts names : List (List ℕ)) → map g.rest old ≡ map (λ text. Some text) texts → length names ≡ length old
     → EndsAll (model_want job.task) (names_asked job.task) job.limit job.chunk names texts (supplies g old) (supplies g new) (w.device out) (w.device out') result
 
--- There are readers, at most as many as a merge may have, and none failed too often for one failure
--- more to be counted.
+-- There are readers, at most as many as a merge may have, and one more failure of each can be
+-- counted.
 pub record AreReaders {X : Type 0} (failures : X → ℕ) (readers : List X) : Type 0 where
   pub some : 0 < length readers
   pub few : length readers ≤ 64
   pub low : All (λ r. failures r < 2 ^ 64 - 1) readers
 
--- each reader gives at most so many bytes, where that is known, and its bytes are
+-- if it is known how many bytes readers give, each reader whose bytes are known gives at most this
+-- many
 abbrev pub AreWithin : {X : Type 0} → (X → Option (List ℕ)) → Option ℕ → List X → Type 0
 AreWithin rest longest readers = IfSome longest (λ most. All (λ r. IfSome (rest r) (λ text. length text ≤ most)) readers)
 
@@ -64,8 +65,8 @@ AreWithin rest longest readers = IfSome longest (λ most. All (λ r. IfSome (res
 abbrev pub IsWithin : Option ℕ → ℕ → Type 0
 IsWithin longest limit = (most : ℕ) × (longest ≡ Some most) × (most ≤ limit)
 
--- the same job, with windows that may be shorter: no input of so many bytes has a token that is
--- longer than they are
+-- the same job, with windows that may be shorter, but not shorter than any token of inputs of this
+-- length
 pub record Narrows (longest : Option ℕ) (wide narrow : Job) : Type 0 where
   pub task : narrow.task ≡ wide.task
   pub limit : (narrow.limit ≡ wide.limit) ⊎ ((narrow.limit ≤ wide.limit) × IsWithin longest narrow.limit)
@@ -73,7 +74,7 @@ pub record Narrows (longest : Option ℕ) (wide narrow : Job) : Type 0 where
 
 -- ---- a run and its message
 
--- one failed write more of each sink can be counted
+-- one more failed write of each sink can be counted
 pub record MayFailOnce {W E : Type 0} (w : Sinks W) (e : Sinks E) (out : W) (err : E) : Type 0 where
   pub out_low : (w.device out).failures < 2 ^ 64 - 1
   pub err_low : (e.device err).failures < 2 ^ 64 - 1
@@ -82,7 +83,7 @@ pub record MayFailOnce {W E : Type 0} (w : Sinks W) (e : Sinks E) (out : W) (err
 abbrev pub FailOnce : {W E : Type 0} → Sinks W → Sinks E → (out out' : W) → (err err' : E) → Type 0
 FailOnce w e out out' err err' = ((w.device out').failures ≤ (w.device out).failures + 1) × ((e.device err').failures ≤ (e.device err).failures + 1)
 
--- a job over inputs with these names ended done or failed, and its status and its line say which; a
+-- a job over inputs with these names succeeded or failed, and its status and its line say which; a
 -- failed read was the last one of its reader
 abbrev pub EndsSo : {X W E : Type 0} → Ghosts X → Sinks W → Sinks E → Job → List (List ℕ) → (old new : List X) → (out out' : W) → (err err' : E) → ℕ → Type 0
 EndsSo g w e job names old new out out' err err' status = (why : Option Failure)
@@ -90,7 +91,7 @@ EndsSo g w e job names old new out out' err err' status = (why : Option Failure)
     × (status ≡ end_status why) × Shows (e.device err) (e.device err') (end_message names (names_asked job.task) why)
     × EndsAtReadOf (map g.last_failed new) why
 
--- where the bytes of the readers are known, it ended as the definitions say
+-- if the bytes of the readers are known, it ended as the definitions say
 abbrev pub RunsJob : {X W E : Type 0} → Ghosts X → Sinks W → Sinks E → Job → List (List ℕ) → (old new : List X) → (out out' : W) → (err err' : E) → ℕ → Type 0
 RunsJob g w e job names old new out out' err err' status = (texts : List (List ℕ)) → map g.rest old ≡ map (λ text. Some text) texts
     → HasRun (model_want job.task) job.limit job.chunk names texts (supplies g old) (supplies g new) (w.device out) (w.device out') (e.device err) (e.device err') status

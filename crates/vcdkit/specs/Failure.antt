@@ -39,22 +39,21 @@ failure_of (Err failure) = Some failure
 
 -- ---- the devices
 
--- of the reader at this index a read failed where the failure says so, and it is this index that it
--- names
+-- a read of the reader at this index failed if the failure says so and names this index
 abbrev pub CountsRead : (place before after : ℕ) → Option Failure → Type 0
 CountsRead place before after (Some (Stopped (Read input))) = (input ≡ place) × (after ≡ before + 1)
 CountsRead place before after why = after ≡ before
 
--- of all readers, the one at the index that the failure names, if it is a failed read
+-- the same for all readers: only the one at the index that the failure names had a failed read
 abbrev pub CountsReads : (before after : List ℕ) → Option Failure → Type 0
 CountsReads before after (Some (Stopped (Read input))) = (input < length before) × (after ≡ slice_set before input (slice_index before input + 1))
 CountsReads before after why = after ≡ before
 
--- a failed read was the last one of its reader, of which this says whether its last one failed
+-- a failed read was the last one of its reader; `last_failed` says whether the last one failed
 abbrev pub EndsAtRead : Bool → Option Failure → Type 0
 EndsAtRead last_failed why = (input : ℕ) → why ≡ Some (Stopped (Read input)) → last_failed ≡ true
 
--- so of all readers, of the one that the failure names
+-- the same for all readers, by the one that the failure names
 abbrev pub EndsAtReadOf : List Bool → Option Failure → Type 0
 EndsAtReadOf last_failed why = (input : ℕ) → why ≡ Some (Stopped (Read input)) → slice_get last_failed input ≡ Some true
 
@@ -65,12 +64,12 @@ writes_failed why = 0
 
 -- ---- the devices themselves
 
--- a call failed with a failed read of this reader where its failure says so, as the reader at this
+-- a call failed with a failed read of this reader if its failure says so of the reader at this
 -- index
 abbrev pub CountsAt : {X A : Type 0} → (X → ℕ) → ℕ → X → X → Result A Failure → Type 0
 CountsAt failures place old new result = CountsRead place (failures old) (failures new) (failure_of result)
 
--- so, of these readers
+-- the same for these readers
 abbrev pub CountsReadsOf : {X : Type 0} → (X → ℕ) → (old new : List X) → Option Failure → Type 0
 CountsReadsOf failures old new why = CountsReads (map failures old) (map failures new) why
 

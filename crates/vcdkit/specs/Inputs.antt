@@ -52,7 +52,7 @@ pub record IsBegun (most limit chunk : ℕ) (i : Input) (l : Lane) (old new : Su
   pub going : IsGoing most before
   pub failures : new.failures ≡ old.failures
 
--- why the reading of a header ended the run: its fault, or want of memory
+-- why the reading of a header ended the run: its fault, or that memory ran out
 abbrev pub IsWhy : (most limit place : ℕ) → Input → Failure → Type 0
 IsWhy most limit place left (Stopped (Dump input line fault)) = (input ≡ place) × ((fault == 31) ≡ false) × HasFault most limit left fault line
 IsWhy most limit place left (Stopped (Read input)) = (input ≡ place) × (line : ℕ) × HasFault most limit left 31 line
@@ -81,7 +81,7 @@ abbrev pub OpensInput : {X : Type 0} {g : Ghosts X} → (most place : ℕ) → (
 OpensInput most place old new result = (i : Input) → HasGiven i [] old → MatchResult result (λ head. GivesHead most i new (shown head))
     (λ failure. (fault : HeadFault) × (failure ≡ head_failure fault place (token_of new).line) × Fails most i fault new)
 
--- so it was by its reader, over windows of these lengths, which hold these bytes then
+-- the header was read by its reader, over windows of these lengths, which then hold these bytes
 abbrev pub BeginsBy : {X : Type 0} → Ghosts X → (most place limit chunk : ℕ) → (old new : X) → (read gathered : List ℕ) → Result BegunInput Failure → Type 0
 BeginsBy g most place limit chunk old new read gathered result = (text : List ℕ) → g.rest old ≡ Some text → MatchResult result
     (λ begun. Begins most limit chunk (whole text) begun.head begun.seat read gathered (supply g.rest g.failures old) (supply g.rest g.failures new))
@@ -115,7 +115,8 @@ pub record IsNew (s : Seat) : Type 0 where
   pub regs_are : s.regs ≡ record { time = 0; marked = false; section = None }
   pub unfinished : s.finished ≡ false
 
--- so it is, and it belongs to windows of these lengths, or of the parts of these among n
+-- a seat is as it was made, and belongs to windows of these lengths, or to the parts of these among
+-- n
 abbrev pub IsNewOver : (chunk limit : ℕ) → Seat → Type 0
 IsNewOver chunk limit seat = IsSeated chunk limit seat × IsNew seat
 
@@ -152,7 +153,7 @@ pub record SameParts (n place : ℕ) (old new : Windows) : Type 0 where
   pub tokens : part (part_len n old.tokens.now) place new.tokens.now ≡ part (part_len n old.tokens.now) place old.tokens.now
 
 -- The reading of the header of the input at an index among n, over this reader and its parts of the
--- windows: no other reader is touched, and a failed read is one of it.
+-- windows. No other reader is used, and a failed read is one of this reader.
 pub record BeginsAt {X : Type 0} (n place most : ℕ) (rest : X → Option (List ℕ)) (failures : X → ℕ) (reader : X) (old new : List X) (windows windows' : Windows) (result : Result BegunInput Failure) : Type 0 where
   pub after : X
   pub readers : new ≡ slice_set old place after
@@ -162,7 +163,7 @@ pub record BeginsAt {X : Type 0} (n place most : ℕ) (rest : X → Option (List
       (part (part_len n windows.chunks.now) place windows'.chunks.now) (part (part_len n windows.tokens.now) place windows'.tokens.now) (supply rest failures reader) (supply rest failures after))
       (HasFailed most (part_len n windows.tokens.now) (part_len n windows.chunks.now) place (whole text) (supply rest failures reader) (supply rest failures after))
 
--- so it is of the reader at an index, whichever it is
+-- the same for the reader at an index, whichever it is
 abbrev pub BeginsAmong : {X : Type 0} → Ghosts X → (most place : ℕ) → (old new : List X) → (windows windows' : Windows) → Result BegunInput Failure → Type 0
 BeginsAmong {X} g most place old new windows windows' result = (r : X) → slice_get old place ≡ Some r → BeginsAt (length old) place most g.rest g.failures r old new windows windows' result
 

@@ -9,6 +9,6 @@ pub use Rattle.vcd_words.specs.Job
 pub use Rattle.vcd_words.specs.Refusal
 pub use Rattle.vcd_words.specs.Ticks
 pub use Rattle.vcd_words.specs.Words
--- the definitions that the clauses cite
+-- the definitions that the contracts cite
 pub use Rattle.vcd_model.specs as Model
 pub mod Names

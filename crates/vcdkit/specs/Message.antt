@@ -1,4 +1,4 @@
--- What is said on the error stream of each end, and the exit status.
+-- What is written on the error stream at each end, and the exit status.
 use Rattle.std.specs.Prelude.{◌≡◌, ◌⊎◌, ℕ, List, [], ◌++◌, codes, decimal, Option, Some, None}
 use Rattle.vcd_model.specs.Outcome.{Outcome, name_at, program_line, fault_text}
 use Rattle.vcd_model.specs.Job.{refusal_outcome}
@@ -14,11 +14,11 @@ use Rattle.vcd_words.specs.Refusal.{model_refusal}
 use Rattle.vcd_words.specs.declared.job.UseFault.{UseFault}
 use Rattle.vcd_words.specs.declared.job.UseFault.TheVariants as use_fault
 
--- the stream took the whole line, or failed once after a prefix of it; a fault of it is passed over
+-- the stream took the whole line, or failed once after a prefix of it; that failure is ignored
 abbrev pub Shows : Device → Device → List ℕ → Type 0
 Shows old new line = Writes old new line ⊎ WritesSome old new line
 
--- so, by what the stream tells of itself
+-- the same, as far as the stream describes itself
 abbrev pub ShowsOn : {E : Type 0} → (E → Device) → E → E → List ℕ → Type 0
 ShowsOn device old new line = Shows (device old) (device new) line
 
@@ -29,21 +29,21 @@ pub record Reports {E : Type 0} (device : E → Device) (old new : E) (message :
 
 -- ---- a run
 
--- the line where a run stops whose inputs have these names, and which was asked for those
+-- the line of a run that stops, whose inputs have these names, and which was asked for those
 abbrev pub stop_message : (names asked : List (List ℕ)) → Stop → List ℕ
 stop_message names asked (Dump input line fault) = program_line (name_at names input ++ codes ":" ++ decimal line ++ codes ": " ++ fault_text fault)
 stop_message names asked (Read input) = program_line (name_at names input ++ codes ": read failed")
 stop_message names asked Write = program_line (codes "write failed")
 stop_message names asked (Unmatched place) = program_line (name_at asked place ++ codes ": selects nothing")
 
--- the exit status then
+-- the exit status of a run that stops
 abbrev pub stop_status : Stop → ℕ
 stop_status (Dump input line fault) = 1
 stop_status (Read input) = 3
 stop_status Write = 3
 stop_status (Unmatched place) = 1
 
--- the line and the exit status where times are refused, of inputs with these names
+-- the line and the exit status if times are refused, over inputs with these names
 abbrev pub refusal_message : (names : List (List ℕ)) → Refusal → List ℕ
 refusal_message names why = (refusal_outcome (name_at names 0) (model_refusal why)).message
 
@@ -69,7 +69,7 @@ abbrev pub end_message : (names asked : List (List ℕ)) → Option Failure → 
 end_message names asked None = []
 end_message names asked (Some failure) = failure_message names asked failure
 
--- its exit status
+-- the exit status of a run
 abbrev pub end_status : Option Failure → ℕ
 end_status None = 0
 end_status (Some failure) = failure_status failure

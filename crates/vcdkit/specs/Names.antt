@@ -1,4 +1,4 @@
--- What the clauses of this crate speak of, under one path.
+-- What the contracts of this crate cite, under one path.
 pub use Rattle.vcd_model.specs.Header.{Header}
 pub use Rattle.vcd_model.specs.Job.{request_of, Want as ModelWant}
 pub use Rattle.vcd_model.specs.Laws.{IsValid}

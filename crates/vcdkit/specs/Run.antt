@@ -26,15 +26,15 @@ use Rattle.vcdkit.specs.Message.{Shows}
 
 -- ---- one input
 
--- the output of a run that was asked for these names, returns this and has this outcome; out of
--- memory it leaves nothing
+-- the output of a run that was asked for these names, returns this and has this outcome; if memory
+-- ran out it leaves nothing
 abbrev pub Leaves : (asked : List (List ℕ)) → Outcome → List ℕ → Device → Device → Result Done Failure → Type 0
 Leaves asked o name out out' (Ok done) = (o ≡ clean_outcome o.output) × Writes out out' o.output
 Leaves asked o name out out' (Err (Stopped stop)) = (task : Request) × (names_of task ≡ asked) × Belongs task o name out out' (Err stop)
 Leaves asked o name out out' (Err (Refused why)) = (o ≡ model.refusal_outcome name (model_refusal why)) × Writes out out' []
 Leaves asked o name out out' (Err OutOfMemory) = Writes out out' []
 
--- which first tokens settle a run: where memory ran out those that settle the header
+-- which first tokens settle a run; if memory ran out, those that settle the header
 abbrev pub settled_for : Result Done Failure → (run header : List Token → Bool) → List Token → Bool
 settled_for (Ok done) run header = run
 settled_for (Err (Stopped stop)) run header = run
@@ -52,7 +52,7 @@ pub record Ends (asked : List (List ℕ)) (IsDue : Input → Outcome → Type 0)
   pub is_due : IsDue left due
   pub leaves : Leaves asked due name out out' result
 
--- the outcome of a job of this input alone
+-- the outcome of a job whose only input is this
 abbrev pub IsOfJob : model.Want → ℕ → List ℕ → Input → Outcome → Type 0
 IsOfJob want limit name left o = o ≡ model.outcome want limit (name ∷ []) (left ∷ [])
 
@@ -68,9 +68,9 @@ IsAfter want limit front h name left o =
 abbrev pub header_behind : List Header → ℕ → Input → Header
 header_behind earlier limit i = header_of (phrases_of (read_header (allowed_after earlier) (stream_of limit i)).placed)
 
--- The inputs of readers with these texts, one by one: all of a text; or, where a read failed, what
--- the reader gave until then. No more was read of each than what settles it, where this many
--- declarations are allowed.
+-- The inputs of readers with these texts, one by one: all of a text; or, if a read failed, what the
+-- reader gave until then. No more was read of each than what settles it, if this many declarations
+-- are allowed.
 abbrev pub AreRead : (ℕ → List Token → Bool) → (limit chunk : ℕ) → List Header → List (List ℕ) → (old new : List Supply) → List Input → Type 0
 AreRead settled limit chunk earlier [] old new inputs = inputs ≡ []
 AreRead settled limit chunk earlier (text ∷ texts) [] new inputs = ⊥
@@ -83,7 +83,7 @@ AreRead settled limit chunk earlier (text ∷ texts) (s ∷ old) (t ∷ new) (i 
 -- ---- the end of a run
 
 -- The output of a run of inputs with these names, which was asked for those, that returns this and
--- has this outcome. A failed write leaves a prefix of it; out of memory it leaves nothing.
+-- has this outcome. A failed write leaves a prefix of it; if memory ran out it leaves nothing.
 abbrev pub LeavesAll : (names asked : List (List ℕ)) → Outcome → Device → Device → Result Done Failure → Type 0
 LeavesAll names asked o out out' (Ok done) = (o ≡ clean_outcome o.output) × Writes out out' o.output
 LeavesAll names asked o out out' (Err (Stopped (Dump input line fault))) = (o ≡ fault_outcome o.output (name_at names input) (record { number = fault; line = line })) × ((fault == 31) ≡ false) × Writes out out' o.output
@@ -97,18 +97,18 @@ LeavesAll names asked o out out' (Err OutOfMemory) = Writes out out' []
 abbrev pub known : ℕ → List Input → List Seen
 known limit inputs = map (λ (i : Input). Seen.All (stream_of limit i)) inputs
 
--- these first tokens of the input at an index settle a merge, where all of the others are known
+-- these first tokens of the input at an index settle a merge whose other inputs are all known
 abbrev pub settles_among : ℕ → List Input → ℕ → List Token → Bool
 settles_among limit inputs k ts = is_settled_merge (slice_set (known limit inputs) k (Seen.First ts))
 
--- of each input of a merge no more was read than what settles the merge, and a chunk, even where
--- all of the others are known
+-- of each input of a merge no more was read than what settles the merge, and a chunk, even if all
+-- of the others are known
 abbrev pub AreNeeded : model.Want → (limit chunk : ℕ) → (old new : List Supply) → List Input → Type 0
 AreNeeded model.Want.Merge limit chunk old new inputs = (k : ℕ) (s t : Supply) (i : Input) → slice_get old k ≡ Some s → slice_get new k ≡ Some t → slice_get inputs k ≡ Some i → ReadsAsNeeded limit chunk s t i [] (settles_among limit inputs k)
 AreNeeded want limit chunk old new inputs = Unit {0}
 
--- how the inputs of a merge were read: their headers one after the other, up to one that ended the
--- merge, and of those after it nothing; or all of the headers, and then each body on its turn alone
+-- How the inputs of a merge were read: their headers one after the other, up to one that ended the
+-- merge, and nothing of those after it; or all of the headers, and then each body only on its turn.
 pub data AreMergedInTurn (limit chunk : ℕ) (texts : List (List ℕ)) (old new : List Supply) (inputs : List Input) (out out' : Device) : Type 0 where
   InHeaders : (why : Failure) (stops : Stops limit chunk 0 [] texts old new why) → AreMergedInTurn limit chunk texts old new inputs out out'
   InBodies : (lanes : List Lane) (mid : List Supply) (begun : AreBegun limit chunk [] texts old mid lanes) (bodies : AreReadOnTurn limit chunk (headers_in lanes) lanes mid new inputs out out') → AreMergedInTurn limit chunk texts old new inputs out out'
@@ -128,11 +128,11 @@ pub record EndsAll (want : model.Want) (asked : List (List ℕ)) (limit chunk : 
   pub leaves : LeavesAll names asked (model.outcome want limit names lefts) out out' result
 
 -- a run leaves this outcome on its output, on the error stream and in its status, as far as its
--- devices let it
+-- devices allow
 pub data IsOutcome (o : Outcome) (out out' err err' : Device) (status : ℕ) : Type 0 where
   -- all of the outcome
   Whole : (written : Writes out out' o.output) (shown : Shows err err' o.message) (status_is : status ≡ o.status) → IsOutcome o out out' err err' status
-  -- a prefix of the output, where a write of it failed
+  -- a prefix of the output, if a write of it failed
   Part : (written : WritesSome out out' o.output) (shown : Shows err err' (program_line (codes "write failed"))) (status_is : status ≡ 3) → IsOutcome o out out' err err' status
 
 -- how a job ends over readers with these texts
@@ -140,6 +140,6 @@ pub data HasRun (want : model.Want) (limit chunk : ℕ) (names texts : List (Lis
   -- with the outcome of its inputs
   WithOutcome : (inputs : List Input) (read : AreRead (is_settled want) limit chunk [] texts old new inputs) (needed : AreNeeded want limit chunk old new inputs) (in_turn : AreInTurn want limit chunk texts old new inputs out out') (leaves : IsOutcome (model.outcome want limit names inputs) out out' err err' status)
       → HasRun want limit chunk names texts old new out out' err err' status
-  -- without output, where memory ran out; no more was read than the headers
+  -- without output, if memory ran out; no more was read than the headers
   NoMemory : (inputs : List Input) (read : AreRead is_header_over limit chunk [] texts old new inputs) (written : Writes out out' []) (shown : Shows err err' (program_line (codes "out of memory"))) (status_is : status ≡ 3)
       → HasRun want limit chunk names texts old new out out' err err' status

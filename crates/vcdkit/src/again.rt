@@ -4,7 +4,7 @@ use std::io::{ErrorKind, Read, Write};
 
 /// A reader or a writer whose interrupted calls are made again.
 ///
-/// Any other result is returned as it is. The contract says which bytes are given and taken where
+/// Any other result is returned as it is. The contract says which bytes are given and taken if
 /// those of the device are known: a call that failed, also one that was interrupted, gave and took
 /// none. It does not say which calls are made again.
 #[derive(Drop)]

@@ -7,12 +7,12 @@ use vcd_body::Stop;
 use vcd_head::HeadFault;
 use vcd_words::Refusal;
 
-/// Why a task does not run, or has not run to its end.
+/// Why a task does not run, or does not run to its end.
 #[derive(Clone, Copy, PartialEq, Eq, Debug)]
 pub(crate) enum Failure {
     /// A fault of an input or of a device, or a name that selects nothing.
     Stopped(Stop),
-    /// The times that are asked for are refused, of the first input.
+    /// The times that are asked for are refused over the first input.
     Refused(Refusal),
     /// Memory ran out.
     OutOfMemory,

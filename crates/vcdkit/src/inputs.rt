@@ -13,7 +13,7 @@ use vcd_words::Job;
 /// How many declarations all inputs of a run may have.
 pub(crate) const MAX_DECLARATIONS: u64 = 16_777_216;
 
-/// What the windows of all inputs are made of, each in as many equal parts as there are inputs.
+/// The memory of the windows of all inputs. Each window has one equal part for each input.
 #[derive(Drop)]
 pub(crate) struct WindowMemory {
     /// How much is read in one call.
@@ -24,7 +24,7 @@ pub(crate) struct WindowMemory {
     pub values: Vec<u8>,
 }
 
-/// Returns the windows of this many inputs under the job's limits.
+/// Returns the windows of this many inputs, with the job's limits.
 pub(crate) fn windows_for(
     alloc: Global,
     job: &Job,
@@ -45,9 +45,9 @@ pub(crate) fn windows_for(
 /// How headers are read.
 #[derive(Drop)]
 pub(crate) struct Reading<'h, B> {
-    /// Where memory for them is taken.
+    /// From where memory for them is taken.
     pub alloc: Global,
-    /// What their codes are hashed by.
+    /// The hasher of their codes.
     pub hasher: &'h B,
     /// How many declarations may follow.
     pub most: u64,
@@ -85,8 +85,8 @@ pub(crate) struct BegunInput {
     pub seat: Seat,
 }
 
-/// Reads the header of the input at this index among all, over its reader and its parts of the
-/// windows alone, and parks its feed.
+/// Reads the header of the input at this index among all, over its own reader and its parts of the
+/// windows, and parks its feed.
 fn begin<S: Source, B: BuildHasher>(
     reading: &Reading<'_, B>,
     input: usize,
@@ -110,9 +110,8 @@ fn begin<S: Source, B: BuildHasher>(
     Ok(BegunInput { head, seat })
 }
 
-/// Reads the header of the input at this index among the readers, and parks its feed.
-///
-/// It uses the parts of the windows at that index, and touches no other input's.
+/// Reads the header of the input at this index among the readers, and parks its feed. It uses only
+/// the parts of the windows at that index.
 fn begin_at<S: Source, B: BuildHasher>(
     reading: &Reading<'_, B>,
     input: usize,
@@ -144,7 +143,7 @@ fn begin_at<S: Source, B: BuildHasher>(
     )
 }
 
-/// What the inputs of a merge are once their headers were read, in order.
+/// The inputs of a merge once their headers were read, in order.
 #[derive(Drop)]
 pub(crate) struct Inputs {
     pub heads: Vec<Head>,

@@ -1,11 +1,11 @@
-//! A job to its outcome: the commands of `vcdkit`, over any readers and sinks.
+//! A job from its inputs to its outcome: the commands of `vcdkit`, over any readers and sinks.
 //!
 //! `run` does a job, and its contract says what is left on readers and sinks: output, message and
-//! status are those of the definitions' outcome (`HasRun`), or a prefix of the output where a write
-//! failed, or none of it where out of memory. The words that are taken (`command_of`), and the
-//! `Job` that they ask for (`job_of`), are of `vcd_words`; a caller finds them here. Where words
-//! ask for no job, `use_fault` says so. The words themselves, files and devices are those of
-//! `vcdkit_main`, the program.
+//! status are those of the definitions' outcome (`HasRun`). If a write failed, the output is a
+//! prefix of that; if memory ran out, there is no output. The words that are accepted
+//! (`command_of`) and the `Job` that they ask for (`job_of`) are in `vcd_words`; callers find them
+//! here too. If words ask for no job, `use_fault` says so. The words of a process, its files and
+//! its devices belong to `vcdkit_main`, the program.
 //!
 //! # The modules
 //!
@@ -24,9 +24,9 @@
 //!
 //! # Limits
 //!
-//! One input a job, and 1 to 64 for a merge. `run` takes memory for the windows, for the headers
-//! and for the room of the task, all of it before the first byte of output. A fault of the error
-//! stream is passed over. `run` does not flush.
+//! One input for each job, and 1 to 64 for a merge. `run` takes memory for the windows, for the
+//! headers and for the room of the task, all of it before the first byte of output. An error of the
+//! error stream is ignored. `run` does not flush.
 #![tactic(auto)]
 
 mod again;

@@ -1,5 +1,5 @@
-//! The lines on the error stream, and the exit statuses. A line begins with the program's name;
-//! where a write of it fails, a prefix of it was written.
+//! The lines on the error stream, and the exit statuses. A line begins with the program's name; if
+//! a write of it fails, a prefix of it was written.
 ghost use Rattle.std.specs.Prelude.{◌≡◌, ◌-◌, ◌^◌, ◌<◌, ◌++◌, [], codes, decimal, map, string_bytes};
 ghost use Rattle.vcdkit.specs.Names.{failure_message, failure_status, failures_after, name_at, OutOfMemory, program_line, Puts, PutsTo, refusal_message, refusal_status, Reports, stop_message, stop_status, Takes, unopened_outcome, use_outcome, Write};
 
@@ -44,7 +44,7 @@ fn put_fault<E: Sink>(err: &mut E, name: &str, line: u64, text: &str) -> Result<
     put(err, b"\n")
 }
 
-/// Says `vcdkit: TEXT`, and returns the status. A fault of the stream is passed over.
+/// Writes `vcdkit: TEXT`, and returns the status. An error of the stream is ignored.
 fn say<E: Sink>(err: &mut E, text: &str, status: u8) -> u8
     requires { (E.device err.old).failures < 2 ^ 64 - 1 }
     ensures { Reports E.device err.old err.new (program_line text.now) status result }
@@ -53,8 +53,8 @@ fn say<E: Sink>(err: &mut E, text: &str, status: u8) -> u8
     status
 }
 
-/// Says `vcdkit: ` and both texts as one line, and returns the status. A fault of the stream is
-/// passed over.
+/// Writes `vcdkit: ` and both texts as one line, and returns the status. An error of the stream is
+/// ignored.
 fn say_both<E: Sink>(err: &mut E, first: &str, second: &str, status: u8) -> u8
     requires { (E.device err.old).failures < 2 ^ 64 - 1 }
     ensures { Reports E.device err.old err.new
@@ -64,7 +64,7 @@ fn say_both<E: Sink>(err: &mut E, first: &str, second: &str, status: u8) -> u8
     status
 }
 
-/// Returns the name at this index, empty where there is none.
+/// Returns the name at this index, or an empty one if there is none.
 fn name_of(names: &[String], place: usize) -> &str
     ensures { result.now ≡ name_at (map string_bytes names.now) place }
 {
@@ -108,7 +108,7 @@ fn report_refusal<E: Sink>(refusal: Refusal, names: &[String], err: &mut E) -> u
 }
 
 /// Writes the line that says why a run failed, and returns the exit status. `names` are those of
-/// the inputs, `asked` those of variables. A fault of the stream is passed over.
+/// the inputs, `asked` those of variables. An error of the stream is ignored.
 pub(crate) fn report<E: Sink>(
     failure: Failure,
     names: &[String],
@@ -126,8 +126,8 @@ pub(crate) fn report<E: Sink>(
     }
 }
 
-/// Says that the output could not be written, and returns the exit status. A fault of the stream is
-/// passed over.
+/// Writes that the output could not be written, and returns the exit status. An error of the stream
+/// is ignored.
 pub fn write_fault<E: Sink>(err: &mut E) -> u8
     requires { (E.device err.old).failures < 2 ^ 64 - 1 }
     ensures { Reports E.device err.old err.new (stop_message [] [] Write) (stop_status Write) result }
@@ -135,8 +135,8 @@ pub fn write_fault<E: Sink>(err: &mut E) -> u8
     report_stop(Stop::Write, &[], &[], err)
 }
 
-/// Writes the line that says why the words ask for no job, and returns the exit status. A fault of
-/// the stream is passed over.
+/// Writes the line that says why the words ask for no job, and returns the exit status. An error of
+/// the stream is ignored.
 pub fn use_fault<E: Sink>(fault: UseFault<'_>, err: &mut E) -> u8
     requires { (E.device err.old).failures < 2 ^ 64 - 1 }
     ensures { Reports E.device err.old err.new
@@ -154,8 +154,8 @@ pub fn use_fault<E: Sink>(fault: UseFault<'_>, err: &mut E) -> u8
     }
 }
 
-/// Says that the file of this name cannot be opened, and returns the exit status. A fault of the
-/// stream is passed over.
+/// Writes that the file of this name cannot be opened, and returns the exit status. An error of the
+/// stream is ignored.
 pub fn open_fault<E: Sink>(name: &str, err: &mut E) -> u8
     requires { (E.device err.old).failures < 2 ^ 64 - 1 }
     ensures { Reports E.device err.old err.new

@@ -25,10 +25,12 @@ fn cut_of<'w>(from: Moment, to: Moment, view: HeadView<'_>) -> Result<Task<'w>, 
     Ok(Task::Cut { from, to })
 }
 
-/// Returns the task that is wanted, a cut's times turned into ticks of the header that is shown;
-/// `None` for a list, which reads no body, and for a merge, which reads several. Fails where a
-/// cut's time has no ticks, or they are out of order. The want is one that words may ask for
-/// (`is_asked`), and `write_ticks` has turned a sample's times into ticks before.
+/// Returns the task that is wanted, with the times of a cut in ticks of the header that is shown.
+/// `None` for a list, which reads no body, and for a merge, which reads several. Fails if a time of
+/// a cut has no ticks, or if they are out of order.
+///
+/// Words may ask for what is wanted (`is_asked`), and `write_ticks` has already converted the times
+/// of a sample.
 pub(crate) fn task_of<'w>(want: &'w Want, view: HeadView<'_>) -> Result<Option<Task<'w>>, Refusal>
     requires asked { is_asked want.now ≡ true }
     requires ticks { HasTicks want.now }
@@ -50,8 +52,7 @@ pub(crate) fn task_of<'w>(want: &'w Want, view: HeadView<'_>) -> Result<Option<T
     }
 }
 
-/// Returns the room that a task works in over the header that is shown; none where there is no
-/// task.
+/// Returns the room that a task works in over the header that is shown: none if there is no task.
 pub(crate) fn need_of(task: Option<Task<'_>>, view: HeadView<'_>) -> Need
     ensures room { AnyRoom result (IsEnough task.entry view.entry) }
     ensures bound { KeepsBound view.entry result }
@@ -66,7 +67,7 @@ pub(crate) fn need_of(task: Option<Task<'_>>, view: HeadView<'_>) -> Need
     }
 }
 
-/// What the room of a task is made of.
+/// The memory of the room of a task.
 #[derive(Drop)]
 pub(crate) struct RoomMemory {
     pub values: Vec<u8>,

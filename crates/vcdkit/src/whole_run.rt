@@ -15,7 +15,7 @@ use vcd_text::{Feed, Sink, Source};
 use vcd_view::HeadView;
 use vcd_words::{Job, Want};
 
-/// Returns the answer of a task over the input at this index, as that of its run.
+/// Returns how a run ended, from the answer of its task over the input at this index.
 fn ended(answer: Result<Done, Stop>, input: usize) -> Result<Done, Failure>
     ensures { result ≡ end_of answer input }
 {
@@ -25,7 +25,7 @@ fn ended(answer: Result<Done, Stop>, input: usize) -> Result<Done, Failure>
     }
 }
 
-/// Returns the answer of a merge, as that of its run.
+/// Returns how a run ended, from the answer of its merge.
 fn merged(answer: Result<Done, Stop>) -> Result<Done, Failure>
     ensures { result ≡ merge_end answer }
 {
@@ -35,8 +35,8 @@ fn merged(answer: Result<Done, Stop>) -> Result<Done, Failure>
     }
 }
 
-/// Runs the task over the body after the header that is shown, in this room, or writes the list
-/// where there is no task. It is given no allocator, so from here on the run takes no memory.
+/// Runs the task over the body after the header that is shown, in this room, or writes the list if
+/// there is no task. It gets no allocator, so it takes no memory.
 fn run_in<S: Source, W: Sink>(
     task: Option<Task<'_>>,
     view: HeadView<'_>,
@@ -65,8 +65,8 @@ fn run_in<S: Source, W: Sink>(
     }
 }
 
-/// Runs what is wanted after the header: takes the room for it, and then calls what takes no more
-/// memory.
+/// Runs what is wanted after the header: takes the room for it, and then calls `run_in`, which
+/// takes no more memory.
 fn run_want<S: Source, W: Sink>(
     alloc: Global,
     want: &mut Want,
@@ -160,7 +160,7 @@ fn run_merge<S: Source, W: Sink, B: BuildHasher>(
     merged(merge(&inputs.heads, readers, &mut windows, &mut inputs.seats, out))
 }
 
-/// Runs a job over its readers: all of them for a merge, else the one that there is.
+/// Runs a job over its readers: over all of them for a merge, otherwise over the only one.
 fn run_readers<S: Source, W: Sink, B: BuildHasher>(
     alloc: Global,
     job: &mut Job,
@@ -183,18 +183,20 @@ fn run_readers<S: Source, W: Sink, B: BuildHasher>(
     run_input(alloc, job, &mut readers[0], out, hasher)
 }
 
-/// Runs a job over the readers, whose names are said in messages, and returns the exit status: 0
-/// where it is done, 1 for a fault of an input, for a name that selects nothing and for a unit
-/// without a time scale, 2 for times that are out of range or out of order in ticks, 3 for a failed
-/// read or write and where memory ran out. A merge has 1 to 64 readers, any other job one. Output
-/// goes to `out`, the message to `err`; a fault of `err` is passed over. `out` is not flushed.
+/// Runs a job over the readers, and returns the exit status. `names` are the names of the readers
+/// in messages. A merge has 1 to 64 readers, any other job one. The output goes to `out`, which is
+/// not flushed, and the message to `err`, whose errors are ignored.
+///
+/// The status is 0 if the job is done; 1 for a fault of an input, for a name that selects nothing,
+/// and for a unit without a time scale; 2 for times that are out of range or out of order in ticks;
+/// 3 if a read or a write fails, and if memory runs out.
 ///
 /// Memory is taken for the windows, while the headers are read, and then for what the task works
-/// in; none after that. Nothing is written on `out` before all of it was taken.
+/// in, and none after that. Nothing is written to `out` before all of it was taken.
 ///
-/// The codes of a header are hashed by numbers that the hasher gives; what is written is the same
-/// by each. Where nobody knows these numbers who made the dump, as with `RandomState`, no choice of
-/// codes takes long to find.
+/// Codes are hashed with numbers that the hasher gives. What is written does not depend on them. If
+/// the author of a dump does not know these numbers, as with `RandomState`, no choice of codes
+/// takes long to find.
 pub fn run_with_hasher<S: Source, W: Sink, E: Sink, B: BuildHasher>(
     alloc: Global,
     mut job: Job,
@@ -210,12 +212,13 @@ pub fn run_with_hasher<S: Source, W: Sink, E: Sink, B: BuildHasher>(
     requires sinks { MayFailOnce W.Sink E.Sink out.old err.old }
     ensures failures { FailOnce W.Sink E.Sink out.old out.new err.old err.new }
 
-    // It ends done or failed, over any readers and writers: for a failed read only where one of the
-    // reader that is named failed, its last one, and of no other, and likewise for a write.
+    // It succeeds or fails, over any readers and writers. It fails with a failed read only if a
+    // read of the reader that is named failed, its last one, and none of another; likewise for a
+    // write.
     ensures ends { EndsSo S.Source W.Sink E.Sink job (map string_bytes names.now)
         readers.old readers.new out.old out.new err.old err.new result }
 
-    // Over readers whose bytes are known: it is the outcome of the definitions, and no more was
+    // Over readers whose bytes are known, it is the outcome of the definitions, and no more was
     // read than what settles it.
     ensures gives { RunsJob S.Source W.Sink E.Sink job (map string_bytes names.now)
         readers.old readers.new out.old out.new err.old err.new result }
@@ -226,10 +229,10 @@ pub fn run_with_hasher<S: Source, W: Sink, E: Sink, B: BuildHasher>(
     }
 }
 
-/// The least length of a window that is shortened.
+/// How long a window is at least after it was shortened.
 const SHORTEST: usize = 64;
 
-/// Returns the same job, whose windows are no longer than the input that gives most, where that is
+/// Returns the same job with windows that are no longer than the longest input, if that length is
 /// known.
 fn narrowed(job: Job, longest: Option<usize>) -> Job
     ensures { Narrows longest job result }
@@ -245,8 +248,8 @@ fn narrowed(job: Job, longest: Option<usize>) -> Job
     }
 }
 
-/// Runs a job over the readers, as `run_with_hasher` does. Where it is known how many bytes each of
-/// them gives at most, the windows are no longer than that: what is written is the same, and a call
+/// Runs a job over the readers, as `run_with_hasher` does. If it is known how many bytes each of
+/// them gives at most, the windows are no longer than that. What is written is the same, and a call
 /// over small inputs takes and clears less memory.
 pub fn run_within<S: Source, W: Sink, E: Sink, B: BuildHasher>(
     alloc: Global,
@@ -273,17 +276,19 @@ pub fn run_within<S: Source, W: Sink, E: Sink, B: BuildHasher>(
     run_with_hasher(alloc, narrow, names, readers, out, err, hasher)
 }
 
-/// Runs a job over the readers, whose names are said in messages, and returns the exit status: 0
-/// where it is done, 1 for a fault of an input, for a name that selects nothing and for a unit
-/// without a time scale, 2 for times that are out of range or out of order in ticks, 3 for a failed
-/// read or write and where memory ran out. A merge has 1 to 64 readers, any other job one. Output
-/// goes to `out`, the message to `err`; a fault of `err` is passed over. `out` is not flushed.
+/// Runs a job over the readers, and returns the exit status. `names` are the names of the readers
+/// in messages. A merge has 1 to 64 readers, any other job one. The output goes to `out`, which is
+/// not flushed, and the message to `err`, whose errors are ignored.
+///
+/// The status is 0 if the job is done; 1 for a fault of an input, for a name that selects nothing,
+/// and for a unit without a time scale; 2 for times that are out of range or out of order in ticks;
+/// 3 if a read or a write fails, and if memory runs out.
 ///
 /// Memory is taken for the windows, while the headers are read, and then for what the task works
-/// in; none after that. Nothing is written on `out` before all of it was taken.
+/// in, and none after that. Nothing is written to `out` before all of it was taken.
 ///
-/// The codes of a header are hashed by numbers that all may know, so that codes can be crafted
-/// which take long to find: a dump that is not trusted is run over by `run_with_hasher`.
+/// Codes are hashed with numbers that everybody may know, so codes can be crafted that take long to
+/// find. Use `run_with_hasher` for dumps that are not trusted.
 pub fn run<S: Source, W: Sink, E: Sink>(
     alloc: Global,
     job: Job,
@@ -298,12 +303,13 @@ pub fn run<S: Source, W: Sink, E: Sink>(
     requires sinks { MayFailOnce W.Sink E.Sink out.old err.old }
     ensures failures { FailOnce W.Sink E.Sink out.old out.new err.old err.new }
 
-    // It ends done or failed, over any readers and writers: for a failed read only where one of the
-    // reader that is named failed, its last one, and of no other, and likewise for a write.
+    // It succeeds or fails, over any readers and writers. It fails with a failed read only if a
+    // read of the reader that is named failed, its last one, and none of another; likewise for a
+    // write.
     ensures ends { EndsSo S.Source W.Sink E.Sink job (map string_bytes names.now)
         readers.old readers.new out.old out.new err.old err.new result }
 
-    // Over readers whose bytes are known: it is the outcome of the definitions, and no more was
+    // Over readers whose bytes are known, it is the outcome of the definitions, and no more was
     // read than what settles it.
     ensures gives { RunsJob S.Source W.Sink E.Sink job (map string_bytes names.now)
         readers.old readers.new out.old out.new err.old err.new result }

@@ -12,11 +12,11 @@ use Rattle.vcdkit_c.specs.declared.words.Refused.TheVariants.{BadWords, OutOfMem
 abbrev pub bytes_of : Lent → Text
 bytes_of lent = lent.bytes.now
 
--- what is said where a word is no text
+-- the message if an argument is not UTF-8
 abbrev pub bad_words : Text
 bad_words = program_line (codes "bad words")
 
--- one of these words is no text
+-- one of these arguments is not UTF-8
 abbrev pub NoText : (words : List Text) → Type 0
 NoText words = (before after : List Text) × (word : Text) × (words ≡ before ++ word ∷ after) × (IsUtf8 word → ⊥)
 
@@ -30,7 +30,7 @@ HasNoText words OutOfMemory = ⊤
 pub data RunsInto (words : List Text) (files : List MemoryFile) (input out : Text) (output : ℕ) (err : Text) (message : ℕ) (status : ℕ) : Type 0 where
   -- what the program leaves over a host in memory
   Ran : (left : IsLeftIn (codes "vcdkit" ∷ words) files input out output err message status) → RunsInto words files input out output err message status
-  -- a word is no text: no output, and a line
+  -- an argument is not UTF-8: no output, and a line
   BadWord : (bad : NoText words) (none : output ≡ 0) (line : Fills err message bad_words) (status_is : status ≡ 2) → RunsInto words files input out output err message status
   -- memory ran out before the program began, or 2^63 bytes found no room
   NoMemory : (status_is : status ≡ 4) → RunsInto words files input out output err message status

@@ -1,4 +1,4 @@
--- What the clauses of this crate speak of, under one path.
+-- What the contracts of this crate cite, under one path.
 pub use Rattle.vcd_changes.specs.Reading.{FindsIn, GoesOnAt, StaysAt}
 pub use Rattle.vcd_model.specs.Items.{BodyItem}
 pub use Rattle.vcd_program.specs.Memory.{Fills, IsLeftIn}

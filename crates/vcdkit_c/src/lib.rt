@@ -22,20 +22,21 @@ use std::alloc::Global;
 use vcd_changes::{ChangeRow, Reading, changes};
 use vcd_program::{MemoryFile, run_into_memory};
 
-/// What is said where a word is no text.
+/// The message if an argument is not UTF-8.
 const BAD_WORDS: &[u8] = b"vcdkit: bad words\n";
 
-/// The status where the program did not begin, or its output cannot be counted.
+/// The status if the program did not begin, or its output cannot be counted.
 const NOT_RUN: u8 = 4;
 
-/// Runs the program on these words, which come without its name, over files in memory, and returns
-/// its exit status; or 4, where memory ran out before it began, or 2^63 bytes found no room.
+/// Runs the program with these arguments, which come without its name, over files in memory, and
+/// returns its exit status; or 4 if memory ran out before it began, or 2^63 bytes or more found no
+/// room.
 ///
-/// `input` is standard input. Identifier codes are hashed by `seed`: what is left is the same by
-/// each, and who does not know it cannot make a dump whose codes are slow to find. The output is
-/// written to `out`, as much of it as there is room for, and `out_used` says how long it is: where
-/// that is more than `out` has, so much is wanted of `out` for all of it. The same holds of the
-/// message, `err` and `err_used`. After a 4 nothing is said of them.
+/// `input` is standard input. Identifier codes are hashed with `seed`. What is left does not depend
+/// on it, and whoever does not know it cannot make a dump whose codes are slow to find. The output
+/// is written to `out`, as far as there is room, and `out_used` becomes its length. If that is more
+/// than the length of `out`, `out` has to be as long as that for all of the output. The same holds
+/// of the message, `err` and `err_used`. With a 4 they may be anything.
 #[unsafe(no_mangle)]
 pub extern "C" fn vcdkit_run(
     alloc: Global,
@@ -73,7 +74,8 @@ pub extern "C" fn vcdkit_run(
 }
 
 /// Finds the changes of the variables with this identifier code, from the `Place` of the reading
-/// on, as many as there are rows, and returns the status, as `changes` of `vcd_changes` does.
+/// on, at most as many as there are rows, and returns the status, as `changes` of `vcd_changes`
+/// does.
 #[unsafe(no_mangle)]
 pub extern "C" fn vcdkit_changes(
     alloc: Global,

@@ -1,8 +1,8 @@
 //! How identifier codes are hashed: by a number that the caller chooses.
 use std::hash::{BuildHasher, DefaultHasher, Hasher};
 
-/// Hashes what comes after a number, by SipHash. Who does not know the number cannot tell what a
-/// hash will be.
+/// Hashes what comes after a number, by SipHash. Whoever does not know the number cannot know what
+/// a hash will be.
 #[derive(Clone, Copy)]
 pub(crate) struct Seed {
     initial: DefaultHasher,

@@ -1,4 +1,4 @@
-//! The words of a command line, from bytes.
+//! The arguments of a command line, from bytes.
 ghost use Rattle.std.specs.Prelude.{◌≡◌, ◌∷◌, ◌++◌, [], codes, map, string_bytes, IfErr, IfOk, OnOk};
 ghost use Rattle.vcdkit_c.specs.Names.{bytes_of, HasNoText, Refused};
 
@@ -6,10 +6,10 @@ use crate::lent::Lent;
 use std::alloc::{AllocError, Global};
 use std::str;
 
-/// Why there are no words.
+/// Why there are no arguments.
 #[derive(Clone, Copy)]
 pub(crate) enum Refused {
-    /// One of them is no text.
+    /// One of them is not UTF-8.
     BadWords,
     /// Memory ran out.
     OutOfMemory,
@@ -23,7 +23,7 @@ impl From<AllocError> for Refused {
     }
 }
 
-/// Adds a word.
+/// Adds an argument.
 fn push(alloc: Global, word: &str, all: &mut Vec<String>) -> Result<(), AllocError>
     ensures { OnOk result (map string_bytes all.new.items
         ≡ map string_bytes all.old.items ++ word.now ∷ []) }
@@ -31,7 +31,7 @@ fn push(alloc: Global, word: &str, all: &mut Vec<String>) -> Result<(), AllocErr
     Ok(all.push(String::from_str(alloc, word)?)?)
 }
 
-/// Returns the program's name and these words.
+/// Returns the program's name and these arguments.
 pub(crate) fn words_of(alloc: Global, words: &[Lent<'_>]) -> Result<Vec<String>, Refused>
     ensures words { IfOk result (λ all. map string_bytes all.items
         ≡ codes "vcdkit" ∷ map bytes_of words.now) }

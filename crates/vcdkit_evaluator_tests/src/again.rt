@@ -76,8 +76,8 @@ fn is_cut(
     )
 }
 
-// What a command has written over a text is a dump with its declarations and values, where it has
-// written one.
+// If a command has written something over a text, that is a dump with the text's declarations and
+// values.
 pub(crate) fn is_read_again(
     alloc: Global,
     command: Command<'_>,
@@ -163,8 +163,8 @@ fn has_input(alloc: Global, scope: &str, text: &[u8], written: &[u8]) -> Result<
     )
 }
 
-// What a merge of two texts has written is a dump with the variables, the changes and the values of
-// both, where it has written one.
+// If a merge of two texts has written something, that is a dump with the variables, the changes and
+// the values of both.
 pub(crate) fn is_merge_read_again(
     alloc: Global,
     first: &[u8],

@@ -12,7 +12,7 @@ fn are_same(one: &Left, other: &Left) -> bool {
         && one.status == other.status
 }
 
-// A command over a text, read by chunks of this many bytes, leaves just this.
+// A command over a text, read by chunks of this many bytes, leaves exactly this.
 fn is_left(
     alloc: Global,
     command: Command<'_>,
@@ -36,7 +36,7 @@ fn is_right(alloc: Global, command: Command<'_>, text: &[u8]) -> Result<bool, Al
     )
 }
 
-// The least size at which the text, cut off, is not right.
+// The smallest size at which the text, cut off, is not right.
 pub(crate) fn first_wrong(
     alloc: Global,
     command: Command<'_>,
@@ -67,7 +67,7 @@ fn say_merged(alloc: Global, first: &[u8], second: &[u8]) -> Result<Left, AllocE
     evaluate(alloc, Command::Merge, LIMIT, inputs.as_slice())
 }
 
-// A merge, read by chunks of this many bytes, leaves just this.
+// A merge, read by chunks of this many bytes, leaves exactly this.
 fn is_left_merged(
     alloc: Global,
     first: &[u8],
@@ -90,7 +90,7 @@ fn is_merged(alloc: Global, first: &[u8], second: &[u8]) -> Result<bool, AllocEr
     )
 }
 
-// The least size at which the first input of a merge, cut off, is not right.
+// The smallest size at which the first input of a merge, cut off, is not right.
 pub(crate) fn first_wrong_of_first(
     alloc: Global,
     first: &[u8],
@@ -104,7 +104,7 @@ pub(crate) fn first_wrong_of_first(
     Ok(None)
 }
 
-// The least size at which the second input of a merge, cut off, is not right.
+// The smallest size at which the second input of a merge, cut off, is not right.
 pub(crate) fn first_wrong_of_second(
     alloc: Global,
     first: &[u8],

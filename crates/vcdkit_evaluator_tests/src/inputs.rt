@@ -69,7 +69,7 @@ pub(crate) fn twin() -> &'static [u8] {
         #0\n0!\n#5\n1!\n"
 }
 
-// A time that is too large where ticks are of 100 ps.
+// A time that is too large if ticks are of 100 ps.
 pub(crate) fn late() -> &'static [u8] {
     b"$timescale 1ns $end\n$var wire 1 ! a $end\n$enddefinitions $end\n\
         #1\n1!\n#18446744073709551615\n0!\n"

@@ -9,7 +9,7 @@ use vcd_text::doubles::Pieces;
 use vcd_words::{Words, want_of};
 use vcdkit::{Job, Want, run};
 
-// The token limit of all runs, the least that there is, so that the windows are small.
+// The token limit of all runs. It is the smallest that is allowed, so that the windows are small.
 pub(crate) const LIMIT: usize = 64;
 
 // The words of a command.

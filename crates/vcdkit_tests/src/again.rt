@@ -58,7 +58,7 @@ fn again<D>(device: D) -> Again<Stutter<D>> {
     Again::new(Stutter::new(device))
 }
 
-// Whether a check and a flush whose calls are interrupted are done.
+// Whether a check and a flush whose calls are interrupted succeed.
 fn is_checked(alloc: Global) -> Result<bool, AllocError> {
     let names = [String::from_str(alloc, "a.vcd")?];
     let job = Job {

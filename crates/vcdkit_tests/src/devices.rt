@@ -1,4 +1,4 @@
-// Devices that give or take one, three or seven bytes a call, and fail at one call alone.
+// Devices that give or take one, three or seven bytes in each call, and fail at only one call.
 ghost use Rattle.std.specs.Prelude.{◌≡◌, ◌<◌, ◌≤◌};
 
 use super::runs::{MIXED, MIXED_HEAD, NESTED, NESTED_LIST, READ_FAILED, TB, TB_WRITTEN, wanted};
@@ -14,8 +14,8 @@ use vcdkit::{Job, Want, run};
 // No device is called more often in a run.
 const MAX_CALLS: u64 = 1000;
 
-// Takes this many bytes a call at most, and fails at one call alone, counted from 1; at none where
-// it is 0.
+// Takes at most this many bytes in each call, and fails at only one call, counted from 1; at none
+// if that is 0.
 #[derive(Drop)]
 struct Sparing {
     taken: Narrow,
@@ -51,7 +51,7 @@ impl Write for Sparing {
     }
 }
 
-// The readers of a run: the one that may fail alone, or of a merge with another one after or before
+// The readers of a run: only the one that may fail, or of a merge with another one after or before
 // it.
 #[derive(Clone, Copy)]
 enum Readers<'a> {
@@ -72,7 +72,7 @@ struct Row<'a> {
 }
 
 // How many bytes a call gives or takes, and how many a chunk has; and which call of each device
-// fails, none where it is 0.
+// fails, or 0 if none does.
 #[derive(Clone, Copy)]
 struct Plan {
     most: usize,
@@ -122,7 +122,7 @@ fn plan_of(failing: Failing, most: usize, chunk: usize, call: u64) -> Plan
     }
 }
 
-// A reader that gives this many bytes a call, and fails at one call alone.
+// A reader that gives this many bytes in each call, and fails at only one call.
 fn failing_at(bytes: &[u8], most: usize, call: u64) -> Pieces<'_> {
     Pieces {
         fails_at: call,
@@ -324,8 +324,8 @@ fn is_right(failing: Failing, row: &Row<'_>, whole: &Whole, left: &Left) -> bool
     }
 }
 
-// Call 1, 2, 3, .. fails, until a run ends without it: the first one whose run left something else
-// than it is to, if any did.
+// Call 1, 2, 3, .. fails, until a run ends without a failure: returns the first one whose run left
+// something else than expected, if any did.
 fn wrong_call(
     alloc: Global,
     row: &Row<'_>,

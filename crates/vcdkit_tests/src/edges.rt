@@ -32,7 +32,7 @@ const EDGES: [Case<'static>; 9] = [
         ),
         (b"e 2 0 0\n", b"", 0),
     ),
-    // Nothing is written where a read fails, at a fault, and where a name selects nothing.
+    // Nothing is written if a read fails, at a fault, and if a name selects nothing.
     (
         Words::Edges(None),
         Input::Broken(MIXED),

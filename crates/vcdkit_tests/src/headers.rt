@@ -113,7 +113,7 @@ const LONG: &[u8] =
 
 const NOTHING: &[u8] = b"scopes 0\nvariables 0\ncodes 0\ntimes 0\nsections 0\nchanges 0\nlast -\n";
 
-// Under a token limit of 64, and of 65.
+// With a token limit of 64, and of 65.
 const SHORT: [Case<'static>; 4] = [
     (Words::Check, Input::Whole(GOOD), (NOTHING, b"", 0)),
     (Words::List, Input::Whole(GOOD), (b"", b"", 0)),

@@ -1,5 +1,6 @@
-//! The tests of `vcdkit`, over public functions alone: what jobs leave. They are a crate of their
-//! own so that the library is proved once: a crate with tests in it is proved again with them.
+//! The tests of `vcdkit`, which use only public functions: what jobs leave. They are a crate of
+//! their own so that the library is proved once: a crate with tests in it is proved again with
+//! them.
 #![tactic(auto)]
 
 #[cfg(test)]

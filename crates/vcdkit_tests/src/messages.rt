@@ -5,7 +5,7 @@ use vcd_text::doubles::Narrow;
 use vcd_text::{Sink, Watch};
 use vcdkit::{UseFault, open_fault, use_fault, write_fault};
 
-// Whether the error stream holds this text, after this many failed writes.
+// Whether the error stream has this text, after this many failed writes.
 fn is_held(err: &Watch<Narrow>, text: &[u8], failures: u64) -> bool {
     err.device.held() == text && Sink::failures(err) == failures
 }
@@ -26,8 +26,8 @@ const USE_FAULTS: [(UseFault<'static>, &[u8], u8); 8] = [
     (UseFault::OutOfMemory, b"vcdkit: out of memory\n", 3),
 ];
 
-// Whether a fault, where there is so much room for its line, leaves this with this many failed
-// writes, and has this status.
+// Whether a fault, with this much room for its line, leaves this with this many failed writes, and
+// has this status.
 fn is_said(fault: UseFault<'_>, room: usize, line: &[u8], failures: u64, status: u8) -> bool
     requires { room ≤ 1024 }
 {
@@ -47,8 +47,8 @@ fn a_use_fault_has_its_line_and_status(rt: HostRuntime) {
     }
 }
 
-// Whether the line of a file that cannot be opened, where there is so much room, leaves this with
-// this many failed writes.
+// Whether the line of a file that cannot be opened, with this much room, leaves this with this many
+// failed writes.
 fn is_unopened(room: usize, left: &[u8], failures: u64) -> bool
     requires { room ≤ 1024 }
 {

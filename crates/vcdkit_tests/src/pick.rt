@@ -154,7 +154,7 @@ const PICKS: [Case<'static>; 18] = [
         ),
         (TB_WRITTEN, READ_FAILED, 3),
     ),
-    // The variable alone, and names that end inside a path.
+    // Only the variable, and names that end inside a path.
     (
         Words::Pick(&["tb.clk"]),
         Input::Whole(CLOCKED),

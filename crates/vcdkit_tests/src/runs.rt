@@ -62,7 +62,7 @@ pub const TENS_HEAD: &[u8] = b"$timescale 10ns $end\n$var wire 1 ! a $end\n$endd
 
 pub const READ_FAILED: &[u8] = b"vcdkit: (stdin): read failed\n";
 
-// The token limit where none is asked for.
+// The token limit if no word gives one.
 pub const LIMIT: usize = 1_048_576;
 
 // What the readers of a run give: the one reader a text, or a text and then only failures; those of
@@ -144,7 +144,7 @@ fn run_alone(
     Ok(Left { out, err, status })
 }
 
-// The text of an input, where there are this many.
+// The text of an input, if there are this many.
 fn text_at<'t>(texts: &[&'t [u8]], input: usize) -> &'t [u8] {
     texts.get(input).copied().unwrap_or(b"")
 }
@@ -180,7 +180,7 @@ fn run_merge(alloc: Global, texts: &[&[u8]], limit: usize, chunk: usize) -> Resu
     Ok(Left { out, err, status })
 }
 
-// What a run leaves; an error also where a merge has no text or more than three.
+// What a run leaves; an error also if a merge has no text or more than three.
 pub(crate) fn run_on(
     alloc: Global,
     words: Words<'_, '_>,
@@ -203,7 +203,7 @@ pub(crate) fn run_on(
     }
 }
 
-// Each run under this token limit leaves what it has to, by any chunk.
+// Each run with this token limit leaves what it has to, with any chunk.
 pub(crate) fn give<R: Abort + AllocGlobal>(rt: &R, limit: usize, cases: &[Case<'_>])
     requires { (64 ≤ limit) × (limit ≤ 16777216) }
 {

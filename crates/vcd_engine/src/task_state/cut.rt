@@ -62,8 +62,8 @@ fn may_keep(view: HeadView<'_>, regs: Regs, item: Item) -> bool
 }
 
 impl<'r> Cut<'r> {
-    /// Writes the header, and the start section where `from` is 0. `from` is at most `to`. Fails
-    /// where a write does.
+    /// Writes the header, and the start section if `from` is 0. `from` is at most `to`. Fails if a
+    /// write does.
     pub(crate) fn start<W: Sink>(
         view: HeadView<'_>,
         room: Room<'r>,
@@ -129,7 +129,7 @@ impl<'r> Cut<'r> {
     }
 
     /// Takes a timestamp, and returns whether it is above `to`, which ends the run. Writes the
-    /// start section where its time has come, and at the end of the run the line of `to`.
+    /// start section if its time has come, and at the end of the run the line of `to`.
     fn take_time<W: Sink>(
         &mut self,
         view: HeadView<'_>,
@@ -151,8 +151,8 @@ impl<'r> Cut<'r> {
     }
 
     /// Takes an item that the feed gave, and returns whether it ended the run. Until the start
-    /// section is written it sets the value that the item gives; from then on it writes the item
-    /// where it is kept. `regs` are the registers after the item.
+    /// section is written it sets the value that the item gives; from then on it writes the item if
+    /// it is kept. `regs` are the registers after the item.
     #[inline(never)]
     pub(crate) fn take<W: Sink>(
         &mut self,
@@ -178,7 +178,7 @@ impl<'r> Cut<'r> {
         take_given::<NoLine, _, _>(self, view, regs, item, text, out)
     }
 
-    /// Writes the start section if it is not written yet, else the line of the last timestamp.
+    /// Writes the start section if it is not written yet, otherwise the line of the last timestamp.
     pub(crate) fn close<W: Sink>(
         &self,
         view: HeadView<'_>,

@@ -50,9 +50,8 @@ impl<'n, 'r> Edges<'n, 'r> {
     }
 
     /// Counts a change of the code at index `code`, whose size the look-up did not give. `inside`
-    /// tells whether a section is open: an event does not count there.
-    // It takes no view, which would be copied for each item, also where this is not called: with a
-    // view `edges` takes 7 % more instructions an item of 27,505 codes.
+    /// says whether a section is open: an event does not count there.
+    // It takes no view: with one, `edges` of 27,505 codes takes 7 % more.
     #[cold]
     #[inline(never)]
     fn take_at(&mut self, codes: &[Code], inside: bool, code: usize, form: Form, text: &[u8])

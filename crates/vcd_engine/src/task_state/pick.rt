@@ -26,7 +26,7 @@ pub(crate) struct Pick<'n, 'r> {
 
 impl<'n, 'r> Pick<'n, 'r> {
     /// Selects the variables, and writes their header. Fails at a name that selects nothing, before
-    /// anything is written, and where a write does.
+    /// anything is written, and at a failed write.
     pub(crate) fn start<W: Sink>(
         view: HeadView<'_>,
         room: Room<'r>,

@@ -25,7 +25,7 @@ pub(crate) struct Sample<'n, 'r> {
     marks: &'r [u8],
 }
 
-/// Returns how many of `times`, which rise, are below `time`.
+/// Returns how many of `times`, which increase, are below `time`.
 #[inline(always)]
 fn count_below(times: &[u64], time: u64) -> usize
     ensures { result ≡ position_or_len (λ due. nat_le time due) times.now }
@@ -37,7 +37,7 @@ fn count_below(times: &[u64], time: u64) -> usize
 }
 
 impl<'n, 'r> Sample<'n, 'r> {
-    /// Selects the variables. Writes nothing. `times` has one time or more, and each is above the
+    /// Selects the variables. Writes nothing. `times` has at least one time, and each is above the
     /// one before it. Fails at a name that selects nothing.
     pub(crate) fn start(
         view: HeadView<'_>,

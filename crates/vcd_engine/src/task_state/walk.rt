@@ -25,7 +25,7 @@ pub(crate) struct WalkEnd {
     pub(crate) passed: usize,
     /// The registers after these items.
     pub(crate) regs: Regs,
-    /// Fails where a write of what is due with these items did.
+    /// Fails if a write of what is due with these items did.
     pub(crate) written: Result<(), WriteFailed>,
 }
 
@@ -83,10 +83,9 @@ impl LineMemory for NoLine {
 }
 
 /// The line is remembered: the loop of a task that copies changes from the chunk. The last
-/// timestamp's line has the bytes from `from` up to `to`; where these are equal, the chunk is not
+/// timestamp's line has the bytes from `from` up to `to`; if these are equal, the chunk is not
 /// known to have it.
-// The line is one more pending piece. Against one that is known only right before a change this
-// saves `pick` of five scalars 19 % of its instructions; `cut` in its window takes 5 % more.
+// It saves `pick` of five scalars 19 % of its instructions, and costs `cut` in its window 5 %.
 #[derive(Clone, Copy)]
 pub(crate) struct KnownLine {
     pub(crate) from: usize,
@@ -137,8 +136,8 @@ pub(crate) trait AheadTask<L: LineMemory> {
         ensures same { SameTask (task_state self.old) (task_state self.new) };
 
     /// Takes an item that is no timestamp. What is due with it is added to `pending`, or written to
-    /// `out` after them. `regs` are the registers after the item; `line` tells where the last
-    /// timestamp's line is. Fails where a write does.
+    /// `out` after them. `regs` are the registers after the item; `line` says where the
+    /// last timestamp's line is. Fails if a write does.
     fn take_item<W: Sink>(
         &mut self,
         view: HeadView<'_>,
@@ -161,7 +160,7 @@ pub(crate) trait AheadTask<L: LineMemory> {
         ensures same { SameTask (task_state self.old) (task_state self.new) };
 }
 
-/// What a walk keeps beside its task: the pending text, and where the last timestamp's line is.
+/// What a walk keeps besides its task: the pending text, and where the last timestamp's line is.
 #[derive(Drop)]
 struct WalkState<L> {
     pending: PendingCopy,
@@ -220,7 +219,8 @@ impl<L: LineMemory, C: AheadTask<L>> Visit<C> for WalkState<L> {
     }
 }
 
-/// Takes the items that are whole in the chunk, and writes what is due with them, piece by piece.
+/// Takes the items that lie completely in the chunk from `ahead` on, writes what is due with them,
+/// piece by piece, and returns how far it came.
 // The loop of each task is a function of its own, so that it has all registers.
 #[inline(never)]
 pub(crate) fn take_each<L: LineMemory, C: AheadTask<L>, W: Sink>(
@@ -249,7 +249,7 @@ pub(crate) fn take_each<L: LineMemory, C: AheadTask<L>, W: Sink>(
 }
 
 /// Takes an item that the feed gave, and writes what is due with it. Returns false: the item does
-/// not end the run. `regs` are the registers after it. Fails where a write does.
+/// not end the run. `regs` are the registers after it. Fails if a write does.
 // The item has no bytes in the chunk, so nothing of it stays pending: `pending` need no flush.
 #[inline(always)]
 pub(crate) fn take_given<L: LineMemory, C: AheadTask<L>, W: Sink>(

@@ -330,7 +330,7 @@ returns-in-End-clause-turns g c =
     ends-turns g.S.Source.failures g.S.Source.last_failed _ _ _ _ _ _ (c.finish.ensures.fits _ _ (rw fits at (filled.fits _ (rw full at range)))) (c.finish.ensures.kept ∙ (filled.kept ∙ (on.kept ∙ (c.skip.ensures.on.kept ∙ c.loop-parked.invariant.2)))) c.in-Going.is
     c.fill.new.parked c.finish.result (rw (filled.looked.0, filled.looked.1) far) c.finish.ensures.finishes (filled.failures (λ e. cc) ∙ c.loop-parked.invariant.0)
 
--- ---- where whole tokens lie ahead
+-- ---- if whole tokens lie ahead
 
 pub returns-in-Whole-clause-ahead : goal.returns-in-Whole-clause-ahead
 returns-in-Whole-clause-ahead g c = λ t ts w.

@@ -1,7 +1,7 @@
 use Rattle.std.proofs.Common.{◌≤◌, length, take}
 use Rattle.std.specs.Prelude.{All, IfSome}
-use Rattle.vcd_host.proofs.opened.most_of_all.Given as goal
+use Rattle.vcd_host.proofs.opened.max_bytes_of_all.Given as goal
 
--- those before this index give at most so many bytes
+-- those before this index give at most this many bytes
 abbrev pub invariant-loop-input : goal.invariant-loop-input
 invariant-loop-input g l = All (λ r. IfSome (g.H.Input.Source.rest r) (λ text. length text ≤ l.longest)) (take l.input-index l.inputs)
