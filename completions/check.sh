@@ -1,8 +1,8 @@
 #!/usr/bin/env bash
 # Tests both completions, which take commands, options and their texts from the help of the program
-# and of the scripts (zsh only if it is installed). It also compares the usage lines, options, faults
-# and statuses in the help with the man page and the manual. It builds nothing: it uses the program
-# that VCDKIT names, or ./vcdkit.
+# and of the scripts (zsh only if it is installed). It also compares the usage lines, options,
+# faults and statuses in the help with the man page and the manual. It builds nothing: it uses the
+# program that VCDKIT names, or ./vcdkit.
 set -u
 cd "$(dirname "$0")/.."
 program=${VCDKIT:-./vcdkit}
