@@ -183,7 +183,7 @@ fn packed_16(text: &[u8], quarter: usize, at: usize) -> u8x16
     with_4_times(codes_16(text, at), both)
 }
 
-/// Packs 16 digits of each quarter.
+/// Packs 16 digits of each quarter, from the index `at` of each, into 16 bytes.
 #[inline(always)]
 fn pack_16(bytes: &mut [u8], text: &[u8], quarter: usize, at: usize)
     requires within { at + 16 ≤ quarter }
@@ -266,7 +266,7 @@ fn either(first: u8x16, second: u8x16) -> u8x16
     first | second
 }
 
-/// Returns whether all are 0 and 1.
+/// Returns whether all of these digits, as `bits_16` returns them, are 0 and 1.
 #[inline(always)]
 fn are_bits(seen: u8x16) -> bool
     requires { length seen ≡ 16 }
