@@ -105,7 +105,7 @@ pub fn put_renamed<W: Sink>(
 }
 
 /// Writes the bytes from `from` up to `end`, without `left_out` bytes after the first one, then a
-/// blank, the code of a number and a line feed, in several writes.
+/// blank, the code of a number and a line feed, in several writes. It is for long codes.
 #[cold]
 #[inline(never)]
 fn put_copied_slowly<W: Sink>(
