@@ -526,7 +526,6 @@ held_one state.Zero len d bytes h = let e : byte "0" ≡ d = cc in ap (λ x. Hel
 held_one state.One len d bytes h = let e : byte "1" ≡ d = cc in ap (λ x. Held.Digits (x ∷ [])) e
 held_one state.Unknown len d bytes h = let e : byte "x" ≡ d = cc in ap (λ x. Held.Digits (x ∷ [])) e
 held_one state.High len d bytes h = let e : byte "z" ≡ d = cc in ap (λ x. Held.Digits (x ∷ [])) e
-held_one state.Unpacked len d bytes h = cc
 held_one state.Packed len d bytes h = cc
 held_one state.Bits len d bytes h = cc
 held_one state.Real len d bytes h = cc
@@ -537,7 +536,6 @@ used_none state.Zero len d h = (refl, refl)
 used_none state.One len d h = (refl, refl)
 used_none state.Unknown len d h = (refl, refl)
 used_none state.High len d h = (refl, refl)
-used_none state.Unpacked len d h = cc
 used_none state.Packed len d h = cc
 used_none state.Bits len d h = cc
 used_none state.Real len d h = cc
@@ -553,13 +551,12 @@ told_state state.Zero = refl
 told_state state.One = refl
 told_state state.Unknown = refl
 told_state state.High = refl
-told_state state.Unpacked = refl
 told_state state.Packed = refl
 told_state state.Bits = refl
 told_state state.Real = refl
 
--- from 8 on a number tells binary digits
-pub many_bits : (tag : ℕ) → 8 ≤ tag → state_in tag ≡ state.Bits
+-- from 7 on a number tells binary digits
+pub many_bits : (tag : ℕ) → 7 ≤ tag → state_in tag ≡ state.Bits
 many_bits zero h = absurd (omega arith)
 many_bits (suc zero) h = absurd (omega arith)
 many_bits (suc (suc zero)) h = absurd (omega arith)
@@ -567,8 +564,7 @@ many_bits (suc (suc (suc zero))) h = absurd (omega arith)
 many_bits (suc (suc (suc (suc zero)))) h = absurd (omega arith)
 many_bits (suc (suc (suc (suc (suc zero))))) h = absurd (omega arith)
 many_bits (suc (suc (suc (suc (suc (suc zero)))))) h = absurd (omega arith)
-many_bits (suc (suc (suc (suc (suc (suc (suc zero))))))) h = absurd (omega arith)
-many_bits (suc (suc (suc (suc (suc (suc (suc (suc n)))))))) h = refl
+many_bits (suc (suc (suc (suc (suc (suc (suc n))))))) h = refl
 
 -- a length that a slot and its share hold in two parts
 pub len_told : (st : State) (tag len : ℕ) → tag ≡ number_of st → st ≢ state.Bits → len_in tag (len % 4294967296) (len / 4294967296) ≡ len
@@ -583,7 +579,6 @@ len_told st tag len e text = ap (λ n. len_in n (len % 4294967296) (len / 429496
     by_state state.One h = parts
     by_state state.Unknown h = parts
     by_state state.High h = parts
-    by_state state.Unpacked h = parts
     by_state state.Packed h = parts
     by_state state.Bits h = absurd (h refl)
     by_state state.Real h = parts

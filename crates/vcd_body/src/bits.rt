@@ -17,7 +17,7 @@ pub struct Bits {
 }
 
 impl Bits {
-    /// Returns the last `len` binary digits of a number. None unless `len` is 1 to 32 and the
+    /// Returns the last `len` binary digits of a number. `None` unless `len` is 1 to 32 and the
     /// number has no more digits.
     #[inline(always)]
     #[tactic(auto, using(crate::proofs::NumberLemmas::small_number, crate::proofs::NumberLemmas::small_rest))]
@@ -71,7 +71,7 @@ pub(crate) fn is_proper(holding: Holding) -> bool
     count > 0 && number_in(holding) >> count == 0
 }
 
-/// Returns the digit at an index of those that a slot holds; none after the last.
+/// Returns the digit at an index of those that a slot holds. `None` after the last.
 #[inline(always)]
 pub(crate) fn binary_digit(holding: Holding, index: usize) -> Option<u8>
     ensures { result ≡ slice_get (held_bits holding) index }

@@ -14,14 +14,14 @@ use crate::step::{way_between, way_to};
 use crate::table::Table;
 use vcd_view::Code;
 
-/// Returns how many bytes of its share a value uses: 0 where the slot alone holds it.
+/// Returns how many bytes of its share a value uses: 0 if it is only in the slot.
 #[inline(always)]
 fn used_by(holding: Holding) -> usize
     ensures { result ≡ used holding }
 {
     match holding.state {
         State::Packed => holding.len().div_ceil(4),
-        State::Unpacked | State::Real => holding.len(),
+        State::Real => holding.len(),
         State::Unset | State::Zero | State::One | State::Unknown | State::High | State::Bits => 0,
     }
 }
@@ -33,7 +33,7 @@ fn holds_some(holding: Holding) -> bool
     ensures no { result ≡ false → some_by holding.state (len_of holding) ≡ 0 }
 {
     match holding.state {
-        State::Unpacked | State::Packed => holding.len() > 0,
+        State::Packed => holding.len() > 0,
         State::Bits => is_proper(holding),
         State::Unset | State::Zero | State::One | State::Unknown | State::High | State::Real =>
             true,
@@ -41,9 +41,9 @@ fn holds_some(holding: Holding) -> bool
 }
 
 impl<'a> Table<'a> {
-    /// Returns the value of the code at an index as it is held. None where there is no such code;
-    /// and where its share would not lie within the values, or would hold no digits where it should
-    /// hold several. No code of a table that is laid out is so.
+    /// Returns the value of the code at an index as it is held. `None` if there is no such code, if
+    /// its share does not lie within the values, or if it holds no digits though its state says
+    /// that it holds some. In a table that is laid out, only the first can be.
     #[inline(always)]
     pub(crate) fn held(&self, code: usize) -> Option<HeldValue<'_>>
         ensures { IsLaidOut self.now → held_at self.now code ≡ held_or result }
@@ -62,8 +62,8 @@ impl<'a> Table<'a> {
     }
 }
 
-/// Sets the value of a code to the one digit that a state holds, by its number. Its share is left
-/// alone, and need not be looked at.
+/// Sets the value of a code to the one digit of the state that has this number. It neither reads
+/// nor changes the code's share.
 #[inline(always)]
 pub(crate) fn set_tag(slots: &mut [Slot], code: usize, tag: u8)
     ensures changes { (d : ℕ) → one_digit (state_in tag) ≡ Some d
@@ -75,8 +75,8 @@ pub(crate) fn set_tag(slots: &mut [Slot], code: usize, tag: u8)
     }
 }
 
-/// Holds a text in a share: digits a byte each where it has room for them, and else four to a byte.
-/// Says how it is held.
+/// Holds a text in a share: digits four to a byte, the text of a real number as it is. Returns the
+/// state that says so.
 #[inline(always)]
 fn hold(bytes: &mut [u8], form: Form, text: &[u8]) -> State
     requires room { least_bytes form (length text.now) ≤ length bytes.old }
@@ -86,10 +86,6 @@ fn hold(bytes: &mut [u8], form: Form, text: &[u8]) -> State
         Form::RealText => {
             copy_front(bytes, text);
             State::Real
-        }
-        _ if text.len() <= bytes.len() => {
-            copy_front(bytes, text);
-            State::Unpacked
         }
         _ => {
             pack(bytes, text);
@@ -106,7 +102,7 @@ fn copy_front(to: &mut [u8], from: &[u8])
     to[..from.len()].copy_from_slice(from);
 }
 
-/// Notes in a slot and its share in which state `len` digits, or bytes of a text, are held.
+/// Writes into a slot and its share that `len` digits, or bytes of a text, are held in this state.
 #[inline(always)]
 fn hold_text(slot: &mut Slot, share: &mut Share, state: State, len: usize)
     requires text { state ≢ State.Bits }
@@ -117,8 +113,8 @@ fn hold_text(slot: &mut Slot, share: &mut Share, state: State, len: usize)
     share.upper = (len / UPPER) as u32;
 }
 
-/// Returns how many bytes of a share a text needs: one for each byte of a real number, one for four
-/// digits. `hold` takes one for each digit where there is room.
+/// Returns how many bytes of a share a text takes: one for each byte of a real number, one for four
+/// digits.
 #[inline(always)]
 fn least_bytes(form: Form, len: usize) -> usize
     ensures { result ≡ least_bytes form len }
@@ -131,7 +127,7 @@ fn least_bytes(form: Form, len: usize) -> usize
 
 impl<'a> Table<'a> {
     /// Returns where in `values` the share of the code at an index ends: where the next one begins,
-    /// or all values end. Check it: in a table not laid out it may be any number.
+    /// or all values end. In a table that is not laid out it may be any number.
     #[inline(always)]
     pub(crate) fn end_of(&self, code: usize) -> usize
         requires { code < length self.now.shares.now }
@@ -143,7 +139,8 @@ impl<'a> Table<'a> {
         }
     }
 
-    /// Sets the value of the code at an index to a text, where it fits its share, which ends here.
+    /// Sets the value of the code at an index to a text, if this fits the code's share, which ends
+    /// at `end`.
     #[inline(always)]
     pub(crate) fn set_text_in(&mut self, code: usize, end: usize, form: Form, text: &[u8])
         requires several { form ≢ Form.RealText → length text.now ≢ 1 }
@@ -165,9 +162,9 @@ impl<'a> Table<'a> {
         hold_text(&mut slots[code], &mut shares[code], state, text.len());
     }
 
-    /// Sets the value of the code at an index to a text. Nothing changes where there is no such
-    /// code, and where the text is empty or does not fit the code's share. A single digit is set by
-    /// `set_tag`, unless it is the text of a real number.
+    /// Sets the value of the code at an index to a text. Nothing changes if there is no such code,
+    /// or if the text is empty or does not fit the code's share. A single digit is set by `set_tag`,
+    /// unless it is the text of a real number.
     #[inline(never)]
     pub(crate) fn set_text(&mut self, code: usize, form: Form, text: &[u8])
         requires { form ≢ Form.RealText → length text.now ≢ 1 }
@@ -196,8 +193,8 @@ impl<'a> Table<'a> {
     }
 }
 
-/// Sets the value of a code to binary digits. Its slot is written alone, and neither it nor the
-/// share need be looked at.
+/// Sets the value of a code to binary digits. It writes the slot without a look at it, and leaves
+/// the share as it is.
 #[inline(always)]
 pub(crate) fn set_bits(slots: &mut [Slot], code: usize, bits: Bits)
     ensures changes { ChangesSlot code (with_number bits.len bits.number) slots.old slots.new }
@@ -211,8 +208,8 @@ pub(crate) fn set_bits(slots: &mut [Slot], code: usize, bits: Bits)
     }
 }
 
-/// Counts a step of the value of a code that goes this way in its slot. Returns whether that had
-/// room for it; else 256 steps are left to count.
+/// Counts a step of the value of a code in its slot: one that falls (way 0), that does neither (1)
+/// or that rises (2). Returns whether the slot had room for it; else 256 steps are left to count.
 #[inline(always)]
 pub(crate) fn count_in_slot(slots: &mut [Slot], code: usize, way: usize) -> bool
     requires { way < 3 }
@@ -228,10 +225,10 @@ pub(crate) fn count_in_slot(slots: &mut [Slot], code: usize, way: usize) -> bool
     count_step(&mut slots[code].steps, way)
 }
 
-/// What became of a change for which its slot alone may be enough.
+/// What became of a change that may need only the slot of its code.
 #[derive(Clone, Copy, PartialEq, Eq, Debug)]
 pub(crate) enum Stepped {
-    /// The slot alone is not enough, and nothing changed.
+    /// The slot is not enough, and nothing changed.
     Not,
     /// The value was set, and its step was counted where it differs.
     Counted,
@@ -241,7 +238,7 @@ pub(crate) enum Stepped {
 }
 
 /// Sets the value of a code to the digit 0 or 1 over such a digit, and counts the step. Most
-/// changes are of this kind, and touch one slot alone.
+/// changes are of this kind, and change only one slot.
 // A digit is a state of the slot, so no byte of values is touched: held as a number of one digit,
 // `edges` of scalars takes some 10 % more.
 #[inline(always)]
