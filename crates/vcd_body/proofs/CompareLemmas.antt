@@ -8,15 +8,16 @@ use Rattle.std.proofs.lemmas.Bool.{cases_lt}
 use Rattle.std.proofs.lemmas.Bool.Decides.{same_from_decides}
 use Rattle.std.proofs.lemmas.List.{length-append, length-map, length-replicate}
 use Rattle.std.proofs.lemmas.Slice.Eq.{bytes_eq-Decides}
-use Rattle.vcd_model.specs.Values.{extend, extension}
+use Rattle.vcd_model.specs.Values.{Value, extend, extension}
 use Rattle.vcd_body.specs.Kept.{last_digit_in, value_at_size}
 use Rattle.vcd_body.specs.Binary.{binary_digits, count_in, number_in}
-use Rattle.vcd_body.specs.Packed.{held_digit}
-use Rattle.vcd_body.specs.Stored.{digits_held, held_by, one_digit, some_by, used_by}
+use Rattle.vcd_body.specs.Packed.{digits_in}
+use Rattle.vcd_body.specs.Stored.{held_by, one_digit, some_by}
 use Rattle.vcd_body.specs.declared.slot.State.{State}
 use Rattle.vcd_body.specs.declared.slot.State.TheVariants as state
 use Rattle.vcd_body.proofs.BinaryLemmas.{length_binary}
-use Rattle.vcd_body.proofs.HeldLemmas.{digit_behind, length_held}
+use Rattle.vcd_body.proofs.HeldLemmas.{digit_behind}
+use Rattle.vcd_body.proofs.PackedLemmas.{length_digits}
 use Rattle.vcd_body.proofs.Shortest.{extend_wide, extension_again}
 
 -- ---- extended digits
@@ -153,11 +154,11 @@ last_at (d ∷ []) o k h = let z : k ≡ 0 = omega arith in rw z refl
 last_at (d ∷ e ∷ ds) o zero h = absurd (omega arith)
 last_at (d ∷ e ∷ ds) o (suc k) h = last_at (e ∷ ds) (Some d) k (omega arith)
 
-pub last_packed : (len : ℕ) (bytes : List ℕ) (size k : ℕ) → used_by state.Packed len ≤ length bytes → len ≡ suc k → last_digit_in (value_at_size size (held_by state.Packed len bytes)) ≡ slice_get (digits_held (held_by state.Packed len bytes)) k
-last_packed len bytes size k used is =
-    let ds = digits_held (held_by state.Packed len bytes) in
-    let l = length_held len bytes used in
-    last_extended ds size (omega arith) ∙ last_at ds None k (omega arith)
+-- the last packed digit is that of the value at each size
+pub last_packed : (len d : ℕ) (bytes : List ℕ) (size : ℕ) → 1 ≤ len → slice_get (digits_in len bytes) (len - 1) ≡ Some d → Some d ≡ last_digit_in (Some (Value.Bits (extend (digits_in len bytes) size)))
+last_packed len d bytes size some at =
+    let l = length_digits len bytes in
+    sym (last_extended (digits_in len bytes) size (omega (arith, l, some)) ∙ last_at (digits_in len bytes) None (len - 1) (omega (arith, l, some)) ∙ at)
 
 pub last_number : (len size k : ℕ) → 1 ≤ some_by state.Bits len → count_in len ≡ suc k → (bytes : List ℕ) → last_digit_in (value_at_size size (held_by state.Bits len bytes)) ≡ slice_get (binary_digits (count_in len) (number_in len)) k
 last_number len size k some is bytes =

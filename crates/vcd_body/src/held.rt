@@ -4,7 +4,7 @@ ghost use Rattle.vcd_body.specs.Names.{digit_in, digits_of, held_in, last_digit_
 
 use crate::bits::{binary_digit, count_in, last_binary};
 use crate::change::extension_of;
-use crate::packed::digit_at;
+use crate::packed::{digit_at, last_packed};
 use crate::slot::{HeldValue, State, digit_of_state};
 
 /// Returns how many digits are held.
@@ -52,7 +52,7 @@ pub(crate) fn last_held(held: HeldValue<'_>) -> Option<u8>
     ensures { (size : ℕ) → result ≡ last_digit_in (value_at_size size (held_in held.entry)) }
 {
     match held.holding.state {
-        State::Packed => digit_at(held.bytes, held.holding.len(), held.holding.len() - 1),
+        State::Packed => Some(last_packed(held.bytes, held.holding.len())),
         State::Bits => last_binary(held.holding),
         state => digit_of_state(state),
     }

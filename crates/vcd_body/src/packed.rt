@@ -1,5 +1,5 @@
 // Digits in a share: four to a byte, one of each quarter of them.
-ghost use Rattle.std.specs.Prelude.{◌≡◌, ◌≢◌, ◌≤◌, ◌<◌, ◌+◌, ◌-◌, ◌*◌, ◌/◌, ◌==◌, ℕ, Some, get_or, length, map, slice_get, false, true};
+ghost use Rattle.std.specs.Prelude.{◌≡◌, ◌≢◌, ◌≤◌, ◌<◌, ◌+◌, ◌-◌, ◌*◌, ◌/◌, ℕ, Some, get_or, length, map, slice_get, false, true};
 ghost use Rattle.vcd_body.specs.Names.{ArePacked, AreTwo, HasFour, MayPack, chunk, code_among, code_of, code_or, digit_of, digits_in, four_codes, held_digit, quarter_of, str_to_ascii_lowercase};
 
 use crate::words::are_all_digits;
@@ -400,15 +400,14 @@ pub(crate) fn digit_at(bytes: &[u8], len: usize, index: usize) -> Option<u8>
     Some(digit_of(code_among(bytes, len, index)))
 }
 
-/// Returns the last packed digit as `b'0'` or `b'1'`; any other byte means x or z.
+/// Returns the last of `len` packed digits.
 #[inline(always)]
 pub(crate) fn last_packed(bytes: &[u8], len: usize) -> u8
     requires some { 1 ≤ len }
     requires room { quarter_of len ≤ length bytes.now }
-    ensures { (d : ℕ) → slice_get (digits_in len bytes.now) (len - 1) ≡ Some d
-        → ((48 == result) ≡ (48 == d)) × ((49 == result) ≡ (49 == d)) }
+    ensures { slice_get (digits_in len bytes.now) (len - 1) ≡ Some result }
 {
-    b'0' + bytes[len.div_ceil(4) - 1] / 64
+    digit_of(bytes[len.div_ceil(4) - 1] / 64)
 }
 
 /// Returns the code of the digit at an index of `len` packed digits. The last quarter ends where

@@ -1,27 +1,12 @@
 // Several digits set over several others that differ from them in the last ones.
-ghost use Rattle.std.specs.Prelude.{◌≡◌, ◌≢◌, ◌≤◌, ℕ, IfSome, Some, length, true, false};
-ghost use Rattle.vcd_body.specs.Names.{Held, SetsCode, TellsStep, digits_in, goes_from, held_from, with_change};
+ghost use Rattle.std.specs.Prelude.{◌≡◌, ◌≢◌, ◌≤◌, ℕ, IfSome, length, true, false};
+ghost use Rattle.vcd_body.specs.Names.{Held, SetsCode, TellsStep, digits_in, held_from, with_change};
 
 use crate::item::Form;
 use crate::packed::{ends_differ, last_packed};
 use crate::slot::{Holding, State, holding_of};
-use crate::step::Step;
+use crate::step::{Step, step_to_text};
 use crate::table::Table;
-
-// Returns the step from digits whose last one is 0 or 1 where a byte is, to those of a text that
-// ends with this one, where they differ. It takes no branches.
-#[inline(always)]
-fn step_between(before: u8, after: u8) -> Step
-    ensures differs { result.differs ≡ true }
-    ensures rises { result.rises ≡ goes_from 48 49 (Some before) (Some after) }
-    ensures falls { result.falls ≡ goes_from 49 48 (Some before) (Some after) }
-{
-    Step {
-        differs: true,
-        rises: (b'0' == before) & (b'1' == after),
-        falls: (b'1' == before) & (b'0' == after),
-    }
-}
 
 // Returns the step from `len` packed digits, in the first bytes of a share, to those of a text, if
 // they differ in one of the last.
@@ -34,7 +19,8 @@ fn packed_step(bytes: &[u8], len: usize, text: &[u8]) -> Option<Step>
     if !ends_differ(bytes, len, text) {
         return None;
     }
-    Some(step_between(last_packed(bytes, len), text[text.len() - 1]))
+    let last = last_packed(bytes, len);
+    Some(step_to_text(true, Some(last), Form::Vector, text))
 }
 
 impl<'a> Table<'a> {
