@@ -12,7 +12,7 @@ use borrow.Rule.Slice.PartMut.{put_mid}
 use Rattle.vcd_body.specs.Kept.{Held, Kept, bytes_for, counts_if, counts_with, fits, held_as, one_more, room_for, with_held, with_step, with_text}
 use Rattle.vcd_body.specs.Packed.{digits_in, held_digit, quarter_of}
 use Rattle.vcd_body.specs.Steps.{counts_after, with_steps}
-use Rattle.vcd_body.specs.Stored.{AreLaidOut, ChangesAt, IsHeldAs, IsLaid, Whole, least_bytes, end_at, held_by, held_of, holding_of, holding_at, kept_in, kept_with, len_in, number_of, one_digit, set_whole, some_by, start_or, state_in, used, used_by, whole, whole_at}
+use Rattle.vcd_body.specs.Stored.{AreLaidOut, ChangesAt, IsHeldAs, IsLaid, Whole, text_bytes, end_at, held_by, held_of, holding_of, holding_at, kept_in, kept_with, len_in, number_of, one_digit, set_whole, some_by, start_or, state_in, used, used_by, whole, whole_at}
 use Rattle.vcd_body.specs.declared.item.Form.{Form}
 use Rattle.vcd_body.specs.declared.item.Form.TheVariants as form
 use Rattle.vcd_body.specs.declared.slot.Holding.{Holding}
@@ -483,7 +483,7 @@ digits_form form.Scalar digits text = refl
 digits_form form.Vector digits text = refl
 digits_form form.RealText digits text = absurd (digits refl)
 
-pub packed_as : (f : Form) (ys text : List ℕ) → f ≢ form.RealText → least_bytes f (length text) ≤ length ys → digits_in (length text) ys ≡ map held_digit text → IsHeldAs f text state.Packed ys
+pub packed_as : (f : Form) (ys text : List ℕ) → f ≢ form.RealText → text_bytes f (length text) ≤ length ys → digits_in (length text) ys ≡ map held_digit text → IsHeldAs f text state.Packed ys
 packed_as f ys text digits room packed = record {
   held = packed_held ys text packed ∙ digits_form f digits text;
   used = digits_bytes f (length text) digits room;
@@ -491,23 +491,23 @@ packed_as f ys text digits room packed = record {
   whole = λ e. cc;
 }
   where
-    digits_bytes : (f : Form) (n : ℕ) → f ≢ form.RealText → least_bytes f n ≤ length ys → bytes_for n ≤ length ys
+    digits_bytes : (f : Form) (n : ℕ) → f ≢ form.RealText → text_bytes f n ≤ length ys → bytes_for n ≤ length ys
     digits_bytes form.Scalar n is h = h
     digits_bytes form.Vector n is h = h
     digits_bytes form.RealText n is h = absurd (is refl)
 
 -- a text takes as many bytes as it has to, where it is not one digit alone
-form_room : (f : Form) (n : ℕ) → (f ≢ form.RealText → n ≢ 1) → room_for f n ≡ least_bytes f n
+form_room : (f : Form) (n : ℕ) → (f ≢ form.RealText → n ≢ 1) → room_for f n ≡ text_bytes f n
 form_room form.Scalar n several = ap (λ (b : Bool). cond b 0 (bytes_for n)) (ne_eqb n 1 (several (λ e. cc)))
 form_room form.Vector n several = ap (λ (b : Bool). cond b 0 (bytes_for n)) (ne_eqb n 1 (several (λ e. cc)))
 form_room form.RealText n several = refl
 
 -- a text that has no room, or is none
-pub form_past : (f : Form) (n room : ℕ) → (f ≢ form.RealText → n ≢ 1) → room < least_bytes f n → fits f n room ≡ false
+pub form_past : (f : Form) (n room : ℕ) → (f ≢ form.RealText → n ≢ 1) → room < text_bytes f n → fits f n room ≡ false
 form_past f n room several past = too_long f n room (let is = form_room f n several in omega (arith, is, past))
 
 -- the text that was put in the share
-pub form_kept : (f : Form) (st : State) (s : Whole) (end : ℕ) (values ys text : List ℕ) → (f ≢ form.RealText → length text ≢ 1) → 0 < length text → s.start + least_bytes f (length text) ≤ end → end ≤ length values → length ys ≡ end - s.start → IsHeldAs f text st ys
+pub form_kept : (f : Form) (st : State) (s : Whole) (end : ℕ) (values ys text : List ℕ) → (f ≢ form.RealText → length text ≢ 1) → 0 < length text → s.start + text_bytes f (length text) ≤ end → end ≤ length values → length ys ≡ end - s.start → IsHeldAs f text st ys
     → kept_with (put_mid s.start (end - s.start) values ys) end (set_whole st (length text) s) ≡ with_text f text (kept_with values end s)
 form_kept f st s end values ys text several some enough most same is =
     let n = length text in

@@ -164,11 +164,11 @@ ChangesAt code f values slots shares values' slots' shares' = (position : ℕ) �
 abbrev pub ChangesSlot : ℕ → (Kept → Kept) → List Slot → List Slot → Type 0
 ChangesSlot code f slots slots' = (shares : List Share) (values : List ℕ) → ChangesAt code f values slots shares values slots' shares
 
--- how many bytes a text of n bytes takes at least
-abbrev pub least_bytes : Form → ℕ → ℕ
-least_bytes form.Scalar n = bytes_for n
-least_bytes form.Vector n = bytes_for n
-least_bytes form.RealText n = n
+-- how many bytes a text of n bytes takes
+abbrev pub text_bytes : Form → ℕ → ℕ
+text_bytes form.Scalar n = bytes_for n
+text_bytes form.Vector n = bytes_for n
+text_bytes form.RealText n = n
 
 -- several digits are one or more
 abbrev pub some_by : State → ℕ → ℕ

@@ -1,6 +1,6 @@
 // What is kept of each code, in lent slices: a slot, and a share of the values.
 ghost use Rattle.std.specs.Prelude.{◌≡◌, ◌≢◌, ◌==◌, ℕ, max, ◌+◌, ◌-◌, ◌*◌, ◌<◌, ◌≤◌, ◌∷◌, [], true, false, length, take, None, Some, slice_get, Bool};
-ghost use Rattle.vcd_body.specs.Names.{ChangesCode, ChangesSlot, Code, Held, IsHeldAs, IsLaidOut, IsUnset, KeepsTable, LeavesNumber, LeavesSteps, LeavesFlip, SetsCode, SlotsKeepLaid, StepsTo, FlipsTo, bytes_in, codes_in, end_at, held_at, held_or, is_proper, least_bytes, len_of, one_digit, set_whole, share_from, share_of, some_by, start_of, state_in, used, whole, with_held, with_number, with_step, with_steps, with_text};
+ghost use Rattle.vcd_body.specs.Names.{ChangesCode, ChangesSlot, Code, Held, IsHeldAs, IsLaidOut, IsUnset, KeepsTable, LeavesNumber, LeavesSteps, LeavesFlip, SetsCode, SlotsKeepLaid, StepsTo, FlipsTo, bytes_in, codes_in, end_at, held_at, held_or, is_proper, text_bytes, len_of, one_digit, set_whole, share_from, share_of, some_by, start_of, state_in, used, whole, with_held, with_number, with_step, with_steps, with_text};
 
 use crate::bits::{Bits, held_bits, is_number_step, is_proper};
 use crate::counters::{count_step, count_steps};
@@ -79,7 +79,7 @@ pub(crate) fn set_tag(slots: &mut [Slot], code: usize, tag: u8)
 /// state that says so.
 #[inline(always)]
 fn hold(bytes: &mut [u8], form: Form, text: &[u8]) -> State
-    requires room { least_bytes form (length text.now) ≤ length bytes.old }
+    requires room { text_bytes form (length text.now) ≤ length bytes.old }
     ensures { IsHeldAs form text.now result bytes.new }
 {
     match form {
@@ -116,8 +116,8 @@ fn hold_text(slot: &mut Slot, share: &mut Share, state: State, len: usize)
 /// Returns how many bytes of a share a text takes: one for each byte of a real number, one for four
 /// digits.
 #[inline(always)]
-fn least_bytes(form: Form, len: usize) -> usize
-    ensures { result ≡ least_bytes form len }
+fn text_bytes(form: Form, len: usize) -> usize
+    ensures { result ≡ text_bytes form len }
 {
     match form {
         Form::RealText => len,
@@ -152,7 +152,7 @@ impl<'a> Table<'a> {
         if end < start || self.values.len() < end {
             return;
         }
-        if text.is_empty() || least_bytes(form, text.len()) > end - start {
+        if text.is_empty() || text_bytes(form, text.len()) > end - start {
             return;
         }
         let values = &mut *self.values;
