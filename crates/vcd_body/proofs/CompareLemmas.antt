@@ -8,15 +8,16 @@ use Rattle.std.proofs.lemmas.Bool.{cases_lt}
 use Rattle.std.proofs.lemmas.Bool.Decides.{same_from_decides}
 use Rattle.std.proofs.lemmas.List.{length-append, length-map, length-replicate}
 use Rattle.std.proofs.lemmas.Slice.Eq.{bytes_eq-Decides}
-use Rattle.vcd_model.specs.Values.{extend, extension}
+use Rattle.vcd_model.specs.Values.{Value, extend, extension}
 use Rattle.vcd_body.specs.Kept.{last_digit_in, value_at_size}
 use Rattle.vcd_body.specs.Binary.{binary_digits, count_in, number_in}
-use Rattle.vcd_body.specs.Packed.{held_digit}
-use Rattle.vcd_body.specs.Stored.{digits_held, held_by, one_digit, some_by, used_by}
+use Rattle.vcd_body.specs.Packed.{digits_in}
+use Rattle.vcd_body.specs.Stored.{held_by, one_digit, some_by}
 use Rattle.vcd_body.specs.declared.slot.State.{State}
 use Rattle.vcd_body.specs.declared.slot.State.TheVariants as state
 use Rattle.vcd_body.proofs.BinaryLemmas.{length_binary}
-use Rattle.vcd_body.proofs.HeldLemmas.{digit_behind, length_held}
+use Rattle.vcd_body.proofs.HeldLemmas.{digit_behind}
+use Rattle.vcd_body.proofs.PackedLemmas.{length_digits}
 use Rattle.vcd_body.proofs.Shortest.{extend_wide, extension_again}
 
 -- ---- extended digits
@@ -136,22 +137,6 @@ differ_where_as_many xs ys size many r d =
     let y = sym (extend_wide ys n (omega arith)) in
     differ_at_longest xs ys size n (omega arith) (omega arith) r (subst (λ l. Decides r (l ≡ extend ys n)) x (subst (λ l. Decides r (xs ≡ l)) y d))
 
--- digits that are held a byte each, and those of a text of as many
-pub same_unpacked : (share text : List ℕ) → length share ≡ length text → ((k : ℕ) → k < length text → held_digit (get_or share k 0) ≡ to_ascii_lowercase (get_or text k 0)) → map held_digit share ≡ str_to_ascii_lowercase text
-same_unpacked [] [] many same = refl
-same_unpacked [] (y ∷ text) many same = absurd (omega arith)
-same_unpacked (x ∷ share) [] many same = absurd (omega arith)
-same_unpacked (x ∷ share) (y ∷ text) many same =
-    let e = same 0 (omega arith) in
-    let es = same_unpacked share text (omega arith) (λ k h. same (suc k) (omega arith)) in
-    rw (e, es) refl
-
-pub unpacked_at : (share text : List ℕ) (k : ℕ) → length share ≡ length text → k < length text → map held_digit share ≡ str_to_ascii_lowercase text → held_digit (get_or share k 0) ≡ to_ascii_lowercase (get_or text k 0)
-unpacked_at share [] k many h e = absurd (omega arith)
-unpacked_at [] (y ∷ text) k many h e = absurd (omega arith)
-unpacked_at (x ∷ share) (y ∷ text) zero many h e = ap (λ l. get_or l 0 0) e
-unpacked_at (x ∷ share) (y ∷ text) (suc k) many h e = unpacked_at share text k (omega arith) (omega arith) (ap (drop 1) e)
-
 -- ---- the last digit
 
 last_behind : (xs : List ℕ) (d : ℕ) (ds : List ℕ) (o : Option ℕ) → last_or o (xs ++ d ∷ ds) ≡ last_or (Some d) ds
@@ -169,17 +154,11 @@ last_at (d ∷ []) o k h = let z : k ≡ 0 = omega arith in rw z refl
 last_at (d ∷ e ∷ ds) o zero h = absurd (omega arith)
 last_at (d ∷ e ∷ ds) o (suc k) h = last_at (e ∷ ds) (Some d) k (omega arith)
 
-pub last_packed : (len : ℕ) (bytes : List ℕ) (size k : ℕ) → used_by state.Packed len ≤ length bytes → len ≡ suc k → last_digit_in (value_at_size size (held_by state.Packed len bytes)) ≡ slice_get (digits_held (held_by state.Packed len bytes)) k
-last_packed len bytes size k used is =
-    let ds = digits_held (held_by state.Packed len bytes) in
-    let l = length_held len bytes used in
-    last_extended ds size (omega arith) ∙ last_at ds None k (omega arith)
-
-pub last_unpacked : (len : ℕ) (bytes : List ℕ) (size k : ℕ) → length bytes ≡ suc k → last_digit_in (value_at_size size (held_by state.Unpacked len bytes)) ≡ slice_get (digits_held (held_by state.Unpacked len bytes)) k
-last_unpacked len bytes size k is =
-    let ds = digits_held (held_by state.Unpacked len bytes) in
-    let l = length-map bytes held_digit in
-    last_extended ds size (omega arith) ∙ last_at ds None k (omega arith)
+-- the last packed digit is that of the value at each size
+pub last_packed : (len d : ℕ) (bytes : List ℕ) (size : ℕ) → 1 ≤ len → slice_get (digits_in len bytes) (len - 1) ≡ Some d → Some d ≡ last_digit_in (Some (Value.Bits (extend (digits_in len bytes) size)))
+last_packed len d bytes size some at =
+    let l = length_digits len bytes in
+    sym (last_extended (digits_in len bytes) size (omega (arith, l, some)) ∙ last_at (digits_in len bytes) None (len - 1) (omega (arith, l, some)) ∙ at)
 
 pub last_number : (len size k : ℕ) → 1 ≤ some_by state.Bits len → count_in len ≡ suc k → (bytes : List ℕ) → last_digit_in (value_at_size size (held_by state.Bits len bytes)) ≡ slice_get (binary_digits (count_in len) (number_in len)) k
 last_number len size k some is bytes =
@@ -188,16 +167,15 @@ last_number len size k some is bytes =
     last_extended ds size (omega arith) ∙ last_at ds None k (omega arith)
 
 -- a state that holds one, or none
-pub last_of_state : (st : State) (len : ℕ) (bytes : List ℕ) (size : ℕ) → st ≢ state.Unpacked → st ≢ state.Packed → st ≢ state.Bits → one_digit st ≡ last_digit_in (value_at_size size (held_by st len bytes))
-last_of_state state.Unset len bytes size p h b = refl
-last_of_state state.Zero len bytes size p h b = sym (last_extended (48 ∷ []) size (omega arith))
-last_of_state state.One len bytes size p h b = sym (last_extended (49 ∷ []) size (omega arith))
-last_of_state state.Unknown len bytes size p h b = sym (last_extended (120 ∷ []) size (omega arith))
-last_of_state state.High len bytes size p h b = sym (last_extended (122 ∷ []) size (omega arith))
-last_of_state state.Unpacked len bytes size p h b = absurd (p refl)
-last_of_state state.Packed len bytes size p h b = absurd (h refl)
-last_of_state state.Bits len bytes size p h b = absurd (b refl)
-last_of_state state.Real len bytes size p h b = refl
+pub last_of_state : (st : State) (len : ℕ) (bytes : List ℕ) (size : ℕ) → st ≢ state.Packed → st ≢ state.Bits → one_digit st ≡ last_digit_in (value_at_size size (held_by st len bytes))
+last_of_state state.Unset len bytes size h b = refl
+last_of_state state.Zero len bytes size h b = sym (last_extended (48 ∷ []) size (omega arith))
+last_of_state state.One len bytes size h b = sym (last_extended (49 ∷ []) size (omega arith))
+last_of_state state.Unknown len bytes size h b = sym (last_extended (120 ∷ []) size (omega arith))
+last_of_state state.High len bytes size h b = sym (last_extended (122 ∷ []) size (omega arith))
+last_of_state state.Packed len bytes size h b = absurd (h refl)
+last_of_state state.Bits len bytes size h b = absurd (b refl)
+last_of_state state.Real len bytes size h b = refl
 
 -- a text of one digit, in lower case
 pub one_lower : (text : List ℕ) (d : ℕ) → 1 ≤ length text → length text < 2 → d ≡ to_ascii_lowercase (get_or text 0 0) → str_to_ascii_lowercase text ≡ d ∷ []

@@ -1,8 +1,8 @@
 -- The codes of the last digits, which are the same where the values are.
-use Rattle.std.proofs.Common.{◌≡◌, ℕ, zero, suc, ◌+◌, ◌-◌, ◌/◌, ◌<◌, ◌≤◌, ◌==◌, ◌||◌, Bool, true, false, cond, List, length, map, get_or, Some, slice_get, Fits, w8, refl, sym, ap, ◌∙◌, arith}
+use Rattle.std.proofs.Common.{◌≡◌, ℕ, zero, suc, ◌+◌, ◌-◌, ◌/◌, ◌<◌, ◌≤◌, ◌==◌, true, List, length, map, get_or, Some, slice_get, Fits, w8, refl, sym, ap, ◌∙◌, arith}
 use Rattle.std.specs.Prelude.{option_map}
 use Rattle.std.specs.Char.{to_ascii_lowercase}
-use Rattle.std.specs.Str.{byte, str_to_ascii_lowercase}
+use Rattle.std.specs.Str.{str_to_ascii_lowercase}
 use Rattle.std.proofs.lemmas.Bool.{agree_below_at, eqb-true}
 use Rattle.std.proofs.lemmas.Grind.{same_number_lists}
 use Rattle.std.proofs.lemmas.List.{get_or-map, length-map}
@@ -10,20 +10,11 @@ use Rattle.std.proofs.lemmas.Option.{slice_get-get_or, slice_get-map}
 use Rattle.std.proofs.lemmas.Simd.{get_or-chunk, length-chunk}
 use lib.Lanes.{chunk}
 use Rattle.vcd_model.specs.Values.{extend}
-use Rattle.vcd_body.specs.Packed.{code_among, code_of, digit_of, digits_in, held_digit, quarter_of}
+use Rattle.vcd_body.specs.Packed.{code_among, code_of, digit_of, digits_in, quarter_of}
 use Rattle.vcd_body.proofs.CompareLemmas.{same_from_last}
 use Rattle.vcd_body.proofs.PackedLemmas.{digit_among, in_last, length_digits}
 
 -- ---- one code
-
-code_held : (d : ℕ) → code_of (held_digit d) ≡ code_of d
-code_held d = by_tests (d == byte "0") (d == byte "1") ((d == byte "x") || (d == byte "X"))
-  where
-    by_tests : (a b c : Bool) → code_of (cond a (byte "0") (cond b (byte "1") (cond c (byte "x") (byte "z")))) ≡ cond a 0 (cond b 1 (cond c 3 2))
-    by_tests true b c = refl
-    by_tests false true c = refl
-    by_tests false false true = refl
-    by_tests false false false = refl
 
 code_lower : (d : ℕ) → d < 256 → code_of (to_ascii_lowercase d) ≡ code_of d
 code_lower d fit = eqb-true (code_of (to_ascii_lowercase d)) (code_of d) (agree_below_at (λ x. code_of (to_ascii_lowercase x) == code_of x) (λ _. true) 256 d refl fit)
@@ -35,21 +26,34 @@ code_digit (suc (suc zero)) h = refl
 code_digit (suc (suc (suc zero))) h = refl
 code_digit (suc (suc (suc (suc c)))) h = absurd (omega arith)
 
--- the code of one of the last 16 digits of values that are the same
-end_code : (ds text : List ℕ) (size k d : ℕ) → k < 16 → 16 ≤ length ds → 16 ≤ length text → ((i : ℕ) → Fits w8 (get_or text i 0)) → extend ds size ≡ extend (str_to_ascii_lowercase text) size → slice_get ds (length ds - 16 + k) ≡ Some d
-    → code_of d ≡ code_of (get_or text (length text - 16 + k) 0)
-end_code ds text size k d less many most fits e at =
+-- the code of a digit this many places before the last, of values that are the same
+end_code : (ds text : List ℕ) (size back d : ℕ) → back < length ds → back < length text → ((i : ℕ) → Fits w8 (get_or text i 0)) → extend ds size ≡ extend (str_to_ascii_lowercase text) size → slice_get ds (length ds - 1 - back) ≡ Some d
+    → code_of d ≡ code_of (get_or text (length text - 1 - back) 0)
+end_code ds text size back d few less fits e at =
     let lower = str_to_ascii_lowercase text in
-    let n = length text - 16 + k in
+    let n = length text - 1 - back in
     let m = length-map text to_ascii_lowercase in
-    let s = same_from_last ds lower size (15 - k) (omega arith) (omega (arith, m)) e in
-    let i : length ds - 1 - (15 - k) ≡ length ds - 16 + k = omega arith in
-    let j : length lower - 1 - (15 - k) ≡ length text - 16 + k = omega (arith, m) in
-    let x : slice_get ds (length ds - 1 - (15 - k)) ≡ Some d = ap (slice_get ds) i ∙ at in
+    let s = same_from_last ds lower size back few (omega (arith, m)) e in
+    let j : length lower - 1 - back ≡ n = omega (arith, m) in
     let y = ap (slice_get lower) j ∙ slice_get-map to_ascii_lowercase text n ∙ ap (option_map to_ascii_lowercase) (slice_get-get_or text n 0 (omega arith)) in
-    let same : Some d ≡ Some (to_ascii_lowercase (get_or text n 0)) = sym x ∙ s ∙ y in
+    let same : Some d ≡ Some (to_ascii_lowercase (get_or text n 0)) = sym at ∙ s ∙ y in
     let digit : d ≡ to_ascii_lowercase (get_or text n 0) = cc same in
     ap code_of digit ∙ code_lower (get_or text n 0) (fits n).fits
+
+-- so it is of packed digits
+pub ends_same : (share text : List ℕ) (len q back size : ℕ) → q ≡ quarter_of len → back < q → back < length text → ((i : ℕ) → Fits w8 (get_or share i 0)) → ((i : ℕ) → Fits w8 (get_or text i 0)) → extend (digits_in len share) size ≡ extend (str_to_ascii_lowercase text) size
+    → get_or share (q - 1 - back) 0 / 64 ≡ code_of (get_or text (length text - 1 - back) 0)
+ends_same share text len q back size is few less bytes fits e =
+    let l = length_digits len share in
+    let p = len - 1 - back in
+    let y = get_or share (q - 1 - back) 0 in
+    let fit : y < 256 = (bytes (q - 1 - back)).fits in
+    let enough : q ≤ len = omega (arith, is) in
+    let i : length (digits_in len share) - 1 - back ≡ p = omega (arith, l) in
+    let j : p - (len - quarter_of len) ≡ q - 1 - back = omega (arith, is, few, enough) in
+    let c : code_among len share p ≡ y / 64 = in_last len share p (omega (arith, is, few, enough)) ∙ ap (λ (n : ℕ). get_or share n 0 / 64) j in
+    let at = ap (slice_get (digits_in len share)) i ∙ digit_among len share p (omega (arith, enough, few)) ∙ ap (λ (n : ℕ). Some (digit_of n)) c in
+    sym (code_digit (y / 64) (omega (arith, fit))) ∙ end_code (digits_in len share) text size back (digit_of (y / 64)) (omega (arith, l, enough, few)) less fits e at
 
 -- ---- a row of them
 
@@ -66,25 +70,9 @@ rows f g xs ys at to room more same =
     let less : k < 16 = omega (arith, a, h) in
     lane f xs at k room less ∙ same k less ∙ sym (lane g ys to k more less))
 
-pub unpacked_ends : (share text : List ℕ) (size : ℕ) → 16 ≤ length share → 16 ≤ length text → ((i : ℕ) → Fits w8 (get_or text i 0)) → extend (map held_digit share) size ≡ extend (str_to_ascii_lowercase text) size
-    → map code_of (chunk (length share - 16) 16 share) ≡ map code_of (chunk (length text - 16) 16 text)
-unpacked_ends share text size many most fits e = rows code_of code_of share text (length share - 16) (length text - 16) (omega arith) (omega arith) (λ k less.
-    let m = length-map share held_digit in
-    let p = length share - 16 + k in
-    let i : length (map held_digit share) - 16 + k ≡ p = omega (arith, m) in
-    let at = ap (slice_get (map held_digit share)) i ∙ slice_get-map held_digit share p ∙ ap (option_map held_digit) (slice_get-get_or share p 0 (omega arith)) in
-    sym (code_held (get_or share p 0)) ∙ end_code (map held_digit share) text size k (held_digit (get_or share p 0)) less (omega (arith, m, many)) most fits e at)
-
 pub packed_ends : (share text : List ℕ) (len q size : ℕ) → q ≡ quarter_of len → 16 ≤ q → q ≤ length share → 16 ≤ length text → ((i : ℕ) → Fits w8 (get_or share i 0)) → ((i : ℕ) → Fits w8 (get_or text i 0)) → extend (digits_in len share) size ≡ extend (str_to_ascii_lowercase text) size
     → map (λ y. y / 64) (chunk (q - 16) 16 share) ≡ map code_of (chunk (length text - 16) 16 text)
 packed_ends share text len q size is many room most bytes fits e = rows (λ y. y / 64) code_of share text (q - 16) (length text - 16) (omega arith) (omega arith) (λ k less.
-    let l = length_digits len share in
-    let p = len - 16 + k in
-    let y = get_or share (q - 16 + k) 0 in
-    let fit : y < 256 = (bytes (q - 16 + k)).fits in
-    let enough : q ≤ len = omega (arith, is, many) in
-    let i : length (digits_in len share) - 16 + k ≡ p = omega (arith, l) in
-    let j : p - (len - quarter_of len) ≡ q - 16 + k = omega (arith, is, many, enough, less) in
-    let c : code_among len share p ≡ y / 64 = in_last len share p (omega (arith, is, many, enough)) ∙ ap (λ (n : ℕ). get_or share n 0 / 64) j in
-    let at = ap (slice_get (digits_in len share)) i ∙ digit_among len share p (omega (arith, enough, many, less)) ∙ ap (λ (n : ℕ). Some (digit_of n)) c in
-    sym (code_digit (y / 64) (omega (arith, fit))) ∙ end_code (digits_in len share) text size k (digit_of (y / 64)) less (omega (arith, l, enough, many)) most fits e at)
+    let i : q - 16 + k ≡ q - 1 - (15 - k) = omega arith in
+    let j : length text - 1 - (15 - k) ≡ length text - 16 + k = omega arith in
+    ap (λ (n : ℕ). get_or share n 0 / 64) i ∙ ends_same share text len q (15 - k) size is (omega arith) (omega arith) bytes fits e ∙ ap (λ (n : ℕ). code_of (get_or text n 0)) j)

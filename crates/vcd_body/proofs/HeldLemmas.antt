@@ -56,7 +56,6 @@ no_digits state.Zero len size position bytes u s e = cc
 no_digits state.One len size position bytes u s e = cc
 no_digits state.Unknown len size position bytes u s e = cc
 no_digits state.High len size position bytes u s e = cc
-no_digits state.Unpacked len size position bytes u s e = absurd (first_there (map held_digit bytes) (let l = length-map bytes held_digit in omega arith) e)
 no_digits state.Packed len size position bytes u s e = absurd (first_there (digits_in len bytes) (let l = length_held len bytes u in omega arith) e)
 no_digits state.Bits len size position bytes u s e = absurd (first_there (binary_digits (count_in len) (number_in len)) (some_binary len s) e)
 no_digits state.Real len size position bytes u s e = refl

@@ -21,7 +21,6 @@ all_digits state.Zero len bytes u r = refl
 all_digits state.One len bytes u r = refl
 all_digits state.Unknown len bytes u r = refl
 all_digits state.High len bytes u r = refl
-all_digits state.Unpacked len bytes u r = refl
 all_digits state.Packed len bytes u r = refl
 all_digits state.Bits len bytes u r = refl
 all_digits state.Real len bytes u r = absurd (r refl)
@@ -33,7 +32,6 @@ some_digits state.Zero len bytes h s u r = omega arith
 some_digits state.One len bytes h s u r = omega arith
 some_digits state.Unknown len bytes h s u r = omega arith
 some_digits state.High len bytes h s u r = omega arith
-some_digits state.Unpacked len bytes h s u r = let l = length-map bytes held_digit in omega arith
 some_digits state.Packed len bytes h s u r = let l = length_held len bytes h in omega arith
 some_digits state.Bits len bytes h s u r = some_binary len s
 some_digits state.Real len bytes h s u r = absurd (r refl)

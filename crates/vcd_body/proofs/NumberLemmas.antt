@@ -213,7 +213,6 @@ held_few state.Zero len most bytes a b m = omega arith
 held_few state.One len most bytes a b m = omega arith
 held_few state.Unknown len most bytes a b m = omega arith
 held_few state.High len most bytes a b m = omega arith
-held_few state.Unpacked len most bytes a b m = let l = length-map bytes held_digit in omega arith
 held_few state.Packed len most bytes a b m = let l = length_digits len bytes in omega arith
 held_few state.Bits len most bytes a b m = let l = length_binary (count_in len) (number_in len) in omega arith
 held_few state.Real len most bytes a b m = omega arith

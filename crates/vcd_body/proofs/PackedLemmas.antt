@@ -1,12 +1,12 @@
 -- Packed digits are the digits again, as they are held; the digit at an index of a share.
-use Rattle.std.proofs.Common.{◌≡◌, ℕ, ◌+◌, ◌-◌, ◌*◌, ◌/◌, ◌%◌, ◌<◌, ◌≤◌, Bool, true, false, cond, ◌||◌, ◌==◌, nat_lt, List, [], ◌∷◌, length, map, refl, sym, ap, subst, ◌∙◌, arith, ◌⊎◌, inl, inr, slice_get, Some, None}
+use Rattle.std.proofs.Common.{◌≡◌, ℕ, ◌+◌, ◌-◌, ◌*◌, ◌/◌, ◌%◌, ◌<◌, ◌≤◌, Bool, true, false, cond, ◌||◌, ◌==◌, nat_lt, List, [], ◌∷◌, ◌++◌, length, drop, map, replicate, refl, sym, ap, subst, ◌∙◌, arith, ◌⊎◌, inl, inr, slice_get, Some, None}
 use Rattle.std.specs.Prelude.{get_or}
 use Rattle.std.specs.List.{list_all}
 use Rattle.std.specs.Str.{byte, str_to_ascii_lowercase}
 use Rattle.std.specs.Char.{to_ascii_lowercase}
 use Rattle.std.proofs.lemmas.Bool.{or_cases, and_parts, cases_lt, eqb-true, lt-ltb, le-ltb}
 use Rattle.std.proofs.lemmas.Grind.{div_ceil_times, same_number_lists}
-use Rattle.std.proofs.lemmas.List.{get_or-map, length-map}
+use Rattle.std.proofs.lemmas.List.{get_or-append_right, get_or-drop, get_or-map, get_or-replicate, get_or_append_left, length-append, length-drop, length-map, length-replicate}
 use Rattle.std.proofs.lemmas.List.FromFn.{get_or-map-range_with_len, length-map-range_with_len}
 use Rattle.std.proofs.lemmas.Option.{slice_get-get_or, slice_get_past}
 use Rattle.vcd_model.specs.BodyPhrases.{is_value_digit}
@@ -174,6 +174,23 @@ packs_again text bytes packs =
 
 pub packs_by : (text bytes : List ℕ) (q : ℕ) → q ≡ quarter_of (length text) → ((j : ℕ) → j < q → get_or bytes j 0 ≡ four_codes text q j) → digits_in (length text) bytes ≡ map held_digit text
 packs_by text bytes q is packs = packs_again text bytes (subst (λ k. (j : ℕ) → j < k → get_or bytes j 0 ≡ four_codes text k j) is packs)
+
+-- digits with `0` after them have the same codes before 64
+pub padded_is : (text : List ℕ) (k : ℕ) → length text ≤ 64 → k < 64 → code_or (text ++ drop (length text) (replicate 64 48)) k ≡ code_or text k
+padded_is text k few less = in_text (text ++ rest) k (omega (arith, long, less)) ∙ by_place (cases_lt k (length text))
+  where
+    rest : List ℕ
+    rest = drop (length text) (replicate 64 48)
+
+    long : length (text ++ rest) ≡ 64
+    long = let a = length-append text rest in let d = length-drop {A = ℕ} (length text) (replicate 64 48) in let r = length-replicate {A = ℕ} 64 48 in omega (arith, a, d, r, few)
+
+    by_place : (k < length text) ⊎ (length text ≤ k) → code_of (get_or (text ++ rest) k 0) ≡ code_or text k
+    by_place (inl h) = ap code_of (get_or_append_left text rest 0 k h) ∙ sym (in_text text k h)
+    by_place (inr h) =
+        let i : length text + (k - length text) ≡ k = omega arith in
+        ap code_of (get_or-append_right text rest (length text) k 0 refl h ∙ get_or-drop (length text) (replicate 64 48) (k - length text) 0 ∙ ap (λ (j : ℕ). get_or {A = ℕ} (replicate 64 48) j 0) i ∙ get_or-replicate 64 k 48 0 less)
+        ∙ sym (above_test k (length text) (code_of (get_or text k 0)) 0 h)
 
 -- ---- one digit of a share
 

@@ -12,7 +12,7 @@ use borrow.Rule.Slice.PartMut.{put_mid}
 use Rattle.vcd_body.specs.Kept.{Held, Kept, bytes_for, counts_if, counts_with, fits, held_as, one_more, room_for, with_held, with_step, with_text}
 use Rattle.vcd_body.specs.Packed.{digits_in, held_digit, quarter_of}
 use Rattle.vcd_body.specs.Steps.{counts_after, with_steps}
-use Rattle.vcd_body.specs.Stored.{AreLaidOut, ChangesAt, IsHeldAs, IsLaid, Whole, least_bytes, end_at, held_by, held_of, holding_of, holding_at, kept_in, kept_with, len_in, number_of, one_digit, set_whole, some_by, start_or, state_in, used, used_by, whole, whole_at}
+use Rattle.vcd_body.specs.Stored.{AreLaidOut, ChangesAt, IsHeldAs, IsLaid, Whole, text_bytes, end_at, held_by, held_of, holding_of, holding_at, kept_in, kept_with, len_in, number_of, one_digit, set_whole, some_by, start_or, state_in, used, used_by, whole, whole_at}
 use Rattle.vcd_body.specs.declared.item.Form.{Form}
 use Rattle.vcd_body.specs.declared.item.Form.TheVariants as form
 use Rattle.vcd_body.specs.declared.slot.Holding.{Holding}
@@ -483,7 +483,7 @@ digits_form form.Scalar digits text = refl
 digits_form form.Vector digits text = refl
 digits_form form.RealText digits text = absurd (digits refl)
 
-pub packed_as : (f : Form) (ys text : List ℕ) → f ≢ form.RealText → least_bytes f (length text) ≤ length ys → digits_in (length text) ys ≡ map held_digit text → IsHeldAs f text state.Packed ys
+pub packed_as : (f : Form) (ys text : List ℕ) → f ≢ form.RealText → text_bytes f (length text) ≤ length ys → digits_in (length text) ys ≡ map held_digit text → IsHeldAs f text state.Packed ys
 packed_as f ys text digits room packed = record {
   held = packed_held ys text packed ∙ digits_form f digits text;
   used = digits_bytes f (length text) digits room;
@@ -491,23 +491,23 @@ packed_as f ys text digits room packed = record {
   whole = λ e. cc;
 }
   where
-    digits_bytes : (f : Form) (n : ℕ) → f ≢ form.RealText → least_bytes f n ≤ length ys → bytes_for n ≤ length ys
+    digits_bytes : (f : Form) (n : ℕ) → f ≢ form.RealText → text_bytes f n ≤ length ys → bytes_for n ≤ length ys
     digits_bytes form.Scalar n is h = h
     digits_bytes form.Vector n is h = h
     digits_bytes form.RealText n is h = absurd (is refl)
 
 -- a text takes as many bytes as it has to, where it is not one digit alone
-form_room : (f : Form) (n : ℕ) → (f ≢ form.RealText → n ≢ 1) → room_for f n ≡ least_bytes f n
+form_room : (f : Form) (n : ℕ) → (f ≢ form.RealText → n ≢ 1) → room_for f n ≡ text_bytes f n
 form_room form.Scalar n several = ap (λ (b : Bool). cond b 0 (bytes_for n)) (ne_eqb n 1 (several (λ e. cc)))
 form_room form.Vector n several = ap (λ (b : Bool). cond b 0 (bytes_for n)) (ne_eqb n 1 (several (λ e. cc)))
 form_room form.RealText n several = refl
 
 -- a text that has no room, or is none
-pub form_past : (f : Form) (n room : ℕ) → (f ≢ form.RealText → n ≢ 1) → room < least_bytes f n → fits f n room ≡ false
+pub form_past : (f : Form) (n room : ℕ) → (f ≢ form.RealText → n ≢ 1) → room < text_bytes f n → fits f n room ≡ false
 form_past f n room several past = too_long f n room (let is = form_room f n several in omega (arith, is, past))
 
 -- the text that was put in the share
-pub form_kept : (f : Form) (st : State) (s : Whole) (end : ℕ) (values ys text : List ℕ) → (f ≢ form.RealText → length text ≢ 1) → 0 < length text → s.start + least_bytes f (length text) ≤ end → end ≤ length values → length ys ≡ end - s.start → IsHeldAs f text st ys
+pub form_kept : (f : Form) (st : State) (s : Whole) (end : ℕ) (values ys text : List ℕ) → (f ≢ form.RealText → length text ≢ 1) → 0 < length text → s.start + text_bytes f (length text) ≤ end → end ≤ length values → length ys ≡ end - s.start → IsHeldAs f text st ys
     → kept_with (put_mid s.start (end - s.start) values ys) end (set_whole st (length text) s) ≡ with_text f text (kept_with values end s)
 form_kept f st s end values ys text several some enough most same is =
     let n = length text in
@@ -526,7 +526,6 @@ held_one state.Zero len d bytes h = let e : byte "0" ≡ d = cc in ap (λ x. Hel
 held_one state.One len d bytes h = let e : byte "1" ≡ d = cc in ap (λ x. Held.Digits (x ∷ [])) e
 held_one state.Unknown len d bytes h = let e : byte "x" ≡ d = cc in ap (λ x. Held.Digits (x ∷ [])) e
 held_one state.High len d bytes h = let e : byte "z" ≡ d = cc in ap (λ x. Held.Digits (x ∷ [])) e
-held_one state.Unpacked len d bytes h = cc
 held_one state.Packed len d bytes h = cc
 held_one state.Bits len d bytes h = cc
 held_one state.Real len d bytes h = cc
@@ -537,7 +536,6 @@ used_none state.Zero len d h = (refl, refl)
 used_none state.One len d h = (refl, refl)
 used_none state.Unknown len d h = (refl, refl)
 used_none state.High len d h = (refl, refl)
-used_none state.Unpacked len d h = cc
 used_none state.Packed len d h = cc
 used_none state.Bits len d h = cc
 used_none state.Real len d h = cc
@@ -553,13 +551,12 @@ told_state state.Zero = refl
 told_state state.One = refl
 told_state state.Unknown = refl
 told_state state.High = refl
-told_state state.Unpacked = refl
 told_state state.Packed = refl
 told_state state.Bits = refl
 told_state state.Real = refl
 
--- from 8 on a number tells binary digits
-pub many_bits : (tag : ℕ) → 8 ≤ tag → state_in tag ≡ state.Bits
+-- from 7 on a number tells binary digits
+pub many_bits : (tag : ℕ) → 7 ≤ tag → state_in tag ≡ state.Bits
 many_bits zero h = absurd (omega arith)
 many_bits (suc zero) h = absurd (omega arith)
 many_bits (suc (suc zero)) h = absurd (omega arith)
@@ -567,8 +564,7 @@ many_bits (suc (suc (suc zero))) h = absurd (omega arith)
 many_bits (suc (suc (suc (suc zero)))) h = absurd (omega arith)
 many_bits (suc (suc (suc (suc (suc zero))))) h = absurd (omega arith)
 many_bits (suc (suc (suc (suc (suc (suc zero)))))) h = absurd (omega arith)
-many_bits (suc (suc (suc (suc (suc (suc (suc zero))))))) h = absurd (omega arith)
-many_bits (suc (suc (suc (suc (suc (suc (suc (suc n)))))))) h = refl
+many_bits (suc (suc (suc (suc (suc (suc (suc n))))))) h = refl
 
 -- a length that a slot and its share hold in two parts
 pub len_told : (st : State) (tag len : ℕ) → tag ≡ number_of st → st ≢ state.Bits → len_in tag (len % 4294967296) (len / 4294967296) ≡ len
@@ -583,7 +579,6 @@ len_told st tag len e text = ap (λ n. len_in n (len % 4294967296) (len / 429496
     by_state state.One h = parts
     by_state state.Unknown h = parts
     by_state state.High h = parts
-    by_state state.Unpacked h = parts
     by_state state.Packed h = parts
     by_state state.Bits h = absurd (h refl)
     by_state state.Real h = parts

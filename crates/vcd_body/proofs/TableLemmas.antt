@@ -41,10 +41,13 @@ share_there t code s h v is laid at there =
     rw is (omega (arith, low, high), some)
 
 -- the bytes that are in use, read in two steps
+pub rest_here : (start : ℕ) (values rest : List ℕ) → rest ≡ slice_range values start (length values) → rest ≡ drop start values
+rest_here start values rest is = is ∙ take_all (length values - start) (drop start values) (omega (arith, length-drop start values))
+
 pub part_here : (start n m : ℕ) (values rest part : List ℕ) → rest ≡ slice_range values start (length values) → part ≡ slice_range rest 0 n → n ≡ m → part ≡ take m (drop start values)
 part_here start n m values rest part is are same =
     let all : n - 0 ≡ n = omega arith in
-    are ∙ ap (λ k. take k rest) all ∙ ap (λ (l : List ℕ). take n l) (is ∙ take_all (length values - start) (drop start values) (omega (arith, length-drop start values))) ∙ ap (λ k. take k (drop start values)) same
+    are ∙ ap (λ k. take k rest) all ∙ ap (λ (l : List ℕ). take n l) (rest_here start values rest is) ∙ ap (λ k. take k (drop start values)) same
 
 -- what is held in another state than these two is digits
 pub shows_digits : (st : State) (len : ℕ) (bytes : List ℕ) → st ≢ state.Unset → st ≢ state.Real → shown_as (held_by st len bytes) ≡ shown.Bits
@@ -53,7 +56,6 @@ shows_digits state.Zero len bytes a b = refl
 shows_digits state.One len bytes a b = refl
 shows_digits state.Unknown len bytes a b = refl
 shows_digits state.High len bytes a b = refl
-shows_digits state.Unpacked len bytes a b = refl
 shows_digits state.Packed len bytes a b = refl
 shows_digits state.Bits len bytes a b = refl
 shows_digits state.Real len bytes a b = absurd (b refl)
@@ -65,7 +67,6 @@ is_real state.Zero h = cc
 is_real state.One h = cc
 is_real state.Unknown h = cc
 is_real state.High h = cc
-is_real state.Unpacked h = cc
 is_real state.Packed h = cc
 is_real state.Bits h = cc
 is_real state.Real h = refl

@@ -23,7 +23,6 @@ one_digit state.Zero = Some (byte "0")
 one_digit state.One = Some (byte "1")
 one_digit state.Unknown = Some (byte "x")
 one_digit state.High = Some (byte "z")
-one_digit state.Unpacked = None
 one_digit state.Packed = None
 one_digit state.Bits = None
 one_digit state.Real = None
@@ -35,7 +34,6 @@ used_by state.Zero len = 0
 used_by state.One len = 0
 used_by state.Unknown len = 0
 used_by state.High len = 0
-used_by state.Unpacked len = len
 used_by state.Packed len = bytes_for len
 used_by state.Bits len = 0
 used_by state.Real len = len
@@ -58,7 +56,6 @@ held_by state.Zero len bytes = Held.Digits (byte "0" ∷ [])
 held_by state.One len bytes = Held.Digits (byte "1" ∷ [])
 held_by state.Unknown len bytes = Held.Digits (byte "x" ∷ [])
 held_by state.High len bytes = Held.Digits (byte "z" ∷ [])
-held_by state.Unpacked len bytes = Held.Digits (map held_digit bytes)
 held_by state.Packed len bytes = Held.Digits (digits_in len bytes)
 held_by state.Bits len bytes = Held.Digits (binary_digits (count_in len) (number_in len))
 held_by state.Real len bytes = Held.Text bytes
@@ -82,18 +79,17 @@ held_line size ds id = cond (size == 1) (ds ++ (id ++ 10 ∷ [])) (byte "b" ∷ 
 
 -- ---- what a slot and its share say
 
--- the number of a state, and the state of a number; from 8 on the number also says how many binary
--- digits there are
+-- the number that tells a state, and the state that a number tells; from 7 on it tells how many
+-- binary digits there are
 abbrev pub number_of : State → ℕ
 number_of state.Unset = 0
 number_of state.One = 1
 number_of state.Zero = 2
 number_of state.Unknown = 3
 number_of state.High = 4
-number_of state.Unpacked = 5
-number_of state.Packed = 6
-number_of state.Real = 7
-number_of state.Bits = 8
+number_of state.Packed = 5
+number_of state.Real = 6
+number_of state.Bits = 7
 
 abbrev pub state_in : ℕ → State
 state_in zero = state.Unset
@@ -101,18 +97,17 @@ state_in (suc zero) = state.One
 state_in (suc (suc zero)) = state.Zero
 state_in (suc (suc (suc zero))) = state.Unknown
 state_in (suc (suc (suc (suc zero)))) = state.High
-state_in (suc (suc (suc (suc (suc zero))))) = state.Unpacked
-state_in (suc (suc (suc (suc (suc (suc zero)))))) = state.Packed
-state_in (suc (suc (suc (suc (suc (suc (suc zero))))))) = state.Real
-state_in (suc (suc (suc (suc (suc (suc (suc (suc n)))))))) = state.Bits
+state_in (suc (suc (suc (suc (suc zero))))) = state.Packed
+state_in (suc (suc (suc (suc (suc (suc zero)))))) = state.Real
+state_in (suc (suc (suc (suc (suc (suc (suc n))))))) = state.Bits
 
 -- a length of these parts: the upper one is from the share, or says how many binary digits there
 -- are
 abbrev pub len_in : ℕ → ℕ → ℕ → ℕ
-len_in tag number upper = cond (nat_le 8 tag) (tag - 8) upper * 4294967296 + number % 4294967296
+len_in tag number upper = cond (nat_le 7 tag) (tag - 7) upper * 4294967296 + number % 4294967296
 
 abbrev pub holding_of : Slot → Share → Holding
-holding_of s h = record { state = state_in s.tag; lower = s.number; upper = cond (nat_le 8 s.tag) (s.tag - 8) h.upper }
+holding_of s h = record { state = state_in s.tag; lower = s.number; upper = cond (nat_le 7 s.tag) (s.tag - 7) h.upper }
 
 abbrev pub holding_at : List Slot → List Share → ℕ → Option Holding
 holding_at slots shares code = option_and_then (λ (s : Slot). option_map (holding_of s) (slice_get shares code)) (slice_get slots code)
@@ -170,11 +165,11 @@ ChangesAt code f values slots shares values' slots' shares' = (position : ℕ) �
 abbrev pub ChangesSlot : ℕ → (Kept → Kept) → List Slot → List Slot → Type 0
 ChangesSlot code f slots slots' = (shares : List Share) (values : List ℕ) → ChangesAt code f values slots shares values slots' shares
 
--- how many bytes a text of n bytes takes at least
-abbrev pub least_bytes : Form → ℕ → ℕ
-least_bytes form.Scalar n = bytes_for n
-least_bytes form.Vector n = bytes_for n
-least_bytes form.RealText n = n
+-- how many bytes a text of n bytes takes
+abbrev pub text_bytes : Form → ℕ → ℕ
+text_bytes form.Scalar n = bytes_for n
+text_bytes form.Vector n = bytes_for n
+text_bytes form.RealText n = n
 
 -- how many digits have to be there: 1 if the state is no state of several digits
 abbrev pub some_by : State → ℕ → ℕ
@@ -183,7 +178,6 @@ some_by state.Zero len = 1
 some_by state.One len = 1
 some_by state.Unknown len = 1
 some_by state.High len = 1
-some_by state.Unpacked len = len
 some_by state.Packed len = len
 some_by state.Bits len = cond (is_proper len) 1 0
 some_by state.Real len = 1

@@ -1,4 +1,4 @@
-// Items whose tokens lie completely in the chunk. Most are taken without a change of the feed.
+// Items whose tokens are whole ahead in the chunk: most cost no change of the feed.
 ghost use Rattle.std.specs.Prelude.{◌≡◌, ◌⊎◌, ℕ, ◌+◌, ◌-◌, ◌^◌, ◌<◌, ◌≤◌, List, [], drop, length, slice_get, slice_range, false, true, is_some, None, Some, IfOk, IfSome};
 ghost use Rattle.vcd_body.specs.Names.{Advances, AreBinaryIf, AreWhite, Begins, CallEnd, GivesAhead, GivesToLast, HasTimestamp, HasTime, HoldsItem, IsChangeBy, IsFound, IsFoundScalar, IsPrompt, IsRun, IsScalar, LeavesRegs, MayBe, Opens, OpensVector, Passed, Puts, TakesItem, TakesOpened, TakesOpenedTimestamp, Token, ahead_of, binary_digits, byte, bytes_of, limit_of, lines_of, longest_of, passed_of, seen, source_of};
 ghost use Rattle.vcd_body.specs.declared.item.Form.TheVariants as form;
@@ -23,8 +23,8 @@ pub struct ScannedItem<'a> {
     pub item: Item,
     /// The text of a change; none for a timestamp.
     pub text: &'a [u8],
-    /// The size in bits of a change's code, which `size` returns. It is 0 for an event, for a
-    /// timestamp, and if the size does not fit into 32 bits.
+    /// The size in bits of a change's code, which `size` returns. It is 0 for an event, for a size
+    /// that 32 bits do not hold, and for a timestamp.
     pub size_or_zero: usize,
     /// Where the item begins in the bytes that are looked over: at its digit, or at the byte before
     /// its text or before the digits of a timestamp.
@@ -41,8 +41,8 @@ pub struct ScannedItem<'a> {
 }
 
 impl ScannedItem<'_> {
-    /// Returns the size in bits of a change's code. `None` for an event and a timestamp, if the
-    /// size does not fit into 32 bits, and if it is not known.
+    /// Returns the size in bits of a change's code. `None` if `size_or_zero` is 0: for an event, for
+    /// a timestamp, for a size that 32 bits do not hold, and if the size is not known.
     #[inline(always)]
     pub fn size(self) -> Option<usize>
         ensures told { IfSome result (λ size. (size ≡ self.entry.size_or_zero) × (0 < size)) }
@@ -237,7 +237,7 @@ pub(crate) fn scalar_ahead<'a>(
     Some(change_of(found, Form::Scalar, text, at, at, at + 1))
 }
 
-/// Returns the code after a digit, if a look at one entry finds it.
+/// Returns the code after a digit, where a look at one entry finds it.
 #[inline(always)]
 fn short_code(token: &[u8], view: HeadView<'_>) -> Option<Found>
     requires begins { IsScalar token.now }
@@ -251,9 +251,10 @@ fn short_code(token: &[u8], view: HeadView<'_>) -> Option<Found>
     Some(found)
 }
 
-/// Returns the change of a `0` or a `1`, if its token begins at the next byte and has two bytes and
-/// a line feed after them, and a look at one entry finds its code. `None` for any other item; then
-/// nothing has changed.
+/// Returns the change that a `0` or a `1` begins, where its token begins right here, has two bytes
+/// and a line feed after them, and a look at one entry finds its code. None for any other item;
+/// then nothing has changed.
+// No call is made, so that a loop over such changes keeps all that it needs in registers.
 #[inline(always)]
 pub(crate) fn short_ahead<'a>(ahead: &mut Ahead<'a>, view: HeadView<'_>) -> Option<ScannedItem<'a>>
     ensures takes { IfSome result

@@ -71,7 +71,7 @@ pub(crate) fn is_proper(holding: Holding) -> bool
     count > 0 && number_in(holding) >> count == 0
 }
 
-/// Returns the digit at an index of those that a slot holds; `None` after the last.
+/// Returns the digit at an index of those that a slot holds. `None` after the last.
 #[inline(always)]
 pub(crate) fn binary_digit(holding: Holding, index: usize) -> Option<u8>
     ensures { result ≡ slice_get (held_bits holding) index }

@@ -5,9 +5,8 @@ ghost use Rattle.vcd_body.specs.Names.{Decides, HasDigits, are_two, differs, dig
 use crate::change::extended_by;
 use crate::held::{count_of, digit_shown};
 use crate::item::Form;
-use crate::packed::{held_digit, holds_packed};
+use crate::packed::holds_packed;
 use crate::slot::{HeldValue, State, digit_of_state};
-use crate::words::are_all_digits;
 
 // Returns the digit by which a text is extended.
 fn extension_of_text(text: &[u8]) -> u8
@@ -62,27 +61,8 @@ fn are_same(held: HeldValue<'_>, text: &[u8], size: usize) -> bool
     true
 }
 
-// Returns whether digits that are held a byte each and a text of as many are the same. It looks at
-// all of them together, and if some differ, for capital letters, from the right too.
-fn are_same_unpacked(bytes: &[u8], text: &[u8]) -> bool
-    requires { length bytes.now ≡ length text.now }
-    ensures { Decides result (map held_digit bytes.now ≡ str_to_ascii_lowercase text.now) }
-{
-    if bytes == text && are_all_digits(text) {
-        return true;
-    }
-    let mut index = text.len();
-    while index > 0 {
-        index -= 1;
-        if held_digit(bytes[index]) != text[index].to_ascii_lowercase() {
-            return false;
-        }
-    }
-    true
-}
-
-// Returns whether a text gives a code of this size other digits than the held ones, if either has
-// several. It takes as long as these digits and the text are, whatever the size is.
+// Returns whether a text gives a code of this size other digits than several that are held, or is
+// itself of several. It takes as long as these digits and the text are, whatever the size is.
 #[inline(never)]
 fn several_differ(held: HeldValue<'_>, size: usize, text: &[u8]) -> bool
     requires digits { HasDigits held }
@@ -93,7 +73,6 @@ fn several_differ(held: HeldValue<'_>, size: usize, text: &[u8]) -> bool
         return true;
     }
     match held.holding.state {
-        State::Unpacked if count == text.len() => !are_same_unpacked(held.bytes, text),
         State::Packed if count == text.len() && holds_packed(held.bytes, text) => false,
         _ => !are_same(held, text, count.max(text.len())),
     }
@@ -120,7 +99,7 @@ pub(crate) fn value_differs(held: HeldValue<'_>, size: usize, form: Form, text: 
         (value_with size (model_form form) text.now) }
 {
     match held.holding.state {
-        State::Unpacked => form == Form::RealText || several_differ(held, size, text),
+        State::Packed => form == Form::RealText || several_differ(held, size, text),
         State::Unset => false,
         State::Real => form != Form::RealText || held.bytes != text,
         _ => form == Form::RealText || digits_differ(held, size, text),

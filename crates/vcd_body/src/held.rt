@@ -4,7 +4,7 @@ ghost use Rattle.vcd_body.specs.Names.{digit_in, digits_of, held_in, last_digit_
 
 use crate::bits::{binary_digit, count_in, last_binary};
 use crate::change::extension_of;
-use crate::packed::{digit_at, unpacked_digit_at};
+use crate::packed::{digit_at, last_packed};
 use crate::slot::{HeldValue, State, digit_of_state};
 
 /// Returns how many digits are held.
@@ -15,7 +15,6 @@ pub(crate) fn count_of(held: HeldValue<'_>) -> usize
     match held.holding.state {
         State::Unset | State::Real => 0,
         State::Zero | State::One | State::Unknown | State::High => 1,
-        State::Unpacked => held.bytes.len(),
         State::Packed => held.holding.len(),
         State::Bits => count_in(held.holding),
     }
@@ -27,7 +26,6 @@ pub(crate) fn digit_held(held: HeldValue<'_>, index: usize) -> Option<u8>
     ensures { result ≡ slice_get (digits_of held.entry) index }
 {
     match held.holding.state {
-        State::Unpacked => unpacked_digit_at(held.bytes, index),
         State::Packed => digit_at(held.bytes, held.holding.len(), index),
         State::Bits => binary_digit(held.holding, index),
         state if index == 0 => digit_of_state(state),
@@ -35,7 +33,7 @@ pub(crate) fn digit_held(held: HeldValue<'_>, index: usize) -> Option<u8>
     }
 }
 
-/// Returns the digit at an index of the value at a size, from the left; `None` if it has fewer.
+/// Returns the digit at an index of the value at a size, from the left. `None` if it has none there.
 #[inline(always)]
 pub(crate) fn digit_shown(held: HeldValue<'_>, size: usize, index: usize) -> Option<u8>
     ensures { result ≡ digit_in (value_at_size size (held_in held.entry)) index }
@@ -48,14 +46,13 @@ pub(crate) fn digit_shown(held: HeldValue<'_>, size: usize, index: usize) -> Opt
     digit_held(held, index - missing)
 }
 
-/// Returns the last digit of the value, which is the same at each size; `None` if it has none.
+/// Returns the last digit of the value, which is the same at each size. `None` if it has none.
 #[inline(always)]
 pub(crate) fn last_held(held: HeldValue<'_>) -> Option<u8>
     ensures { (size : ℕ) → result ≡ last_digit_in (value_at_size size (held_in held.entry)) }
 {
     match held.holding.state {
-        State::Unpacked => unpacked_digit_at(held.bytes, held.bytes.len() - 1),
-        State::Packed => digit_at(held.bytes, held.holding.len(), held.holding.len() - 1),
+        State::Packed => Some(last_packed(held.bytes, held.holding.len())),
         State::Bits => last_binary(held.holding),
         state => digit_of_state(state),
     }

@@ -1,24 +1,9 @@
-// Digits in a share: a byte each, or four to a byte, which has one of each quarter of them.
-ghost use Rattle.std.specs.Prelude.{◌≡◌, ◌≢◌, ◌≤◌, ◌<◌, ◌+◌, ◌-◌, ◌*◌, ◌/◌, ◌==◌, ℕ, Some, get_or, length, map, slice_get, false, true};
+// Digits in a share: four to a byte, one of each quarter of them.
+ghost use Rattle.std.specs.Prelude.{◌≡◌, ◌≢◌, ◌≤◌, ◌<◌, ◌+◌, ◌-◌, ◌*◌, ◌/◌, ℕ, Some, get_or, length, map, slice_get, false, true};
 ghost use Rattle.vcd_body.specs.Names.{ArePacked, AreTwo, HasFour, MayPack, chunk, code_among, code_of, code_or, digit_of, digits_in, four_codes, held_digit, quarter_of, str_to_ascii_lowercase};
 
 use crate::words::are_all_digits;
 use std::simd::prelude::*;
-
-/// Returns a digit as two bits, without a branch.
-#[inline(always)]
-fn code_of(digit: u8) -> u8
-    ensures code { result ≡ code_of digit }
-    ensures small { result < 4 }
-{
-    let x_or_z = if (digit == b'x') | (digit == b'X') {
-        3
-    } else {
-        2
-    };
-    let all_but_0 = if digit == b'1' { 1 } else { x_or_z };
-    if digit == b'0' { 0 } else { all_but_0 }
-}
 
 /// Returns two bits as a digit, in lower case.
 #[inline(always)]
@@ -33,67 +18,8 @@ fn digit_of(code: u8) -> u8
     }
 }
 
-/// Returns a digit as a share holds it: in lower case `0`, `1` or `x`, and for all others `z`.
-#[inline(always)]
-pub(crate) fn held_digit(digit: u8) -> u8
-    ensures { result ≡ held_digit digit }
-{
-    match digit {
-        b'0' => b'0',
-        b'1' => b'1',
-        b'x' | b'X' => b'x',
-        _ => b'z',
-    }
-}
-
-/// Returns the digit at an index of a share that holds a byte a digit; `None` after its end.
-#[inline(always)]
-pub(crate) fn unpacked_digit_at(bytes: &[u8], index: usize) -> Option<u8>
-    ensures { result ≡ slice_get (map held_digit bytes.now) index }
-{
-    Some(held_digit(byte_at(bytes, index)?))
-}
-
-/// Returns the code of the digit at an index, 0 if there is none.
-#[inline(always)]
-fn code_at(text: &[u8], index: usize) -> u8
-    ensures small { result < 4 }
-    ensures code { result ≡ code_or text.now index }
-{
-    match text.get(index) {
-        Some(digit) => code_of(*digit),
-        None => 0,
-    }
-}
-
-/// Returns the digits at an index of each quarter as a byte.
-#[inline(always)]
-fn four_at(text: &[u8], quarter: usize, index: usize) -> u8
-    requires few { quarter < 16 }
-    requires quarter { quarter ≤ length text.now }
-    requires position { index < quarter }
-    ensures { result ≡ four_codes text.now quarter index }
-{
-    code_at(text, index)
-        + 4 * code_at(text, index + quarter)
-        + 16 * code_at(text, index + quarter + quarter)
-        + 64 * code_at(text, index + (text.len() - quarter))
-}
-
-/// Packs the digits of each quarter.
-fn pack_few(bytes: &mut [u8], text: &[u8], quarter: usize)
-    requires few { quarter < 16 }
-    requires room { quarter ≤ length bytes.old }
-    requires quarter { quarter ≤ length text.now }
-    ensures { ArePacked bytes.new text.now quarter }
-{
-    for index in 0..quarter {
-        bytes[index] = four_at(text, quarter, index);
-    }
-}
-
-/// Returns the codes of 16 digits. Of a byte that is neither `0` nor `1` it is 2, and one more if
-/// it is an x.
+/// Returns the codes of 16 digits. Of a byte that is neither `0` nor `1` it is 2, and one more
+/// where it is an x.
 #[inline(always)]
 fn codes_16(bytes: &[u8], at: usize) -> u8x16
     requires { at + 16 ≤ length bytes.now }
@@ -114,22 +40,6 @@ fn codes_differ(first: u8x16, second: u8x16) -> bool
     first.simd_ne(second).to_bitmask() != 0
 }
 
-/// Returns whether a share that holds a byte a digit and a text differ in their last 16 digits;
-/// false if either has fewer.
-#[inline(always)]
-pub(crate) fn unpacked_ends_differ(bytes: &[u8], text: &[u8]) -> bool
-    ensures differ { result ≡ true → AreTwo (map held_digit bytes.now) text.now }
-    ensures many { result ≡ true → (16 ≤ length bytes.now) × (16 ≤ length text.now) }
-{
-    if bytes.len() < 16 || text.len() < 16 {
-        return false;
-    }
-    codes_differ(
-        codes_16(bytes, bytes.len() - 16),
-        codes_16(text, text.len() - 16),
-    )
-}
-
 /// Returns the codes of the last digits of the 16 bytes from an offset on.
 #[inline(always)]
 fn last_codes_16(bytes: &[u8], at: usize) -> u8x16
@@ -139,17 +49,51 @@ fn last_codes_16(bytes: &[u8], at: usize) -> u8x16
     u8x16::from_slice(&bytes[at..]) >> u8x16::splat(6)
 }
 
-/// Returns whether `len` packed digits and a text differ in their last 16 digits; false if either
-/// has fewer. The last 16 packed digits are in the last bytes that are in use.
+/// Returns a digit as two bits. It is written so that it takes no branches.
 #[inline(always)]
-pub(crate) fn packed_ends_differ(bytes: &[u8], len: usize, text: &[u8]) -> bool
+fn code_of(digit: u8) -> u8
+    ensures { result ≡ code_of digit }
+{
+    let x_or_z = if (digit == b'x') | (digit == b'X') {
+        3
+    } else {
+        2
+    };
+    let all_but_0 = if digit == b'1' { 1 } else { x_or_z };
+    if digit == b'0' { 0 } else { all_but_0 }
+}
+
+/// Returns whether `len` packed digits and a text differ in one of their last digits, of which it
+/// looks at four at most, and at no more than a quarter has.
+fn few_ends_differ(bytes: &[u8], len: usize, text: &[u8]) -> bool
+    requires { quarter_of len ≤ length bytes.now }
     ensures differ { result ≡ true → AreTwo (digits_in len bytes.now) text.now }
-    ensures many { result ≡ true → (16 ≤ quarter_of len) × (16 ≤ length text.now) }
+    ensures some { result ≡ true → (1 ≤ len) × (1 ≤ length text.now) }
+{
+    let quarter = len.div_ceil(4);
+    for back in 0..quarter.min(text.len()).min(4) {
+        if bytes[quarter - 1 - back] / 64 != code_of(text[text.len() - 1 - back]) {
+            return true;
+        }
+    }
+    false
+}
+
+/// Returns whether `len` packed digits and a text differ in their last digits: in the last 16 where
+/// a quarter and the text have as many, else in the last four. The last packed digits are in the
+/// last bytes that are in use.
+#[inline(always)]
+pub(crate) fn ends_differ(bytes: &[u8], len: usize, text: &[u8]) -> bool
+    ensures differ { result ≡ true → AreTwo (digits_in len bytes.now) text.now }
+    ensures some { result ≡ true → (1 ≤ len) × (1 ≤ length text.now) }
     ensures room { result ≡ true → quarter_of len ≤ length bytes.now }
 {
     let quarter = len.div_ceil(4);
-    if quarter < 16 || bytes.len() < quarter || text.len() < 16 {
+    if bytes.len() < quarter {
         return false;
+    }
+    if quarter < 16 || text.len() < 16 {
+        return few_ends_differ(bytes, len, text);
     }
     codes_differ(
         last_codes_16(bytes, quarter - 16),
@@ -169,7 +113,24 @@ fn with_4_times(low: u8x16, high: u8x16) -> u8x16
     low + (twice + twice)
 }
 
-/// Returns 16 digits of each quarter, packed: 16 bytes, by four loads and no shuffle.
+/// Returns 16 digits from each of four offsets on, packed.
+// Four digits a byte: 16 bytes by four loads and no shuffle.
+#[inline(always)]
+fn packed_from(text: &[u8], first: usize, second: usize, third: usize, last: usize) -> u8x16
+    requires first { first + 16 ≤ length text.now }
+    requires second { second + 16 ≤ length text.now }
+    requires third { third + 16 ≤ length text.now }
+    requires last { last + 16 ≤ length text.now }
+    ensures long { length result ≡ 16 }
+    ensures each { (k : ℕ) → k < 16 → get_or result k 0 ≡ code_or text.now (first + k) + 4 * code_or text.now (second + k) + 16 * code_or text.now (third + k) + 64 * code_or text.now (last + k) }
+{
+    let third = codes_16(text, third);
+    let last = codes_16(text, last);
+    let both = with_4_times(codes_16(text, second), with_4_times(third, last));
+    with_4_times(codes_16(text, first), both)
+}
+
+/// Returns 16 digits of each quarter, packed.
 #[inline(always)]
 fn packed_16(text: &[u8], quarter: usize, at: usize) -> u8x16
     requires within { at + 16 ≤ quarter }
@@ -177,13 +138,60 @@ fn packed_16(text: &[u8], quarter: usize, at: usize) -> u8x16
     ensures long { length result ≡ 16 }
     ensures each { (k : ℕ) → k < 16 → get_or result k 0 ≡ four_codes text.now quarter (at + k) }
 {
-    let third = codes_16(text, at + 2 * quarter);
-    let last = codes_16(text, at + (text.len() - quarter));
-    let both = with_4_times(codes_16(text, at + quarter), with_4_times(third, last));
-    with_4_times(codes_16(text, at), both)
+    packed_from(
+        text,
+        at,
+        at + quarter,
+        at + 2 * quarter,
+        at + (text.len() - quarter),
+    )
 }
 
-/// Packs 16 digits of each quarter.
+/// Returns up to 64 digits, and `0` for each that is missing after the last.
+#[inline(always)]
+fn padded(text: &[u8]) -> [u8; 64]
+    requires { length text.now ≤ 64 }
+    ensures { (k : ℕ) → k < 64 → code_or result k ≡ code_or text.now k }
+{
+    let mut block = [b'0'; 64];
+    block[..text.len()].copy_from_slice(text);
+    block
+}
+
+/// Returns the digits of each quarter, packed, if a quarter has fewer than 16. The bytes after these
+/// say nothing.
+#[inline(always)]
+fn packed_few(text: &[u8], quarter: usize) -> [u8; 16]
+    requires few { quarter < 16 }
+    requires quarter { quarter ≡ quarter_of (length text.now) }
+    ensures { ArePacked result text.now quarter }
+{
+    let block = padded(text);
+    let last = text.len() - quarter;
+    packed_from(&block, 0, quarter, 2 * quarter, last).to_array()
+}
+
+/// Packs the digits of each quarter, if a quarter has fewer than 16.
+fn pack_few(bytes: &mut [u8], text: &[u8], quarter: usize)
+    requires few { quarter < 16 }
+    requires room { quarter ≤ length bytes.old }
+    requires quarter { quarter ≡ quarter_of (length text.now) }
+    ensures { ArePacked bytes.new text.now quarter }
+{
+    bytes[..quarter].copy_from_slice(&packed_few(text, quarter)[..quarter]);
+}
+
+/// Returns true only if a share holds the digits of each quarter, and a quarter has fewer than 16.
+fn are_few_packed(bytes: &[u8], text: &[u8], quarter: usize) -> bool
+    requires few { quarter < 16 }
+    requires room { quarter ≤ length bytes.now }
+    requires quarter { quarter ≡ quarter_of (length text.now) }
+    ensures { result ≡ true → ArePacked bytes.now text.now quarter }
+{
+    bytes[..quarter] == packed_few(text, quarter)[..quarter]
+}
+
+/// Packs 16 digits of each quarter, from the index `at` of each, into 16 bytes.
 #[inline(always)]
 fn pack_16(bytes: &mut [u8], text: &[u8], quarter: usize, at: usize)
     requires within { at + 16 ≤ quarter }
@@ -211,7 +219,7 @@ fn are_packed_16(bytes: &[u8], text: &[u8], quarter: usize, at: usize) -> bool
 
 /// Returns true only if a share holds the digits of each quarter. It looks at 16 of each at a time,
 /// and at some of the last 16 twice.
-fn are_packed(bytes: &[u8], text: &[u8], quarter: usize) -> bool
+fn are_many_packed(bytes: &[u8], text: &[u8], quarter: usize) -> bool
     requires { MayPack bytes.now text.now quarter }
     ensures { result ≡ true → ArePacked bytes.now text.now quarter }
 {
@@ -226,6 +234,20 @@ fn are_packed(bytes: &[u8], text: &[u8], quarter: usize) -> bool
     are_packed_16(bytes, text, quarter, last)
 }
 
+/// Returns true only if a share holds the digits of each quarter.
+#[inline(always)]
+fn are_packed(bytes: &[u8], text: &[u8], quarter: usize) -> bool
+    requires room { quarter ≤ length bytes.now }
+    requires quarter { quarter ≡ quarter_of (length text.now) }
+    ensures { result ≡ true → ArePacked bytes.now text.now quarter }
+{
+    if quarter < 16 {
+        are_few_packed(bytes, text, quarter)
+    } else {
+        are_many_packed(bytes, text, quarter)
+    }
+}
+
 /// Returns true only if a share holds as many packed digits as the text has, and these are its
 /// digits.
 // It compares bytes of the share: digit by digit, `edges` of vectors of 128 bits takes 7.8 times as
@@ -234,7 +256,7 @@ pub(crate) fn holds_packed(bytes: &[u8], text: &[u8]) -> bool
     ensures { result ≡ true → digits_in (length text.now) bytes.now ≡ str_to_ascii_lowercase text.now }
 {
     let quarter = text.len().div_ceil(4);
-    if quarter < 16 || bytes.len() < quarter {
+    if bytes.len() < quarter {
         return false;
     }
     if !are_packed(bytes, text, quarter) {
@@ -266,7 +288,7 @@ fn either(first: u8x16, second: u8x16) -> u8x16
     first | second
 }
 
-/// Returns whether all are 0 and 1.
+/// Returns whether all of these digits, as `bits_16` returns them, are 0 and 1.
 #[inline(always)]
 fn are_bits(seen: u8x16) -> bool
     requires { length seen ≡ 16 }
@@ -296,8 +318,8 @@ fn pack_bits_16(bytes: &mut [u8], text: &[u8], quarter: usize, at: usize) -> u8x
     either(either(first, second), either(third, last))
 }
 
-/// Packs the digits of each quarter, 16 at a time, if the digits are only 0 and 1. Returns whether
-/// they are. Of the last 16 some may have been packed before.
+/// Packs the digits of each quarter, 16 at a time, if all digits are 0 and 1. Returns whether they
+/// are. Of the last 16 some may have been packed before.
 fn pack_bits(bytes: &mut [u8], text: &[u8], quarter: usize) -> bool
     requires { MayPack bytes.old text.now quarter }
     ensures { result ≡ true → ArePacked bytes.new text.now quarter }
@@ -327,7 +349,7 @@ fn pack_any(bytes: &mut [u8], text: &[u8], quarter: usize)
     pack_16(bytes, text, quarter, last);
 }
 
-/// Packs the digits of each quarter, if a quarter has 16 or more. Most digits are only 0 and 1.
+/// Packs the digits of each quarter, if a quarter has 16 or more. In most texts all are 0 and 1.
 fn pack_many(bytes: &mut [u8], text: &[u8], quarter: usize)
     requires { MayPack bytes.old text.now quarter }
     ensures { ArePacked bytes.new text.now quarter }
@@ -367,7 +389,7 @@ fn byte_or(bytes: &[u8], index: usize) -> u8
     byte_at(bytes, index).unwrap_or(0)
 }
 
-/// Returns the digit at an index of `len` digits in a share; `None` after the last.
+/// Returns the digit at an index of `len` digits in a share. `None` after the last.
 #[inline(always)]
 pub(crate) fn digit_at(bytes: &[u8], len: usize, index: usize) -> Option<u8>
     ensures { result ≡ slice_get (digits_in len bytes.now) index }
@@ -378,15 +400,14 @@ pub(crate) fn digit_at(bytes: &[u8], len: usize, index: usize) -> Option<u8>
     Some(digit_of(code_among(bytes, len, index)))
 }
 
-/// Returns the last packed digit as `b'0'` or `b'1'`; any other byte means x or z.
+/// Returns the last of `len` packed digits.
 #[inline(always)]
 pub(crate) fn last_packed(bytes: &[u8], len: usize) -> u8
     requires some { 1 ≤ len }
     requires room { quarter_of len ≤ length bytes.now }
-    ensures { (d : ℕ) → slice_get (digits_in len bytes.now) (len - 1) ≡ Some d
-        → ((48 == result) ≡ (48 == d)) × ((49 == result) ≡ (49 == d)) }
+    ensures { slice_get (digits_in len bytes.now) (len - 1) ≡ Some result }
 {
-    b'0' + bytes[len.div_ceil(4) - 1] / 64
+    digit_of(bytes[len.div_ceil(4) - 1] / 64)
 }
 
 /// Returns the code of the digit at an index of `len` packed digits. The last quarter ends where

@@ -105,7 +105,7 @@ pub fn put_renamed<W: Sink>(
 }
 
 /// Writes the bytes from `from` up to `end`, without `left_out` bytes after the first one, then a
-/// blank, the code of a number and a line feed, in several writes.
+/// blank, the code of a number and a line feed, in several writes. It is for long codes.
 #[cold]
 #[inline(never)]
 fn put_copied_slowly<W: Sink>(
@@ -179,10 +179,11 @@ fn put_renamed_text<W: Sink>(
     put_renamed(size, false, form, text, number, w)
 }
 
-/// Writes a change that was taken ahead under the new code with this number. The bytes from `from`
-/// up to `to` spell it. Those before its code are copied if its line begins with them. If a write
-/// fails, a prefix was written.
-// With a look at each digit instead, `merge` of Verilator's takes 12 % more.
+/// Writes a change that was taken ahead under the new code of this number. The bytes from `from` up
+/// to `to` spell it. Those before its code are copied where they are what its line begins with.
+/// Where a write fails, a prefix was written.
+// Digits are copied and not looked at one by one: without this `merge` of Verilator's takes 12 %
+// more.
 #[inline(always)]
 pub fn put_renamed_ahead<W: Sink>(
     scanned: ScannedItem<'_>,

@@ -17,19 +17,16 @@ pub(crate) enum State {
     Unknown,
     /// By the digit z.
     High,
-    /// By several digits as they were written, a byte each, if its share of the values has room for
-    /// them.
-    Unpacked,
-    /// By several digits, packed four to a byte, if its share has no room for a byte each.
+    /// By several digits, packed four to a byte, in its share of the values.
     Packed,
     /// By the text of a real number, in its share of the values.
     Real,
-    /// By up to 32 binary digits: their number and their count, only in the slot.
+    /// By up to 32 binary digits, as their number and how many they are, only in the slot.
     Bits,
 }
 
 /// The number of `State::Bits` with no digit. The number of a state with n digits is n more.
-pub(crate) const BITS: u8 = 8;
+pub(crate) const BITS: u8 = 7;
 
 /// What each change of a code looks at: its value if it is short, and how it is held. It has 8
 /// bytes, so that many slots fit into the cache.
@@ -151,10 +148,9 @@ pub(crate) fn number_of(state: State) -> u8
         State::Zero => 2,
         State::Unknown => 3,
         State::High => 4,
-        State::Unpacked => 5,
-        State::Packed => 6,
-        State::Real => 7,
-        State::Bits => 8,
+        State::Packed => 5,
+        State::Real => 6,
+        State::Bits => 7,
     }
 }
 
@@ -206,9 +202,8 @@ pub(crate) fn state_in(tag: u8) -> State
         2 => State::Zero,
         3 => State::Unknown,
         4 => State::High,
-        5 => State::Unpacked,
-        6 => State::Packed,
-        7 => State::Real,
+        5 => State::Packed,
+        6 => State::Real,
         _ => State::Bits,
     }
 }
@@ -266,6 +261,6 @@ pub(crate) fn digit_of_state(state: State) -> Option<u8>
         State::One => Some(b'1'),
         State::Unknown => Some(b'x'),
         State::High => Some(b'z'),
-        State::Unset | State::Unpacked | State::Packed | State::Bits | State::Real => None,
+        State::Unset | State::Packed | State::Bits | State::Real => None,
     }
 }

@@ -1,6 +1,6 @@
 // What is kept of each code, in lent slices: a slot, and a share of the values.
 ghost use Rattle.std.specs.Prelude.{◌≡◌, ◌≢◌, ◌==◌, ℕ, max, ◌+◌, ◌-◌, ◌*◌, ◌<◌, ◌≤◌, ◌∷◌, [], true, false, length, take, None, Some, slice_get, Bool};
-ghost use Rattle.vcd_body.specs.Names.{ChangesCode, ChangesSlot, Code, Held, IsHeldAs, IsLaidOut, IsUnset, KeepsTable, LeavesNumber, LeavesSteps, LeavesFlip, SetsCode, SlotsKeepLaid, StepsTo, FlipsTo, bytes_in, codes_in, end_at, held_at, held_or, is_proper, least_bytes, len_of, one_digit, set_whole, share_from, share_of, some_by, start_of, state_in, used, whole, with_held, with_number, with_step, with_steps, with_text};
+ghost use Rattle.vcd_body.specs.Names.{ChangesCode, ChangesSlot, Code, Held, IsHeldAs, IsLaidOut, IsUnset, KeepsTable, LeavesNumber, LeavesSteps, LeavesFlip, SetsCode, SlotsKeepLaid, StepsTo, FlipsTo, bytes_in, codes_in, end_at, held_at, held_or, is_proper, text_bytes, len_of, one_digit, set_whole, share_from, share_of, some_by, start_of, state_in, used, whole, with_held, with_number, with_step, with_steps, with_text};
 
 use crate::bits::{Bits, held_bits, is_number_step, is_proper};
 use crate::counters::{count_step, count_steps};
@@ -21,7 +21,7 @@ fn used_by(holding: Holding) -> usize
 {
     match holding.state {
         State::Packed => holding.len().div_ceil(4),
-        State::Unpacked | State::Real => holding.len(),
+        State::Real => holding.len(),
         State::Unset | State::Zero | State::One | State::Unknown | State::High | State::Bits => 0,
     }
 }
@@ -33,7 +33,7 @@ fn holds_some(holding: Holding) -> bool
     ensures no { result ≡ false → some_by holding.state (len_of holding) ≡ 0 }
 {
     match holding.state {
-        State::Unpacked | State::Packed => holding.len() > 0,
+        State::Packed => holding.len() > 0,
         State::Bits => is_proper(holding),
         State::Unset | State::Zero | State::One | State::Unknown | State::High | State::Real =>
             true,
@@ -42,8 +42,8 @@ fn holds_some(holding: Holding) -> bool
 
 impl<'a> Table<'a> {
     /// Returns the value of the code at an index as it is held. `None` if there is no such code, if
-    /// its share would not lie within the values, or if it would hold no digits although it should
-    /// hold several. A table that is laid out has no such code.
+    /// its share does not lie within the values, or if it holds no digits though its state says
+    /// that it holds some. In a table that is laid out, only the first can be.
     #[inline(always)]
     pub(crate) fn held(&self, code: usize) -> Option<HeldValue<'_>>
         ensures { IsLaidOut self.now → held_at self.now code ≡ held_or result }
@@ -62,8 +62,8 @@ impl<'a> Table<'a> {
     }
 }
 
-/// Sets the value of a code to the one digit that a state holds, given by its number. Its share is
-/// not changed, and need not be looked at.
+/// Sets the value of a code to the one digit of the state that has this number. It neither reads
+/// nor changes the code's share.
 #[inline(always)]
 pub(crate) fn set_tag(slots: &mut [Slot], code: usize, tag: u8)
     ensures changes { (d : ℕ) → one_digit (state_in tag) ≡ Some d
@@ -75,21 +75,17 @@ pub(crate) fn set_tag(slots: &mut [Slot], code: usize, tag: u8)
     }
 }
 
-/// Holds a text in a share: digits a byte each if it has room for them, and otherwise four to a
-/// byte. Says how it is held.
+/// Holds a text in a share: digits four to a byte, the text of a real number as it is. Returns the
+/// state that says so.
 #[inline(always)]
 fn hold(bytes: &mut [u8], form: Form, text: &[u8]) -> State
-    requires room { least_bytes form (length text.now) ≤ length bytes.old }
+    requires room { text_bytes form (length text.now) ≤ length bytes.old }
     ensures { IsHeldAs form text.now result bytes.new }
 {
     match form {
         Form::RealText => {
             copy_front(bytes, text);
             State::Real
-        }
-        _ if text.len() <= bytes.len() => {
-            copy_front(bytes, text);
-            State::Unpacked
         }
         _ => {
             pack(bytes, text);
@@ -106,7 +102,7 @@ fn copy_front(to: &mut [u8], from: &[u8])
     to[..from.len()].copy_from_slice(from);
 }
 
-/// Notes in a slot and its share in which state `len` digits, or bytes of a text, are held.
+/// Writes into a slot and its share that `len` digits, or bytes of a text, are held in this state.
 #[inline(always)]
 fn hold_text(slot: &mut Slot, share: &mut Share, state: State, len: usize)
     requires text { state ≢ State.Bits }
@@ -117,11 +113,11 @@ fn hold_text(slot: &mut Slot, share: &mut Share, state: State, len: usize)
     share.upper = (len / UPPER) as u32;
 }
 
-/// Returns how many bytes of a share a text needs: one for each byte of a real number, one for four
-/// digits. `hold` takes one for each digit if there is room.
+/// Returns how many bytes of a share a text takes: one for each byte of a real number, one for four
+/// digits.
 #[inline(always)]
-fn least_bytes(form: Form, len: usize) -> usize
-    ensures { result ≡ least_bytes form len }
+fn text_bytes(form: Form, len: usize) -> usize
+    ensures { result ≡ text_bytes form len }
 {
     match form {
         Form::RealText => len,
@@ -130,9 +126,8 @@ fn least_bytes(form: Form, len: usize) -> usize
 }
 
 impl<'a> Table<'a> {
-    /// Returns the offset in `values` at which the share of the code at an index ends: where the
-    /// next one begins, or where the values end. In a table that is not laid out it may be any
-    /// number, so check it.
+    /// Returns where in `values` the share of the code at an index ends: where the next one begins,
+    /// or all values end. In a table that is not laid out it may be any number.
     #[inline(always)]
     pub(crate) fn end_of(&self, code: usize) -> usize
         requires { code < length self.now.shares.now }
@@ -144,7 +139,8 @@ impl<'a> Table<'a> {
         }
     }
 
-    /// Sets the value of the code at an index to a text, if it fits its share, which ends here.
+    /// Sets the value of the code at an index to a text, if this fits the code's share, which ends
+    /// at `end`.
     #[inline(always)]
     pub(crate) fn set_text_in(&mut self, code: usize, end: usize, form: Form, text: &[u8])
         requires several { form ≢ Form.RealText → length text.now ≢ 1 }
@@ -156,7 +152,7 @@ impl<'a> Table<'a> {
         if end < start || self.values.len() < end {
             return;
         }
-        if text.is_empty() || least_bytes(form, text.len()) > end - start {
+        if text.is_empty() || text_bytes(form, text.len()) > end - start {
             return;
         }
         let values = &mut *self.values;
@@ -167,8 +163,8 @@ impl<'a> Table<'a> {
     }
 
     /// Sets the value of the code at an index to a text. Nothing changes if there is no such code,
-    /// and if the text is empty or does not fit the code's share. A single digit is set by
-    /// `set_tag`, unless it is the text of a real number.
+    /// or if the text is empty or does not fit the code's share. A single digit is set by `set_tag`,
+    /// unless it is the text of a real number.
     #[inline(never)]
     pub(crate) fn set_text(&mut self, code: usize, form: Form, text: &[u8])
         requires { form ≢ Form.RealText → length text.now ≢ 1 }
@@ -196,8 +192,8 @@ impl<'a> Table<'a> {
     }
 }
 
-/// Sets the value of a code to binary digits. It writes only the slot, and reads neither it nor the
-/// share.
+/// Sets the value of a code to binary digits. It writes the slot without a look at it, and leaves
+/// the share as it is.
 #[inline(always)]
 pub(crate) fn set_bits(slots: &mut [Slot], code: usize, bits: Bits)
     ensures changes { ChangesSlot code (with_number bits.len bits.number) slots.old slots.new }
@@ -211,9 +207,8 @@ pub(crate) fn set_bits(slots: &mut [Slot], code: usize, bits: Bits)
     }
 }
 
-/// Counts a step of the value of a code in its slot: a fall if `way` is 0, a rise if it is 2, any
-/// other if it is 1. Returns whether the slot had room for it. If not, the caller has 256 steps to
-/// count in the share.
+/// Counts a step of the value of a code in its slot: one that falls (way 0), that does neither (1)
+/// or that rises (2). Returns whether the slot had room for it; else 256 steps are left to count.
 #[inline(always)]
 pub(crate) fn count_in_slot(slots: &mut [Slot], code: usize, way: usize) -> bool
     requires { way < 3 }
@@ -229,10 +224,10 @@ pub(crate) fn count_in_slot(slots: &mut [Slot], code: usize, way: usize) -> bool
     count_step(&mut slots[code].steps, way)
 }
 
-/// What became of a change that may need only its slot.
+/// What became of a change that may need only the slot of its code.
 #[derive(Clone, Copy, PartialEq, Eq, Debug)]
 pub(crate) enum Stepped {
-    /// The change needs more than the slot, and nothing changed.
+    /// The slot is not enough, and nothing changed.
     Not,
     /// The value was set, and its step was counted if it differs.
     Counted,
@@ -241,9 +236,10 @@ pub(crate) enum Stepped {
     Uncounted { rises: bool, falls: bool },
 }
 
-/// Sets the value of a code to the digit 0 or 1 if it is such a digit, and counts the step. Most
+/// Sets the value of a code to the digit 0 or 1 over such a digit, and counts the step. Most
 /// changes are of this kind, and change only one slot.
-// With the digit as a number of one digit, `edges` of scalars takes some 10 % more.
+// A digit is a state of the slot, so no byte of values is touched: held as a number of one digit,
+// `edges` of scalars takes some 10 % more.
 #[inline(always)]
 pub(crate) fn flip_at(slots: &mut [Slot], code: usize, digit: u8) -> Stepped
     ensures counted { result ≡ Stepped.Counted → FlipsTo code digit slots.old slots.new }

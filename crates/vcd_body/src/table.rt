@@ -25,9 +25,9 @@ pub struct Table<'a> {
 
 impl<'a> Table<'a> {
     /// Returns a table of the codes of the header that is shown: each is unset, its counters are 0,
-    /// and it is not chosen. The value of a code gets a quarter of its size of the bytes of
-    /// `values`, rounded up, and at least 64. If there are fewer, the last codes get less. Slots,
-    /// shares and bytes beyond these are not changed.
+    /// and it is not chosen. A code's value has a quarter of its size of the bytes of `values`,
+    /// rounded up, and at least 64. If there are too few bytes, the last codes get fewer. Slots,
+    /// shares and bytes beyond these stay as they are.
     pub fn new(
         view: HeadView<'_>,
         values: &'a mut [u8],
@@ -55,8 +55,8 @@ impl<'a> Table<'a> {
     }
 
     /// Sets the value of the code at an index by the text of a change: digits, or that of a real
-    /// number, as `change_text` gives it. A text that is empty or has no room is ignored. It takes
-    /// as long as the text is. One digit changes only the slot of its code.
+    /// number, as `change_text` gives it. A text that is empty or has no room changes nothing. It
+    /// takes as long as the text is. One digit changes only the code's slot.
     #[inline(always)]
     pub fn set(&mut self, code: usize, form: Form, text: &[u8])
         ensures sets { SetsCode code (with_text form text.now) self.old self.new }
@@ -65,9 +65,9 @@ impl<'a> Table<'a> {
         self.set_value(code, Value::of_text(form, text));
     }
 
-    /// Sets the value of the code at an index. A text that is empty or has no room is ignored;
-    /// binary digits need none. It takes as long as the text is. One digit, and binary digits,
-    /// change only the slot of their code.
+    /// Sets the value of the code at an index. A text that is empty or has no room changes nothing;
+    /// binary digits need no room. It takes as long as the text is. One digit, and binary digits,
+    /// change only the code's slot.
     #[inline(always)]
     pub fn set_value(&mut self, code: usize, value: Value<'_>)
         ensures sets { SetsCode code (with_value value.entry) self.old self.new }
@@ -91,9 +91,9 @@ impl<'a> Table<'a> {
     }
 
     /// Sets the value of the code at an index as `set_value` does, and counts its step at this size
-    /// as `count` does, if it differs. An empty text is ignored. A 0 or 1 over the other, and
-    /// binary digits over others, change only the slot of their code.
-    // One call, since `edges` would otherwise ask three times whether the code exists: 20 % more of
+    /// as `count` does, if it differs. A text that is empty changes nothing. One of the digits 0 and
+    /// 1 over the other, and binary digits over others, change only the code's slot.
+    // In one call: `edges` would else ask three times whether the code exists, some 20 % more of
     // scalars.
     #[inline(always)]
     pub fn follow(&mut self, code: usize, size: usize, value: Value<'_>)
@@ -173,8 +173,8 @@ impl<'a> Table<'a> {
         }
     }
 
-    /// Returns the step from the value of the code at an index to that of a text. It does not
-    /// differ if there is no value.
+    /// Returns the step from the value of the code at an index to that of a text. If there is no
+    /// value, it does not differ.
     #[inline(always)]
     fn step_to(&self, code: usize, size: usize, form: Form, text: &[u8]) -> Step
         ensures { IsLaidOut self.now → 0 < length text.now
@@ -208,7 +208,7 @@ impl<'a> Table<'a> {
     }
 
     /// Returns the digit at an index of the value of a code, extended to the code's size, from the
-    /// left and in lower case. `None` if the value has fewer digits.
+    /// left and in lower case. `None` if the value has no digits, or fewer.
     #[inline]
     pub fn digit(&self, view: HeadView<'_>, code: usize, index: usize) -> Option<u8>
         ensures { IsLaidOut self.now
@@ -218,8 +218,8 @@ impl<'a> Table<'a> {
         digit_shown(self.held(code)?, declared.size, index)
     }
 
-    /// Returns the text of the real number that is the value of the code at an index. It is empty
-    /// if the code has no such value.
+    /// Returns the text of the real number that is the value of the code at an index; an empty one
+    /// if it has no such value.
     #[inline]
     pub fn real(&self, code: usize) -> &[u8]
         ensures { IsLaidOut self.now → result.now ≡ real_text (held_at self.now code) }
@@ -258,8 +258,8 @@ impl<'a> Table<'a> {
     }
 
     /// Counts a step of the value of the code at an index: adds one to the first counter, to the
-    /// second if it rises, and to the third if it falls. A full counter stays as it is. Most steps
-    /// change only the slot.
+    /// second if it rises, and to the third if it falls. A full one stays. Most steps change only
+    /// the slot.
     #[inline(always)]
     pub fn count(&mut self, code: usize, rises: bool, falls: bool)
         ensures keeps { KeepsTable self.old self.new }

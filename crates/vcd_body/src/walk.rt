@@ -1,4 +1,4 @@
-//! The loop over the items that lie completely in a feed's chunk, for each task that takes them.
+//! The loop over the items that lie whole ahead in a feed's chunk: one for whoever takes them.
 ghost use Rattle.std.specs.Prelude.{◌≡◌, ◌⊎◌, ℕ, ◌-◌, ◌^◌, ◌<◌, ◌≤◌, Bool, List, length, false, true, IfOk, Result, Ok};
 ghost use Rattle.vcd_text.specs.Ahead.{bytes_of, passed_of};
 ghost use Rattle.vcd_text.specs.Device.{Counts, Device};

@@ -118,7 +118,7 @@ pub(crate) struct PendingCopy {
 }
 
 impl PendingCopy {
-    /// Returns pending with nothing pending.
+    /// Returns an empty pending text.
     #[inline(always)]
     pub(crate) fn new() -> PendingCopy
         ensures part { (bytes : List ℕ) → IsPart bytes result }

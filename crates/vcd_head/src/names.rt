@@ -140,7 +140,8 @@ impl<'n> Group<'n> {
         }
     }
 
-    /// Returns the names of a run that continue with this byte.
+    /// Returns the names of a run that continue with this byte. `whole` says whether some name
+    /// selects all paths that continue after the front.
     #[inline(always)]
     fn with_byte(&self, run: NameRun, byte: u8, whole: bool) -> NameRun
         ensures narrows { run.first ≤ run.end → AreRising self.now run.passed run.first run.end
@@ -289,7 +290,7 @@ fn put_order(positions: &mut [u16], names: &[String])
     sort(positions, names);
 }
 
-/// Numbers indexes from 0 on.
+/// Writes 0, 1, 2, .. to the indexes.
 fn number(positions: &mut [u16])
     requires { length positions.old ≤ 16384 }
     ensures len { length positions.new ≡ length positions.old }

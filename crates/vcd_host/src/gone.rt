@@ -16,7 +16,7 @@ impl Model for Gone {
 }
 
 impl Gone {
-    /// Returns no bytes.
+    /// Returns a `Gone` without bytes.
     pub(crate) fn new() -> Gone
         ensures { result.bytes ≡ [] }
     {

@@ -140,7 +140,7 @@ impl Visit<()> for Merging {
             return Ok(());
         };
         if change.size_or_zero == 0 {
-            // A copy is lent, so that `written` itself can stay in a register.
+            // A copy, so that `written` stays in a register on the other path.
             let mut last = self.written;
             let inside = regs.section.is_some();
             let (time, first) = (self.time, self.first);

@@ -19,7 +19,7 @@ use vcdkit::{Again, use_fault};
 /// Bytes that are read up to their end, or up to a number that is known.
 #[derive(Drop)]
 pub enum Measured<R> {
-    /// At most the number of bytes of the reader to which it is limited.
+    /// The first bytes of the reader, up to a limit.
     AtMost(Take<R>),
     /// All bytes of the reader, of which there may be any number.
     Unknown(R),

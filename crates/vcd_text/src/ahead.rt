@@ -129,8 +129,8 @@ impl<'a> Ahead<'a> {
 
     /// Returns the next token, and passes it and the white bytes before it.
     ///
-    /// `None` if it does not lie completely in the chunk, is longer than the limit, or ends fewer
-    /// than 64 bytes before the end of the chunk: then `Feed::next` reads it.
+    /// `None` if it does not lie completely in the chunk or is longer than the limit, and maybe if
+    /// it ends fewer than 64 bytes before the end of the chunk: then `Feed::next` reads it.
     // With a loop over the white bytes here, `check` of vectors takes 5 % more instructions.
     #[inline(always)]
     pub fn next(&mut self) -> Option<&'a [u8]>

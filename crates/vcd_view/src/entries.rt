@@ -74,7 +74,7 @@ fn number_of(code: &[u8]) -> usize
     number
 }
 
-/// Returns the index of the code with this key, if the entry at `at` is that of the code; otherwise
+/// Returns the index of the code with this key, if the entry at `at` is that of the code; else
 /// `None`.
 #[inline(always)]
 pub fn index_in_entry(entries: &[Entry], at: usize, key: u64) -> Option<usize>
@@ -89,8 +89,8 @@ pub fn index_in_entry(entries: &[Entry], at: usize, key: u64) -> Option<usize>
 }
 
 /// Returns the index of the code with this key, if one of the three entries beside its own is that
-/// of the code; otherwise `None`. They are in the 64 bytes around it, so this reads at most one
-/// more cache line.
+/// of the code; else `None`. They are in the 64 bytes around that, so a look at them reads at most
+/// one cache line more.
 #[inline(always)]
 pub fn index_beside(entries: &[Entry], own: usize, key: u64) -> Option<usize>
     ensures { (code : List ℕ) → key ≡ key_in code → result ≡ index_in_some entries.now code (beside own) }
@@ -137,7 +137,7 @@ pub fn long_key(hash: u64) -> u64
 }
 
 /// Returns the index of a code, if one of the entries beside its own or one to which its hash leads
-/// is that of the code. Otherwise `None`, and the code may still be there.
+/// is that of the code; else `None`, and the code may be there all the same.
 // For codes of 8 bytes or more, and codes crafted to share entries: `check` of 100,000 takes 1.5 to
 // 2.6 times as long as for ordinary codes, and with only the binary search 8 to 13 times.
 pub(crate) fn index_by_hash(

@@ -17,10 +17,10 @@
 //! # The modules
 //!
 //! - `view`: `HeadView` with its rows and codes, and `Need`
-//! - `look_up`, `probes`: a look at one entry, then by the hash, then a binary search; comparisons,
-//!   counted
-//! - `entries`, `key`: where the entry of a code is, and what it keeps; codes as numbers
-//! - `code_hash`: codes hashed with numbers that nobody knows
+//! - `look_up`, `probes`: a look at one entry, then a look by the hash, then a binary search;
+//!   comparisons, counted
+//! - `entries`, `key`: where a code's entry is, and what it holds; codes as numbers
+//! - `code_hash`: codes hashed by numbers that nobody knows
 //! - `room`: `need`, the room that an engine over a header needs
 //! - `keyword`: the keywords of a dump, and the words up to an `$end`
 //! - `new_code`: the codes that a merge gives

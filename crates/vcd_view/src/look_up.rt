@@ -1,4 +1,4 @@
-// The look-up of codes.
+// Codes that are looked up.
 ghost use Rattle.std.specs.Prelude.{List, true, ◌≡◌, ◌+◌, ◌≤◌, ◌<◌, length, option_map, IfNone, IfSome, Some};
 ghost use Rattle.vcd_view.specs.Names.{AllByRecursion, AnyCodes, AnyHeader, AreBytes, AreFew, Finds, Header, IdCode, IsIndex, IsSized, IsViewOf, are_right, bits_of, code_text, key_in};
 
@@ -22,7 +22,7 @@ pub struct Found {
 /// Returns the index of a code among the distinct codes; `None` if it is not among them.
 ///
 /// A look at one entry finds nearly all codes that simulators give. The others are looked for by
-/// their hash, and then by a binary search.
+/// their hash, and those that are not found so by a binary search.
 #[inline(always)]
 pub fn find(view: HeadView<'_>, code: &[u8]) -> Option<usize>
     ensures found { (h : Header) → IsViewOf view.entry h → Finds h.codes code.now result }
@@ -122,9 +122,9 @@ pub fn find_in_own_entry(view: HeadView<'_>, code: &[u8]) -> Option<Found>
     }
 }
 
-// Returns the index of a code that its own entry does not have: by its hash, or else by a binary
-// search; `None` if it is not among the distinct codes. It takes single slices and returns a
-// number, because it is not inlined.
+// Returns the index of a code that its own entry does not hold: by its hash, or else by a binary
+// search; `None` where it is not among the distinct codes. It takes no view, so that a look-up by
+// one entry need not make one ready, and returns a number alone, which needs no memory.
 #[inline(never)]
 fn find_slowly(
     text: &[u8],

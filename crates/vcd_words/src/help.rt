@@ -36,7 +36,7 @@ pub const LIST: Help<'static> = Help {
   vcdkit list sim.vcd
   vcdkit list sim.vcd | grep clk
 
-A line has the path, the type, the size and the code of a variable. The header alone is read.
+A line has the path, the type, the size and the code of a variable. Only the header is read.
 
 Exit status:
   0  all was written

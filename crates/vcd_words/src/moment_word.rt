@@ -86,7 +86,7 @@ impl TimesOrder {
         }
     }
 
-    /// Returns the order with one more time.
+    /// Returns the order of these times and one more.
     fn with(self, time: Moment) -> TimesOrder
         ensures { (times : List ModelMoment) → IsOrderOf times self
             → IsOrderOf (times ++ asked time ∷ []) result }

@@ -45,7 +45,7 @@ pub(crate) fn windows_for(
 /// How headers are read.
 #[derive(Drop)]
 pub(crate) struct Reading<'h, B> {
-    /// From where memory for them is taken.
+    /// The allocator for them.
     pub alloc: Global,
     /// The hasher of their codes.
     pub hasher: &'h B,

@@ -17,21 +17,11 @@ returns-in_default c =
     let l = length-map c.args.text.now to_ascii_lowercase in
     differ_at_longest xs ys c.args.size c.max-in_default.result (omega (arith, c.max-in_default.ensures, c.count_of-count.ensures)) (omega (arith, c.max.ensures, c.max-2.ensures, c.count_of-count.ensures, c.if-max.false)) c.are_same.result c.are_same.ensures
 
-pub returns-in-Unpacked : goal.returns-in-Unpacked
-returns-in-Unpacked c =
-    let share = c.args.held.bytes.now in
-    let text = c.args.text.now in
-    let is = ap (λ (s : State). digits_held (held_by s (len_of c.args.held.holding) share)) c.in-Unpacked.is in
-    let l = length-map text to_ascii_lowercase in
-    let h = length-map share held_digit in
-    differ_where_as_many (map held_digit share) (str_to_ascii_lowercase text) c.args.size (omega (arith, l, h, c.count_of-count.ensures, ap length is, c.if-count-text.true)) c.are_same_unpacked.result c.are_same_unpacked.ensures
-    ∙ sym (ap (λ xs. not (bytes_eq (extend xs c.args.size) (extend (str_to_ascii_lowercase text) c.args.size))) is)
-
 pub returns-in-Packed : goal.returns-in-Packed
 returns-in-Packed c =
     let share = c.args.held.bytes.now in
     let n = len_of c.args.held.holding in
     let is = ap (λ (s : State). digits_held (held_by s n share)) c.in-Packed.is in
-    let many : n ≡ length c.args.text.now = omega (arith, length_digits n share, c.count_of-count.ensures, ap length is, c.if-count-text-2.true) in
+    let many : n ≡ length c.args.text.now = omega (arith, length_digits n share, c.count_of-count.ensures, ap length is, c.if-count-text.true) in
     let same = is ∙ ap (λ m. digits_in m share) many ∙ c.holds_packed.ensures c.if-holds_packed.true in
     differ_where_as_many (digits_with c.args.held.holding share) (str_to_ascii_lowercase c.args.text.now) c.args.size (ap length same) true ((λ yes. same), λ e. refl)

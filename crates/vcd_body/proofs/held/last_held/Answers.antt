@@ -4,29 +4,21 @@ use Rattle.vcd_body.specs.Kept.{last_digit_in, value_at_size}
 use Rattle.vcd_body.specs.Stored.{held_by, some_by, used_by, len_of}
 use Rattle.vcd_body.specs.declared.slot.State.{State}
 use Rattle.vcd_body.proofs.BinaryLemmas.{proper, proper_count}
-use Rattle.vcd_body.proofs.CompareLemmas.{last_number, last_of_state, last_packed, last_unpacked}
+use Rattle.vcd_body.proofs.CompareLemmas.{last_number, last_of_state, last_packed}
 use Rattle.vcd_body.proofs.held.last_held.Goals as goal
 
-pub returns-in-Unpacked : goal.returns-in-Unpacked
-returns-in-Unpacked c size =
-    let len = (len_of c.args.held.holding) in
-    let bytes = c.args.held.bytes.now in
-    let used = subst (λ (s : State). used_by s len ≤ length bytes) c.in-Unpacked.is c.args.held.fits in
-    let some = subst (λ (s : State). 1 ≤ some_by s len) c.in-Unpacked.is c.args.held.some in
-    let one : length bytes ≡ suc (length bytes - 1) = omega (arith, used, some) in
-    c.unpacked_digit_at.ensures
-    ∙ sym (last_unpacked len bytes size (length bytes - 1) one)
-    ∙ sym (ap (λ (s : State). last_digit_in (value_at_size size (held_by s len bytes))) c.in-Unpacked.is)
+pub last_packed-requires : goal.last_packed-requires
+last_packed-requires c = record {
+  some = (rw c.len.ensures (subst (λ (s : State). 1 ≤ some_by s (len_of c.args.held.holding)) c.in-Packed.is c.args.held.some));
+  room = (rw c.len.ensures (subst (λ (s : State). used_by s (len_of c.args.held.holding) ≤ length c.args.held.bytes.now) c.in-Packed.is c.args.held.fits));
+}
 
 pub returns-in-Packed : goal.returns-in-Packed
 returns-in-Packed c size =
     let len = (len_of c.args.held.holding) in
     let bytes = c.args.held.bytes.now in
-    let used = subst (λ (s : State). used_by s len ≤ length bytes) c.in-Packed.is c.args.held.fits in
     let some = subst (λ (s : State). 1 ≤ some_by s len) c.in-Packed.is c.args.held.some in
-    let one : len ≡ suc (len - 1) = omega (arith, some) in
-    (rw (c.len.ensures, c.len-in-Packed.ensures) at c.digit_at.ensures)
-    ∙ sym (last_packed len bytes size (len - 1) used one)
+    last_packed len c.last_packed.result bytes size some (rw c.len.ensures at c.last_packed.ensures)
     ∙ sym (ap (λ (s : State). last_digit_in (value_at_size size (held_by s len bytes))) c.in-Packed.is)
 
 pub last_binary-requires : goal.last_binary-requires
@@ -46,4 +38,4 @@ returns-in-Bits c size =
     ∙ sym (ap (λ (s : State). last_digit_in (value_at_size size (held_by s len bytes))) c.in-Bits.is)
 
 pub returns-in_default : goal.returns-in_default
-returns-in_default c size = c.digit_of_state.ensures ∙ last_of_state c.args.held.holding.state (len_of c.args.held.holding) c.args.held.bytes.now size c.in_default.not-Unpacked c.in_default.not-Packed c.in_default.not-Bits
+returns-in_default c size = c.digit_of_state.ensures ∙ last_of_state c.args.held.holding.state (len_of c.args.held.holding) c.args.held.bytes.now size c.in_default.not-Packed c.in_default.not-Bits

@@ -3,7 +3,7 @@ use Rattle.vcd_body.proofs.PackedLemmas.{lower_digits, packs_by}
 use Rattle.vcd_body.proofs.packed.holds_packed.Goals as goal
 
 pub are_packed-requires : goal.are_packed-requires
-are_packed-requires c = record { room = omega arith; many = omega arith; quarter = omega arith }
+are_packed-requires c = record { room = omega arith; quarter = omega (arith, c.div_ceil-quarter.ensures) }
 
 pub returns : goal.returns
 returns c = λ yes.

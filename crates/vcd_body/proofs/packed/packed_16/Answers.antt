@@ -1,7 +1,5 @@
-use Rattle.std.proofs.Common.{◌≡◌, ◌+◌, ◌*◌, ◌-◌, length, get_or, ap, ◌∙◌, arith}
+use Rattle.std.proofs.Common.{◌≡◌, ◌+◌, ◌*◌, ◌-◌, length, ap, ◌∙◌, arith}
 use Rattle.vcd_body.specs.Packed.{code_or}
-use Rattle.vcd_body.proofs.CodeLanes.{code_lane}
-use Rattle.vcd_body.proofs.PackedLemmas.{or_small}
 use Rattle.vcd_body.proofs.packed.packed_16.Goals as goal
 
 pub returns-clause-each : goal.returns-clause-each
@@ -9,17 +7,7 @@ returns-clause-each c = λ k less.
     let text = c.args.text.now in
     let q = c.args.quarter in
     let at = c.args.at in
-    let low = c.requires.within in
-    let most = c.requires.quarter in
-    let s0 = or_small text (at + k) in
-    let s1 = or_small text (at + k + q) in
-    let s2 = or_small text (at + k + 2 * q) in
-    let s3 = or_small text (at + k + (length text - q)) in
-    let e0 : get_or c.codes_16-2.result k 0 ≡ code_or text (at + k) = ap (λ l. get_or l k 0) c.codes_16-2.ensures ∙ code_lane text at k (at + k) (omega (arith, low, most)) less (omega arith) in
-    let e1 : get_or c.codes_16.result k 0 ≡ code_or text (at + k + q) = ap (λ l. get_or l k 0) c.codes_16.ensures ∙ code_lane text (at + q) k (at + k + q) (omega (arith, low, most)) less (omega arith) in
-    let e2 : get_or c.codes_16-third.result k 0 ≡ code_or text (at + k + 2 * q) = ap (λ l. get_or l k 0) c.codes_16-third.ensures ∙ code_lane text (at + 2 * q) k (at + k + 2 * q) (omega (arith, low, most)) less (omega arith) in
-    let e3 : get_or c.codes_16-last.result k 0 ≡ code_or text (at + k + (length text - q)) = ap (λ l. get_or l k 0) c.codes_16-last.ensures ∙ code_lane text (at + (length text - q)) k (at + k + (length text - q)) (omega (arith, low, most)) less (omega arith) in
-    let f2 = c.with_4_times.ensures.each k less (omega (arith, e2, e3, s2, s3)) in
-    let f1 = c.with_4_times-both.ensures.each k less (omega (arith, e1, f2, e2, e3, s1, s2, s3)) in
-    let f0 = c.with_4_times-2.ensures.each k less (omega (arith, e0, f1, f2, e1, e2, e3, s0, s1, s2, s3)) in
-    omega (arith, e0, e1, e2, e3, f0, f1, f2)
+    let second : code_or text (at + q + k) ≡ code_or text (at + k + q) = ap (code_or text) (omega arith) in
+    let third : code_or text (at + 2 * q + k) ≡ code_or text (at + k + 2 * q) = ap (code_or text) (omega arith) in
+    let last : code_or text (at + (length text - q) + k) ≡ code_or text (at + k + (length text - q)) = ap (code_or text) (omega arith) in
+    c.packed_from.ensures.each k less ∙ omega (arith, second, third, last)

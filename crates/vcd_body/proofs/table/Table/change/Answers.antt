@@ -26,7 +26,7 @@ returns-clause-sets c = λ told size.
     record {
       keeps = keeps_twice old mid new c.set_text_in.ensures.keeps c.count.ensures.keeps;
       changes = λ laid. change_as c.args.code (λ k. with_step step.rises step.falls (with_text form.Vector text k)) (with_change size form.Vector text) old.values.now new.values.now old.slots.now new.slots.now old.shares.now new.shares.now
-          (λ k at. sym (changed_by step size form.Vector text k (omega (arith, is.many)) (subst (λ (h : Held). IsStep step (value_at_size size h) (value_with size (model_form form.Vector) text)) (kept_there old.values.now old.slots.now old.shares.now c.args.code slot share k here there at) (subst (λ (v : Holding). IsStep step (value_at_size size (held_from old.values.now share.start v)) (value_with size (model_form form.Vector) text)) c.holding_of-held.ensures (is.step size)))
+          (λ k at. sym (changed_by step size form.Vector text k (omega (arith, is.some)) (subst (λ (h : Held). IsStep step (value_at_size size h) (value_with size (model_form form.Vector) text)) (kept_there old.values.now old.slots.now old.shares.now c.args.code slot share k here there at) (subst (λ (v : Holding). IsStep step (value_at_size size (held_from old.values.now share.start v)) (value_with size (model_form form.Vector) text)) c.holding_of-held.ensures (is.step size)))
           ∙ ap (λ (b : Bool). cond b (with_step step.rises step.falls (with_text form.Vector text k)) (with_text form.Vector text k)) is.differs))
           (change_twice c.args.code (with_text form.Vector text) (with_step step.rises step.falls) old.values.now mid.values.now new.values.now old.slots.now mid.slots.now new.slots.now old.shares.now mid.shares.now new.shares.now
           (c.set_text_in.ensures.changes laid) c.count.ensures.changes);

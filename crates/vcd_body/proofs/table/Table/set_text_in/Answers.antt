@@ -8,7 +8,7 @@ use Rattle.vcd_body.specs.Stored.{Whole, end_at, holding_of, kept_with, some_by,
 use Rattle.vcd_body.proofs.StoreLemmas.{blank, blank_share, both_laid, fits_in, form_kept, form_past, length-put_mid, none_fits, not_outside, share_changes, some_text, text_stays}
 use Rattle.vcd_body.proofs.TableLemmas.{keeps_laid}
 use Rattle.vcd_body.proofs.table.Table.set_text_in.Goals as goal
-use Rattle.vcd_body.proofs.table.Table.set_text_in.Goals.{then-end-start-via-then-end-start, then-end-start-via-else-end-start+then-self-end, then-is_empty-via-then-is_empty, then-is_empty-via-else-is_empty+then-least_bytes-end}
+use Rattle.vcd_body.proofs.table.Table.set_text_in.Goals.{then-end-start-via-then-end-start, then-end-start-via-else-end-start+then-self-end, then-is_empty-via-then-is_empty, then-is_empty-via-else-is_empty+then-text_bytes-end}
 
 pub returns : goal.returns
 returns c =
@@ -42,7 +42,7 @@ returns c =
           (λ laid. both_laid slots parts (length values) laid code slot share at there new.slot new.share (ap (λ (w : Whole). w.start) is) (omega (arith, fits, size, u, enough, end)) (omega (arith, many, o)));
       changes = λ laid. rw end (share_changes slots parts (length values) laid code slot share at there new.slot new.share values c.hold-state.new.bytes (with_text c.args.form text) (ap (λ (w : Whole). w.start) is) refl size
           (ap (kept_with bytes stop) is
-          ∙ form_kept c.args.form c.hold-state.result (whole slot share) stop values c.hold-state.new.bytes text c.requires.several some (omega (arith, enough, end, c.least_bytes.ensures, c.if-least_bytes-end.false)) (omega (arith, most, end)) size held));
+          ∙ form_kept c.args.form c.hold-state.result (whole slot share) stop values c.hold-state.new.bytes text c.requires.several some (omega (arith, enough, end, c.text_bytes.ensures, c.if-text_bytes-end.false)) (omega (arith, most, end)) size held));
     }
 
 pub returns-then-end-start : goal.returns-then-end-start
@@ -82,6 +82,6 @@ returns-then-is_empty c = record {
       text_stays t.values.now t.slots.now t.shares.now c.args.code slot share form text at there
       (elim c.then-is_empty.branch [
         | then-is_empty-via-then-is_empty w ↦ none_fits form n room (eqb-true n 0 (sym c.is_empty.ensures ∙ w.if-is_empty.true))
-        | then-is_empty-via-else-is_empty+then-least_bytes-end w ↦ form_past form n room c.requires.several (omega (arith, end, w.least_bytes.ensures, w.if-least_bytes-end.true))
+        | then-is_empty-via-else-is_empty+then-text_bytes-end w ↦ form_past form n room c.requires.several (omega (arith, end, w.text_bytes.ensures, w.if-text_bytes-end.true))
       ]);
 }

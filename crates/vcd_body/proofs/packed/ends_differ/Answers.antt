@@ -1,6 +1,6 @@
 use Rattle.std.proofs.Common.{sym, ◌∙◌, arith}
 use Rattle.vcd_body.proofs.EndLemmas.{packed_ends}
-use Rattle.vcd_body.proofs.packed.packed_ends_differ.Goals as goal
+use Rattle.vcd_body.proofs.packed.ends_differ.Goals as goal
 
 pub returns-clause-differ : goal.returns-clause-differ
 returns-clause-differ c = λ t size e. c.codes_differ.ensures.other t (

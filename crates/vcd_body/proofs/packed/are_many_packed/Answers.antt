@@ -2,7 +2,7 @@ use Rattle.std.proofs.Common.{◌≡◌, ◌-◌, inl, inr, get_or, arith}
 use Rattle.std.proofs.lemmas.Bool.{cases_lt}
 use Rattle.vcd_body.specs.Packed.{four_codes}
 use Rattle.vcd_body.proofs.WordLemmas.{behind}
-use Rattle.vcd_body.proofs.packed.are_packed.Goals as goal
+use Rattle.vcd_body.proofs.packed.are_many_packed.Goals as goal
 
 pub loop-at-preserved : goal.loop-at-preserved
 loop-at-preserved c = λ j less. elim (cases_lt j c.loop-at.at) [

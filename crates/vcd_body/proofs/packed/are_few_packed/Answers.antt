@@ -1,0 +1,12 @@
+use Rattle.std.proofs.Common.{List, ℕ, take, get_or, sym, ap, ◌∙◌}
+use Rattle.std.proofs.lemmas.List.{get_or-take}
+use Rattle.std.proofs.lemmas.Slice.Eq.{bytes_eq-Decides}
+use Rattle.vcd_body.proofs.packed.are_few_packed.Goals as goal
+
+pub returns : goal.returns
+returns c = λ yes j less.
+    let q = c.args.quarter in
+    let bytes = c.args.bytes.now in
+    let few = c.packed_few.result in
+    let same = (bytes_eq-Decides (take q bytes) (take q few)).0 (sym c.eq.ensures ∙ yes) in
+    sym (get_or-take q bytes j 0 less) ∙ ap (λ (l : List ℕ). get_or l j 0) same ∙ get_or-take q few j 0 less ∙ c.packed_few.ensures j less
