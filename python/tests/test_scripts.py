@@ -222,21 +222,21 @@ class Answers(Case):
     def test_stats(self):
         dump = self.file("hand.vcd", HAND)
         self.assertEqual(said("vcdkit-stats", dump, "tb.clk", "tb.sum", "tb.level", "tb.go"), [
-            "tb.clk wire 1", "  changes 4", "  period 10ns to 10ns, mean 10ns, 1 times",
+            "tb.clk wire 1", "  changes 4", "  period 10ns to 10ns, mean 10ns, 1 time",
             "  duty 30%", "  value 0 24ns 80%, 3 times, 7ns to 7ns",
             "  value 1 6ns 20%, 2 times, 3ns to 3ns",
-            "tb.sum wire 8", "  changes 1", "  value 11111111 15ns 50%, 1 times",
-            "  value 00000001 15ns 50%, 1 times",
+            "tb.sum wire 8", "  changes 1", "  value 11111111 15ns 50%, 1 time",
+            "  value 00000001 15ns 50%, 1 time",
             "tb.level real 64", "  changes 1", "  range 1 to 3, mean 2",
-            "  value 1 15ns 50%, 1 times", "  value 3 15ns 50%, 1 times",
-            "tb.go event 1", "  changes 2", "  period 10ns to 10ns, mean 10ns, 1 times",
+            "  value 1 15ns 50%, 1 time", "  value 3 15ns 50%, 1 time",
+            "tb.go event 1", "  changes 2", "  period 10ns to 10ns, mean 10ns, 1 time",
             "status 0"])
 
     def test_stats_of_a_window(self):
         dump = self.file("hand.vcd", HAND)
         self.assertEqual(said("vcdkit-stats", "--from", "15ns", "--to", "20ns", dump, "tb.clk"), [
-            "tb.clk wire 1", "  changes 2", "  value 1 3ns 60%, 1 times, 3ns to 3ns",
-            "  value 0 2ns 40%, 1 times", "status 0"])
+            "tb.clk wire 1", "  changes 2", "  value 1 3ns 60%, 1 time, 3ns to 3ns",
+            "  value 0 2ns 40%, 1 time", "status 0"])
 
     def test_values(self):
         dump = self.file("hand.vcd", HAND)
