@@ -307,13 +307,12 @@ class Dump:
         if not its:
             raise UsageError("rows() needs a name")
         columns = _states(self._places(its))
-        clocks = {name: self._clock(name) for name in (rise, fall) if name is not None}
-        if at is not None and clocks:
+        edges = self._edges(rise, fall)
+        if at is not None and edges:
             raise UsageError("rows are at times or at edges: give `at`, or `rise` and `fall`")
         if at is not None:
             return self._rows_at(columns, list(_ticks_of(self, at).values()), its)
-        edges = {(clocks[name].code.encode(), *edge)
-                 for name, edge in ((rise, RISE), (fall, FALL)) if name is not None}
+        clocks = [name for name in (rise, fall) if name is not None]
         return self._rows([*its, *clocks], list(columns.values()), edges)
 
     def _rows_at(self, columns: Collection[int], times: List[int], names: List[str]
@@ -354,6 +353,11 @@ class Dump:
                 found |= {its[code] for code in dump._lead(its)}
         return found
 
+    def _edges(self, rise: Optional[str], fall: Optional[str]) -> Set[_body.Edge]:
+        """Returns the edges of the clocks that are named."""
+        return {(self._clock(name).code.encode(), *edge)
+                for name, edge in ((rise, RISE), (fall, FALL)) if name is not None}
+
     def _clock(self, name: str) -> Signal:
         """Returns the signal of one bit that a name selects; UsageError if it is none."""
         clock = self[name]
@@ -382,8 +386,9 @@ class Dump:
 
         It is looked at at the end of each time; of a cut, one that holds at its begin begins there.
         With `rise` or `fall`, the path of a clock of one bit, it is looked at where that rises or
-        falls, with the values just before that time; with `every`, each such time counts at which
-        it holds. UsageError if it is no condition, UnknownName if a name of it selects nothing."""
+        falls, with the values just before that time, with both at each of these edges; with
+        `every`, each such time counts at which it holds. UsageError if it is no condition,
+        UnknownName if a name of it selects nothing."""
         return _when.when(self, condition, rise, fall, every)
 
     # Dumps of it.

@@ -2,7 +2,7 @@
 
 It is looked at at the end of each time at which one of its signals changes; if it holds at --from,
 it begins there. With --rise or --fall it is looked at where a clock of one bit rises or falls, with
-the values just before that time, as a flip-flop takes them.
+the values just before that time, as a flip-flop takes them; with both at each edge.
 
 conditions:
   tb.bus == 0xff   also != < <= > >=; numbers are 0xff, 0b101, 10, -1 and 1.5
@@ -40,9 +40,8 @@ def main(words: List[str]) -> int:
     form = of.add_mutually_exclusive_group()
     form.add_argument("--first", action="store_true", help="the first of these times")
     form.add_argument("--count", action="store_true", help="how many they are")
-    clock = of.add_mutually_exclusive_group()
-    clock.add_argument("--rise", metavar="CLOCK", help="look where this signal rises")
-    clock.add_argument("--fall", metavar="CLOCK", help="look where this signal falls")
+    of.add_argument("--rise", metavar="CLOCK", help="look where this signal rises")
+    of.add_argument("--fall", metavar="CLOCK", help="look where this signal falls")
     of.add_argument("--every", action="store_true",
                     help="each edge of the clock at which it holds, not only where it begins")
     add_window(of)
