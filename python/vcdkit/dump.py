@@ -1,5 +1,6 @@
 """Dump: questions about one dump."""
 import contextlib
+import difflib
 import importlib
 import os
 import re
@@ -94,20 +95,13 @@ class Dump:
     def save(self, path: Union[str, "os.PathLike[str]"]) -> "Dump":
         """Writes the text to a file, and returns the Dump of that. If this fails, the file is as
         it was."""
-        part = "%s.%d.part" % (os.fspath(path), os.getpid())
-        try:
-            with self.open() as text, open(part, "wb") as file:
-                for block in iter(lambda: text.read(1 << 18), b""):
-                    file.write(block)
-            os.replace(part, path)
-        except OSError as error:
-            if isinstance(error, VcdkitError):
-                raise
-            raise RunFailed("%s: %s" % (os.fspath(path), error.strerror)) from error
-        finally:
-            if os.path.exists(part):
-                os.unlink(part)
+        write(path, self._blocks())
         return Dump(path)
+
+    def _blocks(self) -> Iterator[bytes]:
+        """Returns the text in pieces."""
+        with self.open() as text:
+            yield from iter(lambda: text.read(1 << 18), b"")
 
     def _answer(self, command: str, words: Sequence[str] = ()) -> str:
         with _opened(Made(command, (*self._options, *words), (self._text,))) as out:
@@ -429,6 +423,22 @@ def merge(*dumps: Dump) -> Dump:
     return dumps[0]._made("merge", [], tuple(one._text for one in dumps))
 
 
+def write(path: Union[str, "os.PathLike[str]"], blocks: Iterable[bytes]) -> None:
+    """Writes a file; if this fails, it is as it was."""
+    part = "%s.%d.part" % (os.fspath(path), os.getpid())
+    try:
+        with open(part, "wb") as file:
+            file.writelines(blocks)
+        os.replace(part, path)
+    except OSError as error:
+        if isinstance(error, VcdkitError):
+            raise
+        raise RunFailed("%s: %s" % (os.fspath(path), error.strerror)) from error
+    finally:
+        if os.path.exists(part):
+            os.unlink(part)
+
+
 def _list(names: Names) -> List[str]:
     return [names] if isinstance(names, str) else list(names)
 
@@ -497,12 +507,26 @@ def _hint(name: str, signals: _rows.Signals) -> str:
     """Returns what to write instead of a name that selects nothing."""
     paths = signals.columns()[0]
     bare = re.sub(r"\s*\[[-\d]+(:[-\d]+)?\]\Z", "", name)
+    is_pattern = re.search(r"[*?]", name)
     near = ([path for path in paths if path == bare]
             or [path for path in paths if path.startswith(bare + "[")]
             or [path for path in paths if path.endswith("." + name) or path.endswith("." + bare)]
-            or [path for path in paths if path.lower() in (name.lower(), bare.lower())])
+            or [path for path in paths if path.lower() in (name.lower(), bare.lower())]
+            or ([] if is_pattern else _like(bare, paths)))
     if near:
         return "; there is " + ", ".join(near[:3]) + ", .." * (len(near) > 3)
-    if re.search(r"[*?]", name):
+    if is_pattern:
         return "; names are no patterns: vcdkit-find and find() take regular expressions"
     return "; names are the paths that `list` writes, and the scopes in them"
+
+
+def _like(name: str, paths: List[str]) -> List[str]:
+    """Returns up to three names that differ from one that selects nothing in the first of its words
+    that no path has there, and are like it: a path, or a scope if there is no such path."""
+    front, word, rest = "", *name.partition(".")[::2]
+    its = {path.partition(".")[0] for path in paths}
+    while word in its:
+        front, (word, rest) = front + word + ".", rest.partition(".")[::2]
+        its = {path[len(front):].partition(".")[0] for path in paths if path.startswith(front)}
+    near = [front + one for one in difflib.get_close_matches(word, sorted(its))]
+    return [one + "." + rest if one + "." + rest in paths else one for one in near]
