@@ -12,7 +12,9 @@ VCDKIT=$(realpath "$VCDKIT")
 PATH=$PWD/extras:$PATH
 failed=0 tried=0
 folder=$(mktemp -d)
-trap 'rm -rf "$folder"' EXIT
+# later_what, later_pids: the tests that run in the background, and their processes
+later_what=() later_pids=()
+trap 'kill "${later_pids[@]}" 2> /dev/null; rm -rf "$folder"' EXIT
 
 # same WHAT WANTED GOT
 same() {
@@ -20,6 +22,25 @@ same() {
     [[ $2 == "$3" ]] && return
     failed=$((failed + 1))
     printf '%s\n  wanted: %s\n  got:    %s\n' "$1" "${2:0:400}" "${3:0:400}"
+}
+# later WHAT COMMAND ..: a test that runs beside the others, and has to end with status 0
+later() {
+    later_what+=("$1")
+    "${@:2}" > "$folder/later.${#later_what[@]}" 2>&1 &
+    later_pids+=($!)
+}
+# finish: waits for these tests, and shows what those say that fail
+finish() {
+    local at said ended
+    for at in "${!later_pids[@]}"; do
+        said=$folder/later.$((at + 1))
+        wait "${later_pids[at]}"
+        ended=$?
+        ((ended == 0)) ||
+            ended+=" $(grep -A 30 -E '^(ERROR|FAIL|Trace)' "$said" || cat "$said")"
+        same "${later_what[at]}" 0 "$ended"
+    done
+    later_pids=()
 }
 # status COMMAND ..: what it prints, and its status
 status() { "$@" 2>&1; echo "status $?"; }
@@ -38,37 +59,29 @@ for module in pandas numpy; do
         [[ -n $with_numpy ]] || ! "$python" -c "import $module" 2> /dev/null || with_numpy=$python
     done
 done
-# package WHAT COMMAND ..: the tests of the package by this Python
-package() {
-    VCDKIT_LIBRARY=$library "${@:2}" python/tests/test_vcdkit.py > "$folder/said" 2>&1
-    same "the package, $1" 0 "$?$(grep -A 30 -E '^(ERROR|FAIL|Trace)' "$folder/said")"
-}
-package 'without numpy' env PYTHONPATH="$folder/hidden" python3
+later 'the package, without numpy' env PYTHONPATH="$folder/hidden" VCDKIT_LIBRARY="$library" \
+    python3 python/tests/test_vcdkit.py
 if [[ -n $with_numpy ]]; then
-    package 'with numpy' "$with_numpy"
+    later 'the package, with numpy' env VCDKIT_LIBRARY="$library" \
+        "$with_numpy" python/tests/test_vcdkit.py
     "$with_numpy" -c 'import pandas' 2> /dev/null ||
         echo 'the package is not tried with pandas: there is none'
 else
     echo 'the package is not tried with numpy: there is none'
 fi
-same 'the package, against another reader' 0 \
-    "$(python3 python/tests/test_against_reader.py 2>&1; echo $?)"
-[[ -z $library ]] || same 'the package over the library, against another reader' 0 "$(
-    VCDKIT_WAY=library VCDKIT_LIBRARY=$library python3 python/tests/test_against_reader.py 2>&1
-    echo $?)"
 if command -v mypy > /dev/null; then
-    same 'the types of package and scripts' 0 "$(mypy --no-error-summary --cache-dir /dev/null \
-        --config-file python/mypy.ini python/vcdkit 2>&1; echo $?)"
+    later 'the types of package and scripts' mypy --no-error-summary --cache-dir /dev/null \
+        --config-file python/mypy.ini python/vcdkit
 else
     echo 'the types of package and scripts are not checked: there is no mypy'
 fi
+later 'the package, against another reader' python3 python/tests/test_against_reader.py
+[[ -z $library ]] || later 'the package over the library, against another reader' \
+    env VCDKIT_WAY=library VCDKIT_LIBRARY="$library" python3 python/tests/test_against_reader.py
 for script in when diff; do
-    same "vcdkit-$script, against another reader" 0 \
-        "$(python3 "python/tests/test_$script.py" 2>&1; echo $?)"
+    later "vcdkit-$script, against another reader" python3 "python/tests/test_$script.py"
 done
-python3 python/tests/test_scripts.py > "$folder/said" 2>&1
-same 'the scripts, at any argument, file and stream' 0 \
-    "$?$(grep -A 30 -E '^(ERROR|FAIL|Trace)' "$folder/said")"
+later 'the scripts, at any argument, file and stream' python3 python/tests/test_scripts.py
 [[ -n $library ]] || echo 'the package is not tried over the library: no libvcdkit.so'
 
 same 'the version of the package' "$("$VCDKIT" --version)" "$(vcdkit-find --version |
@@ -639,5 +652,6 @@ for dump in samples/counter.vcd samples/nested.vcd samples/verilator.vcd "$folde
     done
 done
 
+finish
 echo "$((tried - failed)) of $tried as they should be"
 ((failed == 0))

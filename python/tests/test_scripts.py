@@ -31,7 +31,8 @@ NESTED = os.path.join(TOP, "samples", "nested.vcd")
 SCRIPTS = sorted(name for name in os.listdir(EXTRAS) if name.startswith("vcdkit-"))
 FILTERS = ("vcdkit-four-state", "vcdkit-endmend", "vcdkit-join-bits")
 # What a script takes after its options: each FILE is a file to be read.
-ARGUMENTS = {"vcdkit-diff": ["FILE", NESTED], "vcdkit-table": ["FILE", "bench.slow"],
+ARGUMENTS = {"vcdkit-diff": ["FILE", NESTED], "vcdkit-explain": ["FILE", "bench.slow"],
+             "vcdkit-table": ["FILE", "bench.slow"],
              "vcdkit-wave": ["FILE", "bench.slow"], "vcdkit-stats": ["FILE", "bench.slow"],
              "vcdkit-when": ["FILE", "bench.clock"], "vcdkit-x": ["FILE", "bench.slow"],
              "vcdkit-values": ["FILE", "bench.slow"], "vcdkit-find": ["FILE", "slow"]}
@@ -51,8 +52,12 @@ def run(name, words, **streams):
     """Runs a script; returns its status, its output and its messages."""
     given = dict(stdin=subprocess.DEVNULL, stdout=subprocess.PIPE, stderr=subprocess.PIPE,
                  cwd=SCRATCH.name)
-    done = subprocess.run([os.path.join(EXTRAS, name), *words], timeout=SECONDS,
-                          **{**given, **streams})
+    try:
+        done = subprocess.run([os.path.join(EXTRAS, name), *words], timeout=SECONDS,
+                              **{**given, **streams})
+    except subprocess.TimeoutExpired:
+        raise AssertionError("%s %s: no end after %d seconds" % (
+            name, [word[:40] for word in words], SECONDS)) from None
     return done.returncode, done.stdout or b"", done.stderr or b""
 
 
@@ -222,21 +227,21 @@ class Answers(Case):
     def test_stats(self):
         dump = self.file("hand.vcd", HAND)
         self.assertEqual(said("vcdkit-stats", dump, "tb.clk", "tb.sum", "tb.level", "tb.go"), [
-            "tb.clk wire 1", "  changes 4", "  period 10ns to 10ns, mean 10ns, 1 times",
+            "tb.clk wire 1", "  changes 4", "  period 10ns to 10ns, mean 10ns, 1 time",
             "  duty 30%", "  value 0 24ns 80%, 3 times, 7ns to 7ns",
             "  value 1 6ns 20%, 2 times, 3ns to 3ns",
-            "tb.sum wire 8", "  changes 1", "  value 11111111 15ns 50%, 1 times",
-            "  value 00000001 15ns 50%, 1 times",
+            "tb.sum wire 8", "  changes 1", "  value 11111111 15ns 50%, 1 time",
+            "  value 00000001 15ns 50%, 1 time",
             "tb.level real 64", "  changes 1", "  range 1 to 3, mean 2",
-            "  value 1 15ns 50%, 1 times", "  value 3 15ns 50%, 1 times",
-            "tb.go event 1", "  changes 2", "  period 10ns to 10ns, mean 10ns, 1 times",
+            "  value 1 15ns 50%, 1 time", "  value 3 15ns 50%, 1 time",
+            "tb.go event 1", "  changes 2", "  period 10ns to 10ns, mean 10ns, 1 time",
             "status 0"])
 
     def test_stats_of_a_window(self):
         dump = self.file("hand.vcd", HAND)
         self.assertEqual(said("vcdkit-stats", "--from", "15ns", "--to", "20ns", dump, "tb.clk"), [
-            "tb.clk wire 1", "  changes 2", "  value 1 3ns 60%, 1 times, 3ns to 3ns",
-            "  value 0 2ns 40%, 1 times", "status 0"])
+            "tb.clk wire 1", "  changes 2", "  value 1 3ns 60%, 1 time, 3ns to 3ns",
+            "  value 0 2ns 40%, 1 time", "status 0"])
 
     def test_values(self):
         dump = self.file("hand.vcd", HAND)
@@ -250,15 +255,47 @@ class Answers(Case):
     def test_tree(self):
         dump = self.file("hand.vcd", HAND)
         self.assertEqual(said("vcdkit-find", "--tree", dump), ["tb 5", "  deep 1", "status 0"])
+        self.assertEqual(said("vcdkit-find", "--tree", dump, "o"), ["tb 2", "  deep 1", "status 0"])
+        dump = self.file("dots.vcd", b"$var wire 1 ! top $end $scope module a.b $end $scope module c "
+                         b"$end $var wire 1 ! d.e $end $upscope $end $scope module f $end $upscope "
+                         b"$end $upscope $end $enddefinitions $end\n")
+        self.assertEqual(said("vcdkit-find", "--tree", dump), [
+            "(top) 1", "a.b 1", "  c 1", "status 0"])
 
     def test_salvage(self):
-        dump = self.file("torn.vcd", HAND[:HAND.index(b"r3 #") + 2])
         good = os.path.join(self.folder.name, "good.vcd")
-        lines = said("vcdkit-explain", "--salvage", good, dump)
-        self.assertEqual(lines[-2:], ["wrote: %s, good until 14ns" % good, "status 1"])
-        self.assertEqual(said("vcdkit-values", good, "tb.clk", "tb.sum"),
-                         ["tb.clk 0", "tb.sum 11111111", "status 0"])
-        self.assertIn("last 14", said("vcdkit-explain", good))
+        for text, is_added, until, last, count in (
+                (HAND[:HAND.index(b"r3 #") + 2], "", "good until 14ns", 15, "00000001"),
+                (HAND, "x1!\n", "good until 29ns", 30, "00000001"),  # no change is at 30
+                (HAND, "#20\n1!\n#40\n", "good until 30ns", 30, "00000001"),
+                (HAND, "#3x\n", "good until 30ns", 30, "00000001"),
+                (HAND, "$dumpall\n0!\nb1010 \"\n#31\n1!\n", "good until 30ns", 30, "00001010"),
+                (HAND, "$dumpall\n0!\nb1010 \"\nq", "good until 29ns", 30, "00001010"),
+                (HAND, "$comment\n#50\n$end\n0!\n$comment\n#60\n$end\nx1!",
+                 "good until 29ns", 30, "00000001"),
+                (HAND[:HAND.index(b"0!")], "0!\nb11", "but it has all values of no time", 0, "-")):
+            dump = self.file("torn.vcd", text + is_added.encode())
+            with self.subTest(added=is_added):
+                lines = said("vcdkit-explain", "--salvage", good, dump)
+                self.assertEqual(lines[-2:], ["wrote: %s, %s" % (good, until), "status 1"])
+                self.assertIn("last %d" % last, said("vcdkit-explain", good))
+                self.assertEqual(said("vcdkit-values", good, "tb.clk", "tb.sum")[1],
+                                 "tb.sum " + count)
+                if until.startswith("good") and "dumpall" not in is_added:
+                    time = until.split()[-1]  # up to then the values are those of a whole dump
+                    self.assertEqual(said("vcdkit-values", "--at", time, good),
+                                     said("vcdkit-values", "--at", time, self.file("a", HAND)))
+        os.unlink(good)
+        dump = self.file("front.vcd", HAND[:60])
+        said("vcdkit-explain", "--salvage", good, dump)
+        self.assertFalse(os.path.exists(good))
+
+    def test_a_name_that_selects_nothing(self):
+        dump = self.file("hand.vcd", HAND)
+        self.assertEqual(said("vcdkit-explain", dump, "tb.clk", "tb.dep.word"), [
+            "cause: no variable and no scope has this path", "help:  there is tb.deep.word",
+            "status 1"])
+        self.assertEqual(said("vcdkit-explain", dump, "tb.deep"), said("vcdkit-explain", dump))
 
     def test_four_state(self):
         dump = self.file("nine.vcd", HAND.replace(b"b1 \"", b"bUH \""))

@@ -233,7 +233,7 @@ def looks_at(changes, codes, clock, begin, end):
     if clock:
         digits = [one for one in its if one[2] == "!"]
         times = [time for time in sorted({b[0] for a, b in zip(digits, digits[1:])
-                                          if a[3] + b[3] == clock}) if begin <= time <= end]
+                                          if a[3] + b[3] in clock}) if begin <= time <= end]
     last = begin
     for time in times:
         seen = [one for one in its if one[2] != "$" and (
@@ -282,9 +282,9 @@ def wrong(seed):
         for _ in range(5):
             condition, answer = tree(of), None
             asked = text_of(of, condition)
-            kind = of.choice(["", "", "rise", "fall"])
-            clock = {"": "", "rise": "b0b1", "fall": "b1b0"}[kind]
-            every = bool(kind) and of.random() < .3
+            kinds = of.choice([[], [], ["rise"], ["fall"], ["rise", "fall"]])
+            clock = [{"rise": "b0b1", "fall": "b1b0"}[kind] for kind in kinds]
+            every = bool(kinds) and of.random() < .3
             if of.random() < .4:
                 node, is_refusal = tree(of), of.random() < .5
                 wait, is_edges = of.choice([0, 1, 2, 5]), bool(clock) and of.random() < .5
@@ -299,10 +299,10 @@ def wrong(seed):
                 begin = of.choice([of.randint(0, 30), *times])
                 end = begin + of.randint(0, 20)
                 part = whole.cut(begin, end)
-            got = list(part.when(asked, every=every, **({kind: "t.c"} if kind else {})))
+            got = list(part.when(asked, every=every, **{kind: "t.c" for kind in kinds}))
             wanted = expected(changes, times, condition, answer, clock, every, begin, end)
             if got != wanted:
-                found.append(("%s %s %s %d..%d" % (asked, kind, every, begin, end), text, wanted,
+                found.append(("%s %s %s %d..%d" % (asked, kinds, every, begin, end), text, wanted,
                               got))
     return found
 
@@ -318,6 +318,8 @@ ANSWERS = [
     (["--rise", "bench.clock", "%s == 4" % COUNT], "55ns"),
     (["--fall", "bench.clock", "%s == 4" % COUNT], "50ns"),
     (["--every", "--rise", "bench.clock", "%s < 3" % COUNT], "15ns 25ns 35ns"),
+    (["--every", "--rise", "bench.clock", "--fall", "bench.clock", "%s == 1" % COUNT], "20ns 25ns"),
+    (["--rise", "bench.clock", "--fall", "bench.slow.reset", "%s == 1" % COUNT], "25ns"),
     (["%s == 1 -> %s == 2 within 10ns" % (COUNT, COUNT)], "15ns"),
     (["%s == 1 -> %s == 2 within 9.9ns" % (COUNT, COUNT)], ""),
     (["--rise", "bench.clock", "!(%s == 1 -> %s == 3 within 1)" % (COUNT, COUNT)], "25ns"),

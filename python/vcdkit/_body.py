@@ -78,6 +78,13 @@ def skip_header(out: BinaryIO) -> None:
             break
 
 
+def last_time(text: bytes) -> Optional[int]:
+    """Returns the last timestamp of a text that has its whole line; `None` if
+    there is none."""
+    at = text.rfind(b"\n#", 0, max(text.rfind(b"\n"), 0))
+    return int(text[at + 2:text.index(b"\n", at + 1)]) if at >= 0 else None
+
+
 def change(line: bytes) -> Tuple[bytes, bytes]:
     """Returns the code and the value of a line, without the `b` of digits."""
     first = line[:1]

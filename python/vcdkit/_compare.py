@@ -187,12 +187,6 @@ def same_within(tolerance: float) -> Same:
 
 # Texts that are alike are read at the speed of `cut`.
 
-def _last_time(text: bytes) -> Optional[int]:
-    """Returns the last timestamp of a text that has its whole line."""
-    at = text.rfind(b"\n#", 0, max(text.rfind(b"\n"), 0))
-    return int(text[at + 2:text.index(b"\n", at + 1)]) if at >= 0 else None
-
-
 def _count_alike(one: bytes, other: bytes) -> int:
     """Returns how many bytes two texts have alike at their begin."""
     pairs = enumerate(zip(one, other))
@@ -211,7 +205,7 @@ def _alike_until(dumps: Sequence[Dump]) -> Optional[int]:
             if is_alike and not mine:
                 return None
             text = tail + (mine if is_alike else mine[:_count_alike(mine, its)])
-            found = _last_time(text)
+            found = _body.last_time(text)
             time = time if found is None else found
             if not is_alike:
                 return time

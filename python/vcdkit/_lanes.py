@@ -1,8 +1,7 @@
 """What a picture has room for: of each signal its changes in a window, which is parted into bins as
 wide as a pixel. Of a bin with several changes of a signal only that is kept, and not each of them,
 so the work for a long dump is that of its text, and not that of its changes."""
-import functools
-import re
+import io
 from typing import (BinaryIO, Callable, Dict, FrozenSet, Iterator, List, NamedTuple, Optional,
                     Tuple)
 
@@ -10,7 +9,7 @@ from . import _body
 from .values import Signal
 
 BLOCK = 1 << 20
-SMALL = 1 << 11  # bytes of the begin of a bin, in which most signals change
+SMALL = 1 << 9  # bytes of the begin of a bin, in which most signals change
 Point = Tuple[int, object]
 
 
@@ -78,13 +77,14 @@ class Lanes:
     def read(self, out: BinaryIO, progress: Callable[[float], None]) -> None:
         """Takes the text of a body, which begins with a timestamp."""
         for block in iter(lambda: out.read(BLOCK) + out.readline(), b""):
-            text = b"\n" + block[:-1]
-            while text:
-                at = _place_after(text, self.edge(self.bin + 1) - 1)
-                self.take(text[:at])
-                text = text[at:]
-                if text:
-                    self.go_to(_time_at(text, 0))
+            text, begin = b"\n" + block, 0
+            while begin < len(text) - 1:
+                end = _place_after(text, begin, self.edge(self.bin + 1) - 1)
+                if begin < end:
+                    self.take(text, begin, end)
+                else:
+                    self.go_to(_time_at(text, begin))
+                begin = end
             progress(self.bin / self.count)
         self.close()
 
@@ -104,72 +104,77 @@ class Lanes:
             if lane.first:
                 lane.close(begin, end)
 
-    def take(self, text: bytes) -> None:
+    # Of a part of a text, its begin and its end are line feeds.
+
+    def take(self, text: bytes, begin: int, end: int) -> None:
         """Takes a part of the bin: each line of its begin, and then only the changes of signals
         that say something new, and the last values of the others."""
-        begin = text.find(b"\n#", SMALL)
-        if len(text) <= 8 * SMALL or begin < 0:
-            self.take_lines(text[1:].split(b"\n"))
+        middle = text.find(b"\n#", begin + SMALL, end)
+        if end - begin <= 8 * SMALL or middle < 0:
+            self.take_lines(text[begin + 1:end + 1])
             return
-        self.take_lines(text[1:begin].split(b"\n"))
-        for piece in _pieces(text, begin):
+        self.take_lines(text[begin + 1:middle + 1])
+        for piece in _pieces(text, middle, end):
             codes = self.codes(False)
             if not codes:
                 break
             for code, value, at in _changes(text, *piece, codes):
                 self.of_code[code].note(_time_at(text, text.rfind(b"\n#", 0, at + 1)), value)
-        self.take_last(text, begin)
+        self.take_last(text, middle, end)
 
-    def take_last(self, text: bytes, begin: int) -> None:
+    def take_last(self, text: bytes, begin: int, end: int) -> None:
         """Takes the last values of the signals whose lanes are full, and the last time."""
-        codes, end, size = self.codes(True), len(text), SMALL
+        codes, size = self.codes(True), SMALL
+        self.time = _time_at(text, text.rfind(b"\n#", begin, end))
         while codes and end > begin:
             middle = max(text.rfind(b"\n#", begin, max(end - size, begin)), begin)
             last = {code: value for code, value, _ in _changes(text, middle, end, codes)}
             for code, value in last.items():
                 self.of_code[code].text = value
             codes, end, size = codes.difference(last), middle, 4 * size
-        self.time = _time_at(text, text.rfind(b"\n#"))
 
     def codes(self, is_full: bool) -> FrozenSet[bytes]:
         """Returns the codes whose lanes are full in this bin, or those that are not."""
         return frozenset(code for code, lane in self.of_code.items() if lane.is_full == is_full)
 
-    def take_lines(self, lines: List[bytes]) -> None:
-        """Takes each of some lines."""
-        for line in lines:
+    def take_lines(self, text: bytes) -> None:
+        """Takes each line of a text."""
+        for line in io.BytesIO(text):
             if line[:1] == b"#":
                 self.time = int(line[1:])
-            elif line[:1] != b"$" and line:
-                value, _, code = line.rpartition(b" ") if line[:1] in b"br" else (
-                    line[:1], b"", line[1:])
-                self.of_code[code].note(self.time, value.lstrip(b"b"))
-
-
-@functools.lru_cache(maxsize=1 << 10)
-def _pattern(codes: FrozenSet[bytes]) -> "re.Pattern[bytes]":
-    """Returns the pattern of the changes of some codes."""
-    return re.compile(rb"\n(?:([01xz])|b([01xz]*) |(r[^ \n]*) )(" + b"|".join(
-        map(re.escape, sorted(codes))) + rb")(?=\n|\Z)")
+            elif line[:1] != b"$":
+                code, value = _body.change(line)
+                self.of_code[code].note(self.time, value)
 
 
 def _changes(text: bytes, begin: int, end: int, codes: FrozenSet[bytes]
              ) -> Iterator[Tuple[bytes, bytes, int]]:
-    """Returns the changes of some codes in a part of a text: code, value, and where its line is."""
-    for found in _pattern(codes).finditer(text, begin, end) if codes else ():
-        scalar, vector, real, code = found.groups()
-        yield code, scalar or vector or real or b"", found.start()
+    """Returns the changes of some codes in a part of a text: code, value, and where the line feed
+    before its line is. It looks only at lines that end as one of the codes does."""
+    table = bytearray(256)
+    table[10] = 10
+    for code in codes:
+        table[code[-1]] = 1
+    marks = text[begin:end + 1].translate(table)
+    at = marks.find(b"\1\n")
+    while at >= 0:
+        line = text.rfind(b"\n", 0, begin + at)
+        if text[line + 1] not in b"#$":
+            code, value = _body.change(text[line + 1:begin + at + 2])
+            if code in codes:
+                yield code, value, line
+        at = marks.find(b"\1\n", at + 1)
 
 
 def _time_at(text: bytes, at: int) -> int:
     """Returns the time of a timestamp, which a line feed is before."""
-    end = text.find(b"\n", at + 1)
-    return int(text[at + 2:end if end > 0 else len(text)])
+    return int(text[at + 2:text.index(b"\n", at + 1)])
 
 
-def _place_after(text: bytes, time: int) -> int:
-    """Returns where the first timestamp above a time is; the length if there is none."""
-    found, low, high = len(text), 0, len(text)
+def _place_after(text: bytes, begin: int, time: int) -> int:
+    """Returns where the first timestamp above a time is; the end if there is none."""
+    found = high = len(text) - 1
+    low = begin
     while low < high:
         middle = (low + high) // 2
         at = text.find(b"\n#", middle, high + 1)
@@ -180,10 +185,11 @@ def _place_after(text: bytes, time: int) -> int:
     return found
 
 
-def _pieces(text: bytes, begin: int) -> Iterator[Tuple[int, int]]:
-    """Returns the ends of pieces of a text, each of which begins with a timestamp."""
-    while begin < len(text):
-        end = text.find(b"\n#", begin + 4 * SMALL)
-        end = end if end > 0 else len(text)
-        yield begin, end
-        begin = end
+def _pieces(text: bytes, begin: int, end: int) -> Iterator[Tuple[int, int]]:
+    """Returns the ends of pieces of a text, each longer than the one before."""
+    size = SMALL
+    while begin < end:
+        size *= 4
+        to = text.find(b"\n#", begin + size, end)
+        yield begin, to if to > 0 else end
+        begin = to if to > 0 else end

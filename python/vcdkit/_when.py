@@ -5,7 +5,6 @@ from typing import TYPE_CHECKING, BinaryIO, Collection, Deque, Iterator, List, O
 from . import _body
 from ._condition import Condition, Span
 from .errors import UsageError
-from .values import Signal
 
 if TYPE_CHECKING:
     from .dump import Dump
@@ -17,16 +16,12 @@ Waiting = Deque[Tuple[int, int]]  # a start, and until when it waits: a time, or
 def when(dump: "Dump", text: str, rise: Optional[str], fall: Optional[str],
          every: bool) -> Iterator[int]:
     """Returns the times of Dump.when."""
-    if rise is not None and fall is not None:
-        raise UsageError("rise and fall: name one clock")
-    name = fall if rise is None else rise
-    if every and name is None:
+    clocks = [name for name in (rise, fall) if name is not None]
+    if every and not clocks:
         raise UsageError("every edge: name a clock by rise or fall")
     condition = Condition(text, dump)
-    ticks = _ticks_of(condition.span, dump, name is not None)
-    clock = None if name is None else dump._clock(name)
-    edge = (b"1", b"0") if rise is None else (b"0", b"1")
-    return _times(dump, condition, ticks, clock, edge, every)
+    ticks = _ticks_of(condition.span, dump, bool(clocks))
+    return _times(dump, condition, ticks, clocks, dump._edges(rise, fall), every)
 
 
 def _ticks_of(span: Optional[Span], dump: "Dump", has_clock: bool) -> int:
@@ -39,18 +34,17 @@ def _ticks_of(span: Optional[Span], dump: "Dump", has_clock: bool) -> int:
     return dump.ticks(span.number + span.unit.replace("tick", ""))
 
 
-def _times(dump: "Dump", condition: Condition, ticks: int, clock: Optional[Signal],
-           edge: Tuple[bytes, bytes], every: bool) -> Iterator[int]:
-    edges = [(clock.code.encode(), *edge)] if clock else []
+def _times(dump: "Dump", condition: Condition, ticks: int, clocks: List[str],
+           edges: Collection[_body.Edge], every: bool) -> Iterator[int]:
     lead = dump._lead({*condition.codes, *(code for code, _, _ in edges)} if edges else ())
-    with dump._part([*condition.paths, *([clock.path] if clock else [])]).open() as out:
+    with dump._part([*condition.paths, *clocks]).open() as out:
         _body.skip_header(out)
         looks = (_at_edges(out, condition, edges, lead) if edges
                  else _at_changes(out, condition))
         if condition.answer is None:
-            yield from _begins(looks, condition, bool(clock), every)
+            yield from _begins(looks, condition, bool(edges), every)
         else:
-            yield from _answered(looks, condition, ticks, dump, bool(clock), every)
+            yield from _answered(looks, condition, ticks, dump, bool(edges), every)
 
 
 def _at_changes(out: BinaryIO, condition: Condition) -> Iterator[int]:

@@ -1,5 +1,6 @@
 """Dump: questions about one dump."""
 import contextlib
+import difflib
 import importlib
 import os
 import re
@@ -94,20 +95,13 @@ class Dump:
     def save(self, path: Union[str, "os.PathLike[str]"]) -> "Dump":
         """Writes the text to a file, and returns the Dump of that. If this fails, the file is as
         it was."""
-        part = "%s.%d.part" % (os.fspath(path), os.getpid())
-        try:
-            with self.open() as text, open(part, "wb") as file:
-                for block in iter(lambda: text.read(1 << 18), b""):
-                    file.write(block)
-            os.replace(part, path)
-        except OSError as error:
-            if isinstance(error, VcdkitError):
-                raise
-            raise RunFailed("%s: %s" % (os.fspath(path), error.strerror)) from error
-        finally:
-            if os.path.exists(part):
-                os.unlink(part)
+        write(path, self._blocks())
         return Dump(path)
+
+    def _blocks(self) -> Iterator[bytes]:
+        """Returns the text in pieces."""
+        with self.open() as text:
+            yield from iter(lambda: text.read(1 << 18), b"")
 
     def _answer(self, command: str, words: Sequence[str] = ()) -> str:
         with _opened(Made(command, (*self._options, *words), (self._text,))) as out:
@@ -308,13 +302,12 @@ class Dump:
         if not its:
             raise UsageError("rows() needs a name")
         columns = _states(self._places(its))
-        clocks = {name: self._clock(name) for name in (rise, fall) if name is not None}
-        if at is not None and clocks:
+        edges = self._edges(rise, fall)
+        if at is not None and edges:
             raise UsageError("rows are at times or at edges: give `at`, or `rise` and `fall`")
         if at is not None:
             return self._rows_at(columns, list(_ticks_of(self, at).values()), its)
-        edges = {(clocks[name].code.encode(), *edge)
-                 for name, edge in ((rise, RISE), (fall, FALL)) if name is not None}
+        clocks = [name for name in (rise, fall) if name is not None]
         return self._rows([*its, *clocks], list(columns.values()), edges)
 
     def _rows_at(self, columns: Collection[int], times: List[int], names: List[str]
@@ -355,6 +348,11 @@ class Dump:
                 found |= {its[code] for code in dump._lead(its)}
         return found
 
+    def _edges(self, rise: Optional[str], fall: Optional[str]) -> Set[_body.Edge]:
+        """Returns the edges of the clocks that are named."""
+        return {(self._clock(name).code.encode(), *edge)
+                for name, edge in ((rise, RISE), (fall, FALL)) if name is not None}
+
     def _clock(self, name: str) -> Signal:
         """Returns the signal of one bit that a name selects; UsageError if it is none."""
         clock = self[name]
@@ -383,8 +381,9 @@ class Dump:
 
         It is looked at at the end of each time; of a cut, one that holds at its begin begins there.
         With `rise` or `fall`, the path of a clock of one bit, it is looked at where that rises or
-        falls, with the values just before that time; with `every`, each such time counts at which
-        it holds. UsageError if it is no condition, UnknownName if a name of it selects nothing."""
+        falls, with the values just before that time, with both at each of these edges; with
+        `every`, each such time counts at which it holds. UsageError if it is no condition,
+        UnknownName if a name of it selects nothing."""
         return _when.when(self, condition, rise, fall, every)
 
     # Dumps of it.
@@ -423,6 +422,22 @@ def merge(*dumps: Dump) -> Dump:
     if not dumps:
         raise UsageError("merge() needs a dump")
     return dumps[0]._made("merge", [], tuple(one._text for one in dumps))
+
+
+def write(path: Union[str, "os.PathLike[str]"], blocks: Iterable[bytes]) -> None:
+    """Writes a file; if this fails, it is as it was."""
+    part = "%s.%d.part" % (os.fspath(path), os.getpid())
+    try:
+        with open(part, "wb") as file:
+            file.writelines(blocks)
+        os.replace(part, path)
+    except OSError as error:
+        if isinstance(error, VcdkitError):
+            raise
+        raise RunFailed("%s: %s" % (os.fspath(path), error.strerror)) from error
+    finally:
+        if os.path.exists(part):
+            os.unlink(part)
 
 
 def _list(names: Names) -> List[str]:
@@ -493,12 +508,26 @@ def _hint(name: str, signals: _rows.Signals) -> str:
     """Returns what to write instead of a name that selects nothing."""
     paths = signals.columns()[0]
     bare = re.sub(r"\s*\[[-\d]+(:[-\d]+)?\]\Z", "", name)
+    is_pattern = re.search(r"[*?]", name)
     near = ([path for path in paths if path == bare]
             or [path for path in paths if path.startswith(bare + "[")]
             or [path for path in paths if path.endswith("." + name) or path.endswith("." + bare)]
-            or [path for path in paths if path.lower() in (name.lower(), bare.lower())])
+            or [path for path in paths if path.lower() in (name.lower(), bare.lower())]
+            or ([] if is_pattern else _like(bare, paths)))
     if near:
         return "; there is " + ", ".join(near[:3]) + ", .." * (len(near) > 3)
-    if re.search(r"[*?]", name):
+    if is_pattern:
         return "; names are no patterns: vcdkit-find and find() take regular expressions"
     return "; names are the paths that `list` writes, and the scopes in them"
+
+
+def _like(name: str, paths: List[str]) -> List[str]:
+    """Returns up to three names that differ from one that selects nothing in the first of its words
+    that no path has there, and are like it: a path, or a scope if there is no such path."""
+    front, word, rest = "", *name.partition(".")[::2]
+    its = {path.partition(".")[0] for path in paths}
+    while word in its:
+        front, (word, rest) = front + word + ".", rest.partition(".")[::2]
+        its = {path[len(front):].partition(".")[0] for path in paths if path.startswith(front)}
+    near = [front + one for one in difflib.get_close_matches(word, sorted(its))]
+    return [one + "." + rest if one + "." + rest in paths else one for one in near]

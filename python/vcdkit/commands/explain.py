@@ -4,25 +4,32 @@ The report or the message is that of vcdkit check, and so is the exit status. If
 only the lines around the fault are shown. Bytes that are not text are shown as \\xNN, and long
 lines are truncated.
 
---salvage writes the good part of a faulty dump, which is a dump again. It ends one tick before the
-last timestamp in front of the fault, because what follows that timestamp may be incomplete. The
-line `good until` says up to which time it has all values. If the dump has no fault, no file is
-written.
+--salvage writes the good part of a faulty dump, which is a dump again: all that is before the
+fault. The line `good until` says up to which time it has all values. That is the last timestamp
+before the fault if the fault is in the next one, and otherwise one tick before it, because what
+follows that timestamp may be incomplete. If the dump has no fault, or if the fault is in the header,
+no file is written.
+
+If NAMEs are given, it also says of each one that selects nothing which paths are near.
 
 examples:
   vcdkit-explain sim.vcd
   vcdkit-explain --salvage good.vcd sim.vcd
+  vcdkit-explain sim.vcd tb.clk
   ssh lab cat sim.vcd.gz | vcdkit-explain -"""
 import itertools
 import re
 import shlex
 import sys
 
-from .. import DumpFault
+from .. import DumpFault, UnknownName, VcdkitError, _body
+from ..dump import write
 from . import add_file, command, dump_of, parser
 
 WIDTH = 100
 FRONT = 1 << 16  # how much before a fault is looked at
+# Faults at a timestamp: all values of the one before it are there.
+IN_A_TIMESTAMP = ("bad time", "time goes back", "time inside a section")
 NINE = ("a nine-state value of VHDL",
         "vcdkit-four-state < FILE | vcdkit check    (or run ghdl again with --vcd-4states)")
 STRING = ("a string, which four-state VCD does not have",
@@ -159,7 +166,8 @@ def with_file(remedy, name, unpacker):
 
 
 def explain(dump, fault, unpacker):
-    """Shows the lines around a fault, its cause and what helps."""
+    """Shows the lines around a fault, its cause and what helps; returns what is before its
+    line."""
     before, bad, front = b"", b"", b""
     with dump.open() as text:
         for number, line in enumerate(itertools.islice(text, fault.line + 1), 1):
@@ -178,31 +186,59 @@ def explain(dump, fault, unpacker):
             remedy = NO_HEADER
         print("cause: " + cause)
         print("help:  " + with_file(remedy, dump.name, unpacker))
+    return before
 
 
-def last_time(dump):
-    """Returns the last timestamp before the fault; `None` if there is none."""
-    last, rest = None, b"\n"
-    try:
-        with dump.cut().open() as text:
-            for block in iter(lambda: text.read(1 << 20), b""):
-                rest = rest[-32:] + block
-                found = re.findall(rb"\n#(\d+)(?=\n)", rest)
-                last = int(found[-1]) if found else last
-    except DumpFault:
-        pass
-    return last
+class Good:
+    """The text of a faulty dump up to the fault, in pieces; then `last` is its last timestamp,
+    `None` if there is none."""
+
+    def __init__(self, dump, before):
+        self.dump, self.before, self.last = dump, before, None
+
+    def __iter__(self):
+        tail, is_open = b"", False
+        try:
+            for block in self.dump.cut()._blocks():
+                text = tail + block
+                last, section = _body.last_time(text), text.rfind(b"\n$")
+                self.last = self.last if last is None else last
+                is_open = is_open if section < 0 else text.startswith(b"\n$dump", section)
+                tail = text[-32:]  # longer than a timestamp
+                yield block
+        except DumpFault:
+            pass
+        if is_open:
+            yield b"$end\n"
+        time = self.time_without_change()
+        if time is not None:
+            self.last = time
+            yield b"#%d\n" % time
+
+    def time_without_change(self):
+        """Returns the timestamp right before the fault, which `cut` does not write as no change is
+        between them; `None` if there is none."""
+        found = re.findall(rb"(?<!\S)#(\d+)\s", self.before)
+        time = int(found[-1]) if found else 0
+        if time <= (self.last or 0):
+            return None
+        try:
+            self.dump.cut(time - 1, time - 1).read()  # it ends there, and sees no fault
+        except VcdkitError:  # what was found is in a comment
+            return None
+        return time
 
 
-def salvage(dump, path):
-    """Writes what is good of a faulty dump, and says until which time it is."""
-    last = last_time(dump)
-    if not last:
-        print("vcdkit-explain: nothing is good: the fault comes too early",
-              file=sys.stderr)
+def salvage(dump, fault, before, path):
+    """Writes what is before the fault of a dump, and says until which time it has all values."""
+    if not has_header(dump):
+        print("vcdkit-explain: nothing is good: the header has the fault", file=sys.stderr)
         return
-    dump.cut(0, last - 1).save(path)
-    print("wrote: %s, good until %s" % (path, dump.time(last - 1)))
+    good = Good(dump, before)
+    write(path, good)
+    last = -1 if good.last is None else good.last - (fault.fault not in IN_A_TIMESTAMP)
+    print("wrote: %s, %s" % (path, "good until " + dump.time(last) if last >= 0 else
+                             "but it has all values of no time"))
 
 
 @command
@@ -211,19 +247,25 @@ def main(words):
     of.add_argument("--salvage", metavar="OUT", help="write the good part of a faulty dump")
     of.add_argument("--token-limit", type=int, metavar="N",
                     help="the longest token that is allowed, in bytes")
-    add_file(of)
+    add_file(of, "*")
     asked = of.parse_args(words)
     dump = dump_of(asked, token_limit=asked.token_limit)
     unpacker = dump.unpacker()
     if unpacker:
         print("packed: " + with_file("vcdkit check < FILE", dump.name, unpacker), flush=True)
     try:
+        dump.select(asked.names)  # as other commands do, before they read the body
         report = dump.check()
+    except UnknownName as error:
+        what, _, near = str(error).rpartition("; ")
+        print("vcdkit: " + what, file=sys.stderr, flush=True)
+        print("cause: no variable and no scope has this path\nhelp:  " + near)
+        return error.status
     except DumpFault as fault:
         print("vcdkit: %s" % fault, file=sys.stderr, flush=True)
-        explain(dump, fault, unpacker)
+        before = explain(dump, fault, unpacker)
         if asked.salvage is not None:
-            salvage(dump, asked.salvage)
+            salvage(dump, fault, before, asked.salvage)
         return fault.status
     for key, value in report._asdict().items():
         print(key, "-" if value is None else value)

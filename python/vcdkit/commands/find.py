@@ -17,7 +17,6 @@ import re
 import shutil
 import sys
 import warnings
-from collections import Counter, defaultdict
 from typing import Dict, Iterable, List, Sequence
 
 from .. import Signal, UsageError
@@ -42,32 +41,21 @@ def names_for(chosen: Sequence[str], signals: Iterable[Signal]) -> List[str]:
     return list(names)
 
 
-def tree_of(paths):
-    """Returns how many paths are in each scope and below it, and the scopes that are in each; the
-    scope of all is empty."""
-    counts, inner, seen = Counter(), defaultdict(list), {""}
-    for scope, count in Counter(path.rpartition(".")[0] for path in paths).items():
-        while scope:
-            above = scope.rpartition(".")[0]
-            counts[scope] += count
-            if scope not in seen:
-                seen.add(scope)
-                inner[above].append(scope)
-            scope = above
-    return counts, inner
-
-
-def write_tree(paths):
-    """Writes the scopes of some paths, each above those in it."""
-    top = sum("." not in path for path in paths)
-    if top:
-        print("(top) %d" % top)
-    counts, inner = tree_of(paths)
-    scopes = inner[""][::-1]
-    while scopes:
-        scope = scopes.pop()
-        print("%s%s %d" % ("  " * scope.count("."), scope.rpartition(".")[2], counts[scope]))
-        scopes += inner[scope][::-1]
+def write_tree(top, is_found):
+    """Writes the scopes that have signals which are found, each above those in it."""
+    scopes = list(top.walk())
+    counts, depths = {}, {id(top): -1}
+    for scope in reversed(scopes):
+        counts[id(scope)] = sum(map(is_found, scope.signals)) + sum(
+            counts[id(inner)] for inner in scope.scopes)
+    at_top = sum(map(is_found, top.signals))
+    if at_top:
+        print("(top) %d" % at_top)
+    for scope in scopes:
+        depth = depths[id(scope)]
+        depths.update((id(inner), depth + 1) for inner in scope.scopes)
+        if counts[id(scope)] and scope is not top:
+            print("%s%s %d" % ("  " * depth, scope.name, counts[id(scope)]))
 
 
 def write_json(found):
@@ -103,8 +91,11 @@ def main(words):
                     help="an expression that paths have to match")
     asked = of.parse_args(words)
     dump, patterns = dump_of(asked), patterns_of(asked.patterns)
-    found = [one for one in dump.signals
-             if not patterns or any(pattern.search(one.path) for pattern in patterns)]
+
+    def is_found(one):
+        return not patterns or any(pattern.search(one.path) for pattern in patterns)
+
+    found = list(filter(is_found, dump.signals))
     if patterns and not found:
         hint = "; brackets of a path are \\[ and \\]" if "[" in "".join(asked.patterns) else ""
         print("vcdkit-find: no path matches" + hint, file=sys.stderr)
@@ -118,7 +109,7 @@ def main(words):
         out = csv.writer(sys.stdout, lineterminator="\n")
         out.writerows([("path", "type", "size", "code"), *found])
     elif asked.form == "tree":
-        write_tree([one.path for one in found])
+        write_tree(dump.tree, is_found)
     else:
         for one in found:
             print(*one)

@@ -192,15 +192,20 @@ def length_text(dump, ticks):
     return "%.6g%s" % next((pair for pair in lengths if pair[0] >= 1), lengths[-1])
 
 
+def times(count):
+    """Returns how often, in words."""
+    return "%d time%s" % (count, "s" * (count != 1))
+
+
 def lines_of(dump, facts, most):
     """Returns the lines of a signal, with at most so many values."""
     yield "%(path)s %(type)s %(size)d" % facts
     yield "  changes %d" % facts["changes"]
     period, of = facts["period"], facts["range"]
     if period:
-        yield "  period %s to %s, mean %s, %d times" % (
+        yield "  period %s to %s, mean %s, %s" % (
             dump.time(period["shortest"]), dump.time(period["longest"]),
-            length_text(dump, period["mean"]), period["times"])
+            length_text(dump, period["mean"]), times(period["times"]))
     if facts["duty"] is not None:
         yield "  duty %.4g%%" % (100 * facts["duty"])
     if of:
@@ -209,10 +214,12 @@ def lines_of(dump, facts, most):
     for value in facts["values"][:most]:
         pulses = "" if value["shortest"] is None else ", %s to %s" % (
             dump.time(value["shortest"]), dump.time(value["longest"]))
-        yield "  value %s %s %.4g%%, %d times%s" % (
-            value["value"], dump.time(value["ticks"]), 100 * value["share"], value["times"], pulses)
-    if len(facts["values"]) > most:
-        yield "  and %d other values" % (len(facts["values"]) - most)
+        yield "  value %s %s %.4g%%, %s%s" % (
+            value["value"], dump.time(value["ticks"]), 100 * value["share"],
+            times(value["times"]), pulses)
+    rest = len(facts["values"]) - most
+    if rest > 0:
+        yield "  and %d other value%s" % (rest, "s" * (rest != 1))
 
 
 def natural(text):

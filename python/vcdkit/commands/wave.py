@@ -204,7 +204,7 @@ class Picture:
             of_kind.setdefault("curve" if is_number or isinstance(value, Several) else "x",
                                []).append(part)
         self.shapes(of_kind)
-        for number, at in (largest, y + 9), (least, y + CURVE + 9):
+        for number, at in (largest, y + 9), (least, y + CURVE - 2):
             self.text(self.left + 3, at, "%g" % number, "axis")
 
     def events(self, y, points):

@@ -1,8 +1,8 @@
 """Lists the times at which a condition over signals begins to hold
 
 The condition is evaluated at the end of each time at which one of its signals changes. If it holds
-at --from, that time is listed too. With --rise or --fall, the condition is evaluated at these edges
-of a clock of one bit, with the values just before the time of the edge, which are those that a
+at --from, that time is listed too. With --rise, --fall or both, the condition is evaluated at these
+edges of a clock of one bit, with the values just before the time of the edge, which are those that a
 flip-flop takes.
 
 conditions:
@@ -44,11 +44,8 @@ def main(words: List[str]) -> int:
     form = of.add_mutually_exclusive_group()
     form.add_argument("--first", action="store_true", help="list only the first of these times")
     form.add_argument("--count", action="store_true", help="write only how many there are")
-    clock = of.add_mutually_exclusive_group()
-    clock.add_argument("--rise", metavar="CLOCK",
-                       help="evaluate at the rising edges of this signal")
-    clock.add_argument("--fall", metavar="CLOCK",
-                       help="evaluate at the falling edges of this signal")
+    of.add_argument("--rise", metavar="CLOCK", help="evaluate at the rising edges of this signal")
+    of.add_argument("--fall", metavar="CLOCK", help="evaluate at the falling edges of this signal")
     of.add_argument("--every", action="store_true",
                     help="list each edge at which it holds, not only where it begins to")
     add_window(of)
