@@ -20,13 +20,13 @@ use Rattle.vcd_model.proofs.KeptLines.{keeps, kept_more, kept_same, last_is_enou
 use Rattle.vcd_text.specs.Device.{Device, Takes}
 use Rattle.vcd_text.proofs.Writes.{AppendsSome, appends-first, appends-none, takes-failed, takes-first, takes-twice}
 use Rattle.std.specs.Io.KnownBytes.{Appends}
-use Rattle.vcd_engine.specs.Cut.{AreCut, HasBegun, HasNone, IsNoTimestamp, kept_from, may_be_kept, values_text}
+use Rattle.vcd_engine.specs.Cut.{AreCut, HasBegun, HasNone, IsNoTimestamp, kept_from, values_text}
 use Rattle.vcd_body.specs.Device.{DueBy, TakesDue}
 use Rattle.vcd_engine.specs.Engine.{TakesOne, last_of}
 use Rattle.vcd_model.specs.Outcome.{Request}
 use Rattle.vcd_body.specs.Given.{IsItem}
 use Rattle.vcd_engine.specs.Quiet.{TakesQuietly}
-use Rattle.vcd_engine.specs.ItemText.{HasWritten, LastTells, times_with}
+use Rattle.vcd_engine.specs.ItemText.{HasWritten, LastTells, may_be_kept, times_with}
 use Rattle.vcd_engine.specs.Values.{AreHeld, HasValues}
 use Rattle.vcd_engine.specs.declared.task_state.cut.Cut.{Cut}
 use Rattle.vcd_engine.specs.declared.item_text.ItemText.{ItemText}
@@ -46,8 +46,8 @@ use Rattle.vcd_body.specs.declared.item.Item.{Item}
 use Rattle.vcd_body.specs.declared.item.Item.TheVariants.{Time, Begin, End, Change, Finish}
 use Rattle.vcd_body.specs.declared.item.Regs.{Regs}
 use Rattle.vcd_body.specs.declared.table.Table.{Table}
-use Rattle.vcd_engine.proofs.PickLemmas.{event_is, last_time}
-use Rattle.vcd_engine.proofs.ItemTextLemmas.{section_is}
+use Rattle.vcd_engine.proofs.PickLemmas.{last_time}
+use Rattle.vcd_engine.proofs.ItemTextLemmas.{may_is}
 use Rattle.vcd_engine.proofs.ListLemmas.{next}
 use Rattle.vcd_engine.proofs.ValuesLemmas.{held_still}
 
@@ -158,12 +158,6 @@ no_mark codes text End x b is none = rw is (refl, refl)
 no_mark codes text (Change place form) x b is none = rw (is.2) (refl, refl)
 no_mark codes text Finish x b is none = absurd is
 
-and_swap : (a b : Bool) → (a && b) ≡ (b && a)
-and_swap true true = refl
-and_swap true false = refl
-and_swap false true = refl
-and_swap false false = refl
-
 -- where the time has come
 kept_from_time : (a : ℕ) (items : List BodyItem) (x : BodyItem) → is_started a items ≡ true → keeps (from_on a) items x ≡ may_keep x (leaves_open items)
 kept_from_time a items x s = rw (le-leb a (time_after items) (due a items s)) refl
@@ -183,15 +177,8 @@ module _ (v : HeadView) (h : Header) (items : List BodyItem) (before : Regs) (m 
   still_in = still_on h m.from m.to items is.on x low
 
   -- it is kept where the definitions keep it
-  may_is : (i : Item) (y : BodyItem) → IsItem h.codes text i y → IsNoTimestamp i → may_be_kept v (regs_after before i) i ≡ may_keep y (leaves_open items)
-  may_is (Time t) y e n = absurd n
-  may_is (Begin s) y e n = rw e refl
-  may_is End y e n = rw e refl
-  may_is (Change place form) y e n = rw (e.2, section_is items before known, event_is v h place e.0 views e.1, and_swap (leaves_open items) e.0.event) refl
-  may_is Finish y e n = absurd e
-
   pub kept_is : m.started ≡ true → may_be_kept v (regs_after before item) item ≡ keeps (from_on m.from) items x
-  kept_is s = may_is item x read none ∙ sym (kept_from_time m.from items x (sym is.started_is ∙ s))
+  kept_is s = may_is v h items before text item x views known read ∙ sym (kept_from_time m.from items x (sym is.started_is ∙ s))
 
   -- and then the time is that of all items before it
   time_is : (i : Item) → IsNoTimestamp i → (regs_after before i).time ≡ time_after items

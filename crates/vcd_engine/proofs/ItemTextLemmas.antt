@@ -1,27 +1,29 @@
 -- The line of the item that was read last, and the text with it.
-use Rattle.std.proofs.Common.{◌≡◌, ℕ, ◌<◌, List, [], ◌∷◌, ◌++◌, length, map, slice_get, Some, None, is_some, refl, sym, ap, subst, ◌∙◌, append-nil, append_assoc, arith}
+use Rattle.std.proofs.Common.{◌≡◌, ℕ, ◌<◌, Bool, true, false, ◌&&◌, List, [], ◌∷◌, ◌++◌, length, map, slice_get, Some, None, is_some, refl, sym, ap, subst, ◌∙◌, append-nil, append_assoc, arith}
 use Rattle.std.specs.List.{last_or}
 use Rattle.std.proofs.lemmas.List.{map-append}
 use Rattle.vcd_model.specs.Declarations.{IdCode}
 use Rattle.vcd_model.specs.Header.{Header}
 use Rattle.vcd_model.specs.Items.{BodyItem, Entry, leaves_open, time_after}
-use Rattle.vcd_model.specs.ItemText.{item_line, text_after, time_unless}
+use Rattle.vcd_model.specs.ItemText.{item_line, may_keep, text_after, time_unless}
 use Rattle.vcd_model.proofs.Growing.{text_after-append}
 use Rattle.vcd_model.proofs.ItemStates.{leaves_open_is}
 use Rattle.vcd_model.specs.Values.{change_line}
-use Rattle.vcd_view.specs.Shown.{HeadShown, text_in}
+use Rattle.vcd_view.specs.Shown.{HeadShown, parts, text_in}
 use Rattle.vcd_view.specs.Views.{IsCode, Views}
 use Rattle.vcd_view.specs.declared.view.Code.{Code}
+use Rattle.vcd_view.specs.declared.view.HeadView.{HeadView}
 use Rattle.vcd_view.proofs.RowLemmas.{code_at, text_within}
 use Rattle.vcd_body.specs.Given.{IsText}
-use Rattle.vcd_body.specs.Items.{AreRegsAfter, model_form}
+use Rattle.vcd_body.specs.Items.{AreRegsAfter, model_form, regs_after}
 use Rattle.vcd_body.specs.declared.item.Regs.{Regs}
 use Rattle.vcd_body.specs.declared.item.Form.{Form}
 use Rattle.vcd_body.specs.declared.item.Form.TheVariants.{Scalar, Vector, RealText}
-use Rattle.vcd_body.specs.declared.item.Item.TheVariants.{Change}
+use Rattle.vcd_body.specs.declared.item.Item.{Item}
+use Rattle.vcd_body.specs.declared.item.Item.TheVariants.{Time, Begin, End, Change, Finish}
 use Rattle.vcd_model.specs.ItemText.{time_due}
 use Rattle.vcd_body.specs.Given.{IsItem}
-use Rattle.vcd_engine.specs.ItemText.{HasWritten, LastTells, times_with}
+use Rattle.vcd_engine.specs.ItemText.{HasWritten, LastTells, is_event_at, may_be_kept, times_with}
 use Rattle.vcd_engine.specs.declared.item_text.ItemText.{ItemText}
 use Rattle.vcd_model.proofs.KeptLines.{last_or-snoc}
 
@@ -69,3 +71,24 @@ written_with before kept e time is = record {
 -- a section is open
 pub section_is : (items : List BodyItem) (r : Regs) → AreRegsAfter items r → is_some r.section ≡ leaves_open items
 section_is items r known = sym (leaves_open_is items (time_after items) (is_some r.section) (record { time = refl; opens = known.ended }))
+
+-- ---- which items may be kept
+
+and_swap : (a b : Bool) → (a && b) ≡ (b && a)
+and_swap true true = refl
+and_swap true false = refl
+and_swap false true = refl
+and_swap false false = refl
+
+-- the variables of a code are events where the header says so
+event_is : (v : HeadView) (h : Header) (place : ℕ) (c : IdCode) → Views (parts v) h → slice_get h.codes place ≡ Some c → is_event_at v place ≡ c.event
+event_is v h place c views declared = let m = code_at (parts v).text (parts v).codes h.codes place c views.codes declared in rw m.1 m.2.event_is
+
+-- an item may be kept where the definitions may keep it
+pub may_is : (v : HeadView) (h : Header) (items : List BodyItem) (before : Regs) (text : List ℕ) (item : Item) (x : BodyItem) → Views (parts v) h → AreRegsAfter items before → IsItem h.codes text item x → may_be_kept v (regs_after before item) item ≡ may_keep x (leaves_open items)
+may_is v h items before text (Time t) x views known e = rw e refl
+may_is v h items before text (Begin s) x views known e = rw e refl
+may_is v h items before text End x views known e = rw e refl
+may_is v h items before text (Change place form) x views known e =
+    rw (e.2, section_is items before known, event_is v h place e.0 views e.1, and_swap (leaves_open items) e.0.event) refl
+may_is v h items before text Finish x views known e = absurd e

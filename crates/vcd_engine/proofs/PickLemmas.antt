@@ -1,17 +1,14 @@
 -- Which items `pick` keeps, and what that makes of its text.
-use Rattle.std.proofs.Common.{◌≡◌, ℕ, Bool, true, false, ◌&&◌, cond, List, [], ◌∷◌, ◌++◌, slice_get, Option, Some, None, refl, sym, ap, subst, ◌∙◌, append-nil, append_assoc}
-use Rattle.vcd_model.specs.Declarations.{IdCode}
+use Rattle.std.proofs.Common.{◌≡◌, ℕ, Bool, true, false, ◌&&◌, cond, List, [], ◌∷◌, ◌++◌, Option, Some, None, refl, sym, ap, ap₂, subst, ◌∙◌, append-nil, append_assoc}
 use Rattle.vcd_model.specs.Header.{Header}
 use Rattle.vcd_model.specs.HeadText.{head_for}
-use Rattle.vcd_model.specs.Items.{BodyItem, Entry, entries, entry_after, leaves_open, time_after}
-use Rattle.vcd_model.specs.ItemText.{closing, kept_by, last_mark, text_after}
+use Rattle.vcd_model.specs.Items.{BodyItem, Entry, entry_after, time_after}
+use Rattle.vcd_model.specs.ItemText.{closing, last_mark, text_after}
 use Rattle.vcd_model.specs.Pick.{pick_kept, pick_open, pick_close}
-use Rattle.vcd_model.proofs.Growing.{entries-append, kept_by-append}
-use Rattle.vcd_model.proofs.KeptLines.{keeps, picked_by, time_unless_last}
+use Rattle.vcd_model.proofs.KeptLines.{keeps, kept_more, kept_same, picked_by, time_unless_last}
 use Rattle.vcd_view.specs.Shown.{parts}
 use Rattle.vcd_view.specs.Views.{Views}
 use Rattle.vcd_view.specs.declared.view.HeadView.{HeadView}
-use Rattle.vcd_view.proofs.RowLemmas.{code_at}
 use Rattle.vcd_body.specs.Items.{AreRegsAfter, regs_after}
 use Rattle.vcd_body.specs.declared.item.Item.{Item}
 use Rattle.vcd_body.specs.declared.item.Item.TheVariants.{Time, Begin, End, Change, Finish}
@@ -20,30 +17,22 @@ use Rattle.vcd_body.specs.Device.{DueBy}
 use Rattle.vcd_engine.specs.Engine.{last_of}
 use Rattle.vcd_body.specs.Given.{IsItem}
 use Rattle.vcd_engine.specs.ItemText.{HasWritten, LastTells, times_with}
-use Rattle.vcd_engine.specs.Pick.{ArePicked, is_event_at, is_kept, names_in}
+use Rattle.vcd_engine.specs.Pick.{ArePicked, is_kept, is_of_chosen, names_in}
 use Rattle.vcd_engine.specs.declared.item_text.ItemText.{ItemText}
 use Rattle.vcd_engine.specs.declared.task_state.pick.Pick.{Pick}
-use Rattle.vcd_engine.proofs.ItemTextLemmas.{section_is}
-
-and_swap : (a b : Bool) → (a && b) ≡ (b && a)
-and_swap true true = refl
-and_swap true false = refl
-and_swap false true = refl
-and_swap false false = refl
-
--- the variables of a code are events where the header says so
-pub event_is : (v : HeadView) (h : Header) (place : ℕ) (c : IdCode) → Views (parts v) h → slice_get h.codes place ≡ Some c → is_event_at v place ≡ c.event
-event_is v h place c views declared = let m = code_at (parts v).text (parts v).codes h.codes place c views.codes declared in rw m.1 m.2.event_is
+use Rattle.vcd_engine.proofs.ItemTextLemmas.{may_is}
 
 module _ (v : HeadView) (h : Header) (items : List BodyItem) (before : Regs) (p : Pick) (views : Views (parts v) h) (known : AreRegsAfter items before) (is : ArePicked p h items) where
   -- the item is kept where the definitions keep it
   pub kept_is : (text : List ℕ) (item : Item) (x : BodyItem) → IsItem h.codes text item x → is_kept p.flags.now v (regs_after before item) item ≡ keeps (picked_by h (names_in p)) items x
-  kept_is text (Time t) x e = rw e refl
-  kept_is text (Begin s) x e = rw e refl
-  kept_is text End x e = rw e refl
-  kept_is text (Change place form) x e =
-      rw (e.2, is.chosen place e.0 e.1, section_is items before known, event_is v h place e.0 views e.1, and_swap (leaves_open items) e.0.event) refl
-  kept_is text Finish x e = absurd e
+  kept_is text item x e = ap₂ (λ p q. p && q) (chosen_is item x e) (may_is v h items before text item x views known e)
+    where
+      chosen_is : (i : Item) (y : BodyItem) → IsItem h.codes text i y → is_of_chosen p.flags.now i ≡ picked_by h (names_in p) (entry_after items y)
+      chosen_is (Time t) y e = rw e refl
+      chosen_is (Begin s) y e = rw e refl
+      chosen_is End y e = rw e refl
+      chosen_is (Change place form) y e = rw e.2 (is.chosen place e.0 e.1)
+      chosen_is Finish y e = absurd e
 
   -- and then the time is that of all items before it
   pub kept_time : (item : Item) → is_kept p.flags.now v (regs_after before item) item ≡ true → (regs_after before item).time ≡ time_after items
@@ -55,13 +44,6 @@ module _ (v : HeadView) (h : Header) (items : List BodyItem) (before : Regs) (p 
 
 -- ---- the kept entries
 
--- with one item more
-kept_more : (h : Header) (names : List (List ℕ)) (items : List BodyItem) (x : BodyItem) (k : Bool) → keeps (picked_by h names) items x ≡ k → pick_kept h names (items ++ x ∷ []) ≡ pick_kept h names items ++ cond k (entry_after items x ∷ []) []
-kept_more h names items x k e =
-    ap (kept_by (picked_by h names)) (entries-append items (x ∷ []))
-    ∙ kept_by-append (picked_by h names) (entries items) (entry_after items x ∷ [])
-    ∙ ap (λ (b : Bool). pick_kept h names items ++ cond b (entry_after items x ∷ []) []) e
-
 -- the time that was written last tells of the time of all items
 pub last_tells : (h : Header) (names : List (List ℕ)) (items : List BodyItem) (t : ℕ) → t ≡ time_after items → LastTells (times_with [] (pick_kept h names items)) t
 last_tells h names items t e =
@@ -69,33 +51,25 @@ last_tells h names items t e =
     (time_unless_last (picked_by h names) items)
 
 module _ (h : Header) (names : List (List ℕ)) (items : List BodyItem) (x : BodyItem) where
-  -- a kept item is one more entry
-  pub kept_one : keeps (picked_by h names) items x ≡ true → pick_kept h names (items ++ x ∷ []) ≡ pick_kept h names items ++ entry_after items x ∷ []
-  kept_one k = kept_more h names items x true k
-
-  -- one that is not kept is none
-  pub kept_same : keeps (picked_by h names) items x ≡ false → pick_kept h names (items ++ x ∷ []) ≡ pick_kept h names items
-  kept_same k = kept_more h names items x false k ∙ append-nil (pick_kept h names items)
-
   -- what is due with an entry is due with its item
   pub due_one : (takes : List ℕ → Type 0) → keeps (picked_by h names) items x ≡ true → DueBy takes (text_after [] (pick_kept h names items)) (text_after [] (pick_kept h names items ++ entry_after items x ∷ [])) → DueBy takes (pick_open h names items) (pick_open h names (items ++ x ∷ []))
   unfolding pick_open
   due_one takes k d =
-      (d.0, ap (λ es. head_for h names ++ text_after [] es) (kept_one k) ∙ ap (λ l. head_for h names ++ l) d.1 ∙ sym (append_assoc (head_for h names) (text_after [] (pick_kept h names items)) d.0), d.2)
+      (d.0, ap (λ es. head_for h names ++ text_after [] es) (kept_more (picked_by h names) items x true k) ∙ ap (λ l. head_for h names ++ l) d.1 ∙ sym (append_assoc (head_for h names) (text_after [] (pick_kept h names items)) d.0), d.2)
 
   -- and nothing with an item that is not kept
   pub none_due : keeps (picked_by h names) items x ≡ false → pick_open h names (items ++ x ∷ []) ≡ pick_open h names items ++ []
   unfolding pick_open
-  none_due k = ap (λ es. head_for h names ++ text_after [] es) (kept_same k) ∙ sym (append-nil (pick_open h names items))
+  none_due k = ap (λ es. head_for h names ++ text_after [] es) (kept_same (picked_by h names) items x k) ∙ sym (append-nil (pick_open h names items))
 
 module _ (h : Header) (items : List BodyItem) (p : Pick) (is : ArePicked p h items) (x : BodyItem) where
   -- what is kept after an item that was written
   pub picks_on : (t : ItemText) → keeps (picked_by h (names_in p)) items x ≡ true → HasWritten [] (pick_kept h (names_in p) items ++ entry_after items x ∷ []) t → ArePicked (record { names = p.names; flags = p.flags; text = t }) h (items ++ x ∷ [])
-  picks_on t k w = record { chosen = is.chosen; written = subst (λ (es : List Entry). HasWritten [] es t) (sym (kept_one h (names_in p) items x k)) w }
+  picks_on t k w = record { chosen = is.chosen; written = subst (λ (es : List Entry). HasWritten [] es t) (sym (kept_more (picked_by h (names_in p)) items x true k)) w }
 
   -- and after one that was not
   pub picks_still : keeps (picked_by h (names_in p)) items x ≡ false → ArePicked p h (items ++ x ∷ [])
-  picks_still k = record { chosen = is.chosen; written = subst (λ (es : List Entry). HasWritten [] es p.text) (sym (kept_same h (names_in p) items x k)) is.written }
+  picks_still k = record { chosen = is.chosen; written = subst (λ (es : List Entry). HasWritten [] es p.text) (sym (kept_same (picked_by h (names_in p)) items x k)) is.written }
 
 -- the end of the text closes it
 pub closes : (h : Header) (names : List (List ℕ)) (items : List BodyItem) (last : Option ℕ) → last ≡ last_mark items → closing (times_with [] (pick_kept h names items)) last ≡ pick_close h names items

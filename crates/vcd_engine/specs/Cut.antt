@@ -1,5 +1,5 @@
 -- What `cut` keeps.
-use Rattle.std.specs.Prelude.{◌≡◌, ℕ, ◌≤◌, ◌<◌, ◌⊎◌, nat_le, Bool, true, false, not, ◌&&◌, List, [], ◌∷◌, filter, flat_map, is_some, Result, Ok, Err}
+use Rattle.std.specs.Prelude.{◌≡◌, ℕ, ◌≤◌, ◌<◌, ◌⊎◌, nat_le, true, false, not, List, [], ◌∷◌, filter, flat_map, Result, Ok, Err}
 use Rattle.std.specs.Io.KnownBytes.{Appends}
 use Rattle.vcd_model.specs.Bound.{RoomSize}
 use Rattle.vcd_model.specs.Cut.{ends_cut, is_started, line_if_set, start_section}
@@ -13,10 +13,8 @@ use Rattle.vcd_body.specs.Contents.{bytes_in, codes_in}
 use Rattle.vcd_text.specs.Device.{Device, WritesSome, Takes}
 use Rattle.vcd_view.specs.declared.view.HeadView.{HeadView}
 use Rattle.vcd_body.specs.declared.item.Item.{Item}
-use Rattle.vcd_body.specs.declared.item.Item.TheVariants.{Time, Begin, End, Change, Finish}
-use Rattle.vcd_body.specs.declared.item.Regs.{Regs}
+use Rattle.vcd_body.specs.declared.item.Item.TheVariants.{Time}
 use Rattle.vcd_engine.specs.ItemText.{HasWritten}
-use Rattle.vcd_engine.specs.Pick.{is_event_at}
 use Rattle.vcd_engine.specs.Values.{AreHeld, HasValues}
 use Rattle.vcd_engine.specs.declared.task_state.cut.Cut.{Cut}
 use Rattle.vcd_view.specs.Views.{IsViewOf}
@@ -29,15 +27,6 @@ values_text cs items time = flat_map (λ c. line_if_set c (value_before items c 
 -- the start section of a time was put, of the values of a table
 abbrev pub PutsStart : {A E : Type 0} → HeadView → Table → ℕ → Device → Device → Result A E → Type 0
 PutsStart v t from out out' result = (h : Header) (items : List BodyItem) → IsViewOf v h → HasValues t h (λ c. value_before items c from) → Takes out out' (start_section h from items) result
-
--- an item, after which the registers are these, may be kept: a section's begin or end, or a change
--- that is no event's inside a section
-abbrev pub may_be_kept : HeadView → Regs → Item → Bool
-may_be_kept v r (Time t) = false
-may_be_kept v r (Begin s) = true
-may_be_kept v r End = true
-may_be_kept v r (Change index form) = not (is_some r.section && is_event_at v index)
-may_be_kept v r Finish = false
 
 -- the item is no timestamp
 abbrev pub IsNoTimestamp : Item → Type 0

@@ -44,10 +44,10 @@ pub use Rattle.vcd_body.specs.declared.item.Item.TheVariants.{Finish}
 pub use Rattle.vcd_engine.specs.Ahead.{RunsOver}
 pub use Rattle.vcd_engine.specs.Check.{AreCounted}
 pub use Rattle.vcd_engine.specs.Choice.{is_chosen}
-pub use Rattle.vcd_engine.specs.Cut.{AreCut, BeginsBy, IsNoTimestamp, lent_to, may_be_kept, PutsStart, SameSpan, span_in}
+pub use Rattle.vcd_engine.specs.Cut.{AreCut, BeginsBy, IsNoTimestamp, lent_to, PutsStart, SameSpan, span_in}
 pub use Rattle.vcd_engine.specs.Edges.{AreEdges, AreTallied, change_to, names_counted, room_in_edges, SameEdges}
 pub use Rattle.vcd_engine.specs.Engine.{AtClose, AtItem, CanRun, ClosesOver, CountsStop, HasBegun, Holds, is_going, Keeps, last_of, may_end_early, request_in, request_of, request_of_begun, request_of_engine, Starts, StartsOver, StopsUnread, TakesEach, TakesTime}
-pub use Rattle.vcd_engine.specs.ItemText.{HasWritten, LastTells, PutsEntry, times_with}
+pub use Rattle.vcd_engine.specs.ItemText.{HasWritten, LastTells, may_be_kept, PutsEntry, times_with}
 pub use Rattle.vcd_engine.specs.Leads.{AnySampled, HaveNoLine, IsSelectedAt, LeadOn, rows_on}
 pub use Rattle.vcd_engine.specs.Pick.{ArePicked, flags_in, is_kept, names_in}
 pub use Rattle.vcd_engine.specs.PendingCopy.{pending_in, IsSpanned, IsLine, IsPart, LiesUpTo, PutsBehind, PutsOn, PutsCopy}

@@ -1,10 +1,10 @@
 //! The text of kept items: the line of each, after the line of its time if that is due.
 ghost use Rattle.std.specs.Prelude.{◌≡◌, ℕ, ◌-◌, ◌^◌, ◌<◌, ◌∷◌, [], List, Some, IfOk};
-ghost use Rattle.vcd_engine.specs.Names.{as_line, BodyItem, closing, Counts, Entry, HasGoodText, HasWritten, Header, IsSpanned, IsItem, IsLine, IsPart, IsViewOf, item_line, keyword_text, LastTells, model_section, PutsBehind, PutsEntry, PutsCopy, PutsWhere, section_keyword, TakenBy, Takes, time_due, times_with};
+ghost use Rattle.vcd_engine.specs.Names.{as_line, BodyItem, closing, Counts, Entry, HasGoodText, HasWritten, Header, IsSpanned, IsItem, IsLine, IsPart, IsViewOf, item_line, keyword_text, LastTells, may_be_kept, model_section, PutsBehind, PutsEntry, PutsCopy, PutsWhere, section_keyword, TakenBy, Takes, time_due, times_with};
 
 use crate::pending::{PendingCopy, SpannedItem};
 use crate::task_state::walk::KnownLine;
-use vcd_body::{Id, Item, Section, put_change, put_time_unless};
+use vcd_body::{Id, Item, Regs, Section, put_change, put_time_unless};
 use vcd_text::{Sink, WriteFailed, put};
 use vcd_view::HeadView;
 
@@ -51,6 +51,19 @@ fn put_item<W: Sink>(
             let id = view.text_at(code.start, code.len as usize);
             put_change(code.size, code.event, form, text, Id::Own(id), out)
         }
+    }
+}
+
+/// Returns whether an item may be kept: the begin or end of a section, or a change, unless it is an
+/// event inside a section. `regs` are the registers after the item.
+#[inline(always)]
+pub(crate) fn may_keep(view: HeadView<'_>, regs: Regs, item: Item) -> bool
+    ensures { result ≡ may_be_kept view.entry regs item }
+{
+    match item {
+        Item::Time(_) | Item::Finish => false,
+        Item::Begin(_) | Item::End => true,
+        Item::Change { code, .. } => !(regs.section.is_some() && view.is_event(code)),
     }
 }
 

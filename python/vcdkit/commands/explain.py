@@ -7,8 +7,8 @@ lines are truncated.
 --salvage writes the good part of a faulty dump, which is a dump again: all that is before the
 fault. The line `good until` says up to which time it has all values. That is the last timestamp
 before the fault if the fault is in the next one, and otherwise one tick before it, because what
-follows that timestamp may be incomplete. If the dump has no fault, or if the fault is in the header,
-no file is written.
+follows that timestamp may be incomplete. If the dump has no fault, or if the fault is in the
+header, no file is written.
 
 If NAMEs are given, it also says of each one that selects nothing which paths are near.
 

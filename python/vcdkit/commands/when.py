@@ -2,8 +2,8 @@
 
 The condition is evaluated at the end of each time at which one of its signals changes. If it holds
 at --from, that time is listed too. With --rise, --fall or both, the condition is evaluated at these
-edges of a clock of one bit, with the values just before the time of the edge, which are those that a
-flip-flop takes.
+edges of a clock of one bit, with the values just before the time of the edge: a flip-flop takes
+these.
 
 conditions:
   tb.bus == 0xff   also != < <= > >=; numbers are 0xff, 0b101, 10, -1 and 1.5

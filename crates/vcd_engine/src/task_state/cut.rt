@@ -1,9 +1,9 @@
 //! `cut`: the values before a time, and the items from then up to another time.
 ghost use Rattle.std.specs.Prelude.{◌≡◌, false, ◌≤◌, ◌-◌, ◌^◌, ◌<◌, [], List, true, not, nat_le, nat_lt};
-ghost use Rattle.vcd_engine.specs.Names.{AreCut, AtClose, BeginsAs, BeginsBy, BodyItem, Counts, cut_close, HasGoodText, HasRoomFor, HasValues, Header, IsViewOf, lent_to, may_be_kept, PutsStart, Request, room_size, SameSpan, span_in, StartsOver, Takes, TakesEach, TakesTime, value_before};
+ghost use Rattle.vcd_engine.specs.Names.{AreCut, AtClose, BeginsAs, BeginsBy, BodyItem, Counts, cut_close, HasGoodText, HasRoomFor, HasValues, Header, IsViewOf, lent_to, PutsStart, Request, room_size, SameSpan, span_in, StartsOver, Takes, TakesEach, TakesTime, value_before};
 ghost use Rattle.vcd_engine.specs.declared.task.Task.TheVariants as task;
 
-use crate::item_text::ItemText;
+use crate::item_text::{ItemText, may_keep};
 use crate::pending::{PendingCopy, SpannedItem};
 use crate::task::Room;
 use crate::task_state::last_of;
@@ -46,19 +46,6 @@ fn put_section<W: Sink>(
         }
     }
     put(out, b"$end\n")
-}
-
-/// Returns whether an item is kept: the begin or end of a section, or a change, unless it is an
-/// event inside a section. `regs` are the registers after the item.
-#[inline(always)]
-fn may_keep(view: HeadView<'_>, regs: Regs, item: Item) -> bool
-    ensures { result ≡ may_be_kept view.entry regs item }
-{
-    match item {
-        Item::Time(_) | Item::Finish => false,
-        Item::Begin(_) | Item::End => true,
-        Item::Change { code, .. } => !(regs.section.is_some() && view.is_event(code)),
-    }
 }
 
 impl<'r> Cut<'r> {

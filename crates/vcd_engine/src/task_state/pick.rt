@@ -4,7 +4,7 @@ ghost use Rattle.vcd_engine.specs.Names.{ArePicked, AreRegsAfter, BodyItem, Coun
 ghost use Rattle.vcd_engine.specs.declared.task.Task.TheVariants as task;
 
 use crate::choice::is_chosen;
-use crate::item_text::ItemText;
+use crate::item_text::{ItemText, may_keep};
 use crate::pending::{PendingCopy, SpannedItem};
 use crate::selection::select_codes;
 use crate::task::Room;
@@ -56,19 +56,17 @@ impl<'n, 'r> Pick<'n, 'r> {
         })
     }
 
-    /// Returns whether an item is written: the begin or end of a section, or a change of a chosen
-    /// code, unless it is an event inside a section. `regs` are the registers after the item.
+    /// Returns whether an item is written: one that may be kept, if it is of a chosen code or of
+    /// none. `regs` are the registers after the item.
     #[inline(always)]
     fn keeps(&self, view: HeadView<'_>, regs: Regs, item: Item) -> bool
         ensures { result ≡ is_kept self.now.flags.now view.entry regs item }
     {
-        match item {
-            Item::Time(_) | Item::Finish => false,
-            Item::Begin(_) | Item::End => true,
-            Item::Change { code, .. } => {
-                is_chosen(self.flags, code) && !(regs.section.is_some() && view.is_event(code))
-            }
-        }
+        let chosen = match item {
+            Item::Change { code, .. } => is_chosen(self.flags, code),
+            Item::Time(_) | Item::Begin(_) | Item::End | Item::Finish => true,
+        };
+        chosen && may_keep(view, regs, item)
     }
 
     /// Writes the line of the last timestamp, unless it is written already.

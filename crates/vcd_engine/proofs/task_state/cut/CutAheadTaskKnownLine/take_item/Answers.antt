@@ -3,8 +3,8 @@ use Rattle.vcd_model.specs.Items.{entry_after}
 use Rattle.vcd_body.specs.Items.{regs_after}
 use Rattle.vcd_body.specs.declared.item.Regs.{Regs}
 use Rattle.vcd_body.proofs.Results.{if_ok_more}
-use Rattle.vcd_engine.specs.ItemText.{LastTells, times_with}
-use Rattle.vcd_engine.specs.Cut.{kept_from, may_be_kept}
+use Rattle.vcd_engine.specs.ItemText.{LastTells, may_be_kept, times_with}
+use Rattle.vcd_engine.specs.Cut.{kept_from}
 use Rattle.vcd_engine.proofs.CutLemmas.{due_item, none_due, item_kept, item_passed, item_tells, item_time, kept_is}
 use Rattle.vcd_engine.proofs.PieceLemmas.{none_on}
 use Rattle.vcd_engine.proofs.task_state.cut.CutAheadTaskKnownLine.take_item.Goals as goal
