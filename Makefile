@@ -1,52 +1,51 @@
-# make         proves the program and the crates that it uses, builds it as ./vcdkit and shows it on
-#     a sample dump. A processor that would be idle proves vcd_changes, for make library
-# make CPU=x86-64-v3    the same for a newer processor, whose instructions it may use; such a
-#     program says so and ends where they lack
-# make test    the gate: every proof that no earlier run on this machine passed, must-fail edits,
-#     tests, the program as two compilers build it
-# make hostile runs the program where memory, reads and writes fail, where streams are closed, and
-#     on dumps that are cut off, crafted or made at random: some minutes
-# make docs-check runs the commands that the pages show, over ./vcdkit, and compares what they
-#     print. It looks for links that lead nowhere: seconds
-# make static  links ./vcdkit-static, the program without any shared library: seconds after make
-# make dist    a tarball, Debian packages and a wheel of it in dist/, with documents, man page,
-#     completions, scripts and the Python package; with ./libvcdkit.so too, where it is
-# make library ./libvcdkit.a, ./libvcdkit.so and ./vcdkit.pc, for callers in C and Python: two
-#     to five minutes after make
-# make dist-check          tries them without the kit, and that they come out the same byte for
-#     byte: a minute
-# make clean   drops what was built, and what the proofs kept
-# make install [PREFIX=/usr/local] [DESTDIR=]    puts ./vcdkit, as it was built, completions,
-#     scripts, man pages, Python package (PYTHON_FOLDER=) and documents where they belong, and the
-#     library where there is one
-# make uninstall [PREFIX=..] [DESTDIR=..]        takes them away again
+# make         proves the program and the crates that it uses, builds it as ./vcdkit, and runs it on
+#     a sample. An idle processor proves vcd_changes too, which `make library` needs
+# make CPU=x86-64-v3    the same for newer processors, whose instructions the program may use. On a
+#     processor without them, it says so and ends
+# make test    the gate: every proof that did not pass before on this machine, the must-fail edits,
+#     the tests, and the program as two compilers build it
+# make hostile runs the program while memory, reads and writes fail, with closed streams, and on
+#     dumps that are truncated, crafted or random: some minutes
+# make docs-check runs the commands on the pages with ./vcdkit, and compares what they print with
+#     the pages. It also looks for links that lead nowhere: seconds
+# make static  links ./vcdkit-static, a program that needs no shared library: seconds after make
+# make dist    packs it in dist/ as a tarball, Debian packages and a wheel, with documents, man
+#     page, completions, scripts and the Python package, and with ./libvcdkit.so if it is there
+# make library builds ./libvcdkit.a, ./libvcdkit.so and ./vcdkit.pc, for callers in C and Python:
+#     two to five minutes after make
+# make dist-check          tries what is in dist/ without the kit, and packs it again, which must
+#     give the same bytes: a minute
+# make clean   removes what was built, and what the proofs kept
+# make install [PREFIX=/usr/local] [DESTDIR=]    installs the ./vcdkit that is there, completions,
+#     scripts, man pages, the Python package (PYTHON_FOLDER=) and documents, and the library if it
+#     is there
+# make uninstall [PREFIX=..] [DESTDIR=..]        removes them
 # make completions-check    compares the completions and the man page with the help of ./vcdkit: a
 #     second
-# make extras-check         tries extras/ and python/ with ./vcdkit, also on thousands of random
-#     dumps that other readers read too: two minutes
+# make extras-check         tests extras/ and python/ with ./vcdkit, also on thousands of random
+#     dumps that other readers read as well: two minutes
 
 sample := samples/counter.vcd
 
 .PHONY: all test hostile docs-check clean vcdkit toolchain sources static library dist dist-check \
     install uninstall completions-check extras-check
 
-# The processor that is built for; none for any of x86-64 with SSE4.2.
+# The processor to build for. If it is empty, any x86-64 with SSE4.2 runs the program.
 CPU ?=
 PREFIX ?= /usr/local
 DESTDIR ?=
 bin := $(DESTDIR)$(PREFIX)/bin
 man := $(DESTDIR)$(PREFIX)/share/man/man1
 bash_words := $(DESTDIR)$(PREFIX)/share/bash-completion/completions
-# The folder of zsh for what a package brings is another one on Debian than that for what is
-# installed beside packages.
+# On Debian, zsh has one folder for what packages bring and another one for everything else.
 ZSH_FOLDER ?= $(PREFIX)/share/zsh/$(if $(filter /usr,$(PREFIX)),vendor-completions,site-functions)
 zsh_words := $(DESTDIR)$(ZSH_FOLDER)
 scripts := $(notdir $(wildcard extras/vcdkit-*))
-# Those of the Python package, which are installed as one file under their names.
+# The scripts of the Python package. Under each of their names the same file is installed.
 commands := $(patsubst python/vcdkit/commands/%.py,vcdkit-%, \
     $(filter-out %/__init__.py,$(wildcard python/vcdkit/commands/*.py)))
 commands := $(subst _,-,$(commands))
-# Where the Python package goes: the scripts look there, and where Python finds it.
+# The folder of the Python package. The scripts look there, and then where Python looks.
 PYTHON_FOLDER ?= $(PREFIX)/share/vcdkit/python
 python := $(DESTDIR)$(PYTHON_FOLDER)/vcdkit
 documents := $(DESTDIR)$(PREFIX)/share/doc/vcdkit
@@ -58,7 +57,7 @@ all: vcdkit
 	@echo "Built: ./vcdkit, which needs the C library of this machine." \
 	    "Next: make install, or make static, make dist; ./vcdkit --help"
 
-# The log is begun anew, and prove.py shows how far it is. With no change the program is only run.
+# prove.py starts a new log and shows the progress. If nothing changed, the program is only run.
 vcdkit: toolchain
 	@rm -f make.log
 	packaging/prove.py vcdkit_main run $(addprefix --cpu=,$(CPU)) -- check < $(sample)
@@ -75,13 +74,13 @@ hostile: vcdkit
 	{ [ ! -e libvcdkit.so ] || hostile/library.py ./vcdkit ./libvcdkit.so; }; \
 	status=$$?; rm -f $$devices; exit $$status
 
-# It takes the ./vcdkit that is there, and builds none.
+# It uses the ./vcdkit that is there, and builds nothing.
 docs-check:
 	docs/check.py
 	test ! -d crates || docs/check.py docs/PROOFS.md
 	packaging/links.py .
 
-# Both link and pack what `make` built, and prove nothing.
+# These two link and pack what `make` built. They prove nothing.
 static: sources
 	packaging/static.sh vcdkit-static
 
@@ -89,7 +88,7 @@ dist: sources
 	packaging/static.sh vcdkit-static
 	packaging/dist.sh vcdkit-static dist $(wildcard libvcdkit.so)
 
-# A static library for C, proved as the program is, and the same as a shared one.
+# A static library for C, which is proved like the program, and a shared one of the same code.
 library: toolchain
 	packaging/prove.py vcdkit_c lib
 	PREFIX="$(PREFIX)" packaging/library.sh crates/vcdkit_c/out/libvcdkit_c.a .
@@ -100,7 +99,7 @@ dist-check:
 clean:
 	rm -rf vcdkit vcdkit-static libvcdkit.* vcdkit.pc dist make.log crates/*/out
 
-# A tarball has the built program, and no crates.
+# A tarball contains the built program, and no crates.
 sources:
 	@test -d crates || { echo "make: this folder has the built program, and not its sources:" \
 	    "run make install, or ./vcdkit" >&2; exit 1; }
@@ -110,7 +109,7 @@ toolchain: sources
 	    { echo "make: there is no command rt. It comes with the Rattle kit:" \
 	    "see README.md, \"Set up\"." >&2; exit 1; }
 
-# Nothing is built or proved here, so that no proof runs as root: `make` comes first.
+# This builds and proves nothing, so that no proof runs as root: run `make` first.
 install:
 	@test -x vcdkit || { echo "make: there is no ./vcdkit to install. Run make first." >&2; exit 1; }
 	install -d "$(bin)" "$(man)" "$(bash_words)" "$(zsh_words)" "$(python)/commands"

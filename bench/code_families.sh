@@ -1,8 +1,8 @@
 #!/usr/bin/env bash
-# code_families.sh [CODES ...]   how fast `vcdkit list` of headers with this many codes is (100000
-# and 200000), and `check` with four changes of each, for the families of codes of
-# code_families.py: in ns for each byte of the dump, and over the time of ordinary codes. TMPDIR
-# needs 260 MB.
+# code_families.sh [CODES ...]   measures `vcdkit list` on headers with this many codes (100000 and
+# 200000), and `check` on dumps with four changes of each code, for each family of
+# code_families.py. It prints the time in ns for each byte of the dump, and that time divided by the
+# time for ordinary codes. TMPDIR needs 260 MB.
 set -eu
 here=$(cd "$(dirname "$0")" && pwd)
 sizes=("$@")

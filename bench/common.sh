@@ -1,6 +1,6 @@
-# Sourced by the scripts that measure time: the program under test, a folder that is removed at the
-# end, and how one run is measured. A script sets `here` before, and defines find_command, which
-# sets `command` to the words that run a program.
+# The scripts that measure time source this file. It has the program under test, a folder that is
+# removed at the end, and the way to measure one run. A script sets `here` before that, and defines
+# find_command, which sets `command` to the program and arguments of a run.
 vcdkit=${VCDKIT:-$here/../vcdkit}
 [ -x "$vcdkit" ] || { echo "${0##*/}: there is no program $vcdkit: run make first" >&2; exit 2; }
 
@@ -77,13 +77,13 @@ print_best() {
         }' "$work/written" "$work/times"
 }
 
-# Stops with how the script is used, as its first comment says.
+# Stops, and prints the first comment of the script, which is its usage.
 stop_with_usage() {
     sed -n '2,/^set/s/^# //p' "$0" >&2
     exit 2
 }
 
-# Stops so where a word is no number above 0.
+# Stops with the usage if an argument is not a number above 0.
 need_numbers() {
     local word
     for word in "$@"; do
@@ -91,7 +91,7 @@ need_numbers() {
     done
 }
 
-# Stops so where a word names no file.
+# Stops with the usage if an argument does not name a file.
 need_files() {
     local word
     for word in "$@"; do
@@ -99,7 +99,7 @@ need_files() {
     done
 }
 
-# The greatest time, and the last timestamp of a dump: sets `last`, to 0 where there is none.
+# The greatest time; and a function that sets `last` to the last timestamp of a dump, or to 0.
 greatest=18446744073709551615
 find_last() {
     last=$("$work/vcdkit" check < "$1" | awk '$1 == "last" { print $2 == "-" ? 0 : $2 }')

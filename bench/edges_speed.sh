@@ -1,9 +1,10 @@
 #!/usr/bin/env bash
-# edges_speed.sh [DUMP ...]   how fast `vcdkit edges` is, of one variable (in the middle of `list`)
-# and of all, beside `vcdkit check` and `wc -l` on the same dump, and its peak memory. The dumps
-# are the words, or else plain ones of 200 MB with 64 and with 20000 variables.
+# edges_speed.sh [DUMP ...]   measures the speed and the peak memory of `vcdkit edges`, for one
+# variable (in the middle of `list`) and for all, beside `vcdkit check` and `wc -l` on the same
+# dump. Without arguments it makes two plain dumps of 200 MB, with 64 and with 20000 variables.
 #
-# Before that, the counts of all have to have the paths of `list`. TMPDIR as of pick_speed.sh.
+# Before the measurement, the paths in the output for all variables have to be those of `list`.
+# TMPDIR needs as much as for pick_speed.sh.
 set -eu -o pipefail
 here=$(cd "$(dirname "$0")" && pwd)
 programs=(check 'edges one' 'edges all' 'wc -l')

@@ -1,10 +1,11 @@
 #!/usr/bin/env bash
-# hard_headers.sh [CODES ...]   how fast `vcdkit list`, `check` and `pick` are on headers of this
-# many crafted codes (25000, 100000 and 400000) beside ordinary ones. Crafted: they fall close
-# together in the hash that `indexmap` has without a seed (crafted_codes.py).
+# hard_headers.sh [CODES ...]   measures `vcdkit list`, `check` and `pick` on headers with this many
+# crafted codes (25000, 100000 and 400000), beside headers with ordinary codes. Crafted codes fall
+# close together in the hash that `indexmap` has without a seed (crafted_codes.py).
 #
-# Then `pick` of all variables and of the last one of 1000000 variables 1000 scopes deep, beside
-# `check`; and `pick` of 1000 names of 200000 variables beside that of one. TMPDIR needs 60 MB.
+# Then it measures `pick` of all variables and of the last one of 1000000 variables in 1000 nested
+# scopes, beside `check`; and `pick` of 1000 names among 200000 variables, beside `pick` of one.
+# TMPDIR needs 60 MB.
 set -eu
 here=$(cd "$(dirname "$0")" && pwd)
 sizes=("$@")

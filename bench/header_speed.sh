@@ -1,12 +1,12 @@
 #!/usr/bin/env bash
-# header_speed.sh [VARIABLES ...]   how fast `vcdkit list` and `vcdkit check` read headers of this
-# many variables (10000, 100000 and 1000000), beside `wc -l` on the same file, and their peak
-# memory. It takes two minutes.
+# header_speed.sh [VARIABLES ...]   measures how fast `vcdkit list` and `vcdkit check` read headers
+# with this many variables (10000, 100000 and 1000000), beside `wc -l` on the same file, and their
+# peak memory. It takes two minutes.
 #
-# Headers are of the kinds of header_dump.py, one at a time (40 MB for 1000000 variables in
-# TMPDIR), with no body. `list` has to give a line for each variable, `check` their number. A time
-# for one variable that stays the same from size to size is linear. In `nested` headers a path has
-# 500 scopes on average, so `list` writes 1 KB for a variable.
+# The headers are those of header_dump.py, one at a time (40 MB in TMPDIR for 1000000 variables),
+# without a body. `list` has to write a line for each variable, and `check` their number. If the
+# time for one variable stays the same from size to size, the whole time is linear. In `nested`
+# headers a path has 500 scopes on average, so `list` writes 1 KB for a variable.
 set -eu
 here=$(cd "$(dirname "$0")" && pwd)
 kinds=(ordered shuffled nested)

@@ -1,10 +1,11 @@
 #!/usr/bin/env bash
-# merge_speed.sh [DUMP ...]   how fast `vcdkit merge` of these dumps is (of two plain ones of 200
-# MB, with 64 and with 20000 variables), beside `vcdkit check` of each of them in turn; and of the
-# first one 64 times, where it has at most 20 MB.
+# merge_speed.sh [DUMP ...]   measures `vcdkit merge` of these dumps, beside `vcdkit check` of one
+# after the other. If the first dump has at most 20 MB, it also measures the merge of that dump with
+# itself, 64 times. Without arguments it makes two plain dumps of 200 MB, with 64 and with 20000
+# variables.
 #
-# Printed are the best of three user and system times of both, and the speed of the merge over that
-# of the checks.
+# It prints the best of three user and system times of both, and the speed of the merge divided by
+# that of the checks.
 set -eu -o pipefail
 here=$(cd "$(dirname "$0")" && pwd)
 . "$here/common.sh"

@@ -1,8 +1,8 @@
 #!/usr/bin/env bash
-# bench/peers.sh DUMP..: CPU seconds and peak memory of `vcdkit check` and of other programs that
-# read the whole dump: vcd2fst (GTKWave), which converts it, and wc -w, which counts its words. Of
-# three runs each the one with the least CPU time. VCDKIT names the program, else ./vcdkit. A
-# program that is not there is left out.
+# bench/peers.sh DUMP..   prints the CPU seconds and the peak memory of `vcdkit check` and of other
+# programs that read the whole dump: vcd2fst of GTKWave, which converts it, and wc -w, which counts
+# its words. Of three runs of a program, the one with the least CPU time counts. VCDKIT names the
+# program, else it is ./vcdkit. A program that is not there is left out.
 set -u
 program=${VCDKIT:-$(dirname "$0")/../vcdkit}
 out=$(mktemp) times=$(mktemp)

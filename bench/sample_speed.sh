@@ -1,20 +1,21 @@
 #!/usr/bin/env bash
-# sample_speed.sh [DUMP ...]   how fast `vcdkit sample` is, beside `vcdkit check` and `wc -l` on
-# the same dump, and its peak memory. The dumps are the words, or else plain ones of 200 MB with 64
-# and with 20000 variables.
+# sample_speed.sh [DUMP ...]   measures the speed and the peak memory of `vcdkit sample`, beside
+# `vcdkit check` and `wc -l` on the same dump. Without arguments it makes two plain dumps of 200 MB,
+# with 64 and with 20000 variables.
 #
-# `sample one` is of the variable in the middle of `list` at 1000 times from 0 on, as far apart as
-# the dump has room; `sample all` is of all variables at 10 such times. `sample end` is of all at
-# the greatest time: it keeps each value, and writes it once. Before that, a sample of all has to
-# have a line for each time and each variable that is no event. TMPDIR as of pick_speed.sh.
+# `sample one` samples the variable in the middle of `list` at 1000 times, which are spread over the
+# whole dump; `sample all` samples all variables at 10 such times. `sample end` samples all at the
+# greatest time: it keeps each value, and writes it once. Before the measurement, a sample of all
+# has to have a line for each time and each variable, except events. TMPDIR needs as much as for
+# pick_speed.sh.
 set -eu -o pipefail
 here=$(cd "$(dirname "$0")" && pwd)
 programs=(check 'sample one' 'sample all' 'sample end' 'wc -l')
 . "$here/common.sh"
 need_files "$@"
 
-# This many times with commas between them, from 0 to near the last timestamp, or past it where
-# there are fewer.
+# Prints this many times with commas between them, from 0 to near the last timestamp. If the dump
+# has fewer ticks, the times go past it.
 times_over() {
     local step=$((last / $1))
     [ "$step" -gt 0 ] || step=1
@@ -32,8 +33,7 @@ find_command() {
     esac
 }
 
-# How many variables with values the name `one` selects: more than one where names are declared
-# twice.
+# Counts the variables with values that the name `one` selects: several if a name is declared twice.
 count_one() {
     one=$one LC_ALL=C awk '
         BEGIN { one = ENVIRON["one"] }

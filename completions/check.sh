@@ -1,8 +1,8 @@
 #!/usr/bin/env bash
-# Tries both completions, which take commands, options and their texts from the help of the program
-# and of the scripts, and compares the usage lines, options, faults and statuses of the help with
-# the man page and the manual. zsh is tried if it is installed. Nothing is built: VCDKIT names the
-# program, else ./vcdkit.
+# Tests both completions, which take commands, options and their texts from the help of the program
+# and of the scripts (zsh only if it is installed). It also compares the usage lines, options,
+# faults and statuses in the help with the man page and the manual. It builds nothing: it uses the
+# program that VCDKIT names, or ./vcdkit.
 set -u
 cd "$(dirname "$0")/.."
 program=${VCDKIT:-./vcdkit}
@@ -59,7 +59,7 @@ zsh_options() {
         sed -nE 's/^(\([^)]*\))?(--?[A-Za-z-]+).*/\2/p' | sorted
 }
 manual=$(sed -E ':more; /\\c$/ { N; s/\\c\n//; t more }; s/\\-/-/g; s/\\f[A-Z]//g' man/vcdkit.1)
-# 1 where a line of the man page matches this pattern.
+# Prints 1 if a line of the man page matches this pattern.
 in_manual() { grep -qE -- "$1" <<< "$manual" && echo 1; }
 
 same 'commands, bash' "$help_commands" "$(completed "$program" '' | sorted)"

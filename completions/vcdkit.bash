@@ -1,6 +1,6 @@
-# Completion of vcdkit and its scripts for bash: commands, options, files, and the names of a dump
-# where its file comes before. Source this file, or let `make install` put it where bash-completion
-# finds it.
+# Completion of vcdkit and its scripts for bash: commands, options and files, and the names of a
+# dump if its file comes before them. Source this file, or let `make install` put it where
+# bash-completion finds it.
 
 # _vcdkit_options COMMAND ..: the options that the help of a command shows, a line each, with what
 # comes after it: `--help`, `-i FILE`.

@@ -1,15 +1,16 @@
 #!/usr/bin/env python3
-"""check.py [PAGE..]: runs the commands that the documents show, and compares what they print.
+"""check.py [PAGE..]: runs the commands that the pages show, and compares what they print.
 
-Of each ```console block of the pages for users (DOCUMENTS), each line that begins with `$ ` is run
-by bash in the repository's top folder; the lines below it, up to the next one, are what it prints,
-standard output and error together. A command whose line ends in `\\` continues in the next line,
-one with << 'END' up to the line END. The variable T names an empty folder for the files that a
-document writes; it is removed at the end. A block that begins with ```console PROGRAM .. is passed
-over where one of these programs (or modules of Python) is not there, and the last line says so.
-VCDKIT is ./vcdkit, which `make` leaves there; extras/ is on the PATH, and python/ on PYTHONPATH.
+In each ```console block of the pages for users (DOCUMENTS), bash runs each line that begins with a
+dollar sign and a blank, in the top folder of the repository. The lines below it, up to the next
+command, have to be what it prints, standard output and standard error together. If the line of a
+command ends in `\\`, the command continues in the next line; if it contains << 'END', the command
+ends with the line END. The variable T names an empty folder for the files that a page writes; it is
+removed at the end. If a block begins with ```console PROGRAM .. and one of these programs (or
+modules of Python) is missing, the block is skipped, and the last line of the output says so. VCDKIT
+is the ./vcdkit that `make` leaves; extras/ is on the PATH, and python/ on PYTHONPATH.
 
-The exit status is 0 where all is as written, 1 where some output differs, 2 where there is no
+The exit status is 0 if everything is as written, 1 if some output differs, and 2 if there is no
 ./vcdkit."""
 import difflib
 import importlib.util
@@ -21,7 +22,7 @@ import tempfile
 
 TOP = os.path.dirname(os.path.dirname(os.path.abspath(__file__)))
 DOCUMENTS = ["README.md", "docs/TUTORIAL.md", "docs/FAQ.md", "docs/MANUAL.md", "docs/RECIPES.md",
-             "docs/PRODUCERS.md", "extras/README.md", "python/README.md"]
+             "docs/PRODUCERS.md", "extras/README.md"]
 SECONDS = 60
 
 
@@ -86,7 +87,7 @@ def main(documents):
                                                      lineterm="", n=1):
                         print("    " + line)
     print("%d commands, %d differ" % (run, differ)
-          + ("; those that need %s were passed over" % ", ".join(sorted(missing))) * bool(missing))
+          + ("; those that need %s were skipped" % ", ".join(sorted(missing))) * bool(missing))
     return 1 if differ or not run else 0
 
 

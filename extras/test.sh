@@ -1,7 +1,8 @@
 #!/usr/bin/env bash
-# Tries the Python package and the scripts on samples/ and on small dumps. Nothing is built: VCDKIT
-# names the program, else ./vcdkit. extras/test.sh DUMP..: also on these dumps, by what must hold of
-# any. Where `make library` has left ./libvcdkit.so, the package is tried over that too.
+# Tests the Python package and the scripts on samples/ and on small dumps. It builds nothing: it
+# uses the program that VCDKIT names, or ./vcdkit. extras/test.sh DUMP.. also checks on these dumps
+# what must hold for any dump. If `make library` has left ./libvcdkit.so, it tests the package with
+# that as well.
 set -u
 cd "$(dirname "$0")/.."
 export VCDKIT=${VCDKIT:-./vcdkit} LC_ALL=C PYTHONDONTWRITEBYTECODE=1
@@ -527,8 +528,8 @@ same 'vcdkit-explain: damaged in the body' \
     "$(helped "$folder/body.vcd")"
 same 'vcdkit-explain: no such file' 3 "$(explained "$folder/none.vcd" able)"
 
-# What each does with no help, with a word too many, and where there is no program, package or
-# reader.
+# What each script does with --help, with a bad option, without the program or the package, and with
+# a device that is full.
 for script in extras/vcdkit-*; do
     name=${script##*/}
     same "$name --help" "0 1" \
@@ -567,8 +568,8 @@ times_of() {
         body && NF == 2 && /^[bBrR]/ && $2 == code { print time + 0 }'
 }
 
-# Three callers in C, under the sanitizers, and the package for Python, where `make library` has
-# left the library, and there is a C compiler.
+# Three callers in C, with the sanitizers, if `make library` has left the library and there is a C
+# compiler.
 if [[ -e libvcdkit.a && -e libvcdkit.so ]] && command -v cc > /dev/null; then
     for caller in report window changes; do
         cc -std=c99 -g -Wall -Wextra -Werror -fsanitize=address,undefined \

@@ -1,4 +1,4 @@
-"""Small dumps, and a command on each, that between them use every part of the program."""
+"""Small dumps, each with a command. Together they use every part of the program."""
 
 A = (b"$timescale 1ns $end\n$scope module tb $end\n$var wire 1 ! clk $end\n"
      b"$var reg 4 \" q [3:0] $end\n$upscope $end\n$enddefinitions $end\n")

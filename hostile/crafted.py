@@ -1,10 +1,9 @@
 #!/usr/bin/env python3
-"""crafted.py PROGRAM [PART..]     PART is limits, edges, garbage or declarations; all where none is
-named
+"""crafted.py PROGRAM [PART..]     PART is limits, edges, garbage or declarations; without one, all
 
-Runs the program on crafted dumps and command lines. What it writes has to be what the evaluator
-says; over command lines at random it has to end with a status of 0 to 3. `declarations` takes 1 GB
-of memory."""
+Runs the program on crafted dumps and command lines. It has to write what the evaluator gives. On
+random command lines it has to end with an exit status of 0 to 3. `declarations` takes 1 GB of
+memory."""
 import os, random, subprocess, sys, tempfile
 from concurrent.futures import ProcessPoolExecutor
 
@@ -125,8 +124,8 @@ PHRASES = [b"#5", b"1!", b"b" + b"0" * 40 + b"1x" + b" \"", b"b1 \"", b"r1.5 &",
 
 
 def edge(program, offset, white):
-    """What is wrong where the items begin at this offset from the end of the first chunk, with this
-    white byte after each token."""
+    """Returns what is wrong if the items begin at this offset from the end of the first chunk, with
+    this white byte after each token."""
     body = b"".join(token + white for phrase in PHRASES for token in phrase.split())
     start = HEAD + b"$comment \n\n "
     text = start + b"z" * (CHUNK + offset - len(start)

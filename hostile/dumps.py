@@ -1,4 +1,4 @@
-"""Random small dumps: most are good, some have faults, and all kinds of texts are among them."""
+"""Random small dumps with all kinds of texts: most are good, and some have faults."""
 import random
 
 CODES = [b"!", b'"', b"#", b"%", b"$end", b"!!", b"abcdefgh", b"0", b"~~"]

@@ -1,9 +1,9 @@
-"""What vcdkit is to write, by its definitions (docs/DEFINITIONS.md), over whole dumps. It is plain
-and slow, and shares nothing with the program: it reads a dump as a list of tokens and looks back in
-lists.
+"""What vcdkit has to write, by its definitions (docs/DEFINITIONS.md), over whole dumps. This
+evaluator is plain and slow, and shares nothing with the program: it reads a dump as a list of
+tokens and looks back in lists.
 
-run(command, options, names, inputs, limit) gives (output, message, status), all bytes but the
-status. An input is its bytes."""
+run(command, options, names, inputs, limit) returns (output, message, status). All of them except
+the status are bytes, and an input is its bytes."""
 
 WHITE = b" \t\n\v\f\r"
 TEXTS = {
@@ -282,7 +282,7 @@ def item_line(item, codes, rename=lambda c: c):
 
 
 def kept_text(kept, lines_before):
-    """Lines after the line of their time, where no earlier one has that time."""
+    """Returns lines after the line of their time, unless an earlier one has that time."""
     text, times = b"", list(lines_before)
     for time, line in kept:
         if time not in times:
@@ -529,7 +529,7 @@ def in_ticks(moment, scale, up):
 
 
 def refused(moments, ticks, name):
-    """The line and status where some time has no ticks, a missing scale first."""
+    """Returns line and status if some time has no ticks; a missing scale comes first."""
     numbers = [t.number for t in ticks if isinstance(t, Fault)]
     if 12 in numbers:
         return b"", b"vcdkit: " + name + b": no timescale\n", 1
@@ -538,7 +538,7 @@ def refused(moments, ticks, name):
 
 
 def options_of(command, options, head, name):
-    """The times in ticks; or the result where they are refused."""
+    """Returns the times in ticks; or the result if they are refused."""
     units = any(m[1] is not None for m in options)
     ticks = [in_ticks(m, head.scale, command == "cut" and i == 0) for i, m in enumerate(options)]
     result = refused(options, ticks, name)

@@ -1,27 +1,27 @@
 #!/usr/bin/env python3
 """hostile.py PROGRAM DEVICES PART..     PART is memory, large, devices, cut_off or pipes;
-COMMANDS=check,list takes the cases of these alone
+COMMANDS=check,list takes only the cases of these commands
 
-Runs the program where memory is refused, where its devices fail or give little, and on dumps that
-are cut off after each byte. What it writes has to be what the evaluator says. DEVICES is devices.c,
-built as a shared library.
+Runs the program while memory is refused, while its devices fail or transfer only a few bytes, and
+on dumps that are cut off after each byte. It has to write what the evaluator gives. DEVICES is
+devices.c, built as a shared library.
 
-memory   refuses each request of a run in turn: no output, the line `vcdkit: out of memory` and
-         status 3; or the whole outcome, if a library asked for more than it needs, and if the
-         request is for the key of a code that was declared with another size. A body with
-         5,000 comments after it makes as many requests, of as many bytes, as one with five. All
-         requests are below a bound: the windows, four times what is kept of the headers, and 64 KB
-         for the command line and the buffer of the output.
-large    the whole outcome, and the same bound.
-devices  Reads and writes give or take 1, 2, 3, 5 or 7 bytes a call: the whole outcome. Read number
-         1, 2, 3, .. of an input fails, of a file and of standard input: the outcome of the bytes
-         given until then. Write number 1, 2, 3, .. to standard output fails: a prefix of the
-         output, and the write line; to the error stream: a prefix of the message, and the same
-         status. A signal interrupts call number 1 to 5 of each: the whole outcome, since the call
-         is made again.
-cut_off  reads each dump by whole chunks and byte by byte.
-pipes    `pick`, `cut`, `sample` and `merge` read pipes that get one line at a time: what is due by
-         the lines so far has come before the next line is given, and no more has."""
+memory   Each request of a run is refused in turn. The run must end without output, with the line
+         `vcdkit: out of memory` and status 3. It may also give the whole outcome, if a library
+         asked for more than it needs, or if the request is for the key of a code that was declared
+         with another size. A dump with 5,000 comments at its end makes as many requests, of as many
+         bytes, as one with five. All requests together stay below a bound: the windows, four times
+         what is kept of the headers, and 64 KB for the command line and the buffer of the output.
+large    There is plenty of memory: the whole outcome, below the same bound.
+devices  Each read and write transfers 1, 2, 3, 5 or 7 bytes: the whole outcome. Read number 1, 2,
+         3, .. of a file or of standard input fails: the outcome of the bytes until then. Write
+         number 1, 2, 3, .. to standard output fails: a prefix of the output, and the line about
+         the write. The same for standard error: a prefix of the message, and the same status. A
+         signal interrupts call number 1 to 5 of each: the whole outcome, since the call is made
+         again.
+cut_off  Each dump is read in whole chunks and byte by byte.
+pipes    `pick`, `cut`, `sample` and `merge` read pipes that get one line at a time. Before the next
+         line is given, all output that the lines so far determine has come, and no more."""
 import os, select, subprocess, sys, tempfile, time
 from concurrent.futures import ThreadPoolExecutor
 from itertools import zip_longest
@@ -95,7 +95,7 @@ def bound(inputs, limit=1_048_576):
 
 
 def too_much(case, asked):
-    """What to say where a run asks for more bytes than it may."""
+    """Returns what to say if a run asks for more bytes than it may."""
     most = bound(case.inputs)
     return [say(case, "bytes asked for in all", "at most %d" % most, asked)] if asked > most else []
 
@@ -118,8 +118,8 @@ def memory(place, case):
     yield from too_much(case, asked)
     got = [place.run(case, files, refuse=n) for n in range(1, requests + 1)]
     for n in range(requests):
-        # A library sometimes asks for more than it needs, or to give some back, and continues
-        # where that is refused.
+        # A library sometimes asks for more than it needs, or to give some back, and continues if
+        # that is refused.
         if got[n] not in ((b"", b"vcdkit: out of memory\n", 3), whole):
             yield say(case, "request %d of %d refused" % (n + 1, requests), whole, got[n])
     # The last three are for the code as a key, for the variable's type, and for the key again.
@@ -172,7 +172,7 @@ def devices(place, case):
         for call in range(1, len(want[0]) + 3):
             runs += 1
             out, message, status = place.run(case, files, write_most=most, write_fails=call)
-            # Where a write brings less, as one before a read may, there are more of them.
+            # If a write brings less, as one before a read may, there are more of them.
             got = out, message, status
             whole = call > -(-len(want[0]) // most) and got == want
             line = b"" if whole or want[2] == 3 else b"vcdkit: write failed\n"

@@ -1,9 +1,9 @@
 #!/usr/bin/env python3
 """library.py PROGRAM LIBRARY [--runs N] [--seed S]
 
-Runs random command lines over random dumps through libvcdkit beside the program, and compares
-output, message and status; and the changes of each code, by arrays of random lengths, with those
-that the evaluator reads."""
+Runs random command lines over random dumps with libvcdkit and with the program, and compares
+output, message and status. It also reads the changes of each code, with arrays of random lengths,
+and compares them with those that the evaluator reads."""
 import argparse, ctypes, os, random, subprocess, sys, tempfile
 from concurrent.futures import ThreadPoolExecutor
 
@@ -45,7 +45,7 @@ class Library:
         self.c.vcdkit_run.restype = self.c.vcdkit_changes.restype = ctypes.c_uint8
 
     def run(self, words, given, files, seed, room):
-        """Status, output and message; the front of the output alone where there is less room."""
+        """Returns status, output and message; if there is less room, the front of the output."""
         size = ctypes.c_size_t
         out, err = ctypes.create_string_buffer(max(room, 1)), ctypes.create_string_buffer(1 << 16)
         used, said = ctypes.c_uint64(), ctypes.c_uint64()
@@ -102,7 +102,7 @@ def codes_in(dump):
 
 
 def differs(program, library, folder, seed):
-    """What is not the same, in words; none where all is."""
+    """Returns what is not the same, in words, or nothing."""
     r = random.Random(seed)
     words, given, _, _ = case(seed, COMMANDS, folder)
     files = {}

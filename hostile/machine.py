@@ -1,14 +1,16 @@
 #!/usr/bin/env python3
 """machine.py PROGRAM DEVICES
 
-Runs the program on what only a machine has: files that cannot be read, words that are no text, no
-random numbers, no memory for words; and on the command lines of the stored runs, of which the gate
-does not compare the error stream. DEVICES is devices.c, built as a shared library.
+Runs the program on what only a machine has: files that cannot be read, arguments that are not
+UTF-8, no random numbers, no memory for arguments. It also runs the command lines of the stored
+runs, because the gate does not compare their error streams. DEVICES is devices.c, built as a shared
+library.
 
-Each case is also run with 112 KB of stack (`ulimit -s 112`): the whole outcome. And it is run with
-each size of memory, in steps of 16 KB (`ulimit -v`), from the least one with which the loader comes
-to the program up to the first with which the run ends as it has to. With each size below that one
-there is no output, the line `vcdkit: out of memory` and status 3: no signal ends the program."""
+Each case is also run with 112 KB of stack (`ulimit -s 112`), and has to give the whole outcome.
+Then it is run with limited memory (`ulimit -v`), in steps of 16 KB, from the least size with which
+the loader reaches the program up to the first size with which the run gives its outcome. With each
+size below that, there must be no output, the line `vcdkit: out of memory` and status 3: no signal
+ends the program."""
 import os, sys, tempfile
 from functools import partial
 
@@ -32,7 +34,7 @@ STEP = 16
 DEEP = b"".join(b"$scope module s $end $var wire 1 v%d v $end\n" % n for n in range(1000)) + (
     b"$enddefinitions $end\n#0\n1v0\n#7\n0v999\n")
 DEEP_NAMES = [b"s." * 1 + b"v", b"s." * 500 + b"v", b"s." * 998 + b"s"]
-# The cases of the stack and of memory: those of all commands, and with names where one takes any.
+# The cases for the stack and for memory: those of all commands, and some with names.
 LIMITED = CASES + [
     Case("pick_names", "pick", [A + b"#0\n1!\nb1 \"\n"], names=[b"tb.clk", b"tb.q"] * 40),
     Case("pick_deep", "pick", [DEEP], names=DEEP_NAMES),

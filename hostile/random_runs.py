@@ -1,7 +1,8 @@
 #!/usr/bin/env python3
 """random_runs.py PROGRAM [--runs N] [--seed S] [--commands a,b]
 
-Runs the program on random dumps, and compares output, message and status with the evaluator's."""
+Runs the program on random dumps, and compares output, message and status with those of the
+evaluator."""
 import argparse, os, random, subprocess, sys, tempfile
 from concurrent.futures import ThreadPoolExecutor
 

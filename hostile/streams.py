@@ -2,17 +2,17 @@
 """streams.py PROGRAM
 
 Runs the program while standard streams are closed, while its output fails, and on inputs that are
-no plain files. What it leaves has to be what the evaluator says.
+not plain files. It has to leave what the evaluator gives.
 
-closed     Standard input, output and the error stream are closed, one, two or all of them: no file
-           takes their place. A read of standard input fails, a write of output fails, a message is
-           lost, and the status is as it would be with it.
-failing    The reader of the output has ended, or the device of the output is full; a limit on the
-           size of files (`ulimit -f`) ends the program by a signal, or, if that is ignored, lets
-           the write fail. What was written before begins the output.
+closed     One, two or all of the standard streams are closed: no file takes their place. A read of
+           standard input fails, a write to standard output fails, and a message is lost, but the
+           exit status is the same as with it.
+failing    The reader of the output has ended, or the device of the output is full. A limit on the
+           size of files (`ulimit -f`) ends the program with a signal, or, if that is ignored, makes
+           the write fail. What was written before is the beginning of the output.
 one stream Standard input has no bytes yet and does not wait. `-` comes twice. Two names are one
            FIFO. A file grows while it is read.
-many       64 files at a token limit of 16 MB, if 4 GB of memory are free."""
+many       64 files have a token limit of 16 MB, if 4 GB of memory are free."""
 import fcntl, os, struct, subprocess, sys, tempfile, termios, time
 from contextlib import contextmanager
 from functools import partial

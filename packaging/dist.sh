@@ -1,16 +1,16 @@
 #!/usr/bin/env bash
-# dist.sh PROGRAM FOLDER [LIBRARY]: packs a program, with documents, man page, completions, samples,
-# extras and the Python package, into the folder:
+# dist.sh PROGRAM FOLDER [LIBRARY]: packs a program with documents, man page, completions, samples,
+# scripts and the Python package, and writes to the folder:
 #   vcdkit-VERSION-x86_64-linux.tar.gz   to unpack and run, or `make install` in it
-#   vcdkit_VERSION_amd64.deb             a Debian package of the program, where there is dpkg-deb
+#   vcdkit_VERSION_amd64.deb             a Debian package of the program, if there is dpkg-deb
 #   python3-vcdkit_VERSION_*.deb         one of the Python package and of vcdkit-diff, ..
 #   vcdkit-VERSION-py3-none-linux_x86_64.whl    all of it for pip, the program too
-#   vcdkit-VERSION-relink.tar.gz         the object files, for who wants to link the program with
+#   vcdkit-VERSION-relink.tar.gz         the object files, for linking the program again with
 #                                        another C library (NOTICE.md)
-# LIBRARY is libvcdkit.so, which goes into the Python packages, and with what `make library` left
-# beside it into the tarball. The same files give the same bytes: names are sorted, owner and
-# modes fixed, and all times are SOURCE_DATE_EPOCH, else that of the last commit. MAINTAINER is who
-# is named in the Debian packages, else the author of that commit.
+# LIBRARY is libvcdkit.so. It goes into the Python packages, and, with what `make library` left
+# beside it, into the tarball. The same files give the same bytes: names are sorted, owner and modes
+# are fixed, and all times are SOURCE_DATE_EPOCH, or the time of the last commit. MAINTAINER is the
+# name in the Debian packages; without it, the author of that commit is named.
 set -eu
 [[ $# == 2 || $# == 3 ]] || { sed -n '2,/^set/s/^# //p' "$0"; exit 2; }
 top=$(cd "$(dirname "$0")/.." && pwd)
@@ -116,12 +116,12 @@ Priority: optional
 Recommends: python3-vcdkit
 Suggests: gtkwave, pv
 Description: value change dumps (VCD): check, list, pick, cut, sample, edges, merge
- Seven commands over the dumps of simulators. Memory does not grow with the
- length of a dump. The answers are proved; README.md says what of it is, and
- what is not.
+ Seven commands that check the dumps of simulators, cut parts out of them and
+ answer questions about their values. The memory that they take does not grow
+ with the length of a dump. README.md says what is proved, and what is not.
 END
-    # Python is no dependency, so that dpkg -i installs both packages on a machine without it: the
-    # scripts then say that they lack it.
+    # Python is not a dependency, so that dpkg -i installs both packages on a machine without it.
+    # The scripts then say that it is missing.
     mkdir -p "$python/usr/share/lintian/overrides"
     printf 'python3-vcdkit: %s\n' python3-script-but-no-python3-dep \
         > "$python/usr/share/lintian/overrides/python3-vcdkit"
@@ -137,14 +137,15 @@ Depends: vcdkit (= $version)$depends
 Recommends: python3 (>= 3.8), python3-numpy
 Suggests: gtkwave, zstd
 Description: value change dumps (VCD) in Python, and commands over them
- The Python package vcdkit, which asks the program vcdkit or its library, and
- commands over it: vcdkit-diff, vcdkit-explain, vcdkit-find, vcdkit-info,
- vcdkit-stats, vcdkit-table, vcdkit-values, vcdkit-wave, vcdkit-when and
- vcdkit-x. They need Python 3.8, and are tested, and not proved.
+ The Python package vcdkit, which gets its answers from the program vcdkit or
+ its library, and the commands of the package: vcdkit-diff, vcdkit-explain,
+ vcdkit-find, vcdkit-info, vcdkit-stats, vcdkit-table, vcdkit-values,
+ vcdkit-wave, vcdkit-when and vcdkit-x. They need Python 3.8. They are tested,
+ not proved.
 END
 fi
 
-# What a new link takes.
+# What is needed to link the program again.
 relink=vcdkit-$version-relink
 mkdir "$folder/$relink"
 cp crates/vcdkit_main/out/vcdkit_main.o "$kit/c/libos_c.a" "$kit/c/liblibc_c.a" NOTICE.md \

@@ -1,9 +1,9 @@
 #!/bin/sh
-# library.sh ARCHIVE FOLDER: makes of a static library of rt, for callers in C:
-#   libvcdkit.a      with what it is linked with, the C archives of the kit
+# library.sh ARCHIVE FOLDER: makes these files from a static library of rt, for callers in C:
+#   libvcdkit.a      the library with the C archives of the kit that it needs
 #   libvcdkit.so.0   the same as a shared library; libvcdkit.so is a link to it
 #   vcdkit.pc        for pkg-config, with the folders of PREFIX (/usr/local)
-# Both libraries export the functions that extras/c/vcdkit.h declares, and no other name.
+# Both libraries export only the functions that extras/c/vcdkit.h declares.
 set -eu
 [ $# = 2 ] || { sed -n '2,/^set/s/^# //p' "$0"; exit 2; }
 if [ -z "${KIT:-}" ]; then

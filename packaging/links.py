@@ -2,8 +2,8 @@
 """links.py FOLDER: looks for the target of each link of the pages (*.md) below a folder, and for
 the heading that it names.
 
-It prints each link that leads nowhere, or out of the folder; links to the web are passed over. The
-status is 0 where there is none."""
+It prints each link that leads nowhere or out of the folder. It ignores links to the web. The status
+is 0 if there is no such link."""
 import os
 import re
 import sys

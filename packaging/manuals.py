@@ -1,9 +1,9 @@
 #!/usr/bin/env python3
-"""manuals.py FOLDER SCRIPT..: writes a man page of each script into the folder, made of its --help.
+"""manuals.py FOLDER SCRIPT..: writes a man page for each script to the folder, from its --help.
 
-A help has blocks between empty lines: the usage, what whatis shows, and then text, or options,
-examples and the like below small letters with a colon. A script that cannot run here gets no page:
-its message says why."""
+A help consists of blocks with empty lines between them: first the usage, then the line that whatis
+shows. A later block is text, or it has a heading in small letters with a colon, such as options or
+examples. A script that cannot run here gets no page: its message says why."""
 import itertools
 import os
 import re

@@ -1,14 +1,14 @@
 #!/bin/sh
-# pages.sh FOLDER: copies the pages for users and the samples into the folder. Links to what stays
-# in the repository, such as the pages for developers, become plain text.
+# pages.sh FOLDER: copies the pages for users and the samples into the folder. Links to pages that
+# only the repository has, such as those for developers, become plain text.
 set -eu
 [ $# = 1 ] || { sed -n '2,/^set/s/^# //p' "$0"; exit 2; }
 cd "$(dirname "$0")/.."
-mkdir -p "$1/docs" "$1/samples" "$1/extras" "$1/python"
+mkdir -p "$1/docs" "$1/samples" "$1/extras"
 inner='ARCHITECTURE|AUDIT|DEFINITIONS|PROOFS|DECISIONS|PERFORMANCE|OWN_CRATES|CONTRIBUTING|STYLE'
 inner="$inner|bench/README|hostile/README|crates/[a-z_]*/README"
 for page in README.md CHANGELOG.md NOTICE.md docs/TUTORIAL.md docs/FAQ.md docs/MANUAL.md \
-    docs/RECIPES.md docs/PRODUCERS.md extras/README.md python/README.md; do
+    docs/RECIPES.md docs/PRODUCERS.md extras/README.md; do
     sed -E "s,\[([^][]+)\]\([^()]*($inner)\.md[^()]*\),\1,g" "$page" > "$1/$page"
     chmod 644 "$1/$page"
 done

@@ -2,17 +2,17 @@
 """prove.py CRATE COMMAND [WORD ..]: proves each crate below crates/CRATE, runs
 `rt COMMAND WORD ..` in it, and shows how far it is.
 
-Crates that do not need each other are proved at the same time, on as many processors as there are,
-and as 4 GB of available memory for each allow. A processor that would be idle proves a crate of the
-library meanwhile (BESIDE). rt locks the folders of a crate and of those below it while it works. So
-what is proved beside another crate is proved in a copy in the temporary folder (TMPDIR), most of it
+Crates that do not need each other are proved at the same time: one for each processor, if there are
+4 GB of available memory for each. An idle processor proves a crate of the library (BESIDE). While
+rt works, it locks the folders of a crate and of those below it. So a crate that is proved at the
+same time as another one is proved in a copy in the temporary folder (TMPDIR). Most of the copy is
 links, and what rt built and kept there is moved back.
 
-What rt and the prover write goes to the file make.log of the top folder, with what the program
-writes, each line after its crate's name. The screen has a line for each crate that was proved:
-'crate k of n, NAME: so many functions proved, so many minutes'; on a terminal also a line that says
-what is being proved. Standard input is handed on. The first failure ends the other proofs: the exit
-status is that of rt, and the last lines of that crate are shown."""
+What rt, the prover and the program write goes to the file make.log in the top folder; each line
+begins with the name of its crate. The screen shows a line for each crate that was proved: 'crate k
+of n, NAME: so many functions proved, so many minutes'. A terminal also shows what is being proved.
+The program gets the standard input. The first failure ends the other proofs: then the last lines of
+that crate are shown, and the exit status is that of rt."""
 import collections
 import os
 import queue
@@ -31,11 +31,12 @@ LAST_LINES = 20
 MEMORY_EACH = 4_000_000_000
 # rt replaces files with these ends and writes to none, so a copy may have links to them.
 LINKED = (".oantt", ".a")
-# Each process of a proof loads the crates below again. Where this is most of the work, one is
-# faster: it proves vcd_program in 121 s of processor, and four take 265.
+# Each process of a proof loads the crates below again. If that is most of the work, one process is
+# faster: it proves vcd_program in 121 s of processor time, and four processes take 265 s.
 BY_ONE = ("vcd_program",)
-# Proved with a crate that does not need them, by one process where a processor would be idle: the
-# last crates of the program leave three of four idle, and `make library` then has one crate left.
+# Crates that one process proves at the same time as a crate that does not need them. The last
+# crates of the program leave three of four processors idle, and `make library` then has one crate
+# left.
 BESIDE = {"vcdkit_main": ("vcd_changes",)}
 SOURCES, BUILT, KEPT = ("src", "specs", "proofs"), "out/rlib", "out/incremental"
 SO_FAR = re.compile(r"so far: (\d+) of (\d+) functions")
@@ -89,7 +90,7 @@ def is_built(crates, crate):
 
 
 def copied(crates, part, to):
-    """Copies a part of these crates, where they have it, below another top folder."""
+    """Copies a part of these crates, if they have it, to another top folder."""
 
     def copy(one, other):
         if one.endswith(LINKED):
@@ -109,8 +110,8 @@ class Run:
     """rt at work in a crate: its lines are put into a queue, and None after the last."""
 
     def __init__(self, crate, words, said, jobs, below=None, **how):
-        """With the crates below it rt works in a copy of these crates, else where they lie. It has
-        as many processes at work as jobs says."""
+        """If `below` names the crates below it, rt works in a copy of these crates, or else in the
+        crates themselves. It runs as many processes as `jobs` says."""
         self.crate, self.jobs, self.room, self.began = crate, jobs, None, time.monotonic()
         self.so_far, self.functions = "", None
         self.last = collections.deque(maxlen=LAST_LINES)

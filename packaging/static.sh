@@ -1,8 +1,9 @@
 #!/bin/sh
-# static.sh PROGRAM: links the program that `make` built once more, as one that needs no shared
-# library. Nothing is proved or compiled here: it takes the object file that rt compiled from what
-# was proved, the two C archives of the kit that rt links too, and the static C library of this
-# machine (Debian: libc6-dev). CC names the linking compiler; KIT the kit, else that of rt.
+# static.sh PROGRAM: links the program that `make` built again, as one that needs no shared library.
+# It proves and compiles nothing. It links the object file that rt compiled from what was proved,
+# the same two C archives of the kit that rt links, and the static C library of this machine
+# (Debian: libc6-dev). CC names the compiler that links. KIT names the kit; without it, that of rt
+# is used.
 set -eu
 [ $# = 1 ] || { sed -n '2,/^set/s/^# //p' "$0"; exit 2; }
 top=$(cd "$(dirname "$0")/.." && pwd)

@@ -1,8 +1,8 @@
 #!/usr/bin/env bash
-# try_dist.sh FOLDER: tries what dist.sh left in the folder, on a path without the kit: that all
-# checks pass in the unpacked tarball, that the program runs where there is no other file, that the
-# Debian packages have what they should and links of their pages lead somewhere, that the wheel can
-# be installed, that relink.sh links, and, in the repository, that packing again gives the same
+# try_dist.sh FOLDER: tests what dist.sh left in the folder, without the kit on the PATH. All checks
+# have to pass in the unpacked tarball. The program has to run in a folder with no other file. The
+# Debian packages need the right contents, and the links of their pages have to lead somewhere. The
+# wheel can be installed, and relink.sh links. In the repository, packing again has to give the same
 # bytes.
 set -u
 [[ $# == 1 ]] || { sed -n '2,/^set/s/^# //p' "$0"; exit 2; }

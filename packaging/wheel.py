@@ -1,9 +1,10 @@
 #!/usr/bin/env python3
 """wheel.py FOLDER PROGRAM [LIBRARY]: writes the Python package as a wheel into the folder, with the
-program, and with libvcdkit.so where it is given. No build tool and no network are needed.
+program, and with libvcdkit.so if it is given. It needs no build tool and no network.
 
-`pip install vcdkit-VERSION-py3-none-linux_x86_64.whl` then has `import vcdkit`, and vcdkit and
-vcdkit-diff, .. on the PATH. The same files give the same bytes: all times are SOURCE_DATE_EPOCH."""
+After `pip install vcdkit-VERSION-py3-none-linux_x86_64.whl`, `import vcdkit` works, and the program
+and the scripts are on the PATH. The same files give the same bytes: all times are
+SOURCE_DATE_EPOCH."""
 import base64
 import hashlib
 import os
@@ -50,7 +51,7 @@ def files_of(version, program, library):
     commands = sorted(name[:-3] for name in os.listdir(os.path.join(PACKAGE, "commands"))
                       if name.endswith(".py") and name != "__init__.py")
     about = "vcdkit-%s.dist-info/" % version
-    yield about + "METADATA", (METADATA % (version, read(TOP, "python", "README.md").decode(
+    yield about + "METADATA", (METADATA % (version, read(TOP, "extras", "README.md").decode(
         ))).encode(), False
     yield about + "WHEEL", ("Wheel-Version: 1.0\nGenerator: wheel.py\nRoot-Is-Purelib: false\n"
                             "Tag: %s\n" % TAG).encode(), False

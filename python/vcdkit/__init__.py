@@ -14,9 +14,9 @@
     dump.cut("100ns", "2us").pick("bench.slow").save("window.vcd")
     merge(dump, Dump("other.vcd")).check()
 
-The library libvcdkit.so answers if it is beside this package or VCDKIT_LIBRARY names it, else the
-program vcdkit on the PATH, or the one that VCDKIT names. Both answer the same. What they answer is
-proved; the reading of their rows, in this package, is only tested.
+The library libvcdkit.so answers if it is beside this package, or if VCDKIT_LIBRARY names it.
+Otherwise the program vcdkit on the PATH answers, or the one that VCDKIT names. Both give the same
+answers, which are proved. This package, which reads them, is only tested.
 """
 from ._body import Header
 from .dump import Dump, merge, way

@@ -14,7 +14,7 @@ def names() -> List[str]:
 
 @commands.command
 def list_commands(words: List[str]) -> int:
-    """Writes a line for each command: to the error stream if the words are none and no help."""
+    """Writes a line for each command, to standard error if help was not asked for."""
     is_help = words in ([], ["-h"], ["--help"])
     out = sys.stdout if is_help else sys.stderr
     print("usage: python -m vcdkit COMMAND ..\n", file=out)

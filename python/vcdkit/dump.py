@@ -34,22 +34,22 @@ def way() -> ModuleType:
 
 
 class Dump:
-    """A dump: a file, its bytes, or what pick(), cut() and merge() make of others.
+    """A dump: a file, its bytes, or what pick(), cut() and merge() make of other dumps.
 
-    A file may be packed (gzip, xz, bzip2, zstd, or FST if fst2vcd is on the PATH), or a pipe; "-"
-    is standard input. Nothing is read before the first question, and each question reads the dump
-    anew, but for the header. So a fault or an unknown name comes up at a question: DumpFault,
+    A file may be compressed (gzip, xz, bzip2, zstd, or FST if fst2vcd is on the PATH), or a pipe;
+    "-" is standard input. Nothing is read before the first question. Each question reads the dump
+    again, except for the header. So a fault or an unknown name is raised by a question: DumpFault,
     UnknownName, NoTimescale, UsageError or RunFailed, which are all VcdkitErrors.
 
-    A time is a number of ticks, or a text with a unit, as "115ns" or "1.5us". A name is a path of
-    `signals`, or a scope with all that it has. Keys of dictionaries are paths; if variables that
-    are not one value have one path, they are the path, a blank and the code."""
+    A time is a number of ticks, or a text with a unit, such as "115ns" or "1.5us". A name is a path
+    of `signals`, or a scope, which stands for everything in it. Dictionaries have paths as keys. If
+    variables with different values have the same path, a blank and the code follow the path."""
 
     def __init__(self, source: Union[str, "os.PathLike[str]", bytes], name: Optional[str] = None,
                  token_limit: Optional[int] = None, four_state: bool = False):
-        """`name` is what faults call bytes; `token_limit`, in bytes, is how long a token may be
-        (1,048,576 without it). With `four_state` a file is read through vcdkit-four-state, which
-        makes four states of VHDL's nine."""
+        """`name` is what faults call the bytes. `token_limit` is the longest token that is allowed,
+        in bytes (1,048,576 without it). With `four_state`, a file is read through
+        vcdkit-four-state, which converts the nine states of VHDL."""
         self._text: Text = (
             Bytes(bytes(source), name or "(bytes)")
             if isinstance(source, (bytes, bytearray, memoryview)) else File(source, four_state))
@@ -128,7 +128,7 @@ class Dump:
         return self._signals
 
     def find(self, pattern: str, flags: int = 0) -> List[Signal]:
-        """Returns the signals in whose paths a regular expression is found (re.search)."""
+        """Returns the signals whose paths match a regular expression anywhere (re.search)."""
         search = re.compile(pattern, flags).search
         paths = self.signals.columns()[0]
         return [self.signals[at] for at, path in enumerate(paths) if search(path)]
@@ -172,7 +172,7 @@ class Dump:
     @property
     def tree(self) -> Scope:
         """The scopes of the header, in a scope without a name: dump.tree.scopes[0].signals, or
-        [scope.path for scope in dump.tree.walk()]."""
+        [scope.path for scope in dump.tree.walk()], for example."""
         with self._head() as out:
             return _body.tree(out)
 
@@ -194,8 +194,8 @@ class Dump:
         return self.header.timescale
 
     def ticks(self, time: Time) -> int:
-        """Returns a time in ticks; one between two ticks is the earlier one. NoTimescale if it has
-        a unit and the dump has no time scale."""
+        """Returns a time in ticks, rounded down. Raises NoTimescale if the time has a unit and the
+        dump has no time scale."""
         text = word(time)
         if text.isdigit():
             return int(text)
@@ -204,20 +204,20 @@ class Dump:
         return self.timescale.ticks(text)
 
     def time(self, ticks: int, unit: str = "") -> str:
-        """Returns ticks with a unit, as `115ns`: the largest in which they are a whole number, or
-        the one that is given. Without a time scale, only the number."""
+        """Returns ticks with a unit, such as `115ns`: the largest unit in which they are a whole
+        number, or the unit that is given. If there is no time scale, returns only the number."""
         return self.timescale.text(ticks, unit) if self.timescale else str(ticks)
 
     # The body.
 
     def check(self) -> Report:
-        """Reads the whole dump, and returns what it counts. DumpFault if it has a fault."""
+        """Reads the whole dump, and returns its counts. Raises DumpFault if it has a fault."""
         return Report._make(None if number == "-" else int(number)
                             for number in self._words("check")[1::2])
 
     def value(self, name: str, time: Time) -> Cell:
-        """Returns the value of one signal at the end of a time; `None` if it has none yet, or is an
-        event."""
+        """Returns the value of one signal at the end of a time. `None` if it has no value yet, or
+        is an event."""
         signal, ticks = self[name], self.ticks(time)
         found = self._sampled([ticks], [name])[ticks]
         return next((found[place] for place, one in self._places([name]).items()
@@ -225,11 +225,11 @@ class Dump:
 
     def sample(self, times: Union[Time, Iterable[Time]], names: Names = ()
                ) -> Dict[Time, Dict[str, Cell]]:
-        """Returns of each time, as it was given, the value of each path at its end.
+        """Returns for each time, as it was given, the value of each path at the end of that time.
 
-        A value is a Value; a float of a real number, or its text if that is none; `None` if there
-        is none yet. Times may come in any order. Without names all signals are sampled; events have
-        no value."""
+        A value is a Value for digits, a float for a real number (or its text, if that is not a
+        number), and `None` if there is no value yet. Times may come in any order. Without names,
+        all signals are sampled, except events, which have no value."""
         asked, its = _ticks_of(self, times), _list(names)
         chosen = _states(self._places(its))
         keys = dict(zip(chosen, _rows.keys_of(chosen.values())))
@@ -252,8 +252,8 @@ class Dump:
         return found
 
     def edges(self, names: Names = ()) -> Dict[str, Edges]:
-        """Returns of each path how often its value changes, and its least significant bit rises and
-        falls; of an event its triggers. Without names of all signals."""
+        """Returns for each path how often its value changes, and how often its least significant
+        bit rises and falls. For an event it counts triggers. Without names, all signals count."""
         its = _list(names)
         words = _words_for(its)
         counts = dict(zip(sorted(self._places(words)),
@@ -263,8 +263,8 @@ class Dump:
 
     def changes(self, name: str) -> Iterator[Tuple[int, Cell]]:
         """Returns the times, in ticks, and the values of one signal, as they come: one for each
-        value that the dump writes, also if it is the same again. Of an event each trigger is a 1.
-        UnknownName if the name selects nothing, UsageError if it selects several."""
+        value that the dump writes, even if it is the same again. Each trigger of an event is a 1.
+        Raises UnknownName if the name selects nothing, and UsageError if it selects several."""
         signal = self[name]
         return self._changes(name, signal)
 
@@ -275,8 +275,8 @@ class Dump:
 
     def arrays(self, name: str) -> Tuple[Any, Any]:
         """Returns the changes of one signal as arrays of numpy: the times as uint64, and the values
-        as a masked array of uint64, masked if a value has an x or a z. Of a real number they are
-        floats, of more than 64 bits Values."""
+        as a masked array of uint64, in which a value with an x or a z is masked. The values of a
+        real number are floats, and those of more than 64 bits are Values."""
         try:
             numpy = importlib.import_module("numpy")
         except ImportError as error:
@@ -293,16 +293,17 @@ class Dump:
 
     def rows(self, names: Names, at: Optional[Iterable[Time]] = None, rise: Optional[str] = None,
              fall: Optional[str] = None) -> Iterator[Row]:
-        """Returns rows of a table, as they come: a time in ticks, and the value of each signal of
-        names (select), as sample() has it; events are left out.
+        """Returns rows of a table, as they come: a time in ticks, and the value of each signal that
+        the names select, as sample() returns it. Events are left out.
 
-        By default there is a row for each time at which one of them changes, with the values at its
-        end, and of a cut for its begin; what is written again, or comes and goes within a time, is
-        no change. With `rise` or `fall`, the path of a clock of one bit, there is one for each time
-        at which that rises or falls, with the values just before that time, as a flip-flop takes
-        them; with both for each of these edges, of one clock or of two. Values of the `$dumpvars`
-        that begins the dump, or a cut, are from before its time. UsageError if that path is no such
-        clock. With `at` there is a row for each of these times."""
+        Without options there is a row for each time at which one of the signals changes, with the
+        values at the end of that time, and for the beginning of a cut. Values that are written
+        again, or that come and go within one time, are not changes. `rise` and `fall` are paths of
+        clocks of one bit: then there is a row for each such edge, with the values just before its
+        time, which are those that a flip-flop takes. With both there is a row for every edge, of
+        one clock or of two. The values of a `$dumpvars` at the beginning of a dump or a cut are
+        from before its time. Raises UsageError if a path is not such a clock. With `at` there is a
+        row for each of these times."""
         its = _list(names)
         if not its:
             raise UsageError("rows() needs a name")
@@ -366,8 +367,8 @@ class Dump:
 
     def table(self, names: Names, at: Optional[Iterable[Time]] = None, rise: Optional[str] = None,
               fall: Optional[str] = None) -> Dict[str, List[Any]]:
-        """Returns the rows() as columns of numbers: "time", in ticks, and each path; `None` if a
-        value has an x or a z. pandas.DataFrame() takes it."""
+        """Returns the rows() as columns of numbers: "time", in ticks, and one for each path. A
+        value with an x or a z is `None`. pandas.DataFrame() accepts the result."""
         its = _list(names)
         rows = list(self.rows(its, at, rise, fall))
         keys = _rows.keys_of(_states(self._places(its)).values(), ["time"])
@@ -409,8 +410,8 @@ class Dump:
         return self._made("cut", ["--from", word(begin), "--to", word(end)])
 
     def around(self, time: Time, before: Time, after: Optional[Time] = None) -> "Dump":
-        """Returns the dump from so much before a time to so much after it: as much if `after` is
-        not given."""
+        """Returns the dump from `before` before a time to `after` after it. Without `after`, it is
+        the same on both sides."""
         at, early = self.ticks(time), self.ticks(before)
         late = early if after is None else self.ticks(after)
         return self.cut(max(at - early, 0), min(at + late, LAST_TICK))

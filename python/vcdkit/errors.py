@@ -10,7 +10,7 @@ class VcdkitError(Exception):
 
 
 class DumpFault(VcdkitError, ValueError):
-    """The first fault of a dump: its file, its line (from 1) and its name, as `unknown command`."""
+    """The first fault of a dump: its file, its line (from 1) and its name: `unknown command`, .."""
 
     status = 1
 
@@ -24,7 +24,7 @@ class DumpFault(VcdkitError, ValueError):
 
 
 class UnknownName(VcdkitError, LookupError):
-    """A name that selects no variable; the message says what comes near."""
+    """A name that selects no variable. The message suggests similar names."""
 
     status = 1
 
@@ -38,19 +38,19 @@ class UnknownName(VcdkitError, LookupError):
 
 
 class NoTimescale(VcdkitError, ValueError):
-    """A time has a unit, and the dump has no time scale: give ticks."""
+    """A time has a unit, but the dump has no time scale: give ticks."""
 
     status = 1
 
 
 class UsageError(VcdkitError, ValueError):
-    """A bad time or limit, or a name that does not fit what is asked for."""
+    """A bad time or limit, or a name that does not fit the question."""
 
     status = 2
 
 
 class RunFailed(VcdkitError, OSError):
-    """A file that cannot be read or written, no memory, or no vcdkit to ask."""
+    """A file cannot be read or written, memory ran out, or there is no vcdkit."""
 
     status = 3
 

@@ -10,8 +10,9 @@ LAST_TICK = 2**64 - 1
 
 
 def word(time: Time) -> str:
-    """Returns a time as vcdkit takes it: `1150` (ticks) or whole units, so that "1.5ns" becomes
-    "1500ps". UsageError where it is none, or is no whole number of femtoseconds."""
+    """Returns a time as vcdkit accepts it: `1150` (ticks), or a whole number of a unit, so that
+    "1.5ns" becomes "1500ps". Raises UsageError if it is not a time, or not a whole number of
+    femtoseconds."""
     if isinstance(time, str):
         found = re.match(r"\s*(\d+)(?:\.(\d*?)0*)?\s*(s|ms|us|ns|ps|fs)?\s*\Z", time)
         if found:
@@ -34,7 +35,7 @@ def word(time: Time) -> str:
 
 
 class Timescale(NamedTuple):
-    """How long a tick is: 1, 10 or 100 of a unit. Its text is as `100ps`."""
+    """How long a tick is: 1, 10 or 100 of a unit. Its text is `100ps`, for example."""
 
     number: int
     unit: str
@@ -43,7 +44,7 @@ class Timescale(NamedTuple):
         return "%d%s" % self
 
     def ticks(self, time: Time) -> int:
-        """Returns a time in ticks; one between two ticks is the earlier one."""
+        """Returns a time in ticks. A time between two ticks is rounded down."""
         text = word(time)
         digits = text.rstrip("smunpf")
         if digits == text:
@@ -51,8 +52,9 @@ class Timescale(NamedTuple):
         return int(digits) * _per(text[len(digits):]) // self.femtoseconds
 
     def text(self, ticks: int, unit: str = "") -> str:
-        """Returns ticks in the largest unit in which they are a whole number, as `115ns`, which
-        vcdkit takes as a time; or exactly in a unit that is given, as `0.115us`."""
+        """Returns ticks in the largest unit in which they are a whole number, such as `115ns`,
+        which vcdkit accepts as a time. If a unit is given, returns them exactly in that unit, such
+        as `0.115us`."""
         if unit:
             return self.decimal(ticks, unit) + unit
         span = ticks * self.femtoseconds

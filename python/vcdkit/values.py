@@ -10,7 +10,7 @@ NUMBER_FORMAT = re.compile(r"(?:(.?)([<>=^]))?[-+ ]?#?(0?)(\d*)[_,]?([bdnoxX])\Z
 
 class Signal(NamedTuple):
     """A variable of a header: its path, its type (`wire`, `reg`, `real`, ..), its size in bits and
-    its identifier code. Two of one code are two names of one value."""
+    its identifier code. Two signals with the same code are two names of one value."""
 
     path: str
     type: str
@@ -24,9 +24,9 @@ class Signal(NamedTuple):
 
 
 class Scope(NamedTuple):
-    """A scope of a header that has signals, maybe in scopes below: its name, its path, its type
-    (`module`, `task`, ..), and the scopes and the signals in it, in the order of declaration. The
-    tree begins with one that has no name."""
+    """A scope of a header with signals in it, or in scopes below it: its name, its path, its type
+    (`module`, `task`, ..), and its scopes and signals in the order of declaration. At the top of
+    the tree is a scope without a name."""
 
     name: str
     path: str
@@ -35,7 +35,7 @@ class Scope(NamedTuple):
     signals: List[Signal]
 
     def walk(self) -> Iterator["Scope"]:
-        """Returns the scope and all that are below it, each before those in it."""
+        """Returns this scope and all scopes below it. Each one comes before those in it."""
         waiting = [self]
         while waiting:
             scope = waiting.pop()
@@ -44,7 +44,7 @@ class Scope(NamedTuple):
 
 
 class Report(NamedTuple):
-    """How many a dump has of each; `last` is its last timestamp in ticks, `None` if it has none."""
+    """What a dump has of each; `last` is its last timestamp in ticks, or `None` if it has none."""
 
     scopes: int
     variables: int
@@ -64,14 +64,14 @@ class Edges(NamedTuple):
 
 
 class Value(str):
-    """All digits of a value, each 0, 1, x or z, the most significant first: a text that is a number
-    as well.
+    """All digits of a value (0, 1, x or z), the most significant first. A Value is a text that is
+    also a number.
 
     It compares with numbers (`value == 5`, `0 < value <= 9`) and formats as one (`f"{value:x}"`).
-    As in Verilog, a value is true if one of its digits is 1. One with an x or a z equals no number,
-    is neither less nor greater than any, and int() of it raises ValueError. Of two Values the
-    shorter one is extended as in a dump. As a key of a dictionary a Value is its text: use int()
-    for its number."""
+    As in Verilog, it is true if one of its digits is 1. If it has an x or a z, it equals no number,
+    is neither less nor greater than any, and int() of it raises ValueError. If two Values of
+    different sizes are compared, the shorter one is extended as in a dump. As the key of a
+    dictionary, a Value is its text: use int() for its number."""
 
     __slots__ = ("_number",)  # what _known() says, once it was asked for
 
@@ -81,12 +81,12 @@ class Value(str):
         return not self.strip("01")
 
     def hex(self) -> str:
-        """Returns it as viewers show it: a digit for four bits, x or z where all four are, else
-        X."""
+        """Returns it as viewers show it: a digit for four bits, x or z if all four are that, and
+        X for a mixture."""
         return self._in_groups(4)
 
     def signed(self) -> int:
-        """Returns the number that it is in two's complement."""
+        """Returns its number in two's complement."""
         return int(self) - (str(self)[:1] == "1") * (1 << len(self))
 
     def __int__(self) -> int:

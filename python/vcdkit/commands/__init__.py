@@ -17,9 +17,10 @@ exit status:
   2  %s
   3  I/O error, out of memory, or no vcdkit
 
-A dump may be packed (gzip, xz, bzip2, zstd; FST where fst2vcd is on the PATH), a pipe, or - for
-standard input. A pipe is stored in a temporary file, in TMPDIR or /tmp, as it is read more than
-once. VCDKIT names the program, else it is the vcdkit beside the command, or that on the PATH.
+A dump may be compressed (gzip, xz, bzip2, zstd; FST if fst2vcd is on the PATH), a pipe, or - for
+standard input. A pipe is stored in a temporary file in TMPDIR or /tmp, because it is read more than
+once. The variable VCDKIT names the program. Without it, the vcdkit beside this command is run, or
+the one on the PATH.
 """
 STATUSES_OF_A_FILTER = """
 exit status:
@@ -28,10 +29,11 @@ exit status:
   3  I/O error
 """
 FAULT = "a name selects nothing, or not a valid dump"
-TIMES = "TIME is a number of ticks, or has a unit, as 115ns or 1.5us.\n"
+TIMES = "TIME is a number of ticks, or has a unit, such as 115ns or 1.5us.\n"
 BROKEN_PIPE = 128 + 13  # the status that a shell shows of a program that SIGPIPE ended
-FORMS = {"hex": "hex", "decimal": "decimal", "signed": "decimal, of two's complement",
-         "ascii": "text, a letter for eight bits", "binary": "all digits"}
+FORMS = {"hex": "in hexadecimal", "decimal": "in decimal",
+         "signed": "in decimal, as two's complement",
+         "ascii": "as text, a letter for each 8 bits", "binary": "with all digits"}
 
 
 class _Parser(argparse.ArgumentParser):
@@ -64,7 +66,7 @@ def add_file(to: argparse.ArgumentParser, names: str = "") -> None:
 def add_four_state(to: argparse.ArgumentParser) -> None:
     """Adds --four-state."""
     to.add_argument("--four-state", action="store_true",
-                    help="make four states of VHDL's nine, as vcdkit-four-state does")
+                    help="convert VHDL's nine states, as vcdkit-four-state does")
 
 
 def dump_of(asked: argparse.Namespace, file: Optional[str] = None, **options) -> Dump:
@@ -75,14 +77,15 @@ def dump_of(asked: argparse.Namespace, file: Optional[str] = None, **options) ->
 def add_names(to: argparse.ArgumentParser, count: str) -> None:
     """Adds NAMEs."""
     to.add_argument("names", metavar="NAME", nargs=count, default=[],
-                    help="a path of vcdkit list, or a scope with all that it has")
+                    help="a path that vcdkit list shows, or a scope for all that is in it")
 
 
 def add_window(to: argparse.ArgumentParser) -> None:
     """Adds --from and --to."""
-    to.add_argument("--from", dest="begin", default="0", metavar="TIME", help="the first time")
+    to.add_argument("--from", dest="begin", default="0", metavar="TIME",
+                    help="the first time (0)")
     to.add_argument("--to", dest="end", default=str(2**64 - 1), metavar="TIME",
-                    help="the last time")
+                    help="the last time (the dump's end)")
 
 
 def add_form(to: argparse.ArgumentParser) -> None:
@@ -90,7 +93,7 @@ def add_form(to: argparse.ArgumentParser) -> None:
     of = to.add_mutually_exclusive_group()
     for form, what in FORMS.items():
         of.add_argument("--" + form, dest="form", action="store_const", const=form,
-                        help="values as " + what)
+                        help="values " + what)
 
 
 def shown(value, form: Optional[str]) -> str:

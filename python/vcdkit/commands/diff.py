@@ -1,21 +1,23 @@
-"""Compares two dumps: the first difference of values, and what one of them alone has
+"""Compares two dumps: the first difference of values, and what only one of them has
 
-A line says what it is of, and then both sides, A first:
-  timescale 1ns 100ps     the time scales (times are compared all the same)
-  alone A tb.core[1] 9    a variable or a scope, and how many are in it
-  size tb.q 4 8           bits; or types, where one is real or event
-  differs 35ns tb.q 1 0   each that differs at the first such time (-: no
-                          value yet; an event: whether it is triggered)
+Each line says what differs, and then shows both sides, A first:
+  timescale 1ns 100ps     the time scales (times are compared nevertheless)
+  alone A tb.core[1] 9    only A has this variable or scope, and how many
+                          variables are in it
+  size tb.q 4 8           the sizes; or the types, if one is real or event
+  differs 35ns tb.q 1 0   the values of a variable at the first time with a
+                          difference (-: no value yet; of an event: whether
+                          it is triggered)
   ends 122ns 92ns         the last timestamps
-  edges 60 59             with --rise or --fall: how many there are, if all
-                          values at them are the same
+  edges 60 59             with --rise or --fall: the numbers of edges, if the
+                          values at the edges that both have are the same
 
-Values are compared at the end of each time, up to the earlier end. With --rise or --fall the values
-just before the first edge of A's clock are compared with those just before the first one of B's,
-and so on, at whatever time the edges are. Codes, types as reg and wire, the order within a time,
-values that are written again and sections do not matter. Real numbers are compared as numbers; NaN
-equals NaN. tb.q of one is tb.q[3:0] of the other. With NAMEs, these alone are compared; names are
-as after --map.
+Values are compared at the end of each time, up to the end of the shorter dump. With --rise or
+--fall, the values just before the first edge of A's clock are compared with those just before the
+first edge of B's clock, and so on, whatever the times of the edges are. These do not matter: codes,
+types such as reg and wire, the order of changes within a time, values that are written again, and
+sections. Real numbers are compared as numbers, and NaN equals NaN. tb.q in one dump is tb.q[3:0] in
+the other. If you give NAMEs, only these are compared. With --map, the NAMEs are the new ones.
 
 examples:
   vcdkit-diff golden.vcd.gz sim.vcd
@@ -211,26 +213,29 @@ def words_of(words: List[str]) -> argparse.Namespace:
     """Reads the command line."""
     of = parser("vcdkit-diff", __doc__, "no difference", "a difference", "usage error, " + FAULT)
     of.add_argument("--map", dest="maps", metavar="OLD=NEW", type=map_of, action="append",
-                    default=[], help="take the scope OLD, in either dump, as NEW; OLD= drops it")
-    of.add_argument("--common", action="store_true", help="compare what both have: no lines "
+                    default=[], help="treat the scope OLD of either dump as NEW; OLD= removes it "
+                    "from paths")
+    of.add_argument("--common", action="store_true", help="compare only what both have: no lines "
                     "timescale, alone, ends and edges")
     of.add_argument("--except", dest="exceptions", metavar="NAME", action="append", default=[],
                     help="leave out this signal or scope")
     of.add_argument("--real-tolerance", dest="tolerance", metavar="T", type=tolerance, default=0.0,
                     help="real numbers may differ by T, or by T times the larger one")
     clock = of.add_mutually_exclusive_group()
-    clock.add_argument("--rise", metavar="CLOCK", help="compare where this signal rises")
-    clock.add_argument("--fall", metavar="CLOCK", help="compare where this signal falls")
-    of.add_argument("--all", action="store_true", help="the first difference of each signal, and "
-                    "all lines, not the first %d" % MAX_LINES)
-    of.add_argument("--junit", metavar="FILE", help="write a JUnit file too: a test for each kind "
-                    "of line")
-    of.add_argument("--window", metavar="TIME", help="at a difference of values, write the dumps "
-                    "from so much before it to so much after it, as diff.a.vcd and diff.b.vcd")
-    of.add_argument("--into", metavar="FOLDER", help="where these go (here)")
+    clock.add_argument("--rise", metavar="CLOCK",
+                       help="compare at the rising edges of this signal")
+    clock.add_argument("--fall", metavar="CLOCK",
+                       help="compare at the falling edges of this signal")
+    of.add_argument("--all", action="store_true", help="show the first difference of each signal, "
+                    "and not only %d lines of a kind" % MAX_LINES)
+    of.add_argument("--junit", metavar="FILE", help="also write a JUnit file, with a test for "
+                    "each kind of line")
+    of.add_argument("--window", metavar="TIME", help="if values differ, write the parts of both "
+                    "dumps from TIME before to TIME after that, as diff.a.vcd and diff.b.vcd")
+    of.add_argument("--into", metavar="FOLDER", help="the folder of these files (.)")
     add_four_state(of)
-    of.add_argument("one", metavar="A", help="a dump")
-    of.add_argument("other", metavar="B", help="the other one")
+    of.add_argument("one", metavar="A", help="the first dump")
+    of.add_argument("other", metavar="B", help="the second dump")
     add_names(of, "*")
     asked = of.parse_args(words)
     if asked.into is not None and not asked.window:

@@ -1,11 +1,13 @@
 """Checks a dump; at a fault it shows the lines around it, the usual cause and a command that helps
 
-The report or the fault is that of vcdkit check, and so is the status. Bytes that are no text are
-shown as \\xNN, and long lines are cut off. If no cause is known, only the lines are shown.
+The report or the message is that of vcdkit check, and so is the exit status. If no cause is known,
+only the lines around the fault are shown. Bytes that are not text are shown as \\xNN, and long
+lines are truncated.
 
---salvage writes the part of a faulty dump that is good: a dump up to the tick before its last
-timestamp before the fault, as what follows that timestamp may not be whole. The line `good until`
-says up to which time it has all values. No file is written if there is no fault.
+--salvage writes the good part of a faulty dump, which is a dump again. It ends one tick before the
+last timestamp in front of the fault, because what follows that timestamp may be incomplete. The
+line `good until` says up to which time it has all values. If the dump has no fault, no file is
+written.
 
 examples:
   vcdkit-explain sim.vcd
@@ -206,9 +208,9 @@ def salvage(dump, path):
 @command
 def main(words):
     of = parser("vcdkit-explain", __doc__, "a valid dump, as far as it goes", "not a valid dump")
-    of.add_argument("--salvage", metavar="OUT", help="write what is before the fault")
+    of.add_argument("--salvage", metavar="OUT", help="write the good part of a faulty dump")
     of.add_argument("--token-limit", type=int, metavar="N",
-                    help="how long a token may be, in bytes")
+                    help="the longest token that is allowed, in bytes")
     add_file(of)
     asked = of.parse_args(words)
     dump = dump_of(asked, token_limit=asked.token_limit)

@@ -1,9 +1,10 @@
-"""Lists the variables whose paths match a regular expression, or writes the dump of them
+"""Lists the variables whose paths match a regular expression, or writes a dump of only these
 
-With no REGEX all variables match. The expressions are Python's, and are looked for anywhere in a
-path: 'count$', '^tb\\.cpu\\.', '(?i)clk'. A row has path, type, size and code, as of vcdkit list.
-With --tree a row has a scope, indented below the one that it is in, and how many of the variables
-are in it and in the scopes below it.
+A REGEX is a regular expression of Python, which may match anywhere in a path: 'count$',
+'^tb\\.cpu\\.', '(?i)clk'. If there are several, a path has to match one of them; if there is none,
+all variables are listed. Each line has path, type, size and code, as in vcdkit list. With --tree,
+each line has a scope, indented below the scope that contains it, and the number of matching
+variables in it and in the scopes below it.
 
 examples:
   vcdkit-find sim.vcd 'count$'
@@ -93,12 +94,13 @@ def patterns_of(texts):
 def main(words):
     of = parser("vcdkit-find", __doc__, failed="no path matches, or not a valid dump")
     form = of.add_mutually_exclusive_group()
-    for name, what in (("pick", "write the dump of these variables"), ("json", "rows as JSON"),
-                       ("csv", "rows as CSV"), ("tree", "scopes, with how many are in each")):
+    for name, what in (("pick", "write a dump of only these variables"),
+                       ("json", "list them as JSON"), ("csv", "list them as CSV"),
+                       ("tree", "list scopes, with how many are in each")):
         form.add_argument("--" + name, dest="form", action="store_const", const=name, help=what)
     add_file(of)
     of.add_argument("patterns", metavar="REGEX", nargs="*", default=[],
-                    help="what a path has to match")
+                    help="an expression that paths have to match")
     asked = of.parse_args(words)
     dump, patterns = dump_of(asked), patterns_of(asked.patterns)
     found = [one for one in dump.signals

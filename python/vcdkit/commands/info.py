@@ -1,9 +1,10 @@
-"""Says what a dump is: its time scale, first and last timestamps, counts and largest scopes
+"""Describes a dump: its time scale, first and last timestamps, counts and largest scopes
 
-A line is a word and what it says. The first and the last timestamp are shown in units and, where
-that differs, in ticks. `types` counts the variables of each type, `bits` those of all codes. The
-largest scopes are those with most variables of their own. At a fault of the body, what the header
-says is there, and the fault is on the error stream.
+Each line has a key and what it says of the dump. The first and the last timestamp are shown with a
+unit and, if that differs, in ticks. `types` counts the variables of each type, and `bits` adds up
+the sizes of all codes. The largest scopes are those with the most variables of their own. If the
+body has a fault, the lines about the header are written nevertheless, and the fault goes to
+standard error.
 
 examples:
   vcdkit-info sim.vcd.xz
@@ -51,9 +52,9 @@ def shown(key, value):
 @command
 def main(words):
     of = parser("vcdkit-info", __doc__, failed="not a valid dump")
-    of.add_argument("--json", action="store_true", help="as one object of JSON")
+    of.add_argument("--json", action="store_true", help="write one JSON object")
     of.add_argument("--scopes", type=int, default=5, metavar="N",
-                    help="how many of the largest scopes (5)")
+                    help="how many of the largest scopes to list (5)")
     add_file(of)
     asked = of.parse_args(words)
     dump = dump_of(asked)

@@ -1,10 +1,11 @@
-"""Makes vectors of the variables of a dump that are declared bit by bit; a filter
+"""Joins variables that are declared bit by bit into vectors; a filter
 
-`$var wire 1 # q [7] $end`, `$var wire 1 $ q [6] $end` .., as ModelSim and Questa write them, become
-`$var wire 8 # q [7:0] $end`: neighbouring lines of one name, whose indices go up or down by one. A
-bit whose code has a second name stays as it is. It goes by lines: each declaration and each change
-has to be on a line of its own. A vector is written once a time, and once a section, after the
-changes of all its bits. It reads its input once, and calls no vcdkit.
+ModelSim and Questa write `$var wire 1 # q [7] $end`, `$var wire 1 $ q [6] $end` and so on. This
+filter joins neighbouring lines of one name whose indices go up or down by one, and writes
+`$var wire 8 # q [7:0] $end`. A bit whose code has a second name stays as it is. A vector is
+written after the changes of its bits, once for each time and once for each section. Each
+declaration and each change has to be on a line of its own. The filter reads its input once, and
+calls no vcdkit.
 
 example:
   vcdkit-join-bits < sim.vcd | vcdkit sample --at 15ns tb.q"""
@@ -87,7 +88,7 @@ def write_header(lines, vectors, out):
 def main(words):
     of = parser("vcdkit-join-bits", __doc__, failed="")
     of.add_argument("file", metavar="FILE", nargs="?", default="-",
-                    help="the dump, which may be packed; without it standard input, plain text")
+                    help="the dump, which may be compressed; without it, plain standard input")
     asked = of.parse_args(words)
     out, vectors = sys.stdout, Vectors()
     is_file = asked.file != "-"

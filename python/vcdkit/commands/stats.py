@@ -1,17 +1,19 @@
 """Says how signals change: period, duty cycle, shortest and longest pulse, time of each value
 
-Of each signal the first line has its path, type and size; then there are, if the signal has them:
+The first line of a signal has its path, type and size. These lines follow, if the signal has them:
   changes 20                    how often its value changes, or an event is triggered
   period 10ns to 12ns, mean 10.2ns, 9 times
-                                from rise to rise of one bit, with no x or z between, or from
-                                trigger to trigger of an event
-  duty 50%                      how much of these periods one bit is 1
-  range -1.5 to 3, mean 0.25    of a real number, the mean over time
+                                the shortest, longest and mean time from a rise of a bit to the
+                                next one (without x and z between), or from a trigger of an event
+                                to the next one
+  duty 50%                      the part of these periods in which the bit is 1
+  range -1.5 to 3, mean 0.25    the least and the largest real number, and the mean over time
   value 1 60ns 49.2%, 10 times, 5ns to 7ns
-                                how long it has this value, how often, and its shortest and longest
-                                pulse; one that begins or ends outside the window does not count
-The values with most time come first. Values count at the end of each time: what comes and goes
-within one is not seen. The window ends with the dump, if that is earlier.
+                                how long and how often it has this value, and its shortest and
+                                longest pulse; a pulse counts only if it begins and ends in the
+                                window
+The values that it has longest come first. Only the values at the end of each time count: what
+comes and goes within one time is not seen. The window ends with the dump, if that is earlier.
 
 examples:
   vcdkit-stats sim.vcd tb.clk
@@ -224,9 +226,9 @@ def natural(text):
 def main(words):
     of = parser("vcdkit-stats", __doc__)
     of.add_argument("--json", action="store_true",
-                    help="an array of objects; times are in ticks, and all values are there")
+                    help="write a JSON array, with times in ticks and with all values")
     of.add_argument("--values", type=natural, default=10, metavar="N",
-                    help="how many values of a signal (10)")
+                    help="how many values to list for a signal (10)")
     add_window(of)
     add_form(of)
     add_file(of, "+")

@@ -1,15 +1,18 @@
 """Writes the values of several signals as CSV, a column for each
 
-There is a row for each time at which one of them changed, with their values at its end, and one for
---from, if they have values. With --rise or --fall there is one for each time at which a clock of
-one bit rises or falls, with the values just before that time, as a flip-flop takes them; with both
-for each edge. With --at there is one for each of these times. What comes and goes within one time,
-or is written again, is not seen, and events have no column. The rows of a pipe come as it does.
+There is a row for each time at which one of the signals changes, with the values at the end of that
+time. With --from there is also a row for that time, if there are values then. With --rise or --fall
+there is a row for each such edge of a clock of one bit, with the values just before the time of the
+edge, which are those that a flip-flop takes. With both there is a row for every edge. With --at
+there is a row for each of the given times. Changes within one time, and values that are written
+again, are not seen. Events have no column. While a pipe is read, each row is written as soon as it
+is known.
 
-Values have all their digits, or are numbers (--hex, --decimal, --signed), or text (--ascii). Where
-a value has an x or a z, --hex writes x or z for four such digits and X for a mixture, and the
-others leave all digits. `-` is no value yet. Real numbers are as 1.5, 3, 1e-09, nan or inf. Times
-are whole numbers of the unit of the time scale, or exact ones of --unit.
+Values are written with all their digits, as numbers (--hex, --decimal, --signed) or as text
+(--ascii). If a value has an x or a z, --hex writes x or z for four such digits and X for a mixture,
+and the other options write all digits. `-` means that there is no value yet. Real numbers are
+written as 1.5, 3, 1e-09, nan or inf. Times are whole numbers in the unit of the time scale. With
+--unit they are exact decimal numbers in that unit.
 
 examples:
   vcdkit-table --hex --at 10ns,20ns,30ns sim.vcd tb.pc tb.bus
@@ -28,9 +31,9 @@ from . import add_file, add_form, add_window, command, dump_of, parser, shown, u
 def main(words: List[str]) -> int:
     of = parser("vcdkit-table", __doc__)
     add_form(of)
-    of.add_argument("--rise", metavar="CLOCK", help="a row where this signal rises")
-    of.add_argument("--fall", metavar="CLOCK", help="a row where this signal falls")
-    of.add_argument("--at", metavar="TIME,..", help="a row at each of these times")
+    of.add_argument("--rise", metavar="CLOCK", help="a row for each rising edge of this signal")
+    of.add_argument("--fall", metavar="CLOCK", help="a row for each falling edge of this signal")
+    of.add_argument("--at", metavar="TIME,..", help="a row for each of these times")
     add_window(of)
     of.add_argument("--unit", type=unit, help="the unit of the times: tick, s, ms, us, ns, ps, fs")
     add_file(of, "+")

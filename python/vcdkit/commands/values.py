@@ -1,8 +1,9 @@
-"""Writes the values of signals at a time, a line each: the path and the value
+"""Writes the values of signals at one time, a line each: the path and the value
 
-The values are those at the end of the time of --at, without it at the end of the dump. Without
-names all signals are written; events have no value. `-` is no value yet. --hex writes x or z for
-four such digits and X for a mixture; the other forms leave the digits of a value with an x or a z.
+The values are those at the end of the time that --at gives, or at the end of the dump. Without
+NAMEs all signals are written, except events, which have no value. `-` means that there is no value
+yet. If a value has an x or a z, --hex writes x or z for four such digits and X for a mixture, and
+the other options write all digits.
 
 examples:
   vcdkit-values --at 115ns --hex sim.vcd tb.cpu

@@ -1,9 +1,9 @@
 """Draws the waveforms of some signals in a window of time, as SVG on standard output
 
-Signals of one bit are lines, vectors are lanes with their values, real numbers are curves between
-their least and largest value, and events are ticks; x is red, z is orange. What changes more often
-than the picture has room for is a grey block. The scope that all names have in common is above
-them. --mark draws a line at a time, that of a failure for one.
+A signal of one bit is a line, a vector is a lane with its values, a real number is a curve between
+its least and its largest value, and an event is a tick. x is red, and z is orange. A grey block
+stands for changes that are closer together than the picture can show. The scope that all names have
+in common stands above them. --mark draws a line at one time, such as that of a failure.
 
 examples:
   vcdkit-wave --from 100ns --to 200ns --mark 158ns sim.vcd tb.clk tb.bus > failure.svg
@@ -321,13 +321,14 @@ def draw(dump, chosen, lanes, asked):
 def main(words):
     of = parser("vcdkit-wave", __doc__, "the picture was written")
     add_window(of)
-    of.add_argument("--around", metavar="TIME", help="the middle of the window, and a mark")
-    of.add_argument("--span", metavar="TIME", help="how much before and after it, each")
+    of.add_argument("--around", metavar="TIME",
+                    help="the middle of the window, where a mark is drawn")
+    of.add_argument("--span", metavar="TIME", help="how much time to show before and after it")
     of.add_argument("--mark", metavar="TIME", help="draw a line at this time")
     of.add_argument("--width", type=width, default=1000, metavar="N",
                     help="width of the traces, in pixels (1000; %d to %d)"
                     % (LEAST_WIDTH, MAX_WIDTH))
-    of.add_argument("--light", action="store_true", help="dark lines on a white ground")
+    of.add_argument("--light", action="store_true", help="draw dark lines on white")
     add_form(of)
     add_file(of, "+")
     asked = of.parse_args(words)

@@ -1,8 +1,9 @@
 """Lists the times at which a condition over signals begins to hold
 
-It is looked at at the end of each time at which one of its signals changes; if it holds at --from,
-it begins there. With --rise or --fall it is looked at where a clock of one bit rises or falls, with
-the values just before that time, as a flip-flop takes them.
+The condition is evaluated at the end of each time at which one of its signals changes. If it holds
+at --from, that time is listed too. With --rise or --fall, the condition is evaluated at these edges
+of a clock of one bit, with the values just before the time of the edge, which are those that a
+flip-flop takes.
 
 conditions:
   tb.bus == 0xff   also != < <= > >=; numbers are 0xff, 0b101, 10, -1 and 1.5
@@ -10,17 +11,20 @@ conditions:
   tb.valid         a digit is 1; of an event: it is triggered
   !a  a & b  a | b (a | b) & c: & binds more than |, comparisons more than &
   a is x           a digit is x; also is z, is not x, is not z
-  a == 0b1x0       a has these digits, x and z as well
-  signed(a) < b    two's complement, as of integers and against numbers below 0
+  a == 0b1x0       a has exactly these digits, x and z too
+  signed(a) < b    two's complement, which integers and comparisons with
+                   negative numbers use anyway
   req -> ack within 5
-                   req begins to hold, and ack holds then, or at most 5 edges
-                   of the clock or a time, as 20ns or 20tick, later
+                   req begins to hold, and ack holds then or at one of the
+                   next 5 edges of the clock; or in time: within 20ns,
+                   within 20tick
   !(req -> ack within 5)
-                   it does not; what the end of the dump leaves open is neither
-  "tb.a&b" == 1    a name with signs of this list
+                   req begins to hold, and ack does not follow; if the dump
+                   ends before that is known, neither of the two holds
+  "tb.a&b" == 1    a name that contains such signs
 
-A comparison whose digits x or z leave it open is neither true nor false, as in Verilog, and so is
-one with a signal that has no value yet: neither it nor its ! holds.
+If the answer to a comparison depends on x or z digits, or on a signal that has no value yet, it is
+neither true nor false, as in Verilog: neither the comparison nor its ! holds.
 
 examples:
   vcdkit-when sim.vcd 'tb.bus == 0xdeadbeef'
@@ -38,16 +42,18 @@ def main(words: List[str]) -> int:
     of = parser("vcdkit-when", __doc__, "it held at some time", "it never held",
                 "usage error, a bad condition, %s" % FAULT)
     form = of.add_mutually_exclusive_group()
-    form.add_argument("--first", action="store_true", help="the first of these times")
-    form.add_argument("--count", action="store_true", help="how many they are")
+    form.add_argument("--first", action="store_true", help="list only the first of these times")
+    form.add_argument("--count", action="store_true", help="write only how many there are")
     clock = of.add_mutually_exclusive_group()
-    clock.add_argument("--rise", metavar="CLOCK", help="look where this signal rises")
-    clock.add_argument("--fall", metavar="CLOCK", help="look where this signal falls")
+    clock.add_argument("--rise", metavar="CLOCK",
+                       help="evaluate at the rising edges of this signal")
+    clock.add_argument("--fall", metavar="CLOCK",
+                       help="evaluate at the falling edges of this signal")
     of.add_argument("--every", action="store_true",
-                    help="each edge of the clock at which it holds, not only where it begins")
+                    help="list each edge at which it holds, not only where it begins to")
     add_window(of)
     add_file(of)
-    of.add_argument("condition", metavar="CONDITION", help="as above")
+    of.add_argument("condition", metavar="CONDITION", help="a condition (see below)")
     asked = of.parse_args(words)
     dump = dump_of(asked)
     is_part = (asked.begin, asked.end) != (of.get_default("begin"), of.get_default("end"))

@@ -1,9 +1,9 @@
 """Lists the values with an x or a z that signals take in a window of time
 
-A row has the time, the path and the value: of each value with an x at the end of the first time,
-and of each that is another one at the end of a later time. So what comes and goes within one time
-is not seen. --z counts z as well. Without names all signals are looked at. So a CI job asks that
-nothing is unknown once reset is over.
+Each line has a time, a path and a value. A value is listed if it has an x at the end of the first
+time of the window, or if it has one at the end of a later time and differs from the value before.
+So what comes and goes within one time is not seen. --z lists values with a z too. Without NAMEs all
+signals are searched. With this command, a CI job can require that nothing is unknown after reset.
 
 examples:
   vcdkit-x --from 100ns sim.vcd tb.cpu
@@ -18,7 +18,7 @@ from . import FAULT, add_file, add_window, command, dump_of, parser, question
 @question
 def main(words: List[str]) -> int:
     of = parser("vcdkit-x", __doc__, "no such value", "there is one", "usage error, " + FAULT)
-    of.add_argument("--z", action="store_true", help="also values with a z")
+    of.add_argument("--z", action="store_true", help="list values with a z too")
     add_window(of)
     add_file(of, "*")
     asked = of.parse_args(words)
