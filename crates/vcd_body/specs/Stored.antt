@@ -79,8 +79,8 @@ held_line size ds id = cond (size == 1) (ds ++ (id ++ 10 ∷ [])) (byte "b" ∷ 
 
 -- ---- what a slot and its share say
 
--- the number that tells a state, and the state that a number tells; from 7 on it tells how many
--- binary digits there are
+-- the number of a state, and the state of a number; from 7 on the number also says how many binary
+-- digits there are
 abbrev pub number_of : State → ℕ
 number_of state.Unset = 0
 number_of state.One = 1

@@ -169,8 +169,8 @@ fn left_out_of_binary(bytes: &[u8], at: usize, digits: &[u8]) -> Option<usize>
 }
 
 /// Returns how many digits on the left the shortest digits of the same value leave out. `None` if
-/// these are not in lower case. The digits begin at the offset `at` of the bytes. `binary` says that
-/// they are only `0` and `1`. Most values need all of their digits.
+/// these are not in lower case. The digits begin at the offset `at` of the bytes. `binary` says
+/// that they are only `0` and `1`. Most values need all of their digits.
 // Binary digits have no capital letters, so none is looked for: otherwise `pick` of all of wide
 // vectors takes 15 % more.
 #[inline(always)]

@@ -18,8 +18,8 @@ fn digit_of(code: u8) -> u8
     }
 }
 
-/// Returns the codes of 16 digits. Of a byte that is neither `0` nor `1` it is 2, and one more
-/// where it is an x.
+/// Returns the codes of 16 digits. The code of a byte that is neither `0` nor `1` is 2, or 3 if the
+/// byte is an x.
 #[inline(always)]
 fn codes_16(bytes: &[u8], at: usize) -> u8x16
     requires { at + 16 ≤ length bytes.now }
@@ -49,7 +49,7 @@ fn last_codes_16(bytes: &[u8], at: usize) -> u8x16
     u8x16::from_slice(&bytes[at..]) >> u8x16::splat(6)
 }
 
-/// Returns a digit as two bits. It is written so that it takes no branches.
+/// Returns a digit as two bits, without a branch.
 #[inline(always)]
 fn code_of(digit: u8) -> u8
     ensures { result ≡ code_of digit }
@@ -63,8 +63,8 @@ fn code_of(digit: u8) -> u8
     if digit == b'0' { 0 } else { all_but_0 }
 }
 
-/// Returns whether `len` packed digits and a text differ in one of their last digits, of which it
-/// looks at four at most, and at no more than a quarter has.
+/// Returns whether `len` packed digits and a text differ in one of their last digits: it looks at
+/// no more than four, and no more than a quarter has.
 fn few_ends_differ(bytes: &[u8], len: usize, text: &[u8]) -> bool
     requires { quarter_of len ≤ length bytes.now }
     ensures differ { result ≡ true → AreTwo (digits_in len bytes.now) text.now }
@@ -79,8 +79,8 @@ fn few_ends_differ(bytes: &[u8], len: usize, text: &[u8]) -> bool
     false
 }
 
-/// Returns whether `len` packed digits and a text differ in their last digits: in the last 16 where
-/// a quarter and the text have as many, else in the last four. The last packed digits are in the
+/// Returns whether `len` packed digits and a text differ in their last digits: in the last 16 if a
+/// quarter and the text have as many, otherwise in the last four. The last packed digits are in the
 /// last bytes that are in use.
 #[inline(always)]
 pub(crate) fn ends_differ(bytes: &[u8], len: usize, text: &[u8]) -> bool
@@ -158,8 +158,8 @@ fn padded(text: &[u8]) -> [u8; 64]
     block
 }
 
-/// Returns the digits of each quarter, packed, if a quarter has fewer than 16. The bytes after these
-/// say nothing.
+/// Returns the digits of each quarter, packed, if a quarter has fewer than 16. The bytes after
+/// these may be anything.
 #[inline(always)]
 fn packed_few(text: &[u8], quarter: usize) -> [u8; 16]
     requires few { quarter < 16 }

@@ -1,4 +1,4 @@
-// Several digits set over several others that differ from them in the last ones.
+// Several digits that are set over several others, from which they differ in the last ones.
 ghost use Rattle.std.specs.Prelude.{◌≡◌, ◌≢◌, ◌≤◌, ℕ, IfSome, length, true, false};
 ghost use Rattle.vcd_body.specs.Names.{Held, SetsCode, TellsStep, digits_in, held_from, with_change};
 
@@ -24,7 +24,7 @@ fn packed_step(bytes: &[u8], len: usize, text: &[u8]) -> Option<Step>
 }
 
 impl<'a> Table<'a> {
-    /// Returns the step from several digits that are held so, in a share that begins here, to those
+    /// Returns the step from several digits, which are held in a share that begins here, to those
     /// of a text, if they differ in one of the last.
     #[inline(always)]
     fn step_from_held(&self, held: Holding, start: usize, text: &[u8]) -> Option<Step>
@@ -40,10 +40,10 @@ impl<'a> Table<'a> {
     }
 
     /// Sets the value of the code at an index to several digits over several others, if they differ
-    /// in one of the last and so at each size, and counts the step. Returns whether it did; else
-    /// nothing changes. This is the common case.
-    // Values that differ mostly do so in their last digits. With one loop over digits instead of
-    // this, `ends_differ` and `pack_bits`, `edges` of wide vectors takes 45 % more.
+    /// in one of the last, and so at each size, and counts the step. Returns whether it did;
+    /// otherwise nothing changes. This is the common case.
+    // Values that differ mostly do so in their last digits: without it `edges` of wide vectors
+    // takes 45 % more.
     #[inline(never)]
     pub(crate) fn change(&mut self, code: usize, text: &[u8]) -> bool
         requires { length text.now ≢ 1 }

@@ -172,7 +172,7 @@ pub(crate) fn number_of_bit(digit: u8) -> u8
     b'2' - digit
 }
 
-/// Returns the number that encodes the state of the other of the digits 1 and 0.
+/// Returns the number that encodes the state of 1 if the digit is 0, and of 0 if it is 1.
 #[inline(always)]
 pub(crate) fn number_of_flipped(digit: u8) -> u8
     requires { (digit ≡ 48) ⊎ (digit ≡ 49) }
@@ -181,7 +181,7 @@ pub(crate) fn number_of_flipped(digit: u8) -> u8
     number_of_bit(b'0' + b'1' - digit)
 }
 
-/// Returns the number that encodes the state of the other of the digits 0 and 1.
+/// Returns the number that encodes the state of 0 for that of 1, and of 1 for that of 0.
 #[inline(always)]
 pub(crate) fn flipped(tag: u8) -> u8
     ensures { (one : Bool) → tag ≡ number_of (cond one State.Zero State.One)

@@ -163,8 +163,8 @@ impl<'a> Table<'a> {
     }
 
     /// Sets the value of the code at an index to a text. Nothing changes if there is no such code,
-    /// or if the text is empty or does not fit the code's share. A single digit is set by `set_tag`,
-    /// unless it is the text of a real number.
+    /// or if the text is empty or does not fit the code's share. A single digit is set by
+    /// `set_tag`, unless it is the text of a real number.
     #[inline(never)]
     pub(crate) fn set_text(&mut self, code: usize, form: Form, text: &[u8])
         requires { form ≢ Form.RealText → length text.now ≢ 1 }
@@ -207,8 +207,9 @@ pub(crate) fn set_bits(slots: &mut [Slot], code: usize, bits: Bits)
     }
 }
 
-/// Counts a step of the value of a code in its slot: one that falls (way 0), that does neither (1)
-/// or that rises (2). Returns whether the slot had room for it; else 256 steps are left to count.
+/// Counts a step of the value of a code in its slot: a fall if `way` is 0, a rise if it is 2, any
+/// other if it is 1. Returns whether the slot had room for it. If not, the caller has 256 steps to
+/// count in the share.
 #[inline(always)]
 pub(crate) fn count_in_slot(slots: &mut [Slot], code: usize, way: usize) -> bool
     requires { way < 3 }

@@ -23,8 +23,8 @@ fn only_input<'a>(matches: &ArgMatches<'a>) -> Option<&'a str>
     input_named(input_of(matches)?)
 }
 
-/// Returns the inputs that the matches name: those of a merge if `merge` is true, otherwise those of
-/// another job.
+/// Returns the inputs that the matches name: those of a merge if `merge` is true, otherwise those
+/// of another job.
 pub fn inputs_of<'a>(
     alloc: Global,
     merge: bool,
