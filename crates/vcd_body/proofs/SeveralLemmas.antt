@@ -1,25 +1,16 @@
 -- A step that the last digits tell.
-use Rattle.std.proofs.Common.{Fits, w8, subst, take, drop, ◌≡◌, ◌≢◌, ◌⊎◌, inl, inr, ℕ, suc, zero, ◌+◌, ◌-◌, ◌/◌, ◌<◌, ◌≤◌, ◌==◌, ◌&&◌, ◌||◌, Bool, true, false, cond, List, length, map, slice_get, get_or, Option, Some, None, refl, sym, ap, ◌∙◌, arith}
-use Rattle.std.specs.Prelude.{IfSome, option_map}
-use Rattle.std.specs.Str.{str_to_ascii_lowercase}
-use Rattle.std.specs.Char.{to_ascii_lowercase}
-use Rattle.std.proofs.lemmas.Bool.{agree_below_at}
-use Rattle.std.proofs.lemmas.Option.{slice_get-get_or}
-use Rattle.vcd_model.specs.Values.{Value, extend}
-use Rattle.vcd_body.specs.Kept.{Held, IsStep, Kept, goes_from, last_digit_in}
-use Rattle.vcd_body.specs.Packed.{code_among, digit_of, digits_in, quarter_of}
+use Rattle.std.proofs.Common.{take, drop, ◌≡◌, ℕ, ◌-◌, ◌/◌, ◌≤◌, List, length, slice_get, get_or, Some, sym, ap, ◌∙◌, arith}
+use Rattle.std.specs.Prelude.{option_map}
+use Rattle.vcd_body.specs.Kept.{Held, Kept}
+use Rattle.vcd_body.specs.Packed.{digit_of, digits_in, quarter_of}
 use Rattle.vcd_body.specs.Stored.{end_at, held_by, held_from, holding_of, kept_in, kept_with, used_by, whole, len_of}
 use Rattle.vcd_body.specs.declared.slot.Holding.{Holding}
 use Rattle.vcd_body.specs.declared.slot.Share.{Share}
 use Rattle.vcd_body.specs.declared.slot.Slot.{Slot}
 use Rattle.vcd_body.specs.declared.slot.State.{State}
 use Rattle.vcd_body.specs.declared.slot.State.TheVariants as state
-use Rattle.vcd_body.specs.declared.step.Step.{Step}
-use Rattle.vcd_body.proofs.CompareLemmas.{differ_for, last_at, last_extended}
-use Rattle.vcd_body.proofs.PackedLemmas.{digit_among, in_last, length_digits}
-use Rattle.vcd_body.proofs.StepLemmas.{last_is}
+use Rattle.vcd_body.proofs.PackedLemmas.{digit_among, in_last}
 use Rattle.vcd_body.proofs.StoreLemmas.{digits_first, whole_is}
-use Rattle.vcd_body.specs.declared.item.Form.TheVariants as form
 
 -- the last packed digit
 pub last_code : (len : ℕ) (bytes : List ℕ) → 1 ≤ len → slice_get (digits_in len bytes) (len - 1) ≡ Some (digit_of (get_or bytes (quarter_of len - 1) 0 / 64))

@@ -1,6 +1,6 @@
 // Whether a change gives a code another value than it has.
-ghost use Rattle.std.specs.Prelude.{◌≡◌, ◌≤◌, ◌<◌, length, map, true, get_or};
-ghost use Rattle.vcd_body.specs.Names.{Decides, HasDigits, are_two, differs, digits_of, extend, extended, extension, held_digit, held_in, model_form, str_to_ascii_lowercase, value_at_size, value_with};
+ghost use Rattle.std.specs.Prelude.{◌≡◌, ◌≤◌, ◌<◌, length, true, get_or};
+ghost use Rattle.vcd_body.specs.Names.{Decides, HasDigits, are_two, differs, digits_of, extend, extended, extension, held_in, model_form, str_to_ascii_lowercase, value_at_size, value_with};
 
 use crate::change::extended_by;
 use crate::held::{count_of, digit_shown};

@@ -33,8 +33,8 @@ pub(crate) fn digit_held(held: HeldValue<'_>, index: usize) -> Option<u8>
     }
 }
 
-/// Returns the digit at an index of the value at a size, from the left. `None` if it has none
-/// there.
+/// Returns the digit at an index of the value at a size, from the left. `None` after the last, and
+/// if the value has no digits.
 #[inline(always)]
 pub(crate) fn digit_shown(held: HeldValue<'_>, size: usize, index: usize) -> Option<u8>
     ensures { result ≡ digit_in (value_at_size size (held_in held.entry)) index }

@@ -63,8 +63,8 @@ fn code_of(digit: u8) -> u8
     if digit == b'0' { 0 } else { all_but_0 }
 }
 
-/// Returns whether `len` packed digits and a text differ in one of their last digits: it looks at
-/// no more than four, and no more than a quarter has.
+/// Returns whether `len` packed digits and a text differ in one of their last digits. It looks at
+/// four at most, and at no more than a quarter has.
 fn few_ends_differ(bytes: &[u8], len: usize, text: &[u8]) -> bool
     requires { quarter_of len ≤ length bytes.now }
     ensures differ { result ≡ true → AreTwo (digits_in len bytes.now) text.now }
@@ -80,8 +80,8 @@ fn few_ends_differ(bytes: &[u8], len: usize, text: &[u8]) -> bool
 }
 
 /// Returns whether `len` packed digits and a text differ in their last digits: in the last 16 if a
-/// quarter and the text have as many, otherwise in the last four. The last packed digits are in the
-/// last bytes that are in use.
+/// quarter and the text have as many, else in the last four. The last digits are in the last bytes
+/// that are in use.
 #[inline(always)]
 pub(crate) fn ends_differ(bytes: &[u8], len: usize, text: &[u8]) -> bool
     ensures differ { result ≡ true → AreTwo (digits_in len bytes.now) text.now }
@@ -114,7 +114,7 @@ fn with_4_times(low: u8x16, high: u8x16) -> u8x16
 }
 
 /// Returns 16 digits from each of four offsets on, packed.
-// Four digits a byte: 16 bytes by four loads and no shuffle.
+// Each byte has one digit from each offset, so four loads and no shuffle give 16 bytes.
 #[inline(always)]
 fn packed_from(text: &[u8], first: usize, second: usize, third: usize, last: usize) -> u8x16
     requires first { first + 16 ≤ length text.now }
@@ -122,7 +122,9 @@ fn packed_from(text: &[u8], first: usize, second: usize, third: usize, last: usi
     requires third { third + 16 ≤ length text.now }
     requires last { last + 16 ≤ length text.now }
     ensures long { length result ≡ 16 }
-    ensures each { (k : ℕ) → k < 16 → get_or result k 0 ≡ code_or text.now (first + k) + 4 * code_or text.now (second + k) + 16 * code_or text.now (third + k) + 64 * code_or text.now (last + k) }
+    ensures each { (k : ℕ) → k < 16 → get_or result k 0 ≡ code_or text.now (first + k)
+        + 4 * code_or text.now (second + k) + 16 * code_or text.now (third + k)
+        + 64 * code_or text.now (last + k) }
 {
     let third = codes_16(text, third);
     let last = codes_16(text, last);
@@ -158,8 +160,8 @@ fn padded(text: &[u8]) -> [u8; 64]
     block
 }
 
-/// Returns the digits of each quarter, packed, if a quarter has fewer than 16. The bytes after
-/// these may be anything.
+/// Returns the digits of each quarter, packed, if a quarter has fewer than 16. The bytes after them
+/// have no meaning.
 #[inline(always)]
 fn packed_few(text: &[u8], quarter: usize) -> [u8; 16]
     requires few { quarter < 16 }

@@ -163,8 +163,8 @@ impl<'a> Table<'a> {
     }
 
     /// Sets the value of the code at an index to a text. Nothing changes if there is no such code,
-    /// or if the text is empty or does not fit the code's share. A single digit is set by
-    /// `set_tag`, unless it is the text of a real number.
+    /// or if the text is empty or does not fit the code's share. `set_tag` sets a single digit,
+    /// unless it is the text of a real number.
     #[inline(never)]
     pub(crate) fn set_text(&mut self, code: usize, form: Form, text: &[u8])
         requires { form ≢ Form.RealText → length text.now ≢ 1 }

@@ -91,9 +91,9 @@ impl<'a> Table<'a> {
     }
 
     /// Sets the value of the code at an index as `set_value` does, and counts its step at this size
-    /// as `count` does, if it differs. A text that is empty changes nothing. One of the digits 0
-    /// and 1 over the other, and binary digits over others, change only the code's slot.
-    // One call, since `edges` would otherwise ask three times whether the code exists: 20 % more of
+    /// as `count` does, if it differs. A text that is empty changes nothing. A digit 0 or 1 over
+    /// one of them, and binary digits over others, change only the code's slot.
+    // In one call: `edges` would else ask three times whether the code exists, some 20 % more of
     // scalars.
     #[inline(always)]
     pub fn follow(&mut self, code: usize, size: usize, value: Value<'_>)

@@ -1,9 +1,8 @@
-use Rattle.std.proofs.Common.{◌≡◌, true, map, length, not, refl, sym, ap, ◌∙◌, arith}
+use Rattle.std.proofs.Common.{◌≡◌, true, length, refl, ap, ◌∙◌, arith}
 use Rattle.std.specs.Char.{to_ascii_lowercase}
-use Rattle.std.specs.Str.{bytes_eq, str_to_ascii_lowercase}
+use Rattle.std.specs.Str.{str_to_ascii_lowercase}
 use Rattle.std.proofs.lemmas.List.{length-map}
-use Rattle.vcd_model.specs.Values.{extend}
-use Rattle.vcd_body.specs.Packed.{digits_in, held_digit}
+use Rattle.vcd_body.specs.Packed.{digits_in}
 use Rattle.vcd_body.specs.Stored.{digits_held, digits_with, held_by, len_of}
 use Rattle.vcd_body.specs.declared.slot.State.{State}
 use Rattle.vcd_body.proofs.CompareLemmas.{differ_at_longest, differ_where_as_many}

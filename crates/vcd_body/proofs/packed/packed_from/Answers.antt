@@ -1,4 +1,4 @@
-use Rattle.std.proofs.Common.{◌≡◌, ◌+◌, ◌*◌, get_or, ap, ◌∙◌, arith}
+use Rattle.std.proofs.Common.{◌≡◌, ◌+◌, get_or, ap, ◌∙◌, arith}
 use Rattle.vcd_body.specs.Packed.{code_or}
 use Rattle.vcd_body.proofs.CodeLanes.{code_lane}
 use Rattle.vcd_body.proofs.PackedLemmas.{or_small}
