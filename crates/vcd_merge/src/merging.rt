@@ -150,7 +150,7 @@ impl Visit<()> for Merging {
             return put;
         }
         put_due_time(self.time, &mut self.written, out)?;
-        let number = self.first.saturating_add(code as u64);
+        let number = self.first.wrapping_add(code as u64);
         let to = extent.to.passed();
         put_renamed_ahead(
             change,

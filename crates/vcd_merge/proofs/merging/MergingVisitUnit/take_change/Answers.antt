@@ -1,4 +1,4 @@
-use Rattle.std.proofs.Common.{List, ◌≡◌, ◌&&◌, false, ap, sym, subst, ◌∙◌, Err, rules, ℕ, ◌+◌, ◌*◌, Some, arith, refl}
+use Rattle.std.proofs.Common.{List, ◌≡◌, ◌&&◌, false, ap, sym, subst, ◌∙◌, Err, rules, ℕ, ◌+◌, ◌*◌, ◌%◌, ◌^◌, Some, arith, refl}
 use Rattle.vcd_model.specs.ItemText.{time_due}
 use Rattle.vcd_model.specs.Items.{Change, leaves_open, time_after}
 use Rattle.vcd_model.proofs.MergedText.{line_due, time_written}
@@ -53,8 +53,9 @@ returns-clause-takes g c = change_taken _ _ _ c.args.change c.requires.item (rec
     let sized = subst (λ (l : List Code). IsSized l (record { position = c.in-Change.code; size_or_zero = c.args.change.size_or_zero })) (sym same) told in
     let out : (is.0.event && leaves_open items) ≡ false = rw (no_event c.in-Change.code c.args.change.size_or_zero (parts v) h is.0 views is.1 sized c.if-change-eq0.false) refl in
     let fits = number_fits h c.in-Change.code is.0 is.1 first few in
-    let sum : c.saturating_add-number.result ≡ first + c.in-Change.code = omega (arith, c.saturating_add-number.ensures) in
-    let line = sized_line c.in-Change.code c.args.change.size_or_zero (parts v) h is.0 views is.1 sized c.if-change-eq0.false first c.saturating_add-number.result (model_form c.in-Change.form) c.args.change.text.now sum in
+    let wrapped = (c.args.self.now.first + c.in-Change.code) % 2 ^ 64 in
+    let sum : wrapped ≡ first + c.in-Change.code = omega (arith, number, fits) in
+    let line = sized_line c.in-Change.code c.args.change.size_or_zero (parts v) h is.0 views is.1 sized c.if-change-eq0.false first wrapped (model_form c.in-Change.form) c.args.change.text.now sum in
     let t = rw time at c.in_ok-put_due_time.ensures.puts.0 in
     let l = rw line at c.put_renamed_ahead.ensures.0 in
     rw (is.2, line_due scale first h items y c.args.self.now.written out) (
