@@ -97,7 +97,7 @@ dist-check:
 	packaging/try_dist.sh dist
 
 clean:
-	rm -rf vcdkit vcdkit-static libvcdkit.* vcdkit.pc dist make.log crates/*/out
+	rm -rf vcdkit vcdkit-static vcdkit-unproved libvcdkit.* vcdkit.pc dist make.log crates/*/out
 
 # A tarball contains the built program, and no crates.
 sources:

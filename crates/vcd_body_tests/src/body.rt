@@ -138,10 +138,11 @@ const ITEMS: [(&[u8], &str); 4] = [
 ];
 
 // Bodies with a value or a time that is refused, and their items up to the fault.
-const REFUSED_VALUES: [(&[u8], &str); 11] = [
+const REFUSED_VALUES: [(&[u8], &str); 12] = [
     (b"#5\n#5\n1!\n#4\n", "#5 #5 0:Scalar:1 fault 14 at 10"),
     (b"#5\n$dumpvars\n#4\n", "#5 Vars fault 19 at 9"),
     (b"#x\n", "fault 13 at 7"),
+    (b"$dumpvars\n#x\n", "Vars fault 13 at 8"),
     (b"#18446744073709551616\n", "fault 13 at 7"),
     (b"b101 $end\n", "fault 16 at 7"),
     (b"b10110 ?\n", "fault 16 at 7"),
@@ -331,14 +332,26 @@ fn taken_ahead(alloc: Global, body: &[u8]) -> Result<String, Fail> {
     Ok(taken_from(alloc, &mut feed, head.view())?)
 }
 
+// Bodies, the items that are taken ahead, and the next one. A vector that is wider than its code is
+// left to the reader that names the fault.
+const TAKEN: [(&[u8], &str); 2] = [
+    (
+        b"#0\n1!\nb101 \"\n#05 Z! bx \"\n#4\n\
+            $comment of more than sixty-three bytes, for the look ahead to end before it $end\n",
+        "#0 0:Scalar:1 1:Vector:101 #5 0:Scalar:Z 1:Vector:x then fault 14 at 11",
+    ),
+    (
+        b"#0\nb10110 \"\n\
+            $comment of more than sixty-three bytes, for the look ahead to end before it $end\n",
+        "#0 then fault 17 at 8",
+    ),
+];
+
 #[test]
 fn plain_items_taken_ahead(rt: HostRuntime) -> Result<(), Fail> {
-    let body = b"#0\n1!\nb101 \"\n#05 Z! bx \"\n#4\n\
-        $comment of more than sixty-three bytes, for the look ahead to end before it $end\n";
-    assert_eq!(rt;
-        taken_ahead(rt.alloc(), body)?.as_str(),
-        "#0 0:Scalar:1 1:Vector:101 #5 0:Scalar:Z 1:Vector:x then fault 14 at 11"
-    );
+    for (body, items) in TAKEN {
+        assert_eq!(rt; taken_ahead(rt.alloc(), body)?.as_str(), items);
+    }
     Ok(())
 }
 

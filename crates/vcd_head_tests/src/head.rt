@@ -241,8 +241,8 @@ fn codes_are_found(rt: HostRuntime) -> Result<(), Fail> {
 // have 8 bytes or more.
 const CROWDED: &[u8] =
     b"$var wire 1 ! a $end $var wire 1 1 b $end $var wire 1 A c $end $var wire 1 Q d $end \
-        $var wire 1 a e $end $var wire 1 q f $end $var wire 1 register g $end \
-        $var wire 1 register1 h $end $var wire 1 register2 i $end \
+        $var wire 1 a e $end $var wire 1 q f $end $var wire 1 register2 g $end \
+        $var wire 1 register h $end $var wire 1 register1 i $end \
         $var wire 1 0123456789abcdef j $end $enddefinitions $end\n";
 
 // Codes, and the indexes at which both look-ups find them among these.
@@ -253,9 +253,9 @@ const FOUND_CROWDED: [(&[u8], Option<usize>); 14] = [
     (b"Q", Some(3)),
     (b"a", Some(4)),
     (b"q", Some(5)),
-    (b"register", Some(6)),
-    (b"register1", Some(7)),
-    (b"register2", Some(8)),
+    (b"register", Some(7)),
+    (b"register1", Some(8)),
+    (b"register2", Some(6)),
     (b"0123456789abcdef", Some(9)),
     (b"registe", None),
     (b"register3", None),
@@ -266,6 +266,10 @@ const FOUND_CROWDED: [(&[u8], Option<usize>); 14] = [
 #[test]
 fn crowded_codes_are_found(rt: HostRuntime) -> Result<(), Fail> {
     let head = read_good(rt.alloc(), CROWDED)?;
+    assert_eq!(rt;
+        head.view().index,
+        [0, 9, 1, 2, 3, 4, 5, 7, 8, 6].as_slice()
+    );
     for (code, position) in FOUND_CROWDED {
         assert_eq!(rt; found(&head, code), [position; 2], "of {code:?}");
     }

@@ -1,9 +1,15 @@
 // Headers and their lists.
-use super::runs::{Case, Input, LIMIT, NESTED, NESTED_LIST, give};
+use super::runs::{ALIASES, Case, Input, LIMIT, NESTED, NESTED_LIST, give};
 use vcd_words::Words;
 
-const LISTS: [Case<'static>; 5] = [
+const LISTS: [Case<'static>; 6] = [
     (Words::List, Input::Whole(NESTED), (NESTED_LIST, b"", 0)),
+    // Two names of one code.
+    (
+        Words::List,
+        Input::Whole(ALIASES),
+        (b"tb.a wire 1 !\ntb.u.b wire 1 !\n", b"", 0),
+    ),
     (
         Words::List,
         Input::Whole(b"$timescale 1 ns $end\n$var wire 1 $end a [0] $end\n$enddefinitions $end\n"),

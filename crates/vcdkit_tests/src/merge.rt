@@ -2,7 +2,7 @@
 use super::runs::{Case, DUMP, Input, LIMIT, give};
 use vcd_words::Words;
 
-const MERGES: [Case<'static>; 7] = [
+const MERGES: [Case<'static>; 8] = [
     // One input.
     (
         Words::Merge(&[]),
@@ -45,6 +45,23 @@ const MERGES: [Case<'static>; 7] = [
             $scope module in2 $end\n$var wire 2 \" b [1:0] $end\n$upscope $end\n\
             $scope module in3 $end\n$var real 1 # c $end\n$upscope $end\n$enddefinitions $end\n\
             #0\nb1 \"\n#10\n1!\nr0.5 #\n#30\n0!\n#1000\nb10 \"\n",
+            b"",
+            0,
+        ),
+    ),
+    // Lines of one input before and after those of the other, and a vector in the middle of a chunk.
+    (
+        Words::Merge(&[]),
+        Input::All(&[
+            b"$var wire 1 ! a $end\n$enddefinitions $end\n#1\n1!\n0!\n#5\n1!\n0!\n",
+            b"$var wire 1 ! b $end\n$var wire 4 v w $end\n$enddefinitions $end\n\
+                #2\n1!\n0!\nb101 v\n#3\n\
+            $comment of more than sixty-three bytes, for the look ahead to end before $end\n0!\n",
+        ]),
+        (
+            b"$timescale\n\t1s\n$end\n$scope module in1 $end\n$var wire 1 ! a $end\n$upscope $end\n\
+            $scope module in2 $end\n$var wire 1 \" b $end\n$var wire 4 # w $end\n$upscope $end\n\
+            $enddefinitions $end\n#1\n1!\n0!\n#2\n1\"\n0\"\nb101 #\n#3\n0\"\n#5\n1!\n0!\n",
             b"",
             0,
         ),

@@ -21,7 +21,7 @@ const CHANGED_WRITTEN: &[u8] =
         $var reg 4 \" q [3:0] $end\n$upscope $end\n$enddefinitions $end\n\
         #0\n0!\n";
 
-const PICKS: [Case<'static>; 18] = [
+const PICKS: [Case<'static>; 19] = [
     (
         Words::Pick(&["tb"]),
         Input::Whole(
@@ -103,6 +103,19 @@ const PICKS: [Case<'static>; 18] = [
         ),
     ),
     (Words::Pick(&["clk"]), Input::Whole(DUMP), (PICKED, b"", 0)),
+    // Times with a zero before them, and a change twice, in the middle of a chunk.
+    (
+        Words::Pick(&["a"]),
+        Input::Whole(
+            b"$var wire 1 ! a $end\n$enddefinitions $end\n#05\n1!\n1!\n0!\n#06\n\
+            $comment of more than sixty-three bytes, for the look ahead to end before $end\n1!\n",
+        ),
+        (
+            b"$var wire 1 ! a $end\n$enddefinitions $end\n#5\n1!\n1!\n0!\n#6\n1!\n",
+            b"",
+            0,
+        ),
+    ),
     // A name that selects nothing counts once the header is read.
     (
         Words::Pick(&["tc"]),
