@@ -13,7 +13,7 @@ use crate::words::{
     kind_of, rest_of,
 };
 use vcd_text::{Ahead, Feed, Sink, Source, WriteFailed, decimal_at};
-use vcd_view::{Found, HeadView, find_near, find_sized};
+use vcd_view::{Found, HeadView, find_in_own_entry, find_sized};
 
 /// An item that was taken ahead. A timestamp has no text, no size and no `bits`, and its `code_at`
 /// is its `at`.
@@ -237,7 +237,7 @@ pub(crate) fn scalar_ahead<'a>(
     Some(change_of(found, Form::Scalar, text, at, at, at + 1))
 }
 
-/// Returns the code after a digit, if a look at its four entries finds it.
+/// Returns the code after a digit, where a look at one entry finds it.
 #[inline(always)]
 fn short_code(token: &[u8], view: HeadView<'_>) -> Option<Found>
     requires begins { IsScalar token.now }
@@ -247,12 +247,12 @@ fn short_code(token: &[u8], view: HeadView<'_>) -> Option<Found>
     if code.is_empty() {
         return None;
     }
-    let found = find_near(view, code)?;
+    let found = find_in_own_entry(view, code)?;
     Some(found)
 }
 
 /// Returns the change that a `0` or a `1` begins, where its token begins right here, has two bytes
-/// and a line feed after them, and `find_near` finds its code. None for any other item;
+/// and a line feed after them, and a look at one entry finds its code. None for any other item;
 /// then nothing has changed.
 // No call is made, so that a loop over such changes keeps all that it needs in registers.
 #[inline(always)]

@@ -17,7 +17,7 @@
 //! # The modules
 //!
 //! - `view`: `HeadView` with its rows and codes, and `Need`
-//! - `look_up`, `probes`: a look at four entries, then a look by the hash, then a binary search;
+//! - `look_up`, `probes`: a look at one entry, then a look by the hash, then a binary search;
 //!   comparisons, counted
 //! - `entries`, `key`: where a code's entry is, and what it holds; codes as numbers
 //! - `code_hash`: codes hashed by numbers that nobody knows
@@ -44,11 +44,12 @@ mod view;
 
 pub use code_hash::{CodeHasher, CodeSeed};
 pub use entries::{
-    MAX_LOOKS, code_number, entry_after, entry_for, entry_of, long_key, size_or_zero_of,
+    MAX_LOOKS, code_number, entry_after, entry_for, entry_of, index_beside, index_in_entry,
+    long_key, size_or_zero_of,
 };
 pub use key::key_of;
 pub use keyword::{Keyword, is, keyword_of, pass_words};
-pub use look_up::{Found, find, find_counted, find_near, find_sized};
+pub use look_up::{Found, find, find_counted, find_in_own_entry, find_sized};
 pub use new_code::{NewCode, put_code};
 pub use probes::Probes;
 pub use room::need;

@@ -1,5 +1,5 @@
 // Codes that are looked up.
-ghost use Rattle.std.specs.Prelude.{ℕ, List, true, ◌≡◌, ◌+◌, ◌≤◌, ◌<◌, length, option_map, IfNone, IfSome, Some};
+ghost use Rattle.std.specs.Prelude.{List, true, ◌≡◌, ◌+◌, ◌≤◌, ◌<◌, length, option_map, IfNone, IfSome, Some};
 ghost use Rattle.vcd_view.specs.Names.{AllByRecursion, AnyCodes, AnyHeader, AreBytes, AreFew, Finds, Header, IdCode, IsIndex, IsSized, IsViewOf, are_right, bits_of, code_text, key_in};
 
 use crate::code_hash::CodeSeed;
@@ -21,9 +21,8 @@ pub struct Found {
 
 /// Returns the index of a code among the distinct codes; `None` if it is not among them.
 ///
-/// A look at one entry finds nearly all codes that simulators give, and a look at those beside it
-/// most of the others. The rest is looked for by the hash, and what is not found so by a binary
-/// search.
+/// A look at one entry finds nearly all codes that simulators give. The others are looked for by
+/// their hash, and those that are not found so by a binary search.
 #[inline(always)]
 pub fn find(view: HeadView<'_>, code: &[u8]) -> Option<usize>
     ensures found { (h : Header) → IsViewOf view.entry h → Finds h.codes code.now result }
@@ -78,7 +77,7 @@ fn find_sized_counted(view: HeadView<'_>, code: &[u8], probes: &mut Probes) -> O
         → probes.old.count < probes.new.count }
     ensures few { AnyHeader view.entry (λ h. AreFew (length h.codes) probes.old.count probes.new.count) }
 {
-    match find_near(view, code) {
+    match find_in_own_entry(view, code) {
         Some(found) => Some(found),
         None => {
             let position = find_slowly(
@@ -99,11 +98,10 @@ fn find_sized_counted(view: HeadView<'_>, code: &[u8], probes: &mut Probes) -> O
     }
 }
 
-/// Returns the index and size of a code by a look at its own entry and the three beside it. `None`
-/// if none of them is that of the code; then `find_sized` may find the code. The four are in 64
-/// bytes, so a look at them reads at most two cache lines.
+/// Returns the index and size of a code by a look at one entry. `None` if the entry is of another
+/// code or of none; then `find_sized` may find the code.
 #[inline(always)]
-pub fn find_near(view: HeadView<'_>, code: &[u8]) -> Option<Found>
+pub fn find_in_own_entry(view: HeadView<'_>, code: &[u8]) -> Option<Found>
     ensures found { (h : Header) → IsViewOf view.entry h
         → IfSome result (λ found. Finds h.codes code.now (Some found.position)) }
     ensures sized { IfSome result (λ found. IsSized view.entry.codes.now found) }
@@ -113,22 +111,20 @@ pub fn find_near(view: HeadView<'_>, code: &[u8]) -> Option<Found>
     if key == 0 {
         return None;
     }
-    let own = entry_of(code, view.entries.len());
-    for other in 0..4 {
-        let entry = view.entries.get(own ^ other)?;
-        if entry.key == key {
-            return Some(Found {
-                position: entry.position as usize,
-                size_or_zero: entry.size_or_zero as usize,
-            });
-        }
+    let entry = view.entries.get(entry_of(code, view.entries.len()))?;
+    if entry.key == key {
+        Some(Found {
+            position: entry.position as usize,
+            size_or_zero: entry.size_or_zero as usize,
+        })
+    } else {
+        None
     }
-    None
 }
 
-// Returns the index of a code that `find_near` does not find: by its hash, or else by a binary
+// Returns the index of a code that its own entry does not hold: by its hash, or else by a binary
 // search; `None` where it is not among the distinct codes. It takes no view, so that a look-up by
-// few entries need not make one ready, and returns only a number, which needs no memory.
+// one entry need not make one ready, and returns a number alone, which needs no memory.
 #[inline(never)]
 fn find_slowly(
     text: &[u8],

@@ -1,9 +1,9 @@
-use Rattle.std.proofs.Common.{◌≢◌, subst, ◌∙◌, arith}
+use Rattle.std.proofs.Common.{◌≢◌, sym, subst, ◌∙◌, arith}
 use Rattle.std.proofs.lemmas.Grind.{get_or_default_zero}
 use Rattle.std.proofs.lemmas.Option.{IfSome_then}
-use Rattle.vcd_view.specs.Entries.{HasEntry}
+use Rattle.vcd_view.specs.Entries.{HasEntry, beside}
 use Rattle.vcd_view.specs.Keys.{AreBytes, key_in}
-use Rattle.vcd_view.proofs.EntryLemmas.{at_finds, at_within, entry_finds, entry_within}
+use Rattle.vcd_view.proofs.EntryLemmas.{at_finds, at_within, entry_finds, entry_within, told_finds, told_within}
 use Rattle.vcd_view.proofs.KeyLemmas.{are_bytes}
 use Rattle.vcd_view.proofs.entries.index_by_hash.Goals as goal
 
@@ -13,16 +13,28 @@ returns-then-key-eq0-clause-found c = λ cs h. IfSome_then c.index_of_long.resul
 pub returns-then-key-eq0-clause-within : goal.returns-then-key-eq0-clause-within
 returns-then-key-eq0-clause-within c = IfSome_then c.index_of_long.result c.index_of_long.ensures.found (λ p at. at_within c.args.text.now c.args.codes.now c.args.code.now p at)
 
-pub returns-clause-found : goal.returns-clause-found
-returns-clause-found c = λ cs h.
+pub returns-in-Some-clause-found : goal.returns-in-Some-clause-found
+returns-in-Some-clause-found c = λ cs h.
+    let code = c.args.code.now in
+    let own : AreBytes code = are_bytes code (λ i d l. rw (get_or_default_zero code i d l) (let fit = c.type_inv.code i in omega (arith, fit))) in
+    told_finds c.args.text.now c.args.codes.now cs c.args.entries.now code c.in-Some.position h c.requires.right own (beside c.entry_of-own.result) (sym (c.index_beside.ensures code c.key_of-key.ensures) ∙ c.in-Some.is)
+
+pub returns-in-Some-clause-within : goal.returns-in-Some-clause-within
+returns-in-Some-clause-within c =
+    let code = c.args.code.now in
+    let own : AreBytes code = are_bytes code (λ i d l. rw (get_or_default_zero code i d l) (let fit = c.type_inv.code i in omega (arith, fit))) in
+    told_within c.args.text.now c.args.codes.now c.args.entries.now code c.in-Some.position c.requires.right own (beside c.entry_of-own.result) (sym (c.index_beside.ensures code c.key_of-key.ensures) ∙ c.in-Some.is)
+
+pub returns-in-None-clause-found : goal.returns-in-None-clause-found
+returns-in-None-clause-found c = λ cs h.
     let code = c.args.code.now in
     let own : AreBytes code = are_bytes code (λ i d l. rw (get_or_default_zero code i d l) (let fit = c.type_inv.code i in omega (arith, fit))) in
     let some : key_in code ≢ 0 = λ z. c.if-key-eq0.false (c.key_of-key.ensures ∙ z) in
     IfSome_then c.index_of_key.result c.index_of_key.ensures (λ p has.
     entry_finds c.args.text.now c.args.codes.now cs c.args.entries.now code p h c.requires.right own some (subst (λ k. HasEntry c.args.entries.now k p) c.key_of-key.ensures has))
 
-pub returns-clause-within : goal.returns-clause-within
-returns-clause-within c =
+pub returns-in-None-clause-within : goal.returns-in-None-clause-within
+returns-in-None-clause-within c =
     let code = c.args.code.now in
     let own : AreBytes code = are_bytes code (λ i d l. rw (get_or_default_zero code i d l) (let fit = c.type_inv.code i in omega (arith, fit))) in
     let some : key_in code ≢ 0 = λ z. c.if-key-eq0.false (c.key_of-key.ensures ∙ z) in
