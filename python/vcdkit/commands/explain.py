@@ -4,13 +4,13 @@ The report or the message is that of vcdkit check, and so is the exit status. If
 only the lines around the fault are shown. Bytes that are not text are shown as \\xNN, and long
 lines are truncated.
 
---salvage writes the good part of a faulty dump, which is a dump again: all that is before the
-fault. The line `good until` says up to which time it has all values. That is the last timestamp
-before the fault if the fault is in the next one, and otherwise one tick before it, because what
-follows that timestamp may be incomplete. If the dump has no fault, or if the fault is in the
-header, no file is written.
+--salvage writes everything before the fault, as a dump. The line `good until` says up to which time
+it has all values. Usually that is one tick before the last timestamp in front of the fault, because
+some changes of that time may be missing. If the fault is in the next timestamp, it is the last
+timestamp itself. If there is no fault, or the header has the fault, no file is written.
 
-If NAMEs are given, it also says of each one that selects nothing which paths are near.
+With NAMEs it also looks whether each of them selects something. If one does not, it lists similar
+paths.
 
 examples:
   vcdkit-explain sim.vcd
@@ -244,7 +244,7 @@ def salvage(dump, fault, before, path):
 @command
 def main(words):
     of = parser("vcdkit-explain", __doc__, "a valid dump, as far as it goes", "not a valid dump")
-    of.add_argument("--salvage", metavar="OUT", help="write the good part of a faulty dump")
+    of.add_argument("--salvage", metavar="OUT", help="write what is before the fault")
     of.add_argument("--token-limit", type=int, metavar="N",
                     help="the longest token that is allowed, in bytes")
     add_file(of, "*")

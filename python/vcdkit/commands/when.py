@@ -1,9 +1,9 @@
 """Lists the times at which a condition over signals begins to hold
 
 The condition is evaluated at the end of each time at which one of its signals changes. If it holds
-at --from, that time is listed too. With --rise, --fall or both, the condition is evaluated at these
-edges of a clock of one bit, with the values just before the time of the edge: a flip-flop takes
-these.
+at --from, that time is listed too. With --rise or --fall, the condition is evaluated at these edges
+of a clock of one bit, with the values just before the time of the edge, which are those that a
+flip-flop takes. With both it is evaluated at every edge.
 
 conditions:
   tb.bus == 0xff   also != < <= > >=; numbers are 0xff, 0b101, 10, -1 and 1.5
