@@ -120,7 +120,7 @@ module _ (codes : List IdCode) (limit lines : ℕ) (bytes : List ℕ) (before it
       (so_far-phrase (body_grammar codes) (given ++ t ∷ []) earlier (t.bytes ∷ []) u (BodyPhrase.Gives x) first p.goes_on p.whole refl)
 
   -- a token of its own
-  one_more : (n n' : ℕ) (t : Token) (x : BodyItem) (g : GaveAhead codes limit lines bytes n before items) → n < n' → Passed limit lines bytes n' (g.tokens ++ t ∷ [])
+  pub one_more : (n n' : ℕ) (t : Token) (x : BodyItem) (g : GaveAhead codes limit lines bytes n before items) → n < n' → Passed limit lines bytes n' (g.tokens ++ t ∷ [])
       → ((earlier : List BodyPhrase) → items_of earlier ≡ before ++ items → Passes codes earlier t.bytes x) → GaveAhead codes limit lines bytes n' before (items ++ x ∷ [])
   one_more n n' t x g less p h = grown n n' x (t ∷ []) t.line g less p (one_on t x h)
 

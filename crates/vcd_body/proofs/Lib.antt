@@ -33,6 +33,7 @@ pub mod AheadLemmas
 pub mod LeftOut
 pub mod LineLemmas
 pub mod ScalarLemmas
+pub mod SectionLemmas
 pub mod MarkLine
 pub mod AskedLemmas
 pub mod Results

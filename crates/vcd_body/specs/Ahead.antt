@@ -21,19 +21,19 @@ use Rattle.vcd_view.specs.declared.look_up.Found.{Found}
 use Rattle.vcd_body.specs.declared.bits.Bits.{Bits}
 use Rattle.vcd_body.specs.declared.item.Form.TheVariants as form
 use Rattle.vcd_body.specs.declared.item.Item.{Item}
-use Rattle.vcd_body.specs.declared.item.Item.TheVariants.{Time, Change}
+use Rattle.vcd_body.specs.declared.item.Item.TheVariants.{Change, Finish}
 use Rattle.vcd_body.specs.declared.item.Regs.{Regs}
 use Rattle.vcd_body.specs.Binary.{binary_digits}
 use Rattle.vcd_body.specs.Items.{AreRegsAfter}
 use Rattle.vcd_body.specs.Reads.{GaveItems}
 
--- a timestamp, with no text, or a change
+-- a change, or another item of a body, with no text
 abbrev pub IsPlain : List ℕ → Item → Type 0
-IsPlain text (Time t) = text ≡ []
 IsPlain text (Change position form) = Unit {0}
-IsPlain text item = ⊥
+IsPlain text Finish = ⊥
+IsPlain text item = text ≡ []
 
--- a change's code is one of these and has this size, as a look-up tells it; a timestamp has none
+-- a change's code is one of these and has this size, as a look-up tells it; no other item has one
 abbrev pub IsSizedItem : List Code → Item → ℕ → Type 0
 IsSizedItem codes (Change position form) most = IsSized codes (record { position = position; size_or_zero = most })
 IsSizedItem codes item most = most ≡ 0

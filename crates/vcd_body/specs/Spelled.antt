@@ -49,11 +49,11 @@ pub record HasTimestamp (bytes : List ℕ) (from to at time : ℕ) : Type 0 wher
   pub fits : time < 2 ^ 64
 
 -- a change is there, with this text and with its code, at these offsets; or the digits of a
--- timestamp
+-- timestamp; of a section's keyword only the order of its offsets is said
 abbrev pub HasSpelled : HeadView → List ℕ → ℕ → ℕ → ℕ → ℕ → List ℕ → Item → Type 0
 HasSpelled v bytes from to at code_at text (Time time) = HasTimestamp bytes from to at time
 HasSpelled v bytes from to at code_at text (Change position form) = (code : List ℕ) × HasChange bytes from to form text code × Names v position code × HasPlaces bytes from to at code_at text code
-HasSpelled v bytes from to at code_at text item = Unit {0}
+HasSpelled v bytes from to at code_at text item = from ≤ to
 
 -- the bytes from one offset up to another, without this many after the first one
 abbrev pub bytes_without : List ℕ → ℕ → ℕ → ℕ → List ℕ

@@ -1,9 +1,10 @@
 -- What is taken ahead: a token where a phrase begins, and then the whole item.
-use Rattle.std.specs.Prelude.{◌≡◌, ℕ, ◌-◌, ◌^◌, ◌<◌, ◌≤◌, true, List, [], ◌∷◌, ◌++◌, MatchOption, Option, drop, length, take}
-use Rattle.vcd_model.specs.BodyPhrases.{BodyPhrase}
+use Rattle.std.specs.Prelude.{◌≡◌, ℕ, ◌-◌, ◌^◌, ◌<◌, ◌≤◌, Bool, false, true, List, [], ◌∷◌, ◌++◌, MatchOption, Option, drop, length, take}
+use Rattle.vcd_model.specs.BodyPhrases.{BodyPhrase, section_keyword}
 use Rattle.vcd_model.specs.Bytes.{decimal_value, is_decimal}
 use Rattle.vcd_model.specs.Header.{Header}
 use Rattle.vcd_model.specs.Items.{BodyItem}
+use Rattle.vcd_model.specs.Keywords.{Keyword, keyword_text}
 use Rattle.vcd_model.specs.Tokens.{Token}
 use Rattle.vcd_text.specs.Ahead.{TakesToken, bytes_of, longest_of, passed_of}
 use Rattle.vcd_text.specs.Passed.{Passed}
@@ -15,7 +16,7 @@ use Rattle.vcd_view.specs.declared.look_up.Found.{Found}
 use Rattle.vcd_body.specs.Ahead.{GaveAhead, GivesBoth, HasBits, IsPlain, IsSizedItem, LooksOver}
 use Rattle.vcd_body.specs.Changes.{AreBinaryIf}
 use Rattle.vcd_body.specs.Given.{HasGoodText, IsGoodText, IsItem}
-use Rattle.vcd_body.specs.Items.{AreRegsAfter, model_form, regs_after}
+use Rattle.vcd_body.specs.Items.{AreRegsAfter, model_form, model_section, regs_after}
 use Rattle.vcd_body.specs.Reads.{PassesScalar}
 use Rattle.vcd_body.specs.Spelled.{HasSpelled, Names}
 use Rattle.vcd_body.specs.Words.{Begins}
@@ -24,7 +25,8 @@ use Rattle.vcd_body.specs.declared.ahead.ScannedItem.{ScannedItem}
 use Rattle.vcd_body.specs.declared.ahead.VectorTokens.{VectorTokens}
 use Rattle.vcd_body.specs.declared.item.Form.{Form}
 use Rattle.vcd_body.specs.declared.item.Form.TheVariants as form
-use Rattle.vcd_body.specs.declared.item.Item.TheVariants.{Change}
+use Rattle.vcd_body.specs.declared.item.Item.{Item}
+use Rattle.vcd_body.specs.declared.item.Item.TheVariants.{Begin, Change, End}
 use Rattle.vcd_body.specs.declared.item.Regs.{Regs}
 use Rattle.vcd_body.specs.declared.words.PhraseKind.TheVariants as kind
 
@@ -85,14 +87,27 @@ pub record TakesItem (v : HeadView) (a a' : Ahead) (r : Regs) (p : ScannedItem) 
 abbrev pub IsChangeBy : Form → ScannedItem → Type 0
 IsChangeBy form p = (position : ℕ) × (p.item ≡ Change position form)
 
+-- an item is the begin or the end of a section
+abbrev pub IsSection : Item → Type 0
+IsSection (Begin s) = Unit {0}
+IsSection End = Unit {0}
+IsSection item = ⊥
+
+-- a token is the keyword of a section's begin, outside any section, or of its end, inside one
+abbrev pub IsSectionAt : Bool → List ℕ → Item → Type 0
+IsSectionAt inside token (Begin s) = (token ≡ keyword_text (section_keyword (model_section s))) × (inside ≡ false)
+IsSectionAt inside token End = (token ≡ keyword_text Keyword.End) × (inside ≡ true)
+IsSectionAt inside token item = ⊥
+
 -- wherever its first token was taken from, up to the first of these positions, the item was taken
 -- from there up to the second, whatever the registers before it are
 abbrev pub TakesOpened : HeadView → (middle to : Ahead) → Opening → ScannedItem → Type 0
 TakesOpened v middle to o p = (a : Ahead) (r : Regs) → Opens a middle o → TakesItem v a to r p
 
--- a timestamp was taken, wherever its token was taken from, whatever the view is of
-abbrev pub TakesOpenedTimestamp : Ahead → Regs → Opening → ScannedItem → Type 0
-TakesOpenedTimestamp to r o p = (a : Ahead) (v : HeadView) → Opens a to o → TakesItem v a to r p
+-- an item of one token that names no code was taken after these registers, wherever its token was
+-- taken from, whatever the view is of
+abbrev pub TakesOpenedAfter : Ahead → Regs → Opening → ScannedItem → Type 0
+TakesOpenedAfter to r o p = (a : Ahead) (v : HeadView) → Opens a to o → TakesItem v a to r p
 
 -- the registers are those after the item that was taken; with none they stay
 abbrev pub LeavesRegs : Regs → Regs → Option ScannedItem → Type 0

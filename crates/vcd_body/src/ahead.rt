@@ -1,6 +1,6 @@
 // Items whose tokens are whole ahead in the chunk: most cost no change of the feed.
-ghost use Rattle.std.specs.Prelude.{◌≡◌, ◌⊎◌, ℕ, ◌+◌, ◌-◌, ◌^◌, ◌<◌, ◌≤◌, List, [], drop, length, slice_get, slice_range, false, true, is_some, None, Some, IfOk, IfSome};
-ghost use Rattle.vcd_body.specs.Names.{Advances, AreBinaryIf, AreWhite, Begins, CallEnd, GivesAhead, GivesToLast, HasTimestamp, HasTime, HoldsItem, IsChangeBy, IsFound, IsFoundScalar, IsPrompt, IsRun, IsScalar, LeavesRegs, MayBe, Opens, OpensVector, Passed, Puts, TakesItem, TakesOpened, TakesOpenedTimestamp, Token, ahead_of, binary_digits, byte, bytes_of, limit_of, lines_of, longest_of, passed_of, seen, source_of};
+ghost use Rattle.std.specs.Prelude.{◌≡◌, ◌⊎◌, ℕ, ◌+◌, ◌-◌, ◌^◌, ◌<◌, ◌≤◌, List, [], drop, length, slice_range, false, true, is_some, None, Some, IfOk, IfSome};
+ghost use Rattle.vcd_body.specs.Names.{Advances, AreBinaryIf, Begins, CallEnd, GivesAhead, GivesToLast, HasTimestamp, HasTime, HoldsItem, IsChangeBy, IsFound, IsFoundScalar, IsPrompt, IsRun, IsScalar, IsSection, LeavesRegs, MayBe, Opens, OpensVector, Passed, Puts, TakesItem, TakesOpened, TakesOpenedAfter, Token, ahead_of, binary_digits, bytes_of, limit_of, lines_of, longest_of, passed_of, seen, source_of};
 ghost use Rattle.vcd_body.specs.declared.item.Form.TheVariants as form;
 ghost use Rattle.vcd_body.specs.declared.item.Item.TheVariants as item;
 ghost use Rattle.vcd_body.specs.declared.words.PhraseKind.TheVariants as kind;
@@ -9,28 +9,28 @@ use crate::bits::Bits;
 use crate::item::{Form, Item, Regs};
 use crate::phrases::{has_room, real_text, scalar_code, vector_text};
 use crate::words::{
-    PhraseKind, after_first, are_binary_or_known, bits_at, first_byte_of, is_comment, kind_by,
-    kind_of, rest_of,
+    KeywordUse, PhraseKind, after_first, are_binary_or_known, bits_at, command_of, first_byte_of,
+    is_comment, kind_by, kind_of, rest_of,
 };
 use vcd_text::{Ahead, Feed, Sink, Source, WriteFailed, decimal_at};
 use vcd_view::{Found, HeadView, find_in_own_entry, find_sized};
 
-/// An item that was taken ahead. A timestamp has no text, no size and no `bits`, and its `code_at`
-/// is its `at`.
+/// An item that was taken ahead. Only a change has a text, a size and `bits`: of any other item
+/// `code_at` is `at`, the offset after its first byte.
 #[derive(Clone, Copy)]
 pub struct ScannedItem<'a> {
-    /// A timestamp or a change.
+    /// Any item but the end of the body.
     pub item: Item,
-    /// The text of a change; none for a timestamp.
+    /// The text of a change; none for another item.
     pub text: &'a [u8],
     /// The size in bits of a change's code, which `size` returns. It is 0 for an event, for a size
-    /// that 32 bits do not hold, and for a timestamp.
+    /// that 32 bits do not hold, and for any other item.
     pub size_or_zero: usize,
-    /// Where the item begins in the bytes that are looked over: at its digit, or at the byte before
-    /// its text or before the digits of a timestamp.
+    /// Where the item begins in the bytes that are looked over: at its digit, at the byte before
+    /// its text or before the digits of a timestamp, or at its keyword.
     pub begin: usize,
     /// Where the text of a change begins in the bytes that are looked over; where the digits of a
-    /// timestamp begin.
+    /// timestamp begin, or the word of a keyword.
     pub at: usize,
     /// Where a change's code begins; it ends one byte before the last one that is passed.
     pub code_at: usize,
@@ -41,8 +41,9 @@ pub struct ScannedItem<'a> {
 }
 
 impl ScannedItem<'_> {
-    /// Returns the size in bits of a change's code. `None` if `size_or_zero` is 0: for an event, for
-    /// a timestamp, for a size that 32 bits do not hold, and if the size is not known.
+    /// Returns the size in bits of a change's code. `None` if `size_or_zero` is 0: for an event,
+    /// for an item that is no change, for a size that 32 bits do not hold, and if the size is not
+    /// known.
     #[inline(always)]
     pub fn size(self) -> Option<usize>
         ensures told { IfSome result (λ size. (size ≡ self.entry.size_or_zero) × (0 < size)) }
@@ -91,11 +92,12 @@ fn change_of(
     }
 }
 
-/// Returns a timestamp, which begins at this offset. It has no text, no size and no `bits`.
+/// Returns an item that is no change and begins at this offset. It has no text, no size and no
+/// `bits`.
 #[inline(always)]
-fn timestamp_of<'a>(time: u64, begin: usize) -> ScannedItem<'a>
+fn without_text<'a>(item: Item, begin: usize) -> ScannedItem<'a>
     requires { begin + 1 < 2 ^ 64 }
-    ensures item { result.item ≡ item.Time time }
+    ensures item { result.item ≡ item }
     ensures text { result.text.now ≡ [] }
     ensures size { result.size_or_zero ≡ 0 }
     ensures positions { (result.begin ≡ begin) × (result.at ≡ begin + 1) }
@@ -103,7 +105,7 @@ fn timestamp_of<'a>(time: u64, begin: usize) -> ScannedItem<'a>
     ensures binary { result.binary ≡ false }
 {
     ScannedItem {
-        item: Item::Time(time),
+        item,
         text: &[],
         size_or_zero: 0,
         begin,
@@ -289,23 +291,9 @@ pub(crate) fn two_short_lines_come(ahead: Ahead<'_>) -> bool
     next.two_byte_line_comes()
 }
 
-/// Returns whether the next token ahead begins with `$`, as a keyword does. Then only white bytes
-/// come before it, and no item.
-// Asked before a loop over items ahead, since no such loop takes a keyword: without this, and with
-// `token_len` of the feed and `command_of` not inlined, `check` of `$dumpon` and `$end` in turn
-// takes 2.5 times as many instructions.
-#[inline(always)]
-pub fn keyword_comes(ahead: Ahead<'_>) -> bool
-    ensures { result ≡ true → (start : ℕ)
-        × AreWhite (bytes_of ahead.entry) (passed_of ahead.entry) start
-        × (slice_get (bytes_of ahead.entry) start ≡ Some (byte "$")) }
-{
-    ahead.first_byte() == Some(b'$')
-}
-
 /// Returns whether the next item lies whole ahead, so that `next_item` reads nothing for it. Before
 /// a comment this is not known, since the item comes after that.
-// It looks at one byte after the other: it is asked at the end of a chunk, and at keywords.
+// It looks at one byte after the other: it is asked at the end of a chunk, and at comments.
 #[inline(never)]
 pub fn item_comes(ahead: Ahead<'_>) -> bool
     requires { passed_of ahead ≡ 0 }
@@ -466,7 +454,7 @@ pub(crate) fn timestamp_ahead<'a>(
     requires opens { (a : Ahead) × Opens a ahead opening }
     requires kind { opening.kind ≡ kind.Timestamp }
     requires time { HasTime opening time }
-    ensures takes { IfSome result (TakesOpenedTimestamp ahead.entry regs.old opening.entry) }
+    ensures takes { IfSome result (TakesOpenedAfter ahead.entry regs.old opening.entry) }
     ensures time { IfSome result (λ scanned. scanned.item ≡ item.Time time) }
 
     // Its digits are those of the bytes that were passed with it.
@@ -479,9 +467,42 @@ pub(crate) fn timestamp_ahead<'a>(
     match regs.accept_timestamp_by(time, !opening.from_lines) {
         Ok(()) => {
             let begin = begin_of(opening.token, ahead);
-            Some(timestamp_of(time, begin))
+            Some(without_text(Item::Time(time), begin))
         }
         Err(_) => None,
+    }
+}
+
+/// Returns the begin or the end of a section that a token is, and sets the registers to those after
+/// it. `None` if the token is neither, or if it may not come here; then nothing has changed.
+#[inline(always)]
+pub(crate) fn section_ahead<'a>(
+    opening: Opening<'a>,
+    ahead: Ahead<'a>,
+    regs: &mut Regs,
+) -> Option<ScannedItem<'a>>
+    requires { (a : Ahead) × Opens a ahead opening }
+    ensures takes { IfSome result (TakesOpenedAfter ahead.entry regs.old opening.entry) }
+    ensures section { IfSome result (λ scanned. IsSection scanned.item) }
+    ensures regs { LeavesRegs regs.old regs.new result }
+{
+    let begin = begin_of(opening.token, ahead);
+    match command_of(opening.token)? {
+        KeywordUse::Begin(section) => {
+            if regs.section.is_some() {
+                return None;
+            }
+            regs.section = Some(section);
+            Some(without_text(Item::Begin(section), begin))
+        }
+        KeywordUse::End => {
+            if regs.section.is_some() {
+                regs.section = None;
+                return Some(without_text(Item::End, begin));
+            }
+            None
+        }
+        KeywordUse::Comment | KeywordUse::OfHeader => None,
     }
 }
 

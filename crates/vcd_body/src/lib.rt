@@ -111,7 +111,7 @@ mod value;
 mod walk;
 mod words;
 
-pub use ahead::{ScannedItem, item_comes, keyword_comes, pass_items, pass_on};
+pub use ahead::{ScannedItem, item_comes, pass_items, pass_on};
 pub use answer::{Done, More, Stop};
 pub use bits::Bits;
 pub use fault::BodyFault;

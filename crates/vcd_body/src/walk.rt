@@ -6,7 +6,7 @@ ghost use Rattle.vcd_text.specs.declared.ahead.Ahead.{Ahead};
 ghost use Rattle.vcd_text.specs.declared.device.WriteFailed.{WriteFailed};
 ghost use Rattle.vcd_view.specs.declared.view.HeadView.{HeadView};
 ghost use Rattle.vcd_body.specs.Items.{regs_after};
-ghost use Rattle.vcd_body.specs.Taken.{IsChangeBy, Opens, OpensVector, TakesItem};
+ghost use Rattle.vcd_body.specs.Taken.{IsChangeBy, IsSection, Opens, OpensVector, TakesItem};
 ghost use Rattle.vcd_body.specs.Walk.{MayTakeTimestamp, MayTakeNext, MayTakeUpTo, Stage, TakesOne, Walks, as_done, stage_at};
 ghost use Rattle.vcd_body.specs.declared.item.Form.{Form};
 ghost use Rattle.vcd_body.specs.declared.item.Item.TheVariants as item;
@@ -15,8 +15,8 @@ ghost use Rattle.vcd_body.specs.declared.words.PhraseKind.TheVariants as kind;
 
 use crate::ahead::{
     Opening, ScannedItem, VectorTokens, line_timestamp, opening_ahead, real_ahead, scalar_ahead,
-    short_ahead, time_ahead, timestamp_ahead, two_short_lines_come, vector_ahead, vector_bits,
-    vector_tokens_ahead,
+    section_ahead, short_ahead, time_ahead, timestamp_ahead, two_short_lines_come, vector_ahead,
+    vector_bits, vector_tokens_ahead,
 };
 use crate::item::Regs;
 use crate::words::PhraseKind;
@@ -42,13 +42,15 @@ pub trait Visit<C>: Drop {
     // write of what is due with it gives.
     ghost takes: { HeadView → Stage Self C → Stage Self C → Result (Unit {0}) WriteFailed → Type 0 };
 
-    // Whether the walk leaves a timestamp with this time.
+    // Whether the walk leaves a timestamp with this time, and a section's keyword where this is the
+    // last time.
     ghost is_left: { Self → C → ℕ → Bool };
 
     // Whether no other item is to be taken.
     ghost over: { Self → Bool };
 
-    /// Returns whether the walk ends before a timestamp with this time, and leaves it.
+    /// Returns whether the walk ends before a timestamp with this time, and leaves it; or before a
+    /// section's begin or end, if this is the last time.
     fn ends_before(&self, command: &C, time: u64) -> bool
         ensures { result ≡ is_left self.now command.now time };
 
@@ -99,6 +101,31 @@ pub trait Visit<C>: Drop {
         ensures stands { IfOk result
             (λ _. stands self.new command.new (bytes_of extent.entry.to) regs) }
         ensures over { over self.new ≡ over self.old };
+
+    /// Takes the begin or the end of a section, which lies at `extent`, and puts what is due with
+    /// it. `before` are the registers before it, `after` those after it.
+    fn take_section<W: Sink>(
+        &mut self,
+        command: &mut C,
+        view: HeadView<'_>,
+        before: Regs,
+        after: Regs,
+        section: ScannedItem<'_>,
+        extent: Extent<'_>,
+        out: &mut W,
+    ) -> Result<(), WriteFailed>
+        requires failures { (W.device out.old).failures < 2 ^ 64 - 1 }
+        requires stands { stands self.old command.old (bytes_of extent.from) before }
+        requires left { is_left self.old command.old before.time ≡ false }
+        requires item { TakesItem view extent.from extent.to before section }
+        requires section { IsSection section.item }
+        requires after { after ≡ regs_after before section.item }
+        ensures takes { takes view.entry
+            (stage_at extent.entry.from before self.old command.old (W.device out.old))
+            (stage_at extent.entry.to after self.new command.new (W.device out.new)) result }
+        ensures counts { Counts (W.device out.old) (W.device out.new) result }
+        ensures stands { IfOk result
+            (λ _. stands self.new command.new (bytes_of extent.entry.to) after) };
 }
 
 /// How a walk has ended.
@@ -203,6 +230,40 @@ fn take_timestamp<'a, C, V: Visit<C>>(
     Some(())
 }
 
+/// Takes the begin or the end of a section whose token is that of `opening`, from `ahead` up to
+/// `to`, and returns that it was no change. `None` if the token is neither, if it may not come
+/// here, or if the visit leaves it; then nothing has changed.
+#[inline(always)]
+fn take_section<'a, C, V: Visit<C>, W: Sink>(
+    command: &mut C,
+    visit: &mut V,
+    view: HeadView<'_>,
+    opening: Opening<'_>,
+    regs: &mut Regs,
+    ahead: &mut Ahead<'a>,
+    to: Ahead<'a>,
+    out: &mut W,
+) -> Option<Result<bool, WriteFailed>>
+    requires failures { (W.device out.old).failures < 2 ^ 64 - 1 }
+    requires stands { V.stands visit.old command.old (bytes_of ahead.old) regs.old }
+    requires opens { Opens ahead.old to opening }
+    ensures next { MayTakeNext V.takes V.stands view.entry
+        (stage_at ahead.old regs.old visit.old command.old (W.device out.old))
+        (stage_at ahead.new regs.new visit.new command.new (W.device out.new)) result }
+{
+    let before = *regs;
+    if visit.ends_before(command, before.time) {
+        return None;
+    }
+    let section = section_ahead(opening, to, regs)?;
+    let extent = Extent { from: *ahead, to };
+    *ahead = to;
+    match visit.take_section(command, view, before, *regs, section, extent, out) {
+        Ok(()) => Some(Ok(true)),
+        Err(failed) => Some(Err(failed)),
+    }
+}
+
 /// Takes the change that the tokens of a vector are, which lies at `extent`, and returns that it
 /// was no timestamp. `None` if they are no such change; then nothing has changed.
 // The arm for digits of a known number takes 5 % off `merge` of 27,505 codes, and adds 6 % to
@@ -236,8 +297,8 @@ fn take_vector<C, V: Visit<C>, W: Sink>(
     }
 }
 
-/// Takes the next item that lies ahead, and returns whether it was a timestamp. `None` if it takes
-/// none; then nothing has changed.
+/// Takes the next item that lies ahead, and returns whether it was a timestamp, or the begin or the
+/// end of a section. `None` if it takes none; then nothing has changed.
 // What begins the item is asked once. Each arm is inlined: otherwise `check` takes nearly three
 // times as many instructions.
 #[inline(always)]
@@ -278,7 +339,9 @@ fn take_next<C, V: Visit<C>, W: Sink>(
             let extent = Extent { from, to };
             take_change(command, visit, view, *regs, change, extent, out)
         }
-        PhraseKind::Other => return None,
+        PhraseKind::Other => {
+            return take_section(command, visit, view, opening, regs, ahead, to, out);
+        }
     };
     *ahead = to;
     Some(taken)
@@ -431,10 +494,10 @@ fn take_first_lines<'a, C, V: Visit<C>, W: Sink>(
 }
 
 /// Takes the items that lie ahead, one after the other, as long as the visit is not over: the first
-/// one in any case. A timestamp that it leaves ends the walk, and so does a failed write.
+/// one in any case. An item that it leaves ends the walk, and so does a failed write.
 // Registers, offset and visit come and go by value, so that the loop keeps them out of memory: in a
 // struct that is kept there they cost `check` of scalars 11 %. In each arm of an item the compiler
-// knows whether it was a timestamp.
+// knows whether it was a change.
 #[inline(always)]
 pub fn walk_ahead<'a, C, V: Visit<C>, W: Sink>(
     command: &mut C,

@@ -294,6 +294,20 @@ impl Visit<()> for Noted {
         self.take(change, extent);
         Ok(())
     }
+
+    fn take_section<W: Sink>(
+        &mut self,
+        _command: &mut (),
+        _view: HeadView<'_>,
+        _before: Regs,
+        _after: Regs,
+        section: ScannedItem<'_>,
+        extent: Extent<'_>,
+        _out: &mut W,
+    ) -> Result<(), WriteFailed> {
+        self.take(section, extent);
+        Ok(())
+    }
 }
 
 // The items that are taken ahead, and then the next one.
@@ -352,6 +366,24 @@ fn plain_items_taken_ahead(rt: HostRuntime) -> Result<(), Fail> {
     for (body, items) in TAKEN {
         assert_eq!(rt; taken_ahead(rt.alloc(), body)?.as_str(), items);
     }
+    Ok(())
+}
+
+// The begin of a section, inside another one, and the end of none, are left to the feed.
+#[test]
+fn sections_taken_ahead(rt: HostRuntime) -> Result<(), Fail> {
+    let body = b"$dumpvars\n1!\nb1 \"\n$end\n#5\n$dumpoff $end\n$dumpall\n0!\n$dumpon\n\
+        $comment of more than sixty-three bytes, for the look ahead to end before it $end\n";
+    assert_eq!(rt;
+        taken_ahead(rt.alloc(), body)?.as_str(),
+        "Vars 0:Scalar:1 1:Vector:1 End #5 Off End All 0:Scalar:0 then fault 4 at 15"
+    );
+    let body = b"$dumpon $end\n$end\n\
+        $comment of more than sixty-three bytes, for the look ahead to end before it $end\n";
+    assert_eq!(rt;
+        taken_ahead(rt.alloc(), body)?.as_str(),
+        "On End then fault 4 at 8"
+    );
     Ok(())
 }
 

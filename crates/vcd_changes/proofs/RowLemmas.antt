@@ -16,6 +16,7 @@ use Rattle.vcd_view.proofs.LookUpLemmas.{same_place}
 use Rattle.vcd_body.specs.Given.{GivesItem, IsItem, item_text, text_of}
 use Rattle.vcd_body.specs.Items.{model_form, model_section}
 use Rattle.vcd_body.specs.Reads.{GaveItems}
+use Rattle.vcd_body.specs.Taken.{IsSection}
 use Rattle.vcd_body.specs.declared.item.Form.{Form}
 use Rattle.vcd_body.specs.declared.item.Item.{Item}
 use Rattle.vcd_body.specs.declared.item.Item.TheVariants.{Time, Begin, End, Finish}
@@ -23,6 +24,14 @@ use Rattle.vcd_body.specs.declared.item.Item.TheVariants as item
 use Rattle.vcd_body.specs.declared.item.Regs.{Regs}
 use Rattle.vcd_changes.specs.Rows.{GaveRows, row_added, row_in, row_of, rows_of}
 use Rattle.vcd_changes.specs.declared.row.ChangeRow.{ChangeRow}
+
+-- a section's begin or end adds none
+pub no_row : (index time : ℕ) (text : List ℕ) (it : Item) → IsSection it → row_added index time text it ≡ []
+no_row index time text (Begin s) is = refl
+no_row index time text End is = refl
+no_row index time text (Time t) is = absurd is
+no_row index time text (item.Change code form) is = absurd is
+no_row index time text Finish is = absurd is
 
 -- one item more
 rows_more : (code : List ℕ) (items : List BodyItem) (x : BodyItem) → rows_of code (items ++ x ∷ []) ≡ rows_of code items ++ filter_map (row_in code) (entry_after items x ∷ [])

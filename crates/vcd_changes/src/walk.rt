@@ -16,9 +16,7 @@ ghost use Rattle.vcd_changes.specs.Walk.{Came, HasRoom, is_full, rows_at};
 
 use crate::row::{ChangeRow, row_of};
 use std::io;
-use vcd_body::{
-    Extent, Item, Regs, ScannedItem, Visit, Walked, keyword_comes, pass_items, walk_ahead,
-};
+use vcd_body::{Extent, Item, Regs, ScannedItem, Visit, Walked, pass_items, walk_ahead};
 use vcd_head::HeadView;
 use vcd_text::{Ahead, Feed, Sink, Source, Watch, WriteFailed};
 
@@ -75,8 +73,9 @@ impl Collecting {
     }
 }
 
-// `is_over` is always false, so this visit ends a walk only before a timestamp. Once the rows are
-// full, the walk takes the changes up to the next one for nothing, and `passed` leaves them out.
+// `is_over` is always false, so this visit ends a walk only before a timestamp or a section's begin
+// or end. Once the rows are full, the walk takes the changes up to the next one for nothing, and
+// `passed` leaves them out.
 impl<'r> Visit<Rows<'r>> for Collecting {
     ghost use Rattle.std.specs.Prelude.{false};
     ghost use Rattle.vcd_changes.specs.Walk.{HasRoom, TakesRow, is_full};
@@ -132,6 +131,20 @@ impl<'r> Visit<Rows<'r>> for Collecting {
         }
         Ok(())
     }
+
+    #[inline(always)]
+    fn take_section<W: Sink>(
+        &mut self,
+        _rows: &mut Rows<'r>,
+        _view: HeadView<'_>,
+        _before: Regs,
+        _after: Regs,
+        _section: ScannedItem<'_>,
+        _extent: Extent<'_>,
+        _out: &mut W,
+    ) -> Result<(), WriteFailed> {
+        Ok(())
+    }
 }
 
 /// Takes the items that lie completely in the chunk, and fills the rows with the changes of the
@@ -157,8 +170,7 @@ fn walk_rows<'a>(
 }
 
 /// Returns how many rows are filled once the items that are whole in the feed's chunk are taken:
-/// those after the first `count` get the changes of the code at `index`, until all are full. Where
-/// a keyword is next, no item is taken.
+/// those after the first `count` get the changes of the code at `index`, until all are full.
 pub(crate) fn take_ahead<S: Source>(
     feed: &mut Feed<'_, '_, '_, '_, S>,
     view: HeadView<'_>,
@@ -178,7 +190,7 @@ pub(crate) fn take_ahead<S: Source>(
     ensures bounded { seen feed.new < 2 ^ 63 }
 {
     let ahead = feed.ahead();
-    if rows.len() <= count || keyword_comes(ahead) {
+    if rows.len() <= count {
         return count;
     }
     let collecting = Collecting {

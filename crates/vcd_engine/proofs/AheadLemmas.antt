@@ -125,18 +125,6 @@ stands_first e h i front items f limit lines bytes s =
       on = subst (λ l. list_any (ends_early (request_of_engine e)) l ≡ false) nil s.on;
     }
 
--- none is taken, and nothing has changed
-pub takes_none : {X : Type 0} {g : Ghosts X} (e : Engine) (h : Header) (i : Input) (front : List Token) (items : List BodyItem) (f : Feed X g) (out : Device) → Runs e h i front items f
-    → TakesSeveral (request_of_engine e) items (λ more. Runs e h i front (items ++ more) f × Grows out out (open_text (request_of_engine e) h items) (open_text (request_of_engine e) h (items ++ more)))
-takes_none e h i front items f out s =
-    let nil = sym (append-nil items) in
-    let task = request_of_engine e in
-    record {
-      more = [];
-      on = subst (λ l. list_any (ends_early task) l ≡ false) nil s.on;
-      last = (subst (λ l. Runs e h i front l f) nil s, ([], ap (open_text task h) (append-nil items) ∙ sym (append-nil (open_text task h items)), writes-none out));
-    }
-
 -- the same over bytes and a limit that are these
 pub gave_over : (codes : List IdCode) (limit limit' lines : ℕ) (bytes bytes' : List ℕ) (n : ℕ) (before items : List BodyItem) → limit ≡ limit' → bytes ≡ bytes' → GaveAhead codes limit lines bytes n before items → GaveAhead codes limit' lines bytes' n before items
 gave_over codes limit limit' lines bytes bytes' n before items l b s = subst (λ bs. GaveAhead codes limit' lines bs n before items) b (subst (λ k. GaveAhead codes k lines bytes n before items) l s)

@@ -13,12 +13,12 @@ use Rattle.vcd_text.specs.declared.ahead.Ahead.{Ahead}
 use Rattle.vcd_view.specs.declared.view.HeadView.{HeadView}
 use Rattle.vcd_body.specs.Spelled.{HasSpelled, bytes_without, line_without}
 use Rattle.vcd_body.proofs.LineLemmas.{one_byte}
-use Rattle.vcd_body.specs.Taken.{TakesItem}
+use Rattle.vcd_body.specs.Taken.{IsSection, TakesItem}
 use Rattle.vcd_body.specs.declared.ahead.ScannedItem.{ScannedItem}
 use Rattle.vcd_body.specs.Items.{regs_after}
 use Rattle.vcd_body.specs.declared.item.Form.{Form}
 use Rattle.vcd_body.specs.declared.item.Item.{Item}
-use Rattle.vcd_body.specs.declared.item.Item.TheVariants.{Change}
+use Rattle.vcd_body.specs.declared.item.Item.TheVariants.{Begin, Change, End, Finish, Time}
 use Rattle.vcd_body.specs.declared.item.Regs.{Regs}
 use Rattle.vcd_engine.specs.Cut.{IsNoTimestamp}
 use Rattle.vcd_engine.specs.PendingCopy.{GrowsBut, IsLine, IsSpanned, PutsAll, PutsBehind, PutsOn, IsPart, pending_in}
@@ -142,6 +142,14 @@ next_line_is bytes bytes' line line' time time' e f g i = subst (λ bs. IsLine b
 
 -- ---- an item that was taken ahead
 
+-- a section's begin or end is no timestamp
+pub no_timestamp_at : (item : Item) → IsSection item → IsNoTimestamp item
+no_timestamp_at (Begin s) is = tt
+no_timestamp_at End is = tt
+no_timestamp_at (Time t) is = absurd is
+no_timestamp_at (Change place form) is = absurd is
+no_timestamp_at Finish is = absurd is
+
 -- a change is no timestamp, and changes no register
 pub no_timestamp_here : (item : Item) (place : ℕ) (form : Form) → item ≡ Change place form → IsNoTimestamp item
 no_timestamp_here item place form e = subst IsNoTimestamp (sym e) tt
@@ -172,3 +180,24 @@ module _ (v : HeadView) (a a' : Ahead) (r : Regs) (p : ScannedItem) (bytes : Bor
         binary = item.binary;
         spelled = λ known. spelled_there;
       }
+
+  pub section_there : IsSection p.item → IsSpanned v (record { scanned = p; bytes = bytes; from = from; to = to })
+  section_there is =
+      let within = item.within in
+      let here : to ≤ length bytes.now = subst (λ (bs : List ℕ). to ≤ length bs) (sym e) (omega (arith, g, within)) in
+      record {
+        none = no_timestamp_at p.item is;
+        within = (in_order p.item is spelled_there, here);
+        good = item.sound;
+        sized = λ known. item.sized;
+        bits = item.bits;
+        binary = item.binary;
+        spelled = λ known. spelled_there;
+      }
+    where
+      in_order : (it : Item) → IsSection it → HasSpelled v bytes.now from to p.at p.code_at p.text.now it → from ≤ to
+      in_order (Begin s) is le = le
+      in_order End is le = le
+      in_order (Time t) is le = absurd is
+      in_order (Change place form) is le = absurd is
+      in_order Finish is le = absurd is

@@ -7,9 +7,7 @@ ghost use Rattle.vcd_text.specs.Feed.{source_of};
 
 use crate::task::{Room, Task};
 use crate::task_state::TaskState;
-use vcd_body::{
-    Done, Item, More, Regs, Stop, change_text, keyword_comes, next_item, pass_items, pass_on,
-};
+use vcd_body::{Done, Item, More, Regs, Stop, change_text, next_item, pass_items, pass_on};
 use vcd_text::{Feed, Sink, Source, WriteFailed};
 use vcd_view::HeadView;
 
@@ -185,36 +183,6 @@ impl<'v, 'n, 'r> Engine<'v, 'n, 'r> {
         }
     }
 
-    /// Takes the items that are whole in the chunk, as `walk_ahead` does. Where a keyword is next,
-    /// it takes none, as `walk_ahead` would: the test spares that call. Fails where a write does.
-    #[inline(always)]
-    fn take_ahead<S: Source, W: Sink>(
-        &mut self,
-        view: HeadView<'_>,
-        feed: &mut Feed<'_, '_, '_, '_, S>,
-        out: &mut W,
-    ) -> Result<(), WriteFailed>
-        requires out_failures { (W.device out.old).failures < 2 ^ 64 - 1 }
-        requires going { is_going self.old ≡ true }
-        requires view { parts view ≡ parts self.old.view }
-        ensures gives { StepsAhead self.old self.new feed.old feed.new
-            (W.device out.old) (W.device out.new) result }
-        ensures advances { Advances S.failures feed.old feed.new CallEnd.GoesOn }
-        ensures bounded { seen feed.new < 2 ^ 63 }
-        ensures source { source_of feed.new ≡ source_of feed.old }
-        ensures counts { Counts (W.device out.old) (W.device out.new) result }
-        ensures going { MatchResult result
-            (λ _. is_going self.new ≡ true) (λ _. is_going self.new ≡ false) }
-        ensures request { request_of_engine self.new ≡ request_of_engine self.old }
-        ensures holds { SameHold self.old self.new }
-        ensures view { parts self.new.view ≡ parts self.old.view }
-    {
-        if keyword_comes(feed.ahead()) {
-            return Ok(());
-        }
-        self.walk_ahead(view, feed, out)
-    }
-
     /// Takes the next item, as `step_with_view` does. It may wait for a read, so by then `out`
     /// keeps nothing back.
     #[inline(always)]
@@ -250,7 +218,7 @@ impl<'v, 'n, 'r> Engine<'v, 'n, 'r> {
         ensures over { StepsOver S.failures self.old self.new feed.old feed.new
             (W.device out.old) (W.device out.new) result }
     {
-        self.take_ahead(view, feed, out)?;
+        self.walk_ahead(view, feed, out)?;
         match pass_on(feed, out) {
             Ok(()) => {}
             Err(failed) => {

@@ -5,7 +5,7 @@ ghost use Rattle.vcd_engine.specs.Names.{BodyItem, bytes_without, HasGoodText, H
 use vcd_body::{Extent, Item, ScannedItem, left_out, put_time};
 use vcd_text::{Sink, WriteFailed, put_front, put_parts};
 
-/// An item that is no timestamp, with its span: a change in the chunk begins at `from`, and was
+/// An item that is no timestamp, with its span: an item in the chunk begins at `from`, and was
 /// passed up to `to`. An item that the feed gave has an empty span, and no size (`size_or_zero` is 0).
 #[derive(Clone, Copy)]
 pub(crate) struct SpannedItem<'a> {
@@ -16,7 +16,7 @@ pub(crate) struct SpannedItem<'a> {
 }
 
 impl<'a> SpannedItem<'a> {
-    /// Returns the change that lies at this extent.
+    /// Returns the item that lies at this extent.
     #[inline(always)]
     pub(crate) fn of(scanned: ScannedItem<'a>, extent: Extent<'a>) -> SpannedItem<'a>
         ensures scanned { result.scanned ≡ scanned.entry }

@@ -1,7 +1,8 @@
 -- Items of one input of a merge that lie ahead in its feed's chunk, taken one after the other.
-use Rattle.std.proofs.Common.{◌≡◌, ℕ, ◌+◌, ◌*◌, ◌^◌, ◌<◌, Bool, true, false, List, [], ◌∷◌, ◌++◌, length, Result, Ok, Err, refl, sym, ap, subst, ◌∙◌, mul_comm, nat_le, arith}
+use Rattle.std.proofs.Common.{◌≡◌, ℕ, ◌+◌, ◌*◌, ◌^◌, ◌<◌, Bool, true, false, List, [], ◌∷◌, ◌++◌, length, Option, Result, Ok, Err, refl, sym, ap, subst, ◌∙◌, mul_comm, nat_le, arith}
 use Rattle.std.specs.Prelude.{IfOk}
 use Rattle.std.proofs.lemmas.Bool.{leb-false}
+use Rattle.vcd_model.specs.Declarations.{IdCode}
 use Rattle.vcd_model.specs.Header.{Header}
 use Rattle.vcd_model.specs.Items.{BodyItem}
 use Rattle.vcd_model.specs.Merge.{is_too_large}
@@ -16,16 +17,33 @@ use Rattle.vcd_view.specs.declared.view.HeadView.{HeadView}
 use Rattle.vcd_body.specs.Ahead.{GaveAhead, LooksOver}
 use Rattle.vcd_body.specs.Given.{IsItem}
 use Rattle.vcd_body.specs.Items.{AreRegsAfter, regs_after}
-use Rattle.vcd_body.specs.Taken.{TakesItem}
+use Rattle.vcd_body.specs.Taken.{IsSection, TakesItem}
 use Rattle.vcd_body.specs.Walk.{Again, Begins, Further as Goes_further, Trail, Walks}
 use Rattle.vcd_body.specs.declared.ahead.ScannedItem.{ScannedItem}
 use Rattle.vcd_body.specs.declared.item.Form.{Form}
 use Rattle.vcd_body.specs.declared.item.Item.{Item}
-use Rattle.vcd_body.specs.declared.item.Item.TheVariants.{Change, Time}
+use Rattle.vcd_body.specs.declared.item.Item.TheVariants.{Begin, Change, End, Finish, Time}
 use Rattle.vcd_body.specs.declared.item.Regs.{Regs}
+use Rattle.vcd_body.proofs.SectionLemmas.{section_time}
 use Rattle.vcd_merge.specs.MergeAhead.{Further, IsAhead, MergeStage, OneAhead, PutsDue, RunsAhead, SameMerging, StageAhead, TakesNext}
 use Rattle.vcd_merge.specs.declared.merging.Merging.{Merging}
 use Rattle.vcd_merge.proofs.SeatLemmas.{not_large}
+
+-- ---- a section's begin or end
+
+small_section : (factor : ℕ) (codes : List IdCode) (text : List ℕ) (it : Item) (x : BodyItem) → IsSection it → IsItem codes text it x → is_too_large factor x ≡ false
+small_section factor codes text (Begin s) x is at = rw at refl
+small_section factor codes text End x is at = rw at refl
+small_section factor codes text (Time t) x is at = absurd is
+small_section factor codes text (Change place f) x is at = absurd is
+small_section factor codes text Finish x is at = absurd is
+
+none_due : (written : Option ℕ) (scale first : ℕ) (h : Header) (items : List BodyItem) (text : List ℕ) (it : Item) (x : BodyItem) → IsSection it → IsItem h.codes text it x → (due_with written (entry_for scale first h items x) ≡ []) × (written_with written (entry_for scale first h items x) ≡ written)
+none_due written scale first h items text (Begin s) x is at = rw at (refl, refl)
+none_due written scale first h items text End x is at = rw at (refl, refl)
+none_due written scale first h items text (Time t) x is at = absurd is
+none_due written scale first h items text (Change place f) x is at = absurd is
+none_due written scale first h items text Finish x is at = absurd is
 
 -- ---- one item
 
@@ -51,6 +69,17 @@ module _ (v : HeadView) (s t : MergeStage) (p : ScannedItem) (item : TakesItem v
     time = λ scale factor now. is ∙ mul_comm time s.visit.factor ∙ ap (λ n. n * time) factor ∙ ap (λ n. scale * n) (sym (ap (λ (r : Regs). r.time) regs ∙ ap (λ (i : Item). (regs_after s.regs i).time) e));
     small = λ codes text x at. let y : x ≡ BodyItem.Time time = subst (λ (i : Item). IsItem codes text i x) e at in subst (λ (z : BodyItem). is_too_large s.visit.factor z ≡ false) (sym y) (not_large s.visit.factor time fits);
     puts = λ w scale first h items x same views known now number few at. let y : x ≡ BodyItem.Time time = subst (λ (i : Item). IsItem h.codes p.text.now i x) e at in rw (y, written, out) (appends-none s.out.held, refl);
+  }
+
+  pub section_taken : IsSection p.item → t.regs ≡ regs_after s.regs p.item → t.visit.time ≡ s.visit.time → t.visit.written ≡ s.visit.written → t.out ≡ s.out → TakesNext v s t (Ok tt)
+  section_taken is regs time_is written out = record {
+    scanned = p;
+    item = item;
+    regs = regs;
+    same = same;
+    time = λ scale factor time. time_is ∙ time ∙ ap (λ n. scale * n) (sym (ap (λ (r : Regs). r.time) regs ∙ section_time s.regs p.item is));
+    small = λ codes text x at. small_section s.visit.factor codes text p.item x is at;
+    puts = λ w scale first h items x same views known now number few at. let none = none_due s.visit.written scale first h items p.text.now p.item x is at in rw (none.0, none.1, written, out) (appends-none s.out.held, refl);
   }
 
 -- ---- one item more after others

@@ -9,8 +9,8 @@ ghost use Rattle.vcd_body.specs.Whole.{IsPrompt};
 use crate::order::Turn;
 use crate::seat::Seat;
 use vcd_body::{
-    Extent, Form, Item, Regs, ScannedItem, Stop, Visit, change_text, keyword_comes, next_item,
-    pass_items, pass_on, put_renamed, put_renamed_ahead, put_time, walk_ahead,
+    Extent, Form, Item, Regs, ScannedItem, Stop, Visit, change_text, next_item, pass_items,
+    pass_on, put_renamed, put_renamed_ahead, put_time, walk_ahead,
 };
 use vcd_head::Head;
 use vcd_text::{Feed, Sink, Source, WriteFailed};
@@ -162,11 +162,26 @@ impl Visit<()> for Merging {
             out,
         )
     }
+
+    // A merge leaves out sections.
+    #[inline(always)]
+    fn take_section<W: Sink>(
+        &mut self,
+        _command: &mut (),
+        _view: HeadView<'_>,
+        _before: Regs,
+        _after: Regs,
+        _section: ScannedItem<'_>,
+        _extent: Extent<'_>,
+        _out: &mut W,
+    ) -> Result<(), WriteFailed> {
+        Ok(())
+    }
 }
 
 /// Takes the items of an input that are whole in its feed's chunk, while its time is below
 /// `before`, and returns whether the time has reached it. The feed moves past them in one call.
-/// Where a keyword is next, none is taken. Fails where a write does.
+/// Fails where a write does.
 #[inline(never)]
 fn take_ahead<S: Source, W: Sink>(
     head: &Head,
@@ -191,9 +206,6 @@ fn take_ahead<S: Source, W: Sink>(
     ensures counts { Counts (W.device out.old) (W.device out.new) result }
 {
     let ahead = feed.ahead();
-    if keyword_comes(ahead) {
-        return Ok(false);
-    }
     let merging = Merging {
         time: seat.time,
         factor: seat.factor,

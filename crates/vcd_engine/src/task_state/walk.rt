@@ -217,6 +217,21 @@ impl<L: LineMemory, C: AheadTask<L>> Visit<C> for WalkState<L> {
         let change = SpannedItem::of(change, extent);
         command.take_item(view, regs, change, &self.line, &mut self.pending, out)
     }
+
+    #[inline(always)]
+    fn take_section<W: Sink>(
+        &mut self,
+        command: &mut C,
+        view: HeadView<'_>,
+        _before: Regs,
+        after: Regs,
+        section: ScannedItem<'_>,
+        extent: Extent<'_>,
+        out: &mut W,
+    ) -> Result<(), WriteFailed> {
+        let section = SpannedItem::of(section, extent);
+        command.take_item(view, after, section, &self.line, &mut self.pending, out)
+    }
 }
 
 /// Takes the items that lie completely in the chunk from `ahead` on, writes what is due with them,

@@ -27,7 +27,7 @@ returns-in-Ok-clause-takes c = λ a v o.
     let further = taken.further in
     let less : from < to = omega (arith, further) in
     let there = token_there bytes from to token taken.further taken.within taken.before taken.place in
-    let m = c.timestamp_of.ensures in
+    let m = c.without_text.ensures in
     let digits = c.requires.time in
     let may = c.in-Ok.ensures.may in
     let late : regs.time ≤ decimal_value (drop 1 token) = subst (λ (n : ℕ). regs.time ≤ n) (sym digits.1) may.forth in
@@ -55,7 +55,7 @@ returns-in-Ok-clause-spelled c = λ a o.
     let token = c.args.opening.token.now in
     let taken = o.token in
     let there = token_there (bytes_of a) (passed_of a) (passed_of c.args.ahead) token taken.further taken.within taken.before taken.place in
-    rw (c.timestamp_of.ensures.positions.1, c.begin_of-begin.ensures) (mark_there (bytes_of a) _ _ token _ taken.some c.requires.time there)
+    rw (c.without_text.ensures.positions.1, c.begin_of-begin.ensures) (mark_there (bytes_of a) _ _ token _ taken.some c.requires.time there)
 
 pub returns-in-Err-clause-none : goal.returns-in-Err-clause-none
 returns-in-Err-clause-none c = λ _. mark_misplaced c.args.regs.now c.args.time _ c.in-Err.ensures.may

@@ -8,11 +8,7 @@ use Rattle.vcd_body.proofs.WalkLemmas.{walk_counts, walk_further, walk_passes}
 use Rattle.vcd_merge.proofs.AheadTrails.{walk_runs}
 use Rattle.vcd_merge.proofs.SeatAhead.{ahead_turns, lies_first}
 use Rattle.vcd_merge.proofs.SeatLemmas.{out_of}
-use Rattle.vcd_merge.proofs.SeatTrails.{at_once}
 use Rattle.vcd_merge.proofs.merging.take_ahead.Goals as goal
-
-pub returns-then-keyword_comes-clause-turns : goal.returns-then-keyword_comes-clause-turns
-returns-then-keyword_comes-clause-turns g c = λ k scale first l items views at. (items, at, at_once _ _ _ _ _ _ _)
 
 pub pass_items-requires : goal.pass_items-requires
 pass_items-requires g c =
