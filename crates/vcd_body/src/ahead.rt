@@ -239,7 +239,7 @@ pub(crate) fn scalar_ahead<'a>(
     Some(change_of(found, Form::Scalar, text, at, at, at + 1))
 }
 
-/// Returns the code after a digit, where a look at one entry finds it.
+/// Returns the code after a digit. `None` if a look at one entry does not find it.
 #[inline(always)]
 fn short_code(token: &[u8], view: HeadView<'_>) -> Option<Found>
     requires begins { IsScalar token.now }
@@ -253,9 +253,9 @@ fn short_code(token: &[u8], view: HeadView<'_>) -> Option<Found>
     Some(found)
 }
 
-/// Returns the change that a `0` or a `1` begins, where its token begins right here, has two bytes
-/// and a line feed after them, and a look at one entry finds its code. None for any other item;
-/// then nothing has changed.
+/// Returns the change that a `0` or a `1` begins, if its token begins at the next byte, has two
+/// bytes and a line feed after them, and a look at one entry finds its code. `None` for any other
+/// item; then nothing has changed.
 // No call is made, so that a loop over such changes keeps all that it needs in registers.
 #[inline(always)]
 pub(crate) fn short_ahead<'a>(ahead: &mut Ahead<'a>, view: HeadView<'_>) -> Option<ScannedItem<'a>>

@@ -88,7 +88,7 @@ pub(crate) fn real_text(token: &[u8]) -> Result<&[u8], BodyFault>
     Ok(text)
 }
 
-/// Passes over a comment, after its keyword, up to its `$end`. Fails where a token cannot be read,
+/// Passes over a comment, after its keyword, up to its `$end`. Fails if a token cannot be read,
 /// or the input ends before `$end`.
 // Without `pass_words` a comment of tokens of one byte takes 5 times as many instructions.
 pub(crate) fn skip_comment<S: Source>(feed: &mut Feed<'_, '_, '_, '_, S>) -> Result<(), BodyFault>

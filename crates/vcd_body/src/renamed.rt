@@ -180,8 +180,8 @@ fn put_renamed_text<W: Sink>(
 }
 
 /// Writes a change that was taken ahead under the new code of this number. The bytes from `from` up
-/// to `to` spell it. Those before its code are copied where they are what its line begins with.
-/// Where a write fails, a prefix was written.
+/// to `to` spell it. Those before its code are copied if its line begins with them.
+/// If a write fails, a prefix was written.
 // Digits are copied and not looked at one by one: without this `merge` of Verilator's takes 12 %
 // more.
 #[inline(always)]

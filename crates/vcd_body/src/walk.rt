@@ -42,7 +42,7 @@ pub trait Visit<C>: Drop {
     // write of what is due with it gives.
     ghost takes: { HeadView → Stage Self C → Stage Self C → Result (Unit {0}) WriteFailed → Type 0 };
 
-    // Whether the walk leaves a timestamp with this time, and a section's keyword where this is the
+    // Whether the walk leaves a timestamp with this time, and a section's keyword if this is the
     // last time.
     ghost is_left: { Self → C → ℕ → Bool };
 

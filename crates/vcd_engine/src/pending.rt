@@ -1,4 +1,5 @@
-//! Pending text: due, not written yet, and in the chunk already. Adjoining pending are one write.
+//! Pending text: it is due, it is in the chunk, and it is not written yet. Pieces that adjoin are
+//! written in one call.
 ghost use Rattle.std.specs.Prelude.{◌≡◌, ℕ, ◌+◌, ◌-◌, ◌^◌, ◌<◌, ◌≤◌, ◌++◌, ◌∷◌, List, [], length, slice_range, IfErr, IfOk, IfSome};
 ghost use Rattle.vcd_engine.specs.Names.{BodyItem, bytes_without, HasGoodText, Header, HeadView, pending_in, IsSpanned, IsItem, IsLine, IsNoTimestamp, IsPart, IsViewOf, item_line, LiesUpTo, line_without, Puts, PutsBehind, time_line};
 
@@ -6,7 +7,8 @@ use vcd_body::{Extent, Item, ScannedItem, left_out, put_time};
 use vcd_text::{Sink, WriteFailed, put_front, put_parts};
 
 /// An item that is no timestamp, with its span: an item in the chunk begins at `from`, and was
-/// passed up to `to`. An item that the feed gave has an empty span, and no size (`size_or_zero` is 0).
+/// passed up to `to`. An item that the feed gave has an empty span, and no size (`size_or_zero` is
+/// 0).
 #[derive(Clone, Copy)]
 pub(crate) struct SpannedItem<'a> {
     pub(crate) scanned: ScannedItem<'a>,

@@ -181,7 +181,7 @@ impl Visit<()> for Merging {
 
 /// Takes the items of an input that are whole in its feed's chunk, while its time is below
 /// `before`, and returns whether the time has reached it. The feed moves past them in one call.
-/// Fails where a write does.
+/// Fails if a write does.
 #[inline(never)]
 fn take_ahead<S: Source, W: Sink>(
     head: &Head,

@@ -123,8 +123,8 @@ pub fn find_in_own_entry(view: HeadView<'_>, code: &[u8]) -> Option<Found>
 }
 
 // Returns the index of a code that its own entry does not hold: by its hash, or else by a binary
-// search; `None` where it is not among the distinct codes. It takes no view, so that a look-up by
-// one entry need not make one ready, and returns a number alone, which needs no memory.
+// search. `None` if it is not among the distinct codes. It takes no view, so that a look-up by one
+// entry need not make one ready, and it returns only a number, which needs no memory.
 #[inline(never)]
 fn find_slowly(
     text: &[u8],

@@ -49,7 +49,8 @@ const MERGES: [Case<'static>; 8] = [
             0,
         ),
     ),
-    // Lines of one input before and after those of the other, and a vector in the middle of a chunk.
+    // Lines of one input before and after those of the other, and a vector in the middle of a
+    // chunk.
     (
         Words::Merge(&[]),
         Input::All(&[
