@@ -143,7 +143,7 @@ class Scripts(Case):
                 timeout=SECONDS).stderr
 
         cases = [(name, closed) for name in SCRIPTS for closed in (
-            "<&-", ">&-", "2>&-", "<&- >&- 2>&-", "2>/dev/full", ">/dev/full")]
+            "<&-", "2>&-", "<&- >&- 2>&-", "2>/dev/full")]  # extras/test.sh has those of output
         with ThreadPoolExecutor(os.cpu_count()) as pool:
             for case, messages in zip(cases, pool.map(messages_of, cases)):
                 with self.subTest(script=case[0], closed=case[1]):
@@ -256,9 +256,9 @@ class Answers(Case):
         dump = self.file("hand.vcd", HAND)
         self.assertEqual(said("vcdkit-find", "--tree", dump), ["tb 5", "  deep 1", "status 0"])
         self.assertEqual(said("vcdkit-find", "--tree", dump, "o"), ["tb 2", "  deep 1", "status 0"])
-        dump = self.file("dots.vcd", b"$var wire 1 ! top $end $scope module a.b $end $scope module c "
-                         b"$end $var wire 1 ! d.e $end $upscope $end $scope module f $end $upscope "
-                         b"$end $upscope $end $enddefinitions $end\n")
+        dump = self.file("dots.vcd", b"$var wire 1 ! top $end $scope module a.b $end $scope module "
+                         b"c $end $var wire 1 ! d.e $end $upscope $end $scope module f $end "
+                         b"$upscope $end $upscope $end $enddefinitions $end\n")
         self.assertEqual(said("vcdkit-find", "--tree", dump), [
             "(top) 1", "a.b 1", "  c 1", "status 0"])
 

@@ -163,17 +163,19 @@ def edge_steps(out: BinaryIO, codes: Collection[bytes], edges: Collection[Edge],
         yield time, before, found, is_edge
 
 
-@functools.lru_cache(maxsize=MAX_SEEN)
-def _digits(text: bytes, size: int) -> Value:
+def _value(text: bytes, size: int) -> Cell:
+    if text[:1] == b"r":
+        return real(text[1:].decode(errors="backslashreplace"))
     digits = text.decode()
-    return Value(digits.rjust(size, extension(digits)))
+    return Value(digits if len(digits) == size else digits.rjust(size, extension(digits)))
+
+
+_kept_value = functools.lru_cache(maxsize=MAX_SEEN)(_value)
 
 
 def value(text: bytes, signal: Signal) -> Cell:
     """Returns the value that a body has for a signal."""
-    if text[:1] == b"r":
-        return real(text[1:].decode(errors="backslashreplace"))
-    return _digits(text, signal.size)
+    return _kept_value(text, signal.size)
 
 
 def changes(out: BinaryIO, signal: Signal) -> Iterator[Tuple[int, Cell]]:
@@ -188,7 +190,7 @@ def changes(out: BinaryIO, signal: Signal) -> Iterator[Tuple[int, Cell]]:
             its: Any = get(line)
             if its is None:
                 its_code, text = change(line)
-                its = value(text, signal) if its_code == code else code
+                its = _value(text, signal.size) if its_code == code else code
                 if len(seen) >= MAX_SEEN:
                     seen.clear()
                 seen[line] = its

@@ -1,6 +1,5 @@
 """Dump: questions about one dump."""
 import contextlib
-import difflib
 import importlib
 import os
 import re
@@ -524,6 +523,7 @@ def _hint(name: str, signals: _rows.Signals) -> str:
 def _like(name: str, paths: List[str]) -> List[str]:
     """Returns up to three names that differ from one that selects nothing in the first of its words
     that no path has there, and are like it: a path, or a scope if there is no such path."""
+    import difflib  # only a message needs it
     front, word, rest = "", *name.partition(".")[::2]
     its = {path.partition(".")[0] for path in paths}
     while word in its:

@@ -116,10 +116,10 @@ class Value(str):
 
     def __eq__(self, other: object) -> bool:
         if other.__class__ is int:
-            try:
-                return self._number == other  # a fifth of the time of what is below
+            try:  # a fifth of the time of what is below
+                return self._number == other
             except AttributeError:
-                pass
+                return self._known() == other
         return self._compares(operator.eq, other)
 
     def __ne__(self, other: object) -> bool:
