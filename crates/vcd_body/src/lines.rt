@@ -103,7 +103,8 @@ fn has_one_blank(
     (text_end + 1 == code_at) & (bytes[from] == first) & (bytes[text_end] == b' ')
 }
 
-/// Returns a mask whose bit k is set if byte `at + k` is not `0`.
+/// Returns a mask of the 64 bytes from `at` on: bit k is set if byte `at + k` is not the digit `0`.
+/// All 64 bytes must be there.
 #[inline(always)]
 fn nonzero_64(bytes: &[u8], at: usize) -> u64
     requires { at + 64 ≤ length bytes.now }
@@ -143,8 +144,9 @@ fn needless_before_lower(bytes: &[u8], at: usize, digits: &[u8]) -> Option<usize
     Some(k)
 }
 
-/// Returns how many zeros lead, if all digits are known to be `0` and `1`: the shortest digits of
-/// the same value leave them out. If `None`, nothing is known.
+/// Returns how many leading zeros of binary digits can be left out: all of them, but never the last
+/// digit. `None` if there are no digits, or if there are at most 32 of them and fewer than 32 bytes
+/// are left from `at` on.
 // It counts them in the bytes. From the number of the digits, `pick` of five of 27,505 codes takes
 // 8 % more.
 #[inline(always)]
@@ -168,9 +170,10 @@ fn left_out_of_binary(bytes: &[u8], at: usize, digits: &[u8]) -> Option<usize>
     Some(needless(digits))
 }
 
-/// Returns how many digits on the left the shortest digits of the same value leave out. `None` if
-/// these are not in lower case. The digits begin at the offset `at` of the bytes. `binary` says
-/// that they are only `0` and `1`. Most values need all of their digits.
+/// Returns how many digits on the left can be left out without changing the value. `None` if there
+/// are no digits, if a digit that stays may be a capital letter, or if there are at most 32 binary
+/// digits and fewer than 32 bytes are left from `at` on. The digits begin at `at` in `bytes`.
+/// `binary` says that all are known to be `0` and `1`.
 // Binary digits have no capital letters, so none is looked for: otherwise `pick` of all of wide
 // vectors takes 15 % more.
 #[inline(always)]

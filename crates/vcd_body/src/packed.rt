@@ -40,7 +40,8 @@ fn codes_differ(first: u8x16, second: u8x16) -> bool
     first.simd_ne(second).to_bitmask() != 0
 }
 
-/// Returns the codes of the last digits of the 16 bytes from an offset on.
+/// Returns the two highest bits of each of the 16 bytes from `at` on. They are the code (0 to 3) of
+/// the last of the four digits that are packed in a byte. All 16 bytes must be there.
 #[inline(always)]
 fn last_codes_16(bytes: &[u8], at: usize) -> u8x16
     requires { at + 16 ≤ length bytes.now }

@@ -33,7 +33,8 @@ fn put_shortened<W: Sink>(digits: &[u8], id: Id<'_>, w: &mut W) -> Result<(), Wr
     put_end_under(b' ', id, w)
 }
 
-/// Writes a change that is neither of a code of one bit nor of one of several bits.
+/// Writes the line of a rare change: of an event, of a real number, or of digits after `b` for a
+/// code of one bit. If a write fails, a prefix was written.
 #[inline(never)]
 fn put_other<W: Sink>(
     event: bool,

@@ -55,8 +55,9 @@ impl<'a> Table<'a> {
     }
 
     /// Sets the value of the code at an index by the text of a change: digits, or that of a real
-    /// number, as `change_text` gives it. A text that is empty or has no room changes nothing. It
-    /// takes as long as the text is. One digit changes only the code's slot.
+    /// number, as `change_text` gives it. If the text is empty or has no room, the old value stays.
+    /// The time grows with the length of the text. A single digit changes only the slot of its
+    /// code.
     #[inline(always)]
     pub fn set(&mut self, code: usize, form: Form, text: &[u8])
         ensures sets { SetsCode code (with_text form text.now) self.old self.new }
@@ -192,7 +193,8 @@ impl<'a> Table<'a> {
         )
     }
 
-    /// Returns what the value of the code at an index is.
+    /// Returns which kind of value the code at an index has: digits, a real number, or none. It is
+    /// `Unset` too if there is no such code.
     #[inline]
     pub fn get(&self, code: usize) -> Shown
         ensures { result ≡ shown_as (held_at self.now code) }

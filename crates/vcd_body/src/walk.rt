@@ -49,8 +49,8 @@ pub trait Visit<C>: Drop {
     // Whether no other item is to be taken.
     ghost over: { Self → Bool };
 
-    /// Returns whether the walk ends before a timestamp with this time, and leaves it; or before a
-    /// section's begin or end, if this is the last time.
+    /// Returns whether the walk stops before a timestamp with this time, without taking it. It is
+    /// also asked before the begin or the end of a section, with the time of the last timestamp.
     fn ends_before(&self, command: &C, time: u64) -> bool
         ensures { result ≡ is_left self.now command.now time };
 

@@ -108,7 +108,8 @@ pub(crate) fn is_comment(token: &[u8]) -> bool
     token == b"$comment".as_slice()
 }
 
-/// Returns what a keyword is where a phrase begins.
+/// Returns what a keyword means at the beginning of a phrase of the body: a comment, the begin of a
+/// section, `$end`, or a keyword that belongs only in the header.
 fn command_for(keyword: Keyword) -> KeywordUse
     ensures { result ≡ command_is keyword }
 {
@@ -129,7 +130,7 @@ fn command_for(keyword: Keyword) -> KeywordUse
     }
 }
 
-/// Returns what the keyword is that the token is. `None` if it is no keyword.
+/// Returns what a token means as a keyword of the body. `None` if it is no keyword.
 #[inline(always)]
 pub(crate) fn command_of(token: &[u8]) -> Option<KeywordUse>
     ensures { StandsFor token.now result }
@@ -320,8 +321,9 @@ fn number_at(bytes: &[u8], at: usize, n: usize) -> usize
     (ones_32(bytes, at) >> (32 - n)) as usize
 }
 
-/// Returns the digits that begin at an offset of these bytes, as a number. `None` if they are more
-/// than 32, not only `0` and `1`, or near the end of the bytes.
+/// Returns `digits`, which begin at `at` in `bytes`, as a binary number. `None` if there are none
+/// or more than 32, if one of them is not `0` or `1`, or if fewer than 32 bytes are left from `at`
+/// on.
 // It looks at 32 bytes, without a branch on how many digits there are.
 #[inline(always)]
 pub(crate) fn bits_at(bytes: &[u8], at: usize, digits: &[u8]) -> Option<Bits>

@@ -29,9 +29,9 @@ fn choose_marked(view: HeadView<'_>, marks: &[u8], flags: &mut [u8])
     }
 }
 
-/// Sets the flags of the variables that the names select (all if there are no names) and of the
-/// scopes around them, and chooses the codes of these variables and no others. Fails with
-/// `Stop::Unmatched` at the first name that selects nothing; then the flags may be anything.
+/// Sets the marks of the variables that the names select (all if there are no names) and of the
+/// scopes around them, and the flags of the codes of these variables and of no others. Fails with
+/// `Stop::Unmatched` at the first name that selects nothing; then both may be anything.
 pub(crate) fn select_codes(
     view: HeadView<'_>,
     names: &[String],

@@ -180,7 +180,8 @@ impl<'o> Open<'o> {
         }
     }
 
-    /// Returns what is inside the scope around a row, if it is the innermost one that was entered.
+    /// Returns the names that continue in the scope around a row, or outside of all scopes. `None`
+    /// if that scope is not the innermost one that was entered, or if there is no such row.
     #[inline(always)]
     fn around(&self, view: HeadView<'_>, row: usize) -> Option<Inside>
         ensures row { IfSome result (λ _. row < length view.entry.rows.now) }

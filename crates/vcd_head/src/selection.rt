@@ -62,7 +62,7 @@ pub fn selects(view: HeadView<'_>, row: usize, name: &str) -> bool
     is_or_goes_on(view.name_of(row), rest)
 }
 
-/// Sets the marks of a row and of the scopes around it.
+/// Sets to 1 the mark of a row and of each scope around it. `marks` has one byte for each row.
 fn mark(view: HeadView<'_>, row: usize, marks: &mut [u8])
     requires { row < length marks.old }
     ensures { AnyRow view.entry row (λ h. Marked (row_and_scopes h row) marks.old marks.new) }

@@ -61,7 +61,7 @@ pub(crate) fn copy(from: &[u8], to: &mut [u8])
     }
 }
 
-/// Copies the first 64 bytes to an offset.
+/// Copies the first 64 bytes of `from` into `to` from `position` on. Both must have them.
 #[inline(always)]
 pub(crate) fn copy_short(to: &mut [u8], position: usize, from: &[u8])
     requires room { position + 64 ≤ length to.old }
@@ -80,7 +80,7 @@ fn as_word(bytes: [u8; 8]) -> [u8; 8]
     u64::from_le_bytes(bytes).to_le_bytes()
 }
 
-/// Copies these bytes to an offset.
+/// Copies 8 bytes into `to` from `position` on, in one write. `to` must have room for them.
 #[inline(always)]
 pub(crate) fn copy_few(to: &mut [u8], position: usize, from: [u8; 8])
     requires room { position + 8 ≤ length to.old }

@@ -80,9 +80,11 @@ fn put_unsized<W: Sink>(
 /// What a walk over the items of an input keeps, as numbers.
 #[derive(Clone, Copy)]
 struct Merging {
-    // The time, scaled; the factor of times; the number of the first code.
+    // The time of the input, in ticks of the merged dump.
     time: u64,
+    // How many of these ticks one tick of the input has.
     factor: u64,
+    // The number that the first code of the input has in the merged dump.
     first: u64,
     // The time whose line was written last.
     written: Option<u64>,

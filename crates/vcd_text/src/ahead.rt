@@ -1,6 +1,6 @@
 //! The tokens that lie completely in a chunk: a caller's loop reads them without a change of the
 //! feed.
-ghost use Rattle.std.specs.Prelude.{◌≡◌, ◌≢◌, ℕ, ◌+◌, ◌^◌, ◌<◌, ◌≤◌, true, false, List, length, slice_get, slice_index, IfSome, None, Some};
+ghost use Rattle.std.specs.Prelude.{◌≡◌, ◌≢◌, ℕ, ◌+◌, ◌^◌, ◌<◌, ◌≤◌, true, false, List, length, slice_index, IfSome, None, Some};
 ghost use Rattle.vcd_text.specs.Names.{AreWhite, BitsAreWhite, IsRun, bit_at, is_white_space};
 
 use crate::scan::{is_white_space, low_16, lowest, run_len, white_64, without};
@@ -215,28 +215,14 @@ impl<'a> Ahead<'a> {
     /// Returns whether the next token begins at the next byte and has two bytes and a line feed
     /// after them, and the limit allows two bytes.
     ///
-    /// It is false for a token with a control byte. Once it is true, the limit is 2 or more, so a
-    /// loop need not ask for it again.
+    /// It is false for a token with a byte below the space (32). Once it is true, the limit is 2 or
+    /// more, so a loop need not ask for it again.
     #[inline(always)]
     pub fn two_byte_line_comes(&self) -> bool
         ensures { result ≡ true
             → IsRun (longest_of self.now) (bytes_of self.now) (passed_of self.now) 2 }
     {
         self.limit >= 2 && is_two_byte_line(self.bytes, self.at)
-    }
-
-    /// Returns the first byte of the next token; `None` if only white bytes are left.
-    #[inline(always)]
-    pub fn first_byte(&self) -> Option<u8>
-        ensures some { IfSome result (λ byte. (start : ℕ)
-            × AreWhite (bytes_of self.now) (passed_of self.now) start
-            × (slice_get (bytes_of self.now) start ≡ Some byte)
-            × (is_white_space byte ≡ false)) }
-        ensures none { result ≡ None
-            → AreWhite (bytes_of self.now) (passed_of self.now) (length (bytes_of self.now)) }
-    {
-        let start = past_white(self.bytes, self.at);
-        self.bytes.get(start).copied()
     }
 
     /// Forgets the white space that it has seen, before a loop over `next_short` and `next_in_16`,
@@ -290,8 +276,8 @@ impl<'a> Ahead<'a> {
     }
 }
 
-/// Returns whether two bytes above the space and then a line feed begin at this offset. It is false
-/// if one of the two is a control byte.
+/// Returns whether the next three bytes are two bytes above the space (32) and a line feed. It is
+/// false if fewer than three bytes are left.
 #[inline(always)]
 fn is_two_byte_line(bytes: &[u8], at: usize) -> bool
     requires { at ≤ length bytes.now }

@@ -65,8 +65,8 @@ pub fn keyword_of(token: &[u8]) -> Option<Keyword>
     }
 }
 
-// Returns the next token, if it lies completely in the chunk and is not `$end`. Otherwise `None`,
-// and nothing has changed.
+// Passes the next token and returns it, unless it is `$end`. `None` also if `Ahead::next` gives no
+// token; then nothing has changed.
 #[inline(always)]
 fn word_ahead<'a>(ahead: &mut Ahead<'a>) -> Option<&'a [u8]>
     ensures takes { IfSome result (λ token. TakesToken ahead.old ahead.new token.now) }
@@ -92,8 +92,8 @@ fn words_len(ahead: Ahead<'_>) -> usize
     next.passed()
 }
 
-/// Passes the words that come next and lie completely in the chunk: all tokens up to the first
-/// `$end`. It reads nothing. After it `token` may be empty.
+/// Passes the words that come next and that `Ahead::next` gives, up to the first `$end`. It reads
+/// nothing. After it `token` may be empty.
 pub fn pass_words<S: Source>(feed: &mut Feed<'_, '_, '_, '_, S>)
     ensures passes { PassesWords feed.old feed.new }
     ensures advances { Advances S.failures feed.old feed.new CallEnd.GoesOn }

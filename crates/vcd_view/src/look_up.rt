@@ -98,8 +98,8 @@ fn find_sized_counted(view: HeadView<'_>, code: &[u8], probes: &mut Probes) -> O
     }
 }
 
-/// Returns the index and size of a code by a look at one entry. `None` if the entry is of another
-/// code or of none; then `find_sized` may find the code.
+/// Returns the index and size of a code by a look at only its own entry. `None` if another code has
+/// that entry, if it is empty, or if the code has more than 7 bytes; then `find_sized` may find it.
 #[inline(always)]
 pub fn find_in_own_entry(view: HeadView<'_>, code: &[u8]) -> Option<Found>
     ensures found { (h : Header) → IsViewOf view.entry h

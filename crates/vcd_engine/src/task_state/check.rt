@@ -83,7 +83,7 @@ impl AheadTask<NoLine> for Check {
         _regs: Regs,
         item: SpannedItem<'_>,
         _line: &NoLine,
-        _pieces: &mut PendingCopy,
+        _pending: &mut PendingCopy,
         _out: &mut W,
     ) -> Result<(), WriteFailed> {
         match item.scanned.item {

@@ -83,7 +83,8 @@ impl<'r> Cut<'r> {
         Ok(cut)
     }
 
-    /// Writes the start section if it is not written yet and `time` is at least `from`.
+    /// Writes the start section if it is not written yet and `time` is at least `from`. From then
+    /// on, the line of `from` counts as the last timestamp's. Fails if a write does.
     fn begin_by<W: Sink>(
         &mut self,
         view: HeadView<'_>,
@@ -210,7 +211,7 @@ impl<'r> AheadTask<NoLine> for Cut<'r> {
         _regs: Regs,
         item: SpannedItem<'_>,
         _line: &NoLine,
-        _pieces: &mut PendingCopy,
+        _pending: &mut PendingCopy,
         _out: &mut W,
     ) -> Result<(), WriteFailed> {
         let scanned = item.scanned;

@@ -12,7 +12,7 @@ use vcd_head::select;
 use vcd_text::{Sink, WriteFailed};
 use vcd_view::{Code, HeadView, code_in};
 
-/// What `edges` keeps: the names that were asked for, a flag for each row that they select, and the
+/// What `edges` keeps: the names that were asked for, a mark for each row that they select, and the
 /// values and counters of all codes.
 #[derive(Drop)]
 pub(crate) struct Edges<'n, 'r> {
@@ -108,7 +108,7 @@ impl<'n, 'r> AheadTask<NoLine> for Edges<'n, 'r> {
         regs: Regs,
         item: SpannedItem<'_>,
         _line: &NoLine,
-        _pieces: &mut PendingCopy,
+        _pending: &mut PendingCopy,
         _out: &mut W,
     ) -> Result<(), WriteFailed> {
         let scanned = item.scanned;

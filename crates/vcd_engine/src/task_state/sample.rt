@@ -154,7 +154,7 @@ impl<'n, 'r> AheadTask<NoLine> for Sample<'n, 'r> {
         _regs: Regs,
         item: SpannedItem<'_>,
         _line: &NoLine,
-        _pieces: &mut PendingCopy,
+        _pending: &mut PendingCopy,
         _out: &mut W,
     ) -> Result<(), WriteFailed> {
         let scanned = item.scanned;

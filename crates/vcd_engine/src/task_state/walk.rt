@@ -135,8 +135,8 @@ pub(crate) trait AheadTask<L: LineMemory> {
         ensures ready { is_ready self.new ≡ true }
         ensures same { SameTask (task_state self.old) (task_state self.new) };
 
-    /// Takes an item that is no timestamp. What is due with it is added to `pending`, or written to
-    /// `out` after them. `regs` are the registers after the item; `line` says where the
+    /// Takes an item that is no timestamp. Its output is added to `pending`, or written to `out`
+    /// after all that is pending. `regs` are the registers after the item; `line` says where the
     /// last timestamp's line is. Fails if a write does.
     fn take_item<W: Sink>(
         &mut self,
