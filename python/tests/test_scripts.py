@@ -220,6 +220,26 @@ r3 #
 #30
 """
 
+TORN = b"""$timescale 1ns $end
+$var wire 1 ! a $end
+$var wire 1 " b $end
+$var wire 2 # c $end
+$enddefinitions $end
+#0
+0!
+1"
+#10
+1!
+0"
+#20
+0!
+1"
+#30
+1!
+b11 #
+0"
+"""
+
 
 class Answers(Case):
     """What the scripts say of a dump that was worked out by hand."""
@@ -289,6 +309,29 @@ class Answers(Case):
         dump = self.file("front.vcd", HAND[:60])
         said("vcdkit-explain", "--salvage", good, dump)
         self.assertFalse(os.path.exists(good))
+
+    def test_a_fault(self):
+        whole = TORN + b"#40\n"
+        for text, is_finished, fault in (
+                (TORN[:-5], False, "17: unexpected end of input"), (whole + b"2!\n", True, "20: "),
+                (TORN + b"#4x\n", True, "19: bad time"), (TORN + b"#4", True, "19: time goes back"),
+                (TORN + b"2!\n", False, "19: ")):
+            file = self.file("torn.vcd", text)
+            with self.subTest(text=text[-20:]):
+                last = ["30,1,0"] * is_finished
+                self.assertEqual(said("vcdkit-table", file, "a", "b"), [
+                    "time (ns),a,b", "0,0,1", "10,1,0", "20,0,1", *last, "status 1"])
+                self.assertEqual(said("vcdkit-when", "--first", file, "a & b"), ["status 2"])
+                self.assertIn(fault.encode(), run("vcdkit-when", ["--first", file, "a & b"])[2])
+                self.assertEqual(said("vcdkit-when", file, "a & !b"), [
+                    "10ns", *["30ns"] * is_finished, "status 2"])
+                self.assertEqual(said("vcdkit-when", "--first", file, "a"), ["10ns", "status 0"])
+                self.assertEqual(said("vcdkit-x", file, "b"), ["status 2"])
+                self.assertEqual(said("vcdkit-stats", file, "b"), ["status 1"])
+        self.assertEqual(said("vcdkit-when", "--first", self.file("w", whole), "a & b"),
+                         ["status 1"])
+        file = self.file("x.vcd", TORN + b"x!\nx\"\n0\"\nb1")
+        self.assertEqual(said("vcdkit-x", file), ["status 2"])
 
     def test_a_name_that_selects_nothing(self):
         dump = self.file("hand.vcd", HAND)

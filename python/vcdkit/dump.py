@@ -10,7 +10,8 @@ from typing import (Any, BinaryIO, Collection, ContextManager, Dict, Iterable, I
 from . import _body, _library, _program, _rows, _when
 from ._body import Header
 from ._texts import Bytes, File, Made, Text
-from .errors import NoTimescale, RunFailed, UnknownName, UsageError, VcdkitError
+from .errors import (AT_A_TIMESTAMP, DumpFault, NoTimescale, RunFailed, UnknownName, UsageError,
+                     VcdkitError)
 from .times import LAST_TICK, Time, Timescale, word
 from .values import Cell, Edges, Report, Row, Scope, Signal, Value, value_of
 
@@ -83,6 +84,13 @@ class Dump:
     def open(self) -> Iterator[BinaryIO]:
         """Opens the text of the dump, to be read as a binary file."""
         with _opened(self._text) as file:
+            yield file
+
+    @contextlib.contextmanager
+    def body(self) -> Iterator[BinaryIO]:
+        """Opens the text of the dump, behind the header."""
+        with self.open() as file:
+            _body.skip_header(file)
             yield file
 
     def read(self) -> bytes:
@@ -262,8 +270,7 @@ class Dump:
         return self._changes(name, signal)
 
     def _changes(self, name: str, signal: Signal) -> Iterator[Tuple[int, Cell]]:
-        with self._part([name]).open() as out:
-            _body.skip_header(out)
+        with self._part([name]).body() as out:
             yield from _body.changes(out, signal)
 
     def arrays(self, name: str) -> Tuple[Any, Any]:
@@ -280,8 +287,7 @@ class Dump:
             found = _library.changes(self._text, signal.code.encode())
             if found is not None:
                 return _columns(found, numpy)
-        with self._part([name]).open() as out:
-            _body.skip_header(out)
+        with self._part([name]).body() as out:
             return _body.arrays(out, signal, _words_for([name]) == [name], numpy)
 
     def rows(self, names: Names, at: Optional[Iterable[Time]] = None, rise: Optional[str] = None,
@@ -319,12 +325,11 @@ class Dump:
               ) -> Iterator[Row]:
         lead = self._lead({*(code for code, _, _ in edges), *(one.code.encode() for one in columns)}
                           if edges else ())
-        with self._part(names).open() as out:
-            _body.skip_header(out)
-            if edges:
-                yield from _rows.at_edges(out, columns, edges, lead)
-            else:
-                yield from _rows.at_changes(out, columns)
+        part = self._part(names)
+        if edges:
+            yield from _rows.at_edges(part, columns, edges, lead)
+        else:
+            yield from _rows.at_changes(part, columns)
 
     def _lead(self, codes: Collection[bytes]) -> Set[bytes]:
         """Returns those of some codes of a merge whose values begin with a `$dumpvars`, as a merge
@@ -341,8 +346,7 @@ class Dump:
                    if new.encode() in codes}
             paths = [one.path for one in dump.signals if one.code.encode() in its]
             if paths:
-                with dump._part(paths).open() as out:
-                    _body.skip_header(out)
+                with dump._part(paths).body() as out:
                     found |= {its[code] for code in _body.lead_of(out, its)}
                 found |= {its[code] for code in dump._lead(its)}
         return found
@@ -384,6 +388,26 @@ class Dump:
         `every`, each such time counts at which it holds. UsageError if it is no condition,
         UnknownName if a name of it selects nothing."""
         return _when.when(self, condition, rise, fall, every)
+
+    # Faults.
+
+    def is_finished(self, time: int, fault: DumpFault) -> bool:
+        """Whether a time that comes before a fault has all its changes: a later timestamp comes
+        before the fault too, or the fault is in its place."""
+        text = self._text
+        while isinstance(text, Made) and text.command in ("pick", "cut"):  # they leave times out
+            text = text.of[0]
+        # One of the dumps of a merge has the fault; the others may change at that time.
+        return (not isinstance(text, Made) and fault.fault in AT_A_TIMESTAMP
+                or _dump_of(text, self._options).goes_beyond(time))
+
+    def goes_beyond(self, time: int) -> bool:
+        """Whether there is no fault before the first timestamp after a time."""
+        try:  # `cut` ends there
+            self.cut(time, time).read()
+        except VcdkitError:
+            return False
+        return True
 
     # Dumps of it.
 

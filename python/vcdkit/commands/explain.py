@@ -22,14 +22,12 @@ import re
 import shlex
 import sys
 
-from .. import DumpFault, UnknownName, VcdkitError, _body
+from .. import DumpFault, UnknownName, _body
 from ..dump import write
 from . import add_file, command, dump_of, parser
 
 WIDTH = 100
 FRONT = 1 << 16  # how much before a fault is looked at
-# Faults at a timestamp: all values of the one before it are there.
-IN_A_TIMESTAMP = ("bad time", "time goes back", "time inside a section")
 NINE = ("a nine-state value of VHDL",
         "vcdkit-four-state < FILE | vcdkit check    (or run ghdl again with --vcd-4states)")
 STRING = ("a string, which four-state VCD does not have",
@@ -222,11 +220,8 @@ class Good:
         time = int(found[-1]) if found else 0
         if time <= (self.last or 0):
             return None
-        try:
-            self.dump.cut(time - 1, time - 1).read()  # it ends there, and sees no fault
-        except VcdkitError:  # what was found is in a comment
-            return None
-        return time
+        # If not, what was found is in a comment.
+        return time if self.dump.goes_beyond(time - 1) else None
 
 
 def salvage(dump, fault, before, path):
@@ -236,7 +231,7 @@ def salvage(dump, fault, before, path):
         return
     good = Good(dump, before)
     write(path, good)
-    last = -1 if good.last is None else good.last - (fault.fault not in IN_A_TIMESTAMP)
+    last = -1 if good.last is None else good.last - (not dump.is_finished(good.last, fault))
     print("wrote: %s, %s" % (path, "good until " + dump.time(last) if last >= 0 else
                              "but it has all values of no time"))
 

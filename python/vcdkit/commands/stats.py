@@ -115,33 +115,19 @@ class Statistics:
             self.leave(time, False)
 
 
-class Lines:
-    """The lines of a text, and the time of the last timestamp of those that were read."""
-
-    def __init__(self, out):
-        self.out, self.time = out, 0
-
-    def __iter__(self):
-        for line in self.out:
-            if line[:1] == b"#":
-                self.time = int(line[1:])
-            yield line
-
-
 def statistics_of(dump, asked):
     """Returns the signals, and of each code what is counted."""
     signals = dump.select(asked.names)
     found = {one.code.encode(): Statistics(one) for one in signals}
-    with dump.pick(asked.names).cut(asked.begin, asked.end).open() as out:
-        _body.skip_header(out)
-        lines = Lines(out)
-        for time, before, changes in _body.steps(lines, found):
-            for code, text in before:
-                found[code].start(time, text)
-            for code, text in dict(changes).items():
-                found[code].change(time, text)
+    for time, before, changes in _body.steps(
+            dump._part(asked.names).cut(asked.begin, asked.end), found):
+        for code, text in before:
+            found[code].start(time, text)
+        for code, text in dict(changes).items():
+            found[code].change(time, text)
+    last = dump.cut(asked.begin, asked.end).check().last or 0
     for one in found.values():
-        one.end(lines.time)
+        one.end(last)
     return [(one, found[one.code.encode()]) for one in signals]
 
 

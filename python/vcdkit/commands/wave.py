@@ -16,7 +16,7 @@ import sys
 import threading
 from xml.sax.saxutils import escape
 
-from .. import UsageError, Value, _body
+from .. import UsageError, Value
 from .._lanes import Lanes, Several
 from ..times import LAST_TICK, UNITS
 from . import add_file, add_form, add_window, command, dump_of, parser, shown
@@ -285,8 +285,7 @@ def lanes_of(dump, chosen, names, window, count):
         if last is None or last <= begin:
             raise UsageError("the dump has nothing between these times")
         lanes, part = Lanes(chosen, begin, last, count), dump.pick(names)
-        with (part.cut(begin, end) if is_part else part).open() as out:
-            _body.skip_header(out)
+        with (part.cut(begin, end) if is_part else part).body() as out:
             lanes.read(out, progress.now)
     return lanes
 

@@ -29,14 +29,13 @@ def main(words: List[str]) -> int:
             signals.setdefault(one.code.encode(), []).append(one)
     letters, status = (b"x", b"z") if asked.z else (b"x",), 0
     last: Dict[bytes, Optional[bytes]] = {}  # the last value of each code, if it is shown
-    with dump._part(asked.names).cut(asked.begin, asked.end).open() as out:
-        _body.skip_header(out)
-        for time, before, found in _body.steps(out, signals):
-            for code, text in dict(before + found).items():
-                is_shown = text[:1] != b"r" and any(letter in text for letter in letters)
-                if is_shown and last.get(code) != text:
-                    status = 1
-                    for one in signals[code]:
-                        print(dump.time(time), one.path, _body.value(text, one))
-                last[code] = text if is_shown else None
+    part = dump._part(asked.names).cut(asked.begin, asked.end)
+    for time, before, found in _body.steps(part, signals):
+        for code, text in dict(before + found).items():
+            is_shown = text[:1] != b"r" and any(letter in text for letter in letters)
+            if is_shown and last.get(code) != text:
+                status = 1
+                for one in signals[code]:
+                    print(dump.time(time), one.path, _body.value(text, one))
+            last[code] = text if is_shown else None
     return status
