@@ -259,7 +259,8 @@ class Case:
         letters = self.of.choice(["x", "xz"])
         names = self.names if self.of.random() < .7 else []
         names = [name for name in names if name.isascii()]
-        with contextlib.redirect_stdout(io.TextIOWrapper(io.BytesIO())) as out, open(
+        with contextlib.redirect_stdout(io.TextIOWrapper(io.BytesIO())) as out, \
+                contextlib.redirect_stderr(io.StringIO()), open(
                 "/proc/self/fd/%d" % memory(HEADER + self.text.encode()), "rb") as file:
             status = x.main(["--from=%d" % self.begin, "--to=%d" % self.end,
                              *(["--z"] if letters == "xz" else []),
@@ -273,6 +274,9 @@ class Case:
                         window(self.changes, self.begin, self.end), [code])
                     if set(letters) & set(value)]
         got = out.buffer.getvalue().decode("utf-8", "surrogateescape").splitlines()
+        if self.begin > max([int(one[1:]) for one in self.text.split() if one[0] == "#"] + [0]):
+            self.same("vcdkit-x after the end", (2, []), (status, got))
+            return
         self.same("vcdkit-x", (1 if wanted else 0, sorted(wanted)), (status, sorted(got)))
         times = [int(line.split("ns ")[0]) for line in got]
         self.same("vcdkit-x, its order", sorted(times), times)

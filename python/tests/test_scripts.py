@@ -333,6 +333,37 @@ class Answers(Case):
         file = self.file("x.vcd", TORN + b"x!\nx\"\n0\"\nb1")
         self.assertEqual(said("vcdkit-x", file), ["status 2"])
 
+    def test_a_window_after_the_end(self):
+        file = self.file("whole.vcd", TORN + b"x\"\n")
+        late = b"50ns is after the end of the dump, 30ns\n"
+        for name, words, status, message in (
+                ("x", ["--from", "50ns", file], 2, b"--from: " + late),
+                ("x", ["--from", "30ns", file, "a"], 0, b""),
+                ("when", ["--from", "50ns", file, "a"], 2, b"--from: " + late),
+                ("when", ["--from", "29ns", file, "a & !a"], 1, b""),
+                ("when", ["--from", "50ns", self.file("torn", TORN[:-5]), "a"], 2,
+                 self.folder.name.encode() + b"/torn:17: unexpected end of input\n"),
+                ("stats", ["--from", "50ns", file, "a"], 0, b"--from: " + late),
+                ("values", ["--at", "50ns", file, "a"], 0, b"--at: " + late),
+                ("values", ["--at", "30ns", file, "a"], 0, b"")):
+            with self.subTest(name=name, words=words):
+                got, _, messages = run("vcdkit-" + name, words)
+                self.assertEqual(got, status)
+                self.assertTrue(messages.startswith(
+                    b"vcdkit-%s: %s" % (name.encode(), message) if message else b""), messages)
+                self.assertEqual(bool(messages), bool(message))
+
+    def test_words_that_do_not_fit(self):
+        file = self.file("whole.vcd", TORN)
+        good = os.path.join(self.folder.name, "good.vcd")
+        status, _, messages = run("vcdkit-explain", ["--salvage", good, file])
+        self.assertEqual((status, messages), (
+            0, b"no fault: nothing written to %s\n" % good.encode()))
+        self.assertFalse(os.path.exists(good))
+        for words in (["--around=20", "--span=5", "--from=1"], ["--span=5"],
+                      ["--around=20", "--span=5", "--to=30"]):
+            self.assertEqual(said("vcdkit-wave", *words, file, "a"), ["status 2"])
+
     def test_a_name_that_selects_nothing(self):
         dump = self.file("hand.vcd", HAND)
         self.assertEqual(said("vcdkit-explain", dump, "tb.clk", "tb.dep.word"), [

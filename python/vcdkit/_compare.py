@@ -4,8 +4,8 @@ A value is as a body has it: the fewest digits, or r and a real number. So equal
 have equal digits."""
 import contextlib
 from math import gcd, isclose, isnan
-from typing import (Callable, Dict, Generator, Iterator, List, NamedTuple, Optional, Sequence, Set,
-                    Tuple, Union)
+from typing import (Callable, Dict, Generator, Iterable, Iterator, List, NamedTuple, Optional,
+                    Sequence, Set, Tuple, Union)
 
 from . import _body, _rows
 from ._condition import bare
@@ -62,6 +62,11 @@ def _around(path: str) -> Iterator[str]:
         path = path.rpartition(".")[0]
 
 
+def hint_among(name: str, paths: Iterable[str]) -> str:
+    """Returns what to write instead of a name that is none of some paths."""
+    return _hint(name, _rows.Signals("".join("%s - 1 -\n" % one for one in paths)))
+
+
 class Side:
     """One of the dumps. Its names are the paths, of which maps replace the front; `found` has what
     of all that was asked for is in it."""
@@ -77,7 +82,7 @@ class Side:
 
     def _mapped(self, path: str, maps: Sequence[Tuple[str, str]]) -> str:
         for front, new in maps:
-            if path == front or path.startswith(front + "."):
+            if front in (path, bare(path)) or path.startswith(front + "."):
                 self.found.add(front)
                 return new + path[len(front):] if new else path[len(front) + 1:]
         return path
@@ -93,8 +98,7 @@ class Side:
 
     def unknown(self, name: str) -> UnknownName:
         """Returns the exception for a name that is not there."""
-        rows = "".join("%s - 1 -\n" % one for one in self.names)
-        return UnknownName("%s: %s" % (self.dump.name, name), _hint(name, _rows.Signals(rows)))
+        return UnknownName("%s: %s" % (self.dump.name, name), hint_among(name, self.names))
 
     def clock(self, name: str) -> Signal:
         """Returns the signal of one bit that has a name."""

@@ -9,6 +9,7 @@ from typing import (Any, BinaryIO, Collection, ContextManager, Dict, Iterable, I
 
 from . import _body, _library, _program, _rows, _when
 from ._body import Header
+from ._condition import bare
 from ._texts import Bytes, File, Made, Text
 from .errors import (AT_A_TIMESTAMP, DumpFault, NoTimescale, RunFailed, UnknownName, UsageError,
                      VcdkitError)
@@ -43,7 +44,8 @@ class Dump:
     UnknownName, NoTimescale, UsageError or RunFailed, which are all VcdkitErrors.
 
     A time is a number of ticks, or a text with a unit, such as "115ns" or "1.5us". A name is a path
-    of `signals`, or a scope, which stands for everything in it. Dictionaries have paths as keys. If
+    of `signals`, or a scope, which stands for everything in it. Except for pick(), "q" stands for
+    "q[3:0]" if there is no other such path. Dictionaries have paths as keys. If
     variables with different values have the same path, a blank and the code follow the path."""
 
     def __init__(self, source: Union[str, "os.PathLike[str]", bytes], name: Optional[str] = None,
@@ -146,8 +148,22 @@ class Dump:
     def select(self, names: Names) -> List[Signal]:
         """Returns the signals that names select, each once, in the order of the names. UnknownName
         if one selects nothing."""
-        its = _list(names)
+        its = self._full(names)
         return list(self._places(its).values()) if its else []
+
+    def _full(self, names: Names) -> List[str]:
+        """Returns names; one that selects nothing is replaced by the one path that has a range
+        after it, as q by q[3:0]."""
+        its = [names] if isinstance(names, str) else list(names)
+        left = {name for name in its if name and name not in self.signals}
+        found: Dict[str, Set[str]] = {}
+        for path in self.signals.columns()[0] if left else ():
+            if path[-1:] == "]" and bare(path) in left:
+                found.setdefault(bare(path), set()).add(path)
+        scopes = {name for name in found if any(
+            path.startswith(name + ".") for path in self.signals.columns()[0])}
+        return [next(iter(found[name])) if name not in scopes and len(found.get(name, ())) == 1
+                else name for name in its]
 
     def _places(self, names: List[str]) -> Dict[int, Signal]:
         """Returns the signals that names select, by their places among all; all without names."""
@@ -220,8 +236,9 @@ class Dump:
         """Returns the value of one signal at the end of a time. `None` if it has no value yet, or
         is an event."""
         signal, ticks = self[name], self.ticks(time)
-        found = self._sampled([ticks], [name])[ticks]
-        return next((found[place] for place, one in self._places([name]).items()
+        its = self._full(name)
+        found = self._sampled([ticks], its)[ticks]
+        return next((found[place] for place, one in self._places(its).items()
                      if place in found and one.code == signal.code), None)
 
     def sample(self, times: Union[Time, Iterable[Time]], names: Names = ()
@@ -231,7 +248,7 @@ class Dump:
         A value is a Value for digits, a float for a real number (or its text, if that is not a
         number), and `None` if there is no value yet. Times may come in any order. Without names,
         all signals are sampled, except events, which have no value."""
-        asked, its = _ticks_of(self, times), _list(names)
+        asked, its = _ticks_of(self, times), self._full(names)
         chosen = _states(self._places(its))
         keys = dict(zip(chosen, _rows.keys_of(chosen.values())))
         found = self._sampled(asked.values(), its)
@@ -255,7 +272,7 @@ class Dump:
     def edges(self, names: Names = ()) -> Dict[str, Edges]:
         """Returns for each path how often its value changes, and how often its least significant
         bit rises and falls. For an event it counts triggers. Without names, all signals count."""
-        its = _list(names)
+        its = self._full(names)
         words = _words_for(its)
         counts = dict(zip(sorted(self._places(words)),
                           _rows.counts_of(self._answer("edges", ["--", *words]))))
@@ -303,7 +320,7 @@ class Dump:
         one clock or of two. The values of a `$dumpvars` at the beginning of a dump or a cut are
         from before its time. Raises UsageError if a path is not such a clock. With `at` there is a
         row for each of these times."""
-        its = _list(names)
+        its = self._full(names)
         if not its:
             raise UsageError("rows() needs a name")
         columns = _states(self._places(its))
@@ -370,7 +387,7 @@ class Dump:
               fall: Optional[str] = None) -> Dict[str, List[Any]]:
         """Returns the rows() as columns of numbers: "time", in ticks, and one for each path. A
         value with an x or a z is `None`. pandas.DataFrame() accepts the result."""
-        its = _list(names)
+        its = self._full(names)
         rows = list(self.rows(its, at, rise, fall))
         keys = _rows.keys_of(_states(self._places(its)).values(), ["time"])
         columns = zip(*(row.values for row in rows)) if rows else ([] for _ in keys)
@@ -413,7 +430,7 @@ class Dump:
 
     def pick(self, names: Names) -> "Dump":
         """Returns the dump of some signals, or scopes."""
-        chosen = _list(names)
+        chosen = [names] if isinstance(names, str) else list(names)
         if not chosen:
             raise UsageError("pick() needs a name")
         if _words_for(chosen) != chosen:
@@ -423,7 +440,7 @@ class Dump:
     def _part(self, names: List[str]) -> "Dump":
         """Returns a dump that has all that some names select, all without names. It has more if a
         name is not UTF-8."""
-        words = _words_for(names)
+        words = _words_for(self._full(names))
         return self.pick(words) if words else self.cut()
 
     def cut(self, begin: Time = 0, end: Time = LAST_TICK) -> "Dump":
@@ -461,10 +478,6 @@ def write(path: Union[str, "os.PathLike[str]"], blocks: Iterable[bytes]) -> None
     finally:
         if os.path.exists(part):
             os.unlink(part)
-
-
-def _list(names: Names) -> List[str]:
-    return [names] if isinstance(names, str) else list(names)
 
 
 def _words_for(names: List[str]) -> List[str]:

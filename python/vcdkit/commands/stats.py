@@ -22,10 +22,11 @@ examples:
 import argparse
 import json
 import math
+import sys
 
 from .. import _body
 from ..times import UNITS
-from . import add_file, add_form, add_window, command, dump_of, parser, shown
+from . import add_file, add_form, add_window, after_end, command, dump_of, parser, shown
 
 MAX_VALUES = 1 << 16  # of one signal; further ones count as one
 OTHERS = b"others"
@@ -229,6 +230,9 @@ def main(words):
     dump = dump_of(asked)
     found = [facts_of(signal, counted, asked.form)
              for signal, counted in statistics_of(dump, asked)]
+    is_late = after_end(dump, asked.begin)
+    if is_late:
+        print("vcdkit-stats: --from: " + is_late, file=sys.stderr)
     if asked.json:
         print(json.dumps(found, indent=1))
         return 0

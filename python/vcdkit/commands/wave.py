@@ -284,7 +284,7 @@ def lanes_of(dump, chosen, names, window, count):
         last = (dump.cut(begin, end) if is_part else dump).check().last
         if last is None or last <= begin:
             raise UsageError("the dump has nothing between these times")
-        lanes, part = Lanes(chosen, begin, last, count), dump.pick(names)
+        lanes, part = Lanes(chosen, begin, last, count), dump._part(names)
         with (part.cut(begin, end) if is_part else part).body() as out:
             lanes.read(out, progress.now)
     return lanes
@@ -331,6 +331,11 @@ def main(words):
     add_form(of)
     add_file(of, "+")
     asked = of.parse_args(words)
+    is_part = (asked.begin, asked.end) != (of.get_default("begin"), of.get_default("end"))
+    if asked.around is not None and is_part:
+        of.error("--around goes with none of --from and --to")
+    if asked.span is not None and asked.around is None:
+        of.error("--span goes with --around")
     dump = dump_of(asked)
     chosen = dump.select(asked.names)
     if len(chosen) > MAX_SIGNALS:
