@@ -6,6 +6,7 @@ of vcdkit-wave against a plain reader.
 
 VCDKIT names the program, else it is ./vcdkit of the repository.
 """
+import gzip
 import io
 import os
 import random
@@ -363,6 +364,41 @@ class Answers(Case):
         for words in (["--around=20", "--span=5", "--from=1"], ["--span=5"],
                       ["--around=20", "--span=5", "--to=30"]):
             self.assertEqual(said("vcdkit-wave", *words, file, "a"), ["status 2"])
+
+    def test_what_messages_add(self):
+        nine = self.file("nine.vcd", HAND.replace(b"b1 \"", b"bUH \""))
+        torn, whole = self.file("torn.vcd", TORN[:-5]), self.file("whole.vcd", TORN)
+        packed = self.file("x.gz", gzip.compress(HAND + os.urandom(9000).hex().encode())[:-4000])
+        for name, words, message in (
+                ("values", [nine], "add --four-state"),
+                ("table", [torn, "a"], "see: vcdkit-explain " + torn),
+                ("when", ["tb.clk", "a"], "vcdkit-when: tb.clk: No such file or directory (the "
+                 "first argument is the dump; - is standard input)"),
+                ("when", ["none.vcd", "a"], "vcdkit-when: none.vcd: No such file or directory"),
+                ("when", [whole, "(a == 1"], "vcdkit-when: bad condition: a ) is missing"),
+                ("when", [whole, "a -> b within 5 us"], "vcdkit-when: bad condition: write 5us"),
+                ("when", [whole, "a", "==", "1"],
+                 "vcdkit-when: error: put the condition into quotes"),
+                ("endmend", ["none"], "vcdkit-endmend: none: no such file"),
+                ("four-state", ["none"], "vcdkit-four-state: none: no such file"),
+                ("join-bits", ["a.vcd"], "vcdkit-join-bits: a.vcd: No such file or directory")):
+            with self.subTest(name=name, words=words):
+                self.assertEqual(run("vcdkit-" + name, words)[2].decode().splitlines()[-1], message)
+        for name in FILTERS:
+            self.assertEqual(run(name, [whole])[:2], (0, TORN))
+        self.assertIn("help:  gzip -dc %s | vcdkit-explain --salvage g -" % packed,
+                      said("vcdkit-explain", "--salvage", "g", packed))
+        for added in b"#4", b"#":
+            self.assertIn("cause: the dump is cut off", said("vcdkit-explain", self.file(
+                "late.vcd", TORN + b"#40\n" + added)))
+
+    def test_x(self):
+        file = self.file("x.vcd", TORN + b"x!\n#31\nbx #\n#32\n0!\n#33\nx!\n")
+        every = ["30ns a x", "31ns c xx", "33ns a x"]
+        self.assertEqual(said("vcdkit-x", file), [*every, "status 1"])
+        self.assertEqual(said("vcdkit-x", "--first", file), [*every[:2], "status 1"])
+        self.assertEqual(said("vcdkit-x", "--count", file), ["3", "status 1"])
+        self.assertEqual(said("vcdkit-x", "--count", file, "b"), ["0", "status 0"])
 
     def test_a_name_that_selects_nothing(self):
         dump = self.file("hand.vcd", HAND)

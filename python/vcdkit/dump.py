@@ -282,7 +282,8 @@ class Dump:
     def changes(self, name: str) -> Iterator[Tuple[int, Cell]]:
         """Returns the times, in ticks, and the values of one signal, as they come: one for each
         value that the dump writes, even if it is the same again. Each trigger of an event is a 1.
-        Raises UnknownName if the name selects nothing, and UsageError if it selects several."""
+        At a fault, those of the last time may not be all. Raises UnknownName if the name selects
+        nothing, and UsageError if it selects several."""
         signal = self[name]
         return self._changes(name, signal)
 
@@ -314,12 +315,12 @@ class Dump:
 
         Without options there is a row for each time at which one of the signals changes, with the
         values at the end of that time, and for the beginning of a cut. Values that are written
-        again, or that come and go within one time, are not changes. `rise` and `fall` are paths of
-        clocks of one bit: then there is a row for each such edge, with the values just before its
-        time, which are those that a flip-flop takes. With both there is a row for every edge, of
-        one clock or of two. The values of a `$dumpvars` at the beginning of a dump or a cut are
-        from before its time. Raises UsageError if a path is not such a clock. With `at` there is a
-        row for each of these times."""
+        again, or that come and go within one time, are not changes. A time that a fault leaves
+        unfinished has no row. `rise` and `fall` are paths of clocks of one bit: then there is a row
+        for each such edge, with the values just before its time, which are those that a flip-flop
+        takes. With both there is a row for every edge, of one clock or of two. The values of a
+        `$dumpvars` at the beginning of a dump or a cut are from before its time. Raises UsageError
+        if a path is not such a clock. With `at` there is a row for each of these times."""
         its = self._full(names)
         if not its:
             raise UsageError("rows() needs a name")

@@ -3,7 +3,8 @@
 Each line has a time, a path and a value. A value is listed if it has an x at the end of the first
 time of the window, or if it has one at the end of a later time and differs from the value before.
 So what comes and goes within one time is not seen. --z lists values with a z too. Without NAMEs all
-signals are searched. With this command, a CI job can require that nothing is unknown after reset.
+signals are searched. A --from after the end of the dump is a usage error. With this command, a CI
+job can require that nothing is unknown after reset.
 
 examples:
   vcdkit-x --from 100ns sim.vcd tb.cpu
