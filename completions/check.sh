@@ -141,7 +141,7 @@ for script in $scripts; do
 done
 export VCDKIT=$program
 same 'an option of a script' '--salvage' "$(completed extras/vcdkit-explain --sal)"
-same 'options of a script' '--help --version --z --from --to --four-state' \
+same 'options of a script' '--help --version --first --count --z --from --to --four-state' \
     "$(completed extras/vcdkit-x --)"
 same 'the file of a script' ' (default)' "$(completed extras/vcdkit-x sam)"
 same 'both files of vcdkit-diff' ' (default)' "$(completed extras/vcdkit-diff $dump '')"

@@ -118,7 +118,8 @@ same 'vcdkit-info --json' '122ns 1220 24' "$(vcdkit-info --json - < $dump | pyth
     'import json, sys; of = json.load(sys.stdin)
 print(of["last"], of["last_tick"], of["variables"])')"
 same 'vcdkit-info: a fault' 'vcdkit-info: samples/ghdl.vcd:36: unknown command
-status 1' "$(status vcdkit-info samples/ghdl.vcd | tail -n 2)"
+add --four-state
+status 1' "$(status vcdkit-info samples/ghdl.vcd | tail -n 3)"
 
 # Several signals: the rows of samples/counter.vcd and samples/nested.vcd that these tests want were
 # read off the dumps.

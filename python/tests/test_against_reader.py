@@ -1,8 +1,8 @@
 #!/usr/bin/env python3
 """Compares the package and vcdkit-x with a plain reader of VCD of its own, on COUNT (2000) random
 small dumps of a SEED (1) and a window of each: rows at changes, edges and times, table, value,
-sample, edges, changes, cut, around, and rows of a merge. VCDKIT_WAY says over what: over the
-program without it."""
+sample, edges, changes, cut, around, rows of a merge, and rows and conditions of a dump that is cut
+off. VCDKIT_WAY says over what: over the program without it."""
 import contextlib
 import io
 import multiprocessing
@@ -13,7 +13,7 @@ import sys
 sys.path.insert(0, ABOVE := os.path.dirname(os.path.dirname(os.path.abspath(__file__))))
 os.environ.setdefault("VCDKIT", ABOVE + "/../vcdkit")
 os.environ.setdefault("VCDKIT_WAY", "program")
-from vcdkit import Dump, merge
+from vcdkit import Dump, DumpFault, merge
 from vcdkit.commands import x
 
 HEADER = b"""$timescale 1ns $end $scope module t $end $var wire 1 ! c $end $var reg 3 " q $end
@@ -223,12 +223,44 @@ class Case:
         self.same("merge", at_edges(its, self.codes, [("!", "01")]), [
             (*row,) for row in one.rows(["in1." + name for name in self.names], rise="in1.t.c")])
 
+    def try_torn(self):
+        """Cuts the dump off, and compares what comes before the fault with that of the whole: no
+        answer is of a time that is not finished, and none of those before it is left out."""
+        begin = len(HEADER) + self.of.randrange(len(self.text))
+        torn = Dump((HEADER + self.text.encode())[:begin], "torn")
+        words = self.text[:begin - len(HEADER) + 1].split()
+        times = [int(one[1:]) for one in words[:-1] if one[0] == "#"]
+        last = times[-1] if times else 0
+        condition = self.of.choice(["t.c", "!t.c & t.q is x", "t.q == 3 | t.c", "t.e",
+                                    "t.c -> t.q[0] within 3tick", "!(t.c -> t.q[0] within 3tick)"])
+        clocks = self.of.choice([{}, {"rise": "t.c"}, {"rise": "t.c", "fall": "t.c"}])
+        window = self.of.choice([None, (self.begin, self.end)])
+        for what, ask in (
+                ("rows", lambda dump: dump.rows(self.names, **clocks)),
+                ("merged", lambda dump: merge(self.whole, dump).rows(["in2.t.c", "in1.t.q"])),
+                ("when", lambda dump: ((time,) for time in dump.when(condition, **clocks)))):
+            whole, part = [one.cut(*window) if window else one for one in (self.whole, torn)]
+            wanted = [(*one,) for one in ask(whole)]
+            got, has_fault = [], False
+            try:
+                for one in ask(part):
+                    got.append((*one,))
+            except DumpFault:
+                has_fault = True
+            if has_fault:  # else it is a dump, whose last time cannot be known to be torn
+                is_whole = what != "merged" and "within" not in condition and not window
+                least = sum(one[0] < last for one in wanted) if is_whole else 0
+                self.same("torn: %s of the first %d bytes, %s, %s" % (
+                    what, begin - len(HEADER), clocks, condition),
+                    (wanted[:max(len(got), least)]), got)
+
     def try_x(self):
         """Compares vcdkit-x."""
         letters = self.of.choice(["x", "xz"])
         names = self.names if self.of.random() < .7 else []
         names = [name for name in names if name.isascii()]
-        with contextlib.redirect_stdout(io.TextIOWrapper(io.BytesIO())) as out, open(
+        with contextlib.redirect_stdout(io.TextIOWrapper(io.BytesIO())) as out, \
+                contextlib.redirect_stderr(io.StringIO()), open(
                 "/proc/self/fd/%d" % memory(HEADER + self.text.encode()), "rb") as file:
             status = x.main(["--from=%d" % self.begin, "--to=%d" % self.end,
                              *(["--z"] if letters == "xz" else []),
@@ -242,6 +274,9 @@ class Case:
                         window(self.changes, self.begin, self.end), [code])
                     if set(letters) & set(value)]
         got = out.buffer.getvalue().decode("utf-8", "surrogateescape").splitlines()
+        if self.begin > max([int(one[1:]) for one in self.text.split() if one[0] == "#"] + [0]):
+            self.same("vcdkit-x after the end", (2, []), (status, got))
+            return
         self.same("vcdkit-x", (1 if wanted else 0, sorted(wanted)), (status, sorted(got)))
         times = [int(line.split("ns ")[0]) for line in got]
         self.same("vcdkit-x, its order", sorted(times), times)
@@ -259,6 +294,8 @@ def wrong(seed):
     case.try_windows()
     case.try_part()
     case.try_x()
+    if seed % 2 == 0:
+        case.try_torn()
     if seed % 4 == 0:
         case.try_some()
     return case.found

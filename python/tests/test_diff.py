@@ -373,6 +373,7 @@ ANSWERED = [("a a", "", 0), ("a b", LINES, 1), ("--all a b", LINES + "differs 1 
             ("--real-tolerance=.5 a b", "differs 1 t.q - 0001\n", 1), ("a b t.c", "", 0),
             ("--except=t.r --except=t.q a b", "", 0),
             ("--rise=t.c a b", LINES.replace("0", "1", 1), 1),
+            ("--map=t=x --map=t.c=x.d a b x.d", "", 0),
             ("--map=t=x a b x.c", "", 0), ("--map=t= a a c", "", 0),
             ("--map=u<&=t --common a other", "differs 0 t.c 0 -\ndiffers 0 t.r 1.0 -\n", 1)]
 # The errors, failures, and the messages of a JUnit file.
@@ -380,6 +381,7 @@ REPORTS = [("a a", "0", "0", []), ("a b", "0", "1", [LINES.strip()]),
            ("a fault", "1", "0", ["fault:2: bad time"]),
            ("--common a other", "1", "0", ["the dumps have no name in common: --map OLD=NEW gives "
                                            "a scope another"]),
+           ("--map=t.qq=x a b", "1", "0", ["neither dump has t.qq; there is t.q"]),
            ("a other t.q", "1", "0", ["other: t.q: selects nothing; names are the paths that "
                                       "`list` writes, and the scopes in them"]),
            ("--map=u<&=t a other", "0", "2", ["differs 0 t.c 0 -", "ends 1 -"])]
@@ -396,7 +398,8 @@ def tried():
         try:
             for line in REFUSED:
                 out, text, status = said(line.split())
-                if (text.count("\n"), text[:13]) != (1, "vcdkit-diff: ") or status not in (2, 3):
+                if (text.replace("\nsee: ", "").count("\n"), text[:13]) != (
+                        1, "vcdkit-diff: ") or status not in (2, 3):
                     yield line, "", "a line", (out, text, status)
             for line in MISUSED:
                 out, text, status = said(line.split())

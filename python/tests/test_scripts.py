@@ -6,6 +6,7 @@ of vcdkit-wave against a plain reader.
 
 VCDKIT names the program, else it is ./vcdkit of the repository.
 """
+import gzip
 import io
 import os
 import random
@@ -220,6 +221,26 @@ r3 #
 #30
 """
 
+TORN = b"""$timescale 1ns $end
+$var wire 1 ! a $end
+$var wire 1 " b $end
+$var wire 2 # c $end
+$enddefinitions $end
+#0
+0!
+1"
+#10
+1!
+0"
+#20
+0!
+1"
+#30
+1!
+b11 #
+0"
+"""
+
 
 class Answers(Case):
     """What the scripts say of a dump that was worked out by hand."""
@@ -289,6 +310,95 @@ class Answers(Case):
         dump = self.file("front.vcd", HAND[:60])
         said("vcdkit-explain", "--salvage", good, dump)
         self.assertFalse(os.path.exists(good))
+
+    def test_a_fault(self):
+        whole = TORN + b"#40\n"
+        for text, is_finished, fault in (
+                (TORN[:-5], False, "17: unexpected end of input"), (whole + b"2!\n", True, "20: "),
+                (TORN + b"#4x\n", True, "19: bad time"), (TORN + b"#4", True, "19: time goes back"),
+                (TORN + b"2!\n", False, "19: ")):
+            file = self.file("torn.vcd", text)
+            with self.subTest(text=text[-20:]):
+                last = ["30,1,0"] * is_finished
+                self.assertEqual(said("vcdkit-table", file, "a", "b"), [
+                    "time (ns),a,b", "0,0,1", "10,1,0", "20,0,1", *last, "status 1"])
+                self.assertEqual(said("vcdkit-when", "--first", file, "a & b"), ["status 2"])
+                self.assertIn(fault.encode(), run("vcdkit-when", ["--first", file, "a & b"])[2])
+                self.assertEqual(said("vcdkit-when", file, "a & !b"), [
+                    "10ns", *["30ns"] * is_finished, "status 2"])
+                self.assertEqual(said("vcdkit-when", "--first", file, "a"), ["10ns", "status 0"])
+                self.assertEqual(said("vcdkit-x", file, "b"), ["status 2"])
+                self.assertEqual(said("vcdkit-stats", file, "b"), ["status 1"])
+        self.assertEqual(said("vcdkit-when", "--first", self.file("w", whole), "a & b"),
+                         ["status 1"])
+        file = self.file("x.vcd", TORN + b"x!\nx\"\n0\"\nb1")
+        self.assertEqual(said("vcdkit-x", file), ["status 2"])
+
+    def test_a_window_after_the_end(self):
+        file = self.file("whole.vcd", TORN + b"x\"\n")
+        late = b"50ns is after the end of the dump, 30ns\n"
+        for name, words, status, message in (
+                ("x", ["--from", "50ns", file], 2, b"--from: " + late),
+                ("x", ["--from", "30ns", file, "a"], 0, b""),
+                ("when", ["--from", "50ns", file, "a"], 2, b"--from: " + late),
+                ("when", ["--from", "29ns", file, "a & !a"], 1, b""),
+                ("when", ["--from", "50ns", self.file("torn", TORN[:-5]), "a"], 2,
+                 self.folder.name.encode() + b"/torn:17: unexpected end of input\n"),
+                ("stats", ["--from", "50ns", file, "a"], 0, b"--from: " + late),
+                ("values", ["--at", "50ns", file, "a"], 0, b"--at: " + late),
+                ("values", ["--at", "30ns", file, "a"], 0, b"")):
+            with self.subTest(name=name, words=words):
+                got, _, messages = run("vcdkit-" + name, words)
+                self.assertEqual(got, status)
+                self.assertTrue(messages.startswith(
+                    b"vcdkit-%s: %s" % (name.encode(), message) if message else b""), messages)
+                self.assertEqual(bool(messages), bool(message))
+
+    def test_words_that_do_not_fit(self):
+        file = self.file("whole.vcd", TORN)
+        good = os.path.join(self.folder.name, "good.vcd")
+        status, _, messages = run("vcdkit-explain", ["--salvage", good, file])
+        self.assertEqual((status, messages), (
+            0, b"no fault: nothing written to %s\n" % good.encode()))
+        self.assertFalse(os.path.exists(good))
+        for words in (["--around=20", "--span=5", "--from=1"], ["--span=5"],
+                      ["--around=20", "--span=5", "--to=30"]):
+            self.assertEqual(said("vcdkit-wave", *words, file, "a"), ["status 2"])
+
+    def test_what_messages_add(self):
+        nine = self.file("nine.vcd", HAND.replace(b"b1 \"", b"bUH \""))
+        torn, whole = self.file("torn.vcd", TORN[:-5]), self.file("whole.vcd", TORN)
+        packed = self.file("x.gz", gzip.compress(HAND + os.urandom(9000).hex().encode())[:-4000])
+        for name, words, message in (
+                ("values", [nine], "add --four-state"),
+                ("table", [torn, "a"], "see: vcdkit-explain " + torn),
+                ("when", ["tb.clk", "a"], "vcdkit-when: tb.clk: No such file or directory (the "
+                 "first argument is the dump; - is standard input)"),
+                ("when", ["none.vcd", "a"], "vcdkit-when: none.vcd: No such file or directory"),
+                ("when", [whole, "(a == 1"], "vcdkit-when: bad condition: a ) is missing"),
+                ("when", [whole, "a -> b within 5 us"], "vcdkit-when: bad condition: write 5us"),
+                ("when", [whole, "a", "==", "1"],
+                 "vcdkit-when: error: put the condition into quotes"),
+                ("endmend", ["none"], "vcdkit-endmend: none: no such file"),
+                ("four-state", ["none"], "vcdkit-four-state: none: no such file"),
+                ("join-bits", ["a.vcd"], "vcdkit-join-bits: a.vcd: No such file or directory")):
+            with self.subTest(name=name, words=words):
+                self.assertEqual(run("vcdkit-" + name, words)[2].decode().splitlines()[-1], message)
+        for name in FILTERS:
+            self.assertEqual(run(name, [whole])[:2], (0, TORN))
+        self.assertIn("help:  gzip -dc %s | vcdkit-explain --salvage g -" % packed,
+                      said("vcdkit-explain", "--salvage", "g", packed))
+        for added in b"#4", b"#":
+            self.assertIn("cause: the dump is cut off", said("vcdkit-explain", self.file(
+                "late.vcd", TORN + b"#40\n" + added)))
+
+    def test_x(self):
+        file = self.file("x.vcd", TORN + b"x!\n#31\nbx #\n#32\n0!\n#33\nx!\n")
+        every = ["30ns a x", "31ns c xx", "33ns a x"]
+        self.assertEqual(said("vcdkit-x", file), [*every, "status 1"])
+        self.assertEqual(said("vcdkit-x", "--first", file), [*every[:2], "status 1"])
+        self.assertEqual(said("vcdkit-x", "--count", file), ["3", "status 1"])
+        self.assertEqual(said("vcdkit-x", "--count", file, "b"), ["0", "status 0"])
 
     def test_a_name_that_selects_nothing(self):
         dump = self.file("hand.vcd", HAND)

@@ -172,6 +172,20 @@ class Questions:
         self.assertRaises(UnknownName, lambda: dump["none"])
         self.assertRaises(TypeError, iter, dump)
 
+    def test_a_name_without_its_range(self):
+        dump = Dump(b"$scope module t $end $var reg 2 ! q[1:0] $end $var reg 1 \" q $end "
+                    b"$scope module u $end $var reg 2 # p[0:1] $end $var reg 2 $ r[1:0] $end "
+                    b"$var reg 2 % r[3:2] $end $upscope $end $upscope $end $enddefinitions $end\n"
+                    b"#0\nb1 !\n1\"\nb10 #\n#1\nb11 #\n")
+        self.assertEqual(dump["t.u.p"].path, "t.u.p[0:1]")
+        self.assertEqual(dump["t.q"].path, "t.q")
+        self.assertEqual(dump.value("t.u.p", 0), 2)
+        self.assertEqual(dump.sample(0, ["t.u.p", "t.q"])[0], {"t.u.p[0:1]": "10", "t.q": "1"})
+        self.assertEqual(dump.edges("t.u.p"), {"t.u.p[0:1]": (1, 1, 0)})
+        self.assertEqual([*dump.changes("t.u.p")], [(0, "10"), (1, "11")])
+        self.assertEqual(dump.table(["t.u.p"]), {"time": [0, 1], "t.u.p[0:1]": [2, 3]})
+        self.assertRaises(UnknownName, lambda: dump["t.u.r"])
+
     def test_tree(self):
         tree = Dump(NESTED).tree
         self.assertEqual([(one.path, one.type, len(one.signals)) for one in tree.walk()], [
@@ -447,7 +461,7 @@ class Questions:
                  "there is bench.slow.count"),
                 (lambda: dump.sample(0, "count"), UnknownName, "there is bench.lane[0].count"),
                 (lambda: dump.edges("BENCH.level"), UnknownName, "there is bench.level"),
-                (lambda: no_scale.edges("q"), UnknownName, "there is q[1:0]"),
+                (lambda: no_scale.pick("q").check(), UnknownName, "there is q[1:0]"),
                 (lambda: dump.changes("bench.*"), UnknownName, "regular expression"),
                 (lambda: dump.changes("nothing"), UnknownName, "`list`"),
                 (lambda: dump.changes("bench.slow"), UsageError, "selects 4 signals"),

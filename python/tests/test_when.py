@@ -369,7 +369,8 @@ def tried():
             ["--from", "-1"], ["--to", "9" * 99], ["--from", "1.5"], ["--from", "2", "--to", "1"])]
         for words in asked:
             out, text, status = said(words)
-            if (out, text.count("\n")) != ("", 1) or status not in (2, 3) or not text.startswith(
+            lines = text.replace("\nsee: ", "").count("\n")
+            if (out, lines) != ("", 1) or status not in (2, 3) or not text.startswith(
                     "vcdkit-when: "):
                 yield [word[:60] for word in words], "", "a line", (out, text[:300], status)
 

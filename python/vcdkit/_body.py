@@ -2,11 +2,15 @@
 command or a value."""
 import functools
 import re
-from typing import (Any, BinaryIO, Collection, Dict, Iterator, List, NamedTuple, Optional, Set,
-                    Tuple)
+from typing import (TYPE_CHECKING, Any, BinaryIO, Collection, Dict, Iterator, List, NamedTuple,
+                    Optional, Set, Tuple)
 
+from .errors import DumpFault
 from .times import Timescale
 from .values import Cell, Scope, Signal, Value, extension, real
+
+if TYPE_CHECKING:
+    from .dump import Dump
 
 BLOCK = 1 << 22
 BODY = b"$enddefinitions $end\n"
@@ -94,11 +98,11 @@ def change(line: bytes) -> Tuple[bytes, bytes]:
     return line[1:-1], first
 
 
-def steps(out: BinaryIO, codes: Collection[bytes], lead: Collection[bytes] = ()
+def steps(part: "Dump", codes: Collection[bytes], lead: Collection[bytes] = ()
           ) -> Iterator[Tuple[int, Changes, Changes]]:
-    """Returns of each timestamp the changes of some codes: those that are values from before it,
-    and the others. What comes before the first timestamp has time 0. No two steps that follow each
-    other have one time.
+    """Returns of each timestamp of a part of a dump the changes of some codes: those that are
+    values from before it, and the others. What comes before the first timestamp has time 0. No two
+    steps that follow each other have one time. A time that a fault leaves unfinished has no step.
 
     Values from before it are those of a `$dumpvars` with which the values of these codes begin:
     `cut` begins with the values just before its first time, and goes on with what changes at it.
@@ -107,27 +111,34 @@ def steps(out: BinaryIO, codes: Collection[bytes], lead: Collection[bytes] = ()
     before: Changes = []
     found: Changes = []
     left = set(lead)
-    for line in out:
-        first = line[:1]
-        if first == b"#":
-            now = int(line[1:])
-            if now != time:
-                if before or found:
-                    yield time, before, found
-                time, before, found = now, [], []
-        elif first == b"$":
-            is_begin = not has_begun and line == b"$dumpvars\n"
-        else:
-            one = change(line)
-            if one[0] in codes:
-                has_begun = True
-                if is_begin or one[0] in left:
-                    before.append(one)
-                    left.discard(one[0])
+    fault: Optional[DumpFault] = None
+    try:
+        with part.body() as out:
+            for line in out:
+                first = line[:1]
+                if first == b"#":
+                    now = int(line[1:])
+                    if now != time:
+                        if before or found:
+                            yield time, before, found
+                        time, before, found = now, [], []
+                elif first == b"$":
+                    is_begin = not has_begun and line == b"$dumpvars\n"
                 else:
-                    found.append(one)
-    if before or found:
+                    one = change(line)
+                    if one[0] in codes:
+                        has_begun = True
+                        if is_begin or one[0] in left:
+                            before.append(one)
+                            left.discard(one[0])
+                        else:
+                            found.append(one)
+    except DumpFault as error:
+        fault = error
+    if (before or found) and (fault is None or part.is_finished(time, fault)):
         yield time, before, found
+    if fault:
+        raise fault
 
 
 def lead_of(out: BinaryIO, codes: Collection[bytes]) -> Set[bytes]:
@@ -148,13 +159,13 @@ def lead_of(out: BinaryIO, codes: Collection[bytes]) -> Set[bytes]:
     return found
 
 
-def edge_steps(out: BinaryIO, codes: Collection[bytes], edges: Collection[Edge],
+def edge_steps(part: "Dump", codes: Collection[bytes], edges: Collection[Edge],
                lead: Collection[bytes] = ()
                ) -> Iterator[Tuple[int, Changes, Changes, bool]]:
     """Returns the steps of some codes, those of the edges among them, and of each whether one of
     the edges is in it."""
     last = {code: b"" for code, _, _ in edges}
-    for time, before, found in steps(out, codes, lead):
+    for time, before, found in steps(part, codes, lead):
         is_edge = False
         for code, digit in before + found:
             if code in last:

@@ -4,8 +4,8 @@ A value is as a body has it: the fewest digits, or r and a real number. So equal
 have equal digits."""
 import contextlib
 from math import gcd, isclose, isnan
-from typing import (BinaryIO, Callable, Dict, Iterator, List, NamedTuple, Optional, Sequence,
-                    Set, Tuple, Union)
+from typing import (Callable, Dict, Generator, Iterable, Iterator, List, NamedTuple, Optional,
+                    Sequence, Set, Tuple, Union)
 
 from . import _body, _rows
 from ._condition import bare
@@ -62,6 +62,11 @@ def _around(path: str) -> Iterator[str]:
         path = path.rpartition(".")[0]
 
 
+def hint_among(name: str, paths: Iterable[str]) -> str:
+    """Returns what to write instead of a name that is none of some paths."""
+    return _hint(name, _rows.Signals("".join("%s - 1 -\n" % one for one in paths)))
+
+
 class Side:
     """One of the dumps. Its names are the paths, of which maps replace the front; `found` has what
     of all that was asked for is in it."""
@@ -77,7 +82,7 @@ class Side:
 
     def _mapped(self, path: str, maps: Sequence[Tuple[str, str]]) -> str:
         for front, new in maps:
-            if path == front or path.startswith(front + "."):
+            if front in (path, bare(path)) or path.startswith(front + "."):
                 self.found.add(front)
                 return new + path[len(front):] if new else path[len(front) + 1:]
         return path
@@ -93,8 +98,7 @@ class Side:
 
     def unknown(self, name: str) -> UnknownName:
         """Returns the exception for a name that is not there."""
-        rows = "".join("%s - 1 -\n" % one for one in self.names)
-        return UnknownName("%s: %s" % (self.dump.name, name), _hint(name, _rows.Signals(rows)))
+        return UnknownName("%s: %s" % (self.dump.name, name), hint_among(name, self.names))
 
     def clock(self, name: str) -> Signal:
         """Returns the signal of one bit that has a name."""
@@ -196,9 +200,7 @@ def _count_alike(one: bytes, other: bytes) -> int:
 def _alike_until(dumps: Sequence[Dump]) -> Optional[int]:
     """Returns the last timestamp before the bodies of two dumps differ; None if they do not."""
     time, tail = 0, b"\n"
-    with dumps[0].open() as one, dumps[1].open() as other:
-        _body.skip_header(one)
-        _body.skip_header(other)
+    with dumps[0].body() as one, dumps[1].body() as other:
         while True:
             mine, its = one.read(BLOCK), other.read(BLOCK)
             is_alike = mine == its
@@ -237,18 +239,18 @@ def _of_one_code(sides: Sides, pairs: Sequence[Pair]) -> Optional[List[Dump]]:
 
 # Bodies that are not alike.
 
-def _steps(out: BinaryIO, codes: Set[bytes], factor: int) -> Iterator[Step]:
+def _steps(part: Dump, codes: Set[bytes], factor: int) -> Generator[Step, None, None]:
     """Returns the changes of each time."""
-    for time, before, changes in _body.steps(out, codes):
+    for time, before, changes in _body.steps(part, codes):
         yield Step(time * factor, time, dict(before + changes))
 
 
-def _edges(out: BinaryIO, codes: Set[bytes], clock: bytes, edge: Tuple[bytes, bytes]
-           ) -> Iterator[Step]:
+def _edges(part: Dump, codes: Set[bytes], clock: bytes, edge: Tuple[bytes, bytes]
+           ) -> Generator[Step, None, None]:
     """Returns the changes from one edge of a clock to the time before the next."""
     number = 0
     changed: Dict[bytes, bytes] = {}
-    for time, before, changes, is_edge in _body.edge_steps(out, {clock, *codes}, [(clock, *edge)]):
+    for time, before, changes, is_edge in _body.edge_steps(part, {clock, *codes}, [(clock, *edge)]):
         changed.update(before)
         if is_edge:
             yield Step(number, time, changed)
@@ -292,22 +294,21 @@ class Comparison:
             begin = _alike_until(alike) if alike else 0
         if begin is not None:
             with contextlib.ExitStack() as stack:
-                yield from self._compared([self._opened(stack, at, begin) for at in (0, 1)])
+                yield from self._compared([stack.enter_context(contextlib.closing(
+                    self._steps_of(at, begin))) for at in (0, 1)])
 
-    def _opened(self, stack: contextlib.ExitStack, at: int, begin: int) -> Iterator[Step]:
-        """Opens one side, and returns its steps."""
+    def _steps_of(self, at: int, begin: int) -> Generator[Step, None, None]:
+        """Returns the steps of one side."""
         side, factor, clock = self._sides[at], self.factors[at], None
         paths = [pair.signals[at].path for pair in self._pairs]
         if self._clocks:
             clock = self._clocks[at]
             paths.append(clock.path)
         part = side.picked(paths) or side.dump
-        out = stack.enter_context(
-            (part.cut() if clock else part.cut(begin, self._end() // factor)).open())
-        _body.skip_header(out)
         codes = set(self._tables[at])
-        return (_edges(out, codes, clock.code.encode(), self._edge) if clock
-                else _steps(out, codes, factor))
+        if clock:
+            return _edges(part.cut(), codes, clock.code.encode(), self._edge)
+        return _steps(part.cut(begin, self._end() // factor), codes, factor)
 
     def _end(self) -> int:
         """Returns the last time that both have, in ticks of both."""

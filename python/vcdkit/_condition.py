@@ -133,6 +133,7 @@ class _Text:
         self.words: List[Word] = []
         self.source = ""
         self._ends: List[Tuple[int, str]] = []  # of each token, in the source
+        self._split = re.search(r"\bwithin\s+(\d+)\s+(s|ms|us|ns|ps|fs|tick)\b", text)
         at, last, depth = 0, "", 0
         for token in TOKEN.finditer(text):
             self._check_gap(text[at:token.start()])
@@ -149,6 +150,7 @@ class _Text:
             last = token.group()
             self._ends.append((len(self.source) - 1, last))
         self._check_gap(text[at:])
+        self._is_open = depth > 0
 
     @staticmethod
     def _check_gap(text: str) -> None:
@@ -165,6 +167,10 @@ class _Text:
         try:
             return ast.parse(self.source.strip() or "(", mode="eval").body
         except SyntaxError as error:
+            if self._split:
+                raise _bad("write %s%s" % self._split.groups()) from None
+            if self._is_open:
+                raise _bad("a ) is missing") from None
             is_at_end = not error.offset or error.msg.startswith("unexpected EOF")
             rest = [token for end, token in self._ends if end >= (error.offset or 0)]
             raise _bad("it ends too early" if is_at_end or not rest

@@ -1,11 +1,14 @@
 """Rows: those that vcdkit writes, and those of a table, from the text of a body (_body.steps)."""
 import gc
 import itertools
-from typing import (Any, BinaryIO, Collection, Dict, FrozenSet, Iterable, Iterator, List, Optional,
-                    Sequence, Set, Tuple, Type, TypeVar, Union, overload)
+from typing import (TYPE_CHECKING, Any, Collection, Dict, FrozenSet, Iterable, Iterator, List,
+                    Optional, Sequence, Set, Tuple, Type, TypeVar, Union, overload)
 
 from . import _body
 from .values import Cell, Edges, Row, Signal
+
+if TYPE_CHECKING:
+    from .dump import Dump
 
 Tuples = TypeVar("Tuples", bound=Tuple[Any, ...])
 
@@ -133,22 +136,22 @@ def _is_same(now: float, was: Cell) -> bool:
     return isinstance(was, float) and (now == was or now != now and was != was)
 
 
-def at_changes(text: BinaryIO, columns: Sequence[Signal]) -> Iterator[Row]:
+def at_changes(part: "Dump", columns: Sequence[Signal]) -> Iterator[Row]:
     """Returns a row for each time at whose end a value is another one than before it, with the
     values at its end."""
     values = _Values(columns)
-    for time, before, changes in _body.steps(text, values.signals):
+    for time, before, changes in _body.steps(part, values.signals):
         if values.take(before + changes):
             yield Row(time, values.row())
 
 
-def at_edges(text: BinaryIO, columns: Sequence[Signal], edges: Collection[_body.Edge],
+def at_edges(part: "Dump", columns: Sequence[Signal], edges: Collection[_body.Edge],
              lead: Collection[bytes]) -> Iterator[Row]:
     """Returns a row for each time at which one of some edges is, with the values just before that
     time. `lead` is that of _body.steps."""
     values = _Values(columns)
     codes = {*values.signals, *(code for code, _, _ in edges)}
-    for time, before, changes, is_edge in _body.edge_steps(text, codes, edges, lead):
+    for time, before, changes, is_edge in _body.edge_steps(part, codes, edges, lead):
         values.take(before)
         if is_edge:
             yield Row(time, values.row())

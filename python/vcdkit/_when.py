@@ -1,6 +1,6 @@
 """The times at which a condition holds."""
 import collections
-from typing import TYPE_CHECKING, BinaryIO, Collection, Deque, Iterator, List, Optional, Tuple
+from typing import TYPE_CHECKING, Collection, Deque, Iterator, List, Optional, Tuple
 
 from . import _body
 from ._condition import Condition, Span
@@ -37,31 +37,29 @@ def _ticks_of(span: Optional[Span], dump: "Dump", has_clock: bool) -> int:
 def _times(dump: "Dump", condition: Condition, ticks: int, clocks: List[str],
            edges: Collection[_body.Edge], every: bool) -> Iterator[int]:
     lead = dump._lead({*condition.codes, *(code for code, _, _ in edges)} if edges else ())
-    with dump._part([*condition.paths, *clocks]).open() as out:
-        _body.skip_header(out)
-        looks = (_at_edges(out, condition, edges, lead) if edges
-                 else _at_changes(out, condition))
-        if condition.answer is None:
-            yield from _begins(looks, condition, bool(edges), every)
-        else:
-            yield from _answered(looks, condition, ticks, dump, bool(edges), every)
+    part = dump._part([*condition.paths, *clocks])
+    looks = _at_edges(part, condition, edges, lead) if edges else _at_changes(part, condition)
+    if condition.answer is None:
+        yield from _begins(looks, condition, bool(edges), every)
+    else:
+        yield from _answered(looks, condition, ticks, dump, bool(edges), every)
 
 
-def _at_changes(out: BinaryIO, condition: Condition) -> Iterator[int]:
+def _at_changes(part: "Dump", condition: Condition) -> Iterator[int]:
     """Returns each time at which a signal of a condition changes; the condition has the values at
     its end."""
-    for time, before, changes in _body.steps(out, condition.codes):
+    for time, before, changes in _body.steps(part, condition.codes):
         condition.take(before)
         condition.take(changes)
         yield time
 
 
-def _at_edges(out: BinaryIO, condition: Condition, edges: Collection[_body.Edge],
+def _at_edges(part: "Dump", condition: Condition, edges: Collection[_body.Edge],
               lead: Collection[bytes]) -> Iterator[int]:
     """Returns each time that has one of the edges; the condition has the values just before that
     time, and the events since the last one. `lead` is that of _body.steps."""
     codes = {*condition.codes, *(code for code, _, _ in edges)}
-    for time, before, changes, is_edge in _body.edge_steps(out, codes, edges, lead):
+    for time, before, changes, is_edge in _body.edge_steps(part, codes, edges, lead):
         condition.take(before)
         if is_edge:
             yield time

@@ -9,8 +9,10 @@ from typing import (Any, BinaryIO, Collection, ContextManager, Dict, Iterable, I
 
 from . import _body, _library, _program, _rows, _when
 from ._body import Header
+from ._condition import bare
 from ._texts import Bytes, File, Made, Text
-from .errors import NoTimescale, RunFailed, UnknownName, UsageError, VcdkitError
+from .errors import (AT_A_TIMESTAMP, DumpFault, NoTimescale, RunFailed, UnknownName, UsageError,
+                     VcdkitError)
 from .times import LAST_TICK, Time, Timescale, word
 from .values import Cell, Edges, Report, Row, Scope, Signal, Value, value_of
 
@@ -42,7 +44,8 @@ class Dump:
     UnknownName, NoTimescale, UsageError or RunFailed, which are all VcdkitErrors.
 
     A time is a number of ticks, or a text with a unit, such as "115ns" or "1.5us". A name is a path
-    of `signals`, or a scope, which stands for everything in it. Dictionaries have paths as keys. If
+    of `signals`, or a scope, which stands for everything in it. Except for pick(), "q" stands for
+    "q[3:0]" if there is no other such path. Dictionaries have paths as keys. If
     variables with different values have the same path, a blank and the code follow the path."""
 
     def __init__(self, source: Union[str, "os.PathLike[str]", bytes], name: Optional[str] = None,
@@ -83,6 +86,13 @@ class Dump:
     def open(self) -> Iterator[BinaryIO]:
         """Opens the text of the dump, to be read as a binary file."""
         with _opened(self._text) as file:
+            yield file
+
+    @contextlib.contextmanager
+    def body(self) -> Iterator[BinaryIO]:
+        """Opens the text of the dump, behind the header."""
+        with self.open() as file:
+            _body.skip_header(file)
             yield file
 
     def read(self) -> bytes:
@@ -138,8 +148,22 @@ class Dump:
     def select(self, names: Names) -> List[Signal]:
         """Returns the signals that names select, each once, in the order of the names. UnknownName
         if one selects nothing."""
-        its = _list(names)
+        its = self._full(names)
         return list(self._places(its).values()) if its else []
+
+    def _full(self, names: Names) -> List[str]:
+        """Returns names; one that selects nothing is replaced by the one path that has a range
+        after it, as q by q[3:0]."""
+        its = [names] if isinstance(names, str) else list(names)
+        left = {name for name in its if name and name not in self.signals}
+        found: Dict[str, Set[str]] = {}
+        for path in self.signals.columns()[0] if left else ():
+            if path[-1:] == "]" and bare(path) in left:
+                found.setdefault(bare(path), set()).add(path)
+        scopes = {name for name in found if any(
+            path.startswith(name + ".") for path in self.signals.columns()[0])}
+        return [next(iter(found[name])) if name not in scopes and len(found.get(name, ())) == 1
+                else name for name in its]
 
     def _places(self, names: List[str]) -> Dict[int, Signal]:
         """Returns the signals that names select, by their places among all; all without names."""
@@ -212,8 +236,9 @@ class Dump:
         """Returns the value of one signal at the end of a time. `None` if it has no value yet, or
         is an event."""
         signal, ticks = self[name], self.ticks(time)
-        found = self._sampled([ticks], [name])[ticks]
-        return next((found[place] for place, one in self._places([name]).items()
+        its = self._full(name)
+        found = self._sampled([ticks], its)[ticks]
+        return next((found[place] for place, one in self._places(its).items()
                      if place in found and one.code == signal.code), None)
 
     def sample(self, times: Union[Time, Iterable[Time]], names: Names = ()
@@ -223,7 +248,7 @@ class Dump:
         A value is a Value for digits, a float for a real number (or its text, if that is not a
         number), and `None` if there is no value yet. Times may come in any order. Without names,
         all signals are sampled, except events, which have no value."""
-        asked, its = _ticks_of(self, times), _list(names)
+        asked, its = _ticks_of(self, times), self._full(names)
         chosen = _states(self._places(its))
         keys = dict(zip(chosen, _rows.keys_of(chosen.values())))
         found = self._sampled(asked.values(), its)
@@ -247,7 +272,7 @@ class Dump:
     def edges(self, names: Names = ()) -> Dict[str, Edges]:
         """Returns for each path how often its value changes, and how often its least significant
         bit rises and falls. For an event it counts triggers. Without names, all signals count."""
-        its = _list(names)
+        its = self._full(names)
         words = _words_for(its)
         counts = dict(zip(sorted(self._places(words)),
                           _rows.counts_of(self._answer("edges", ["--", *words]))))
@@ -257,13 +282,13 @@ class Dump:
     def changes(self, name: str) -> Iterator[Tuple[int, Cell]]:
         """Returns the times, in ticks, and the values of one signal, as they come: one for each
         value that the dump writes, even if it is the same again. Each trigger of an event is a 1.
-        Raises UnknownName if the name selects nothing, and UsageError if it selects several."""
+        At a fault, those of the last time may not be all. Raises UnknownName if the name selects
+        nothing, and UsageError if it selects several."""
         signal = self[name]
         return self._changes(name, signal)
 
     def _changes(self, name: str, signal: Signal) -> Iterator[Tuple[int, Cell]]:
-        with self._part([name]).open() as out:
-            _body.skip_header(out)
+        with self._part([name]).body() as out:
             yield from _body.changes(out, signal)
 
     def arrays(self, name: str) -> Tuple[Any, Any]:
@@ -280,8 +305,7 @@ class Dump:
             found = _library.changes(self._text, signal.code.encode())
             if found is not None:
                 return _columns(found, numpy)
-        with self._part([name]).open() as out:
-            _body.skip_header(out)
+        with self._part([name]).body() as out:
             return _body.arrays(out, signal, _words_for([name]) == [name], numpy)
 
     def rows(self, names: Names, at: Optional[Iterable[Time]] = None, rise: Optional[str] = None,
@@ -291,13 +315,13 @@ class Dump:
 
         Without options there is a row for each time at which one of the signals changes, with the
         values at the end of that time, and for the beginning of a cut. Values that are written
-        again, or that come and go within one time, are not changes. `rise` and `fall` are paths of
-        clocks of one bit: then there is a row for each such edge, with the values just before its
-        time, which are those that a flip-flop takes. With both there is a row for every edge, of
-        one clock or of two. The values of a `$dumpvars` at the beginning of a dump or a cut are
-        from before its time. Raises UsageError if a path is not such a clock. With `at` there is a
-        row for each of these times."""
-        its = _list(names)
+        again, or that come and go within one time, are not changes. A time that a fault leaves
+        unfinished has no row. `rise` and `fall` are paths of clocks of one bit: then there is a row
+        for each such edge, with the values just before its time, which are those that a flip-flop
+        takes. With both there is a row for every edge, of one clock or of two. The values of a
+        `$dumpvars` at the beginning of a dump or a cut are from before its time. Raises UsageError
+        if a path is not such a clock. With `at` there is a row for each of these times."""
+        its = self._full(names)
         if not its:
             raise UsageError("rows() needs a name")
         columns = _states(self._places(its))
@@ -319,12 +343,11 @@ class Dump:
               ) -> Iterator[Row]:
         lead = self._lead({*(code for code, _, _ in edges), *(one.code.encode() for one in columns)}
                           if edges else ())
-        with self._part(names).open() as out:
-            _body.skip_header(out)
-            if edges:
-                yield from _rows.at_edges(out, columns, edges, lead)
-            else:
-                yield from _rows.at_changes(out, columns)
+        part = self._part(names)
+        if edges:
+            yield from _rows.at_edges(part, columns, edges, lead)
+        else:
+            yield from _rows.at_changes(part, columns)
 
     def _lead(self, codes: Collection[bytes]) -> Set[bytes]:
         """Returns those of some codes of a merge whose values begin with a `$dumpvars`, as a merge
@@ -341,8 +364,7 @@ class Dump:
                    if new.encode() in codes}
             paths = [one.path for one in dump.signals if one.code.encode() in its]
             if paths:
-                with dump._part(paths).open() as out:
-                    _body.skip_header(out)
+                with dump._part(paths).body() as out:
                     found |= {its[code] for code in _body.lead_of(out, its)}
                 found |= {its[code] for code in dump._lead(its)}
         return found
@@ -366,7 +388,7 @@ class Dump:
               fall: Optional[str] = None) -> Dict[str, List[Any]]:
         """Returns the rows() as columns of numbers: "time", in ticks, and one for each path. A
         value with an x or a z is `None`. pandas.DataFrame() accepts the result."""
-        its = _list(names)
+        its = self._full(names)
         rows = list(self.rows(its, at, rise, fall))
         keys = _rows.keys_of(_states(self._places(its)).values(), ["time"])
         columns = zip(*(row.values for row in rows)) if rows else ([] for _ in keys)
@@ -385,11 +407,31 @@ class Dump:
         UnknownName if a name of it selects nothing."""
         return _when.when(self, condition, rise, fall, every)
 
+    # Faults.
+
+    def is_finished(self, time: int, fault: DumpFault) -> bool:
+        """Whether a time that comes before a fault has all its changes: a later timestamp comes
+        before the fault too, or the fault is in its place."""
+        text = self._text
+        while isinstance(text, Made) and text.command in ("pick", "cut"):  # they leave times out
+            text = text.of[0]
+        # One of the dumps of a merge has the fault; the others may change at that time.
+        return (not isinstance(text, Made) and fault.fault in AT_A_TIMESTAMP
+                or _dump_of(text, self._options).goes_beyond(time))
+
+    def goes_beyond(self, time: int) -> bool:
+        """Whether there is no fault before the first timestamp after a time."""
+        try:  # `cut` ends there
+            self.cut(time, time).read()
+        except VcdkitError:
+            return False
+        return True
+
     # Dumps of it.
 
     def pick(self, names: Names) -> "Dump":
         """Returns the dump of some signals, or scopes."""
-        chosen = _list(names)
+        chosen = [names] if isinstance(names, str) else list(names)
         if not chosen:
             raise UsageError("pick() needs a name")
         if _words_for(chosen) != chosen:
@@ -399,7 +441,7 @@ class Dump:
     def _part(self, names: List[str]) -> "Dump":
         """Returns a dump that has all that some names select, all without names. It has more if a
         name is not UTF-8."""
-        words = _words_for(names)
+        words = _words_for(self._full(names))
         return self.pick(words) if words else self.cut()
 
     def cut(self, begin: Time = 0, end: Time = LAST_TICK) -> "Dump":
@@ -437,10 +479,6 @@ def write(path: Union[str, "os.PathLike[str]"], blocks: Iterable[bytes]) -> None
     finally:
         if os.path.exists(part):
             os.unlink(part)
-
-
-def _list(names: Names) -> List[str]:
-    return [names] if isinstance(names, str) else list(names)
 
 
 def _words_for(names: List[str]) -> List[str]:

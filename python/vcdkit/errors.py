@@ -9,6 +9,10 @@ class VcdkitError(Exception):
     status = 3
 
 
+# Faults at a timestamp: all values of the one before it are there.
+AT_A_TIMESTAMP = ("bad time", "time goes back", "time inside a section")
+
+
 class DumpFault(VcdkitError, ValueError):
     """The first fault of a dump: its file, its line (from 1) and its name: `unknown command`, .."""
 

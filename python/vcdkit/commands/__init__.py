@@ -3,11 +3,13 @@ import argparse
 import functools
 import io
 import os
+import re
+import shlex
 import sys
 from typing import Callable, List, Optional, TextIO
 
 from .. import Dump, Value, __version__, _program
-from ..errors import RunFailed, VcdkitError
+from ..errors import DumpFault, RunFailed, VcdkitError
 from ..times import UNITS
 
 STATUSES = """
@@ -88,6 +90,17 @@ def add_window(to: argparse.ArgumentParser) -> None:
                     help="the last time (the dump's end)")
 
 
+def after_end(dump: Dump, time: str) -> str:
+    """Returns what to say of a time that is after the last timestamp of a dump; of another one an
+    empty text. It reads up to that time, and raises a fault that comes before it."""
+    ticks = dump.ticks(time)
+    if not ticks or dump.cut(ticks - 1, ticks).check().last == ticks:
+        return ""
+    last = dump.check().last
+    return "%s is after the end of the dump%s" % (
+        time, "" if last is None else ", " + dump.time(last))
+
+
 def add_form(to: argparse.ArgumentParser) -> None:
     """Adds --hex and the other forms of a value, of which one may be taken."""
     of = to.add_mutually_exclusive_group()
@@ -151,7 +164,8 @@ def command(function: Callable[[List[str]], int]) -> Callable[[Optional[List[str
             finally:
                 sys.stdout.flush()
         except VcdkitError as error:
-            return _said(name, str(error), error.status)
+            asked = sys.argv[1:] if words is None else words
+            return _said(name, str(error) + _remedy(error, asked), error.status)
         except BrokenPipeError:
             _drop(sys.stdout)
             return BROKEN_PIPE
@@ -164,6 +178,23 @@ def command(function: Callable[[List[str]], int]) -> Callable[[Optional[List[str
             return _said(name, "write failed", RunFailed.status)
 
     return main
+
+
+def _remedy(error: VcdkitError, words: List[str]) -> str:
+    """Returns what to add to a message: of a fault what helps, and of a name in place of a file
+    what the first argument is."""
+    if isinstance(error, RunFailed):
+        is_name = re.match(r"(?!.*\.(vcd|gz|xz|bz2|zst|fst):)[^/ ]+: No such file", str(error))
+        return " (the first argument is the dump; - is standard input)" if is_name else ""
+    if not isinstance(error, DumpFault):
+        return ""
+    from .explain import NINE, STRING, look_at  # only a message needs it
+    if error.file == "(stdin)":
+        return "\nsee: .. | vcdkit-explain -"
+    if "--four-state" not in words and os.path.isfile(error.file):
+        if look_at(Dump(error.file), error)[1] in (NINE, STRING):
+            return "\nadd --four-state"
+    return "\nsee: vcdkit-explain " + shlex.quote(error.file)
 
 
 def _write_bytes(stream: TextIO) -> None:

@@ -32,7 +32,8 @@ from concurrent.futures import ThreadPoolExecutor
 from typing import Dict, Iterable, Iterator, List, Optional, Sequence, Tuple
 
 from .. import RunFailed, UsageError, VcdkitError, _body
-from .._compare import (Comparison, Difference, Pair, Side, Sides, in_common, kind, same_within)
+from .._compare import (Comparison, Difference, Pair, Side, Sides, hint_among, in_common, kind,
+                        same_within)
 from .._condition import bare
 from ..times import word
 from ..values import Signal
@@ -116,9 +117,13 @@ def sides_of(asked: argparse.Namespace) -> Sides:
         for name in asked.names:
             if bare(name) not in side.found:
                 raise side.unknown(name)
-    for name in [*(front for front, _ in asked.maps), *map(bare, asked.exceptions)]:
+    mapped = [front for front, _ in asked.maps]
+    for name in [*mapped, *map(bare, asked.exceptions)]:
         if name not in one.found | other.found:
-            raise one.unknown(name)
+            paths = [path for side in (one, other) for path in (
+                [its.path for its in side.signals] if name in mapped else side.names)]
+            raise UsageError("neither dump has %s%s" % (
+                name, hint_among(name, dict.fromkeys(paths))))
     return one, other
 
 
@@ -213,8 +218,8 @@ def words_of(words: List[str]) -> argparse.Namespace:
     """Reads the command line."""
     of = parser("vcdkit-diff", __doc__, "no difference", "a difference", "usage error, " + FAULT)
     of.add_argument("--map", dest="maps", metavar="OLD=NEW", type=map_of, action="append",
-                    default=[], help="treat the scope OLD of either dump as NEW; OLD= removes it "
-                    "from paths")
+                    default=[], help="treat the scope or signal OLD of either dump as NEW; OLD= "
+                    "removes it from paths; the longest OLD that fits is taken")
     of.add_argument("--common", action="store_true", help="compare only what both have: no lines "
                     "timescale, alone, ends and edges")
     of.add_argument("--except", dest="exceptions", metavar="NAME", action="append", default=[],
@@ -238,6 +243,7 @@ def words_of(words: List[str]) -> argparse.Namespace:
     of.add_argument("other", metavar="B", help="the second dump")
     add_names(of, "*")
     asked = of.parse_args(words)
+    asked.maps.sort(key=lambda pair: -len(pair[0]))
     if asked.into is not None and not asked.window:
         of.error("--into is for the files of --window")
     if asked.window is not None:

@@ -22,14 +22,12 @@ import re
 import shlex
 import sys
 
-from .. import DumpFault, UnknownName, VcdkitError, _body
+from .. import DumpFault, RunFailed, UnknownName, _body
 from ..dump import write
 from . import add_file, command, dump_of, parser
 
 WIDTH = 100
 FRONT = 1 << 16  # how much before a fault is looked at
-# Faults at a timestamp: all values of the one before it are there.
-IN_A_TIMESTAMP = ("bad time", "time goes back", "time inside a section")
 NINE = ("a nine-state value of VHDL",
         "vcdkit-four-state < FILE | vcdkit check    (or run ghdl again with --vcd-4states)")
 STRING = ("a string, which four-state VCD does not have",
@@ -37,6 +35,7 @@ STRING = ("a string, which four-state VCD does not have",
 PORTS = ("extended VCD, of $dumpports",
          "evcd2vcd FILE | vcdkit check    (of GTKWave; or take $dumpvars in its place)")
 CUT_OFF = "vcdkit-explain --salvage LEFT.vcd FILE    (what is before the fault)"
+TORN = "the dump is cut off", "run again, or " + CUT_OFF
 NO_HEADER = "run again, or mend the header by hand: without a whole header no value can be read"
 PRODUCER = "let the producer write it anew, or mend the line by hand"
 SECTION = ("a section ($dumpvars, $dumpall, $dumpoff, $dumpon) whose $end is missing",
@@ -101,15 +100,16 @@ CAUSES = [
      "a number that is not 1, 10 or 100, or a unit that is none of s, ms, us, ns, ps, fs",
      "mend the line, by sed for one"),
     ("time inside a section", rb"", rb"", *SECTION),
+    ("bad time", rb"[^\n]\Z", rb"", *TORN),
+    ("time goes back", rb"[^\n]\Z", rb"", *TORN),
     ("bad time", rb"#-", rb"", "a negative time",
      "sed '/^#-/d' < FILE | vcdkit check    (what it had comes before the first timestamp)"),
     ("bad time", rb"#\d+\.", rb"", "a time with a fraction",
      "take a finer time scale in the simulation"),
-    ("time goes back", rb"", rb"",
-     "lines in another order; in the last line a dump that is cut off", CUT_OFF),
+    ("time goes back", rb"", rb"", "lines in another order", CUT_OFF),
     ("unexpected end of input", rb"", rb"\A\s*\Z", "there is no dump: nothing was "
      "written to the pipe, or the simulation never came to $dumpvars", "look at its messages"),
-    ("unexpected end of input", rb"", rb"", "the dump is cut off", "run again, or " + CUT_OFF),
+    ("unexpected end of input", rb"", rb"", *TORN),
     ("unknown code", rb"", rb"", "header and body do not belong together, or the line is damaged",
      PRODUCER),
     ("value too wide", rb"", rb"", "more digits than the variable has bits", PRODUCER),
@@ -130,7 +130,7 @@ def cause_of(fault, front, before, bad):
     if re.search(rb"[\x00-\x06\x0e-\x1a\x7f-\xff]", bad):
         return "bytes that are no text: the file is damaged here", CUT_OFF
     if not bad.endswith(b"\n"):  # the last line of the file
-        return "the dump is cut off", "run again, or " + CUT_OFF
+        return TORN
     return None
 
 
@@ -165,21 +165,27 @@ def with_file(remedy, name, unpacker):
     return remedy.replace("FILE", file)
 
 
-def explain(dump, fault, unpacker):
-    """Shows the lines around a fault, its cause and what helps; returns what is before its
-    line."""
+def look_at(dump, fault, say=lambda line: None):
+    """Returns what is before the line of a fault, and the cause as of cause_of. `say` gets the
+    lines around it."""
     before, bad, front = b"", b"", b""
     with dump.open() as text:
         for number, line in enumerate(itertools.islice(text, fault.line + 1), 1):
             if number >= fault.line - 2:
-                print("%s %6d | %s" % (">" if number == fault.line else " ", number,
-                                       printable(line)))
+                say("%s %6d | %s" % (">" if number == fault.line else " ", number,
+                                     printable(line)))
             if len(front) < FRONT:
                 front += line[:FRONT]
             if number < fault.line:
                 before = (before + line)[-FRONT:]
             bad = line if number == fault.line else bad
-    found = cause_of(fault.fault, front, before, bad)
+    return before, cause_of(fault.fault, front, before, bad)
+
+
+def explain(dump, fault, unpacker):
+    """Shows the lines around a fault, its cause and what helps; returns what is before its
+    line."""
+    before, found = look_at(dump, fault, print)
     if found:
         cause, remedy = found
         if remedy.endswith(CUT_OFF) and not has_header(dump):
@@ -222,11 +228,8 @@ class Good:
         time = int(found[-1]) if found else 0
         if time <= (self.last or 0):
             return None
-        try:
-            self.dump.cut(time - 1, time - 1).read()  # it ends there, and sees no fault
-        except VcdkitError:  # what was found is in a comment
-            return None
-        return time
+        # If not, what was found is in a comment.
+        return time if self.dump.goes_beyond(time - 1) else None
 
 
 def salvage(dump, fault, before, path):
@@ -236,7 +239,7 @@ def salvage(dump, fault, before, path):
         return
     good = Good(dump, before)
     write(path, good)
-    last = -1 if good.last is None else good.last - (fault.fault not in IN_A_TIMESTAMP)
+    last = -1 if good.last is None else good.last - (not dump.is_finished(good.last, fault))
     print("wrote: %s, %s" % (path, "good until " + dump.time(last) if last >= 0 else
                              "but it has all values of no time"))
 
@@ -261,12 +264,19 @@ def main(words):
         print("vcdkit: " + what, file=sys.stderr, flush=True)
         print("cause: no variable and no scope has this path\nhelp:  " + near)
         return error.status
+    except RunFailed:
+        if unpacker and asked.salvage is not None:  # the packed file is cut off
+            print("help:  " + with_file("vcdkit-explain --salvage %s - < FILE" % shlex.quote(
+                asked.salvage), dump.name, unpacker), flush=True)
+        raise
     except DumpFault as fault:
         print("vcdkit: %s" % fault, file=sys.stderr, flush=True)
         before = explain(dump, fault, unpacker)
         if asked.salvage is not None:
             salvage(dump, fault, before, asked.salvage)
         return fault.status
+    if asked.salvage is not None:
+        print("no fault: nothing written to " + asked.salvage, file=sys.stderr)
     for key, value in report._asdict().items():
         print(key, "-" if value is None else value)
     return 0

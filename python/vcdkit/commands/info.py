@@ -12,7 +12,6 @@ examples:
 import json
 from collections import Counter
 
-from .. import _body
 from . import add_file, command, dump_of, parser
 
 
@@ -21,8 +20,7 @@ def first_tick(dump):
     names = sorted({one.path.partition(".")[0] for one in dump.signals})
     if not names:
         return None
-    with dump.pick(names).open() as out:
-        _body.skip_header(out)
+    with dump.pick(names).body() as out:
         return next((int(line[1:]) for line in out if line[:1] == b"#"), None)
 
 

@@ -22,10 +22,11 @@ examples:
 import argparse
 import json
 import math
+import sys
 
 from .. import _body
 from ..times import UNITS
-from . import add_file, add_form, add_window, command, dump_of, parser, shown
+from . import add_file, add_form, add_window, after_end, command, dump_of, parser, shown
 
 MAX_VALUES = 1 << 16  # of one signal; further ones count as one
 OTHERS = b"others"
@@ -115,33 +116,19 @@ class Statistics:
             self.leave(time, False)
 
 
-class Lines:
-    """The lines of a text, and the time of the last timestamp of those that were read."""
-
-    def __init__(self, out):
-        self.out, self.time = out, 0
-
-    def __iter__(self):
-        for line in self.out:
-            if line[:1] == b"#":
-                self.time = int(line[1:])
-            yield line
-
-
 def statistics_of(dump, asked):
     """Returns the signals, and of each code what is counted."""
     signals = dump.select(asked.names)
     found = {one.code.encode(): Statistics(one) for one in signals}
-    with dump.pick(asked.names).cut(asked.begin, asked.end).open() as out:
-        _body.skip_header(out)
-        lines = Lines(out)
-        for time, before, changes in _body.steps(lines, found):
-            for code, text in before:
-                found[code].start(time, text)
-            for code, text in dict(changes).items():
-                found[code].change(time, text)
+    for time, before, changes in _body.steps(
+            dump._part(asked.names).cut(asked.begin, asked.end), found):
+        for code, text in before:
+            found[code].start(time, text)
+        for code, text in dict(changes).items():
+            found[code].change(time, text)
+    last = dump.cut(asked.begin, asked.end).check().last or 0
     for one in found.values():
-        one.end(lines.time)
+        one.end(last)
     return [(one, found[one.code.encode()]) for one in signals]
 
 
@@ -243,6 +230,9 @@ def main(words):
     dump = dump_of(asked)
     found = [facts_of(signal, counted, asked.form)
              for signal, counted in statistics_of(dump, asked)]
+    is_late = after_end(dump, asked.begin)
+    if is_late:
+        print("vcdkit-stats: --from: " + is_late, file=sys.stderr)
     if asked.json:
         print(json.dumps(found, indent=1))
         return 0

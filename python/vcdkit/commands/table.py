@@ -12,7 +12,8 @@ Values are written with all their digits, as numbers (--hex, --decimal, --signed
 (--ascii). If a value has an x or a z, --hex writes x or z for four such digits and X for a mixture,
 and the other options write all digits. `-` means that there is no value yet. Real numbers are
 written as 1.5, 3, 1e-09, nan or inf. Times are whole numbers in the unit of the time scale. With
---unit they are exact decimal numbers in that unit.
+--unit they are exact decimal numbers in that unit. For pandas, take --decimal; of --binary and
+--hex, pandas.read_csv needs dtype=str.
 
 examples:
   vcdkit-table --hex --at 10ns,20ns,30ns sim.vcd tb.pc tb.bus

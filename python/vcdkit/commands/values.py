@@ -8,7 +8,9 @@ the other options write all digits.
 examples:
   vcdkit-values --at 115ns --hex sim.vcd tb.cpu
   vcdkit-values --signed sim.vcd.gz tb.dut.sum"""
-from . import add_file, add_form, command, dump_of, parser, shown
+import sys
+
+from . import add_file, add_form, after_end, command, dump_of, parser, shown
 
 
 @command
@@ -21,6 +23,9 @@ def main(words):
     dump = dump_of(asked)
     at = asked.at if asked.at is not None else dump.check().last or 0
     names = asked.names or sorted({one.path.partition(".")[0] for one in dump.signals})
+    is_late = after_end(dump, asked.at) if asked.at is not None else ""
+    if is_late:
+        print("vcdkit-values: --at: " + is_late, file=sys.stderr)
     signals = [one for one in dump.select(names) if one.type != "event"]
     for _, values in dump.rows(names, at=[at]):
         for one, value in zip(signals, values):

@@ -16,7 +16,7 @@ import sys
 import threading
 from xml.sax.saxutils import escape
 
-from .. import UsageError, Value, _body
+from .. import UsageError, Value
 from .._lanes import Lanes, Several
 from ..times import LAST_TICK, UNITS
 from . import add_file, add_form, add_window, command, dump_of, parser, shown
@@ -284,9 +284,8 @@ def lanes_of(dump, chosen, names, window, count):
         last = (dump.cut(begin, end) if is_part else dump).check().last
         if last is None or last <= begin:
             raise UsageError("the dump has nothing between these times")
-        lanes, part = Lanes(chosen, begin, last, count), dump.pick(names)
-        with (part.cut(begin, end) if is_part else part).open() as out:
-            _body.skip_header(out)
+        lanes, part = Lanes(chosen, begin, last, count), dump._part(names)
+        with (part.cut(begin, end) if is_part else part).body() as out:
             lanes.read(out, progress.now)
     return lanes
 
@@ -332,6 +331,11 @@ def main(words):
     add_form(of)
     add_file(of, "+")
     asked = of.parse_args(words)
+    is_part = (asked.begin, asked.end) != (of.get_default("begin"), of.get_default("end"))
+    if asked.around is not None and is_part:
+        of.error("--around goes with none of --from and --to")
+    if asked.span is not None and asked.around is None:
+        of.error("--span goes with --around")
     dump = dump_of(asked)
     chosen = dump.select(asked.names)
     if len(chosen) > MAX_SIGNALS:

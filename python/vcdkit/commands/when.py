@@ -33,7 +33,8 @@ examples:
   vcdkit-when --first --from 1us sim.vcd 'tb.dut.state is x'"""
 from typing import List
 
-from . import FAULT, add_file, add_window, command, dump_of, parser, question
+from .. import UsageError
+from . import FAULT, add_file, add_window, after_end, command, dump_of, parser, question
 
 
 @command
@@ -51,12 +52,18 @@ def main(words: List[str]) -> int:
     add_window(of)
     add_file(of)
     of.add_argument("condition", metavar="CONDITION", help="a condition (see below)")
-    asked = of.parse_args(words)
+    asked, rest = of.parse_known_args(words)
+    if rest:
+        of.error("put the condition into quotes" if rest[0][:1] != "-" else
+                 "unrecognized arguments: " + " ".join(rest))
     dump = dump_of(asked)
     is_part = (asked.begin, asked.end) != (of.get_default("begin"), of.get_default("end"))
     part = dump.cut(asked.begin, asked.end) if is_part else dump
-    count = 0
-    for time in part.when(asked.condition, asked.rise, asked.fall, asked.every):
+    count, times = 0, part.when(asked.condition, asked.rise, asked.fall, asked.every)
+    is_late = after_end(dump, asked.begin)
+    if is_late:
+        raise UsageError("--from: " + is_late)
+    for time in times:
         count += 1
         if not asked.count:
             print(dump.time(time))

@@ -3,21 +3,25 @@
 Each line has a time, a path and a value. A value is listed if it has an x at the end of the first
 time of the window, or if it has one at the end of a later time and differs from the value before.
 So what comes and goes within one time is not seen. --z lists values with a z too. Without NAMEs all
-signals are searched. With this command, a CI job can require that nothing is unknown after reset.
+signals are searched. A --from after the end of the dump is a usage error. With this command, a CI
+job can require that nothing is unknown after reset.
 
 examples:
   vcdkit-x --from 100ns sim.vcd tb.cpu
   vcdkit-x --z --from 1us --to 2us sim.vcd | head"""
 from typing import Dict, List, Optional
 
-from .. import Signal, _body
-from . import FAULT, add_file, add_window, command, dump_of, parser, question
+from .. import Signal, UsageError, _body
+from . import FAULT, add_file, add_window, after_end, command, dump_of, parser, question
 
 
 @command
 @question
 def main(words: List[str]) -> int:
     of = parser("vcdkit-x", __doc__, "no such value", "there is one", "usage error, " + FAULT)
+    form = of.add_mutually_exclusive_group()
+    form.add_argument("--first", action="store_true", help="list only the first of each path")
+    form.add_argument("--count", action="store_true", help="write only how many there are")
     of.add_argument("--z", action="store_true", help="list values with a z too")
     add_window(of)
     add_file(of, "*")
@@ -27,16 +31,22 @@ def main(words: List[str]) -> int:
     for one in dump.select(asked.names) if asked.names else dump.signals:
         if not one.is_real and one.type != "event":
             signals.setdefault(one.code.encode(), []).append(one)
-    letters, status = (b"x", b"z") if asked.z else (b"x",), 0
+    is_late = after_end(dump, asked.begin)
+    if is_late:
+        raise UsageError("--from: " + is_late)
+    letters, count = (b"x", b"z") if asked.z else (b"x",), 0
     last: Dict[bytes, Optional[bytes]] = {}  # the last value of each code, if it is shown
-    with dump._part(asked.names).cut(asked.begin, asked.end).open() as out:
-        _body.skip_header(out)
-        for time, before, found in _body.steps(out, signals):
-            for code, text in dict(before + found).items():
-                is_shown = text[:1] != b"r" and any(letter in text for letter in letters)
-                if is_shown and last.get(code) != text:
-                    status = 1
-                    for one in signals[code]:
-                        print(dump.time(time), one.path, _body.value(text, one))
-                last[code] = text if is_shown else None
-    return status
+    part = dump._part(asked.names).cut(asked.begin, asked.end)
+    for time, before, found in _body.steps(part, signals):
+        for code, text in dict(before + found).items():
+            is_shown = text[:1] != b"r" and any(letter in text for letter in letters)
+            if is_shown and last.get(code) != text:
+                count += len(signals[code])
+                for one in () if asked.count else signals[code]:
+                    print(dump.time(time), one.path, _body.value(text, one))
+                if asked.first:
+                    signals[code] = []
+            last[code] = text if is_shown else None
+    if asked.count:
+        print(count)
+    return 1 if count else 0
