@@ -14,7 +14,7 @@ use std::alloc::Global;
 use vcd_text::{Ahead, Feed, Source};
 use vcd_view::Kind;
 
-/// Returns the next token, if it lies completely in the chunk.
+/// Returns the next token and passes it. `None` if it does not lie completely in the chunk.
 #[inline(always)]
 pub(crate) fn token_ahead<'a>(ahead: &mut Ahead<'a>) -> Option<&'a [u8]>
     ensures one { IfSome result (λ token. GivesToken ahead.old ahead.new token.now) }

@@ -46,7 +46,7 @@ impl Codes {
         }
     }
 
-    /// Returns the index of the code with these bytes.
+    /// Returns the index of the code with these bytes. `None` if it was not declared.
     fn find(&self, alloc: Global, bytes: &[u8]) -> Option<usize>
         ensures { (text : List ℕ) (cs : List IdCode) → AreHeld text self.now.list.items cs
             → AreKeysOf (keys_of self.now) cs → Rises self.now.rising.items
@@ -59,8 +59,8 @@ impl Codes {
         self.rising.len().checked_add(position)
     }
 
-    /// Returns the index in the set of the key of the code with these bytes. The key of a long code
-    /// needs memory. If that is refused, it looks at all keys.
+    /// Returns the index in the set of the key of the code with these bytes. `None` if the set does
+    /// not have it. The key of a long code needs memory. If that is refused, every key is compared.
     fn find_key(&self, alloc: Global, bytes: &[u8]) -> Option<usize>
         ensures { result ≡ position (is_key bytes.now) self.now.keys.keys }
     {
@@ -79,7 +79,8 @@ pub(crate) fn is_of_kind(code: Code, size: usize, event: bool) -> bool
     code.size == size && code.event == event
 }
 
-/// Returns the index of the key of the code with these bytes among keys, by a look at each.
+/// Returns the index of the key of the code with these bytes, by a look at each key. `None` if no
+/// key is that of the code.
 pub(crate) fn index_among(keys: &[CodeKey], bytes: &[u8]) -> Option<usize>
     ensures { result ≡ position (is_key bytes.now) keys.now }
 {

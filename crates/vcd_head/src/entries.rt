@@ -98,7 +98,8 @@ fn enter(entries: &mut [Entry], position: usize, code: Code, bytes: &[u8], seed:
     }
 }
 
-/// Returns the first free one of a code's own entry and the three beside it.
+/// Returns the index of the first free entry among a code's own one and the three beside it. `None`
+/// if all four are taken.
 #[inline(always)]
 fn free_near(entries: &[Entry], own: usize) -> Option<usize>
     ensures { IfSome result (λ at. at < length entries.now) }

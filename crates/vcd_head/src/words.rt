@@ -61,7 +61,7 @@ pub(crate) fn is_command(token: &[u8]) -> bool
     token.len() > 1 && token[0] == b'$'
 }
 
-/// Returns the power of ten of a time scale's number.
+/// Returns the power of ten of a time scale's number. `None` if it is not 1, 10 or 100.
 pub(crate) fn power_of(number: &[u8]) -> Option<i8>
     ensures { result ≡ power_in number.now }
 {
@@ -76,7 +76,7 @@ pub(crate) fn power_of(number: &[u8]) -> Option<i8>
     }
 }
 
-/// Returns the power of ten of a time scale's unit, in seconds.
+/// Returns the power of ten of a time scale's unit, in seconds. `None` if no unit has this name.
 pub(crate) fn unit_of(unit: &[u8]) -> Option<i8>
     ensures { result ≡ unit_in unit.now }
 {
@@ -97,7 +97,8 @@ pub(crate) fn unit_of(unit: &[u8]) -> Option<i8>
     }
 }
 
-/// Returns the power of ten of a number and a unit in one token, in seconds.
+/// Returns the power of ten of a number and a unit in one token, in seconds. `None` if the token is
+/// no time scale.
 pub(crate) fn exponent_of(scale: &[u8]) -> Option<i8>
     ensures { result ≡ exponent_is scale.now }
 {

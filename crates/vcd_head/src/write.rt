@@ -173,7 +173,7 @@ fn put_rows<W: Sink>(view: HeadView<'_>, marks: &[u8], w: &mut W) -> Result<(), 
     Ok(())
 }
 
-/// Returns the row of the innermost scope that is open after the last row.
+/// Returns the row of the innermost scope that is open after the last row. `None` if none is open.
 fn innermost(view: HeadView<'_>) -> Option<usize>
     ensures { (h : Header) → IsViewOf view.entry h → result ≡ parent h.declarations }
 {

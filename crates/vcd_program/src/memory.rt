@@ -29,7 +29,7 @@ pub struct Memory<'a> {
     pub opened: Vec<Option<String>>,
 }
 
-/// Copies a name, if there is one.
+/// Returns a copy of a name, if there is one.
 fn copied(alloc: Global, name: Option<&str>) -> Result<Option<String>, AllocError>
     ensures { IfOk result (λ copy. option_map string_bytes copy ≡ text_of name.entry) }
 {
