@@ -55,8 +55,8 @@ abbrev pub file_rule : Rule
 file_rule = record (new_rule (codes "input")) { value_names = 1 }
 
 -- a command of this name over one input, with its file after `-i` or without it
-abbrev pub alone_app : Text → App
-alone_app name = with_rule (one_input_app name) file_rule
+abbrev pub file_app : Text → App
+file_app name = with_rule (one_input_app name) file_rule
 
 -- a command of this name over one input, with names
 abbrev pub named_app : Text → Bool → App
@@ -68,7 +68,7 @@ time_or_rule name word = record (time_rule name) { defaults = word ∷ [] }
 
 -- `cut`, with `--from N` and `--to N`: without them from time 0 to the greatest time
 abbrev pub cut_app : App
-cut_app = with_rule (with_rule (alone_app (codes "cut")) (time_or_rule (codes "from") (codes "0"))) (time_or_rule (codes "to") (codes "18446744073709551615"))
+cut_app = with_rule (with_rule (file_app (codes "cut")) (time_or_rule (codes "from") (codes "0"))) (time_or_rule (codes "to") (codes "18446744073709551615"))
 
 -- `sample`, with `--at N,N,..`, which has to be there, and with names or without
 abbrev pub sample_app : App
@@ -91,7 +91,7 @@ bare_app =
 -- `vcdkit` with its commands
 abbrev pub program_app : App
 program_app =
-    with_subcommand (with_subcommand (with_subcommand (with_subcommand (with_subcommand (with_subcommand (with_subcommand bare_app (alone_app (codes "check")).top) (alone_app (codes "list")).top)
+    with_subcommand (with_subcommand (with_subcommand (with_subcommand (with_subcommand (with_subcommand (with_subcommand bare_app (file_app (codes "check")).top) (file_app (codes "list")).top)
     (named_app (codes "pick") true).top) cut_app.top) sample_app.top) (named_app (codes "edges") false).top) merge_app.top
 
 -- help and the version are no fault, and out of memory has a status of its own

@@ -1,6 +1,6 @@
 //! The command line: which words it accepts, and the exit status if it does not.
 ghost use Rattle.std.specs.Prelude.{◌≡◌, true, IfOk};
-ghost use Rattle.vcd_words.specs.Names.{alone_app, App, cut_app, IsLocal, IsWhole, kind_of, limit_rule, merge_app, named_app, new_app, one_input_app, parse_status_of, program_app, sample_app, time_rule, with_subcommand};
+ghost use Rattle.vcd_words.specs.Names.{file_app, App, cut_app, IsLocal, IsWhole, kind_of, limit_rule, merge_app, named_app, new_app, one_input_app, parse_status_of, program_app, sample_app, time_rule, with_subcommand};
 
 use crate::help;
 use crate::help::Help;
@@ -33,7 +33,7 @@ fn one_input<'a>(alloc: Global, name: &'a str, help: Help<'a>) -> Result<Command
     ensures { IfOk result (λ command. IsWhole command (one_input_app name.entry.now)) }
 {
     let input = Arg::new(alloc, "input").short('i').value_name("FILE").help(
-        "Reads this file in place of standard input; - is standard input",
+        "Reads this file instead of standard input; - means standard input",
     );
     new_command(alloc, name, help)
         .arg(input)?
@@ -43,8 +43,8 @@ fn one_input<'a>(alloc: Global, name: &'a str, help: Help<'a>) -> Result<Command
 /// Returns a command over one input that takes no names. Its file may come without `-i`.
 // Both forms have one id, so they are one argument, which may be given once. `conflicts_with` would
 // refuse both forms together too, but then `clap` does not say which words it accepts.
-fn alone<'a>(alloc: Global, name: &'a str, help: Help<'a>) -> Result<Command<'a>, AllocError>
-    ensures { IfOk result (λ command. IsWhole command (alone_app name.entry.now)) }
+fn with_file<'a>(alloc: Global, name: &'a str, help: Help<'a>) -> Result<Command<'a>, AllocError>
+    ensures { IfOk result (λ command. IsWhole command (file_app name.entry.now)) }
 {
     let file = Arg::new(alloc, "input")
         .value_name("FILE")
@@ -67,7 +67,7 @@ fn named<'a>(
         .value_name("NAME")
         .num_args(1..)
         .required(required)
-        .help("A variable, or a scope with all that it has: names joined by dots");
+        .help("A variable, or a scope with everything in it: names joined by dots");
     one_input(alloc, name, help)?.arg(names)
 }
 
@@ -90,18 +90,18 @@ fn cut<'a>(alloc: Global) -> Result<Command<'a>, AllocError>
         alloc,
         "from",
         "N",
-        "The first time: a number of ticks, or of s, ms, us, ns, ps or fs, as 15ns",
+        "The first time: a number of ticks, or of s, ms, us, ns, ps or fs, such as 15ns",
     )
     .default_value("0");
     let to = time(
         alloc,
         "to",
         "N",
-        "The last time, as the first [default: the end]",
+        "The last time, written like the first [default: the end]",
     )
     .default_value("18446744073709551615")
     .hide_default_value(true);
-    alone(alloc, "cut", help::CUT)?.arg(from)?.arg(to)
+    with_file(alloc, "cut", help::CUT)?.arg(from)?.arg(to)
 }
 
 /// Returns the command `sample`, with its options, its times, which are required, and names of
@@ -113,7 +113,7 @@ fn sample<'a>(alloc: Global) -> Result<Command<'a>, AllocError>
         alloc,
         "at",
         "N,N,..",
-        "The times, which rise: numbers of ticks, or of s, ms, us, ns, ps or fs, as 5ns,15ns",
+        "Increasing times: numbers of ticks, or of s, ms, us, ns, ps or fs, such as 5ns,15ns",
     )
     .required(true);
     named(alloc, "sample", help::SAMPLE, false)?.arg(at)
@@ -127,7 +127,7 @@ fn merge<'a>(alloc: Global) -> Result<Command<'a>, AllocError>
         .value_name("FILE")
         .num_args(1..)
         .required(true)
-        .help("A dump, - is standard input; the changes of all are merged in the order of time");
+        .help("A dump; - means standard input. The changes of all are merged in the order of time");
     new_command(alloc, "merge", help::MERGE)
         .arg(token_limit(alloc))?
         .arg(files)
@@ -153,8 +153,8 @@ pub fn command_of<'a>(alloc: Global) -> Result<Command<'a>, AllocError>
         .version("0.1.0")
         .subcommand_required(true)
         .disable_help_subcommand(true);
-    let program = add(program, alone(alloc, "check", help::CHECK))?;
-    let program = add(program, alone(alloc, "list", help::LIST))?;
+    let program = add(program, with_file(alloc, "check", help::CHECK))?;
+    let program = add(program, with_file(alloc, "list", help::LIST))?;
     let program = add(program, named(alloc, "pick", help::PICK, true))?;
     let program = add(program, cut(alloc))?;
     let program = add(program, sample(alloc))?;

@@ -10,7 +10,7 @@ pub struct Help<'a> {
 }
 
 pub const CHECK: Help<'static> = Help {
-    about: "Checks a dump and counts what it has",
+    about: "Checks a dump and counts what is in it",
     usage: "vcdkit check [--token-limit N] FILE
        vcdkit check [--token-limit N] < FILE",
     after: "Examples:
@@ -23,8 +23,8 @@ Exit status:
   2  usage error
   3  I/O error or out of memory
 
-A dump has no end mark: one that was cut off between two lines is valid too. The line 'last' shows
-whether a simulation came to its end. Let a CI job ask for the time that must be reached:
+A dump has no end mark, so a dump that was truncated between two lines is valid too. The line
+'last' shows how far the simulation went. A CI job can ask for a time that must be reached:
   vcdkit check sim.vcd | awk '$1 == \"last\" && $2 >= 1220 { ok = 1 } END { exit !ok }'",
 };
 
@@ -36,46 +36,46 @@ pub const LIST: Help<'static> = Help {
   vcdkit list sim.vcd
   vcdkit list sim.vcd | grep clk
 
-A line has the path, the type, the size and the code of a variable. Only the header is read.
+Each line has the path, the type, the size and the code of a variable. Only the header is read.
 
 Exit status:
-  0  all was written
+  0  everything was written
   1  not a valid header: the message says where and why
   2  usage error
   3  I/O error or out of memory",
 };
 
 pub const PICK: Help<'static> = Help {
-    about: "Writes the dump of some variables",
+    about: "Writes a dump of some of the variables",
     usage: "vcdkit pick -i FILE [--token-limit N] NAME.. > OUT
        vcdkit pick [--token-limit N] NAME.. < FILE > OUT",
     after: "Examples:
   vcdkit pick -i sim.vcd top.clk top.cpu > some.vcd
   vcdkit pick -i sim.vcd 'top.mem[0]' | vcdkit check
 
-Names are those of vcdkit list. A file comes after -i: a word without it is a name.
+Names are the paths that vcdkit list writes. An argument without -i is a name, not a file.
 
 Exit status:
-  0  all was written
-  1  a name selects nothing, or not a valid dump: what comes before the fault was written
+  0  everything was written
+  1  a name selects nothing, or not a valid dump: the output ends before the fault
   2  usage error
   3  I/O error or out of memory",
 };
 
 pub const CUT: Help<'static> = Help {
-    about: "Writes the dump from one time to another",
+    about: "Writes a dump of a time window",
     usage: "vcdkit cut [--from N] [--to N] [--token-limit N] FILE > OUT
        vcdkit cut [--from N] [--to N] [--token-limit N] < FILE > OUT",
     after: "Examples:
   vcdkit cut --from 100us --to 200us sim.vcd > window.vcd
   vcdkit cut --from 5000 sim.vcd > end.vcd
 
-Where the dump ends before --to, the cut ends with the last timestamp of the dump, or at --from
-where that is later, with status 0.
+If the dump ends before --to, the cut ends at the last timestamp of the dump, or at --from if that
+is later. The status is 0.
 
 Exit status:
-  0  all was written
-  1  a unit and no time scale, or not a valid dump: what comes before the fault was written
+  0  everything was written
+  1  a unit without a time scale, or not a valid dump: the output ends before the fault
   2  usage error
   3  I/O error or out of memory",
 };
@@ -88,13 +88,13 @@ pub const SAMPLE: Help<'static> = Help {
   vcdkit sample -i sim.vcd --at 0,15ns,2us top.cpu.pc
   vcdkit sample -i sim.vcd --at 5000
 
-With no name all variables are sampled.
-Names are those of vcdkit list. A file comes after -i: a word without it is a name.
-At a time after the end of the dump the values are the last ones, with status 0.
+If no names are given, all variables are sampled.
+Names are the paths that vcdkit list writes. An argument without -i is a name, not a file.
+At a time after the end of the dump, the values are the last ones. The status is 0.
 
 Exit status:
-  0  all was written
-  1  a name selects nothing, a unit and no time scale, or not a valid dump
+  0  everything was written
+  1  a name selects nothing, a unit without a time scale, or not a valid dump
   2  usage error
   3  I/O error or out of memory",
 };
@@ -107,12 +107,12 @@ pub const EDGES: Help<'static> = Help {
   vcdkit edges -i sim.vcd top.clk
   vcdkit edges -i sim.vcd | sort -k 2,2nr | head
 
-With no name all variables are counted.
-Names are those of vcdkit list. A file comes after -i: a word without it is a name.
-Rises and falls are those of the least significant bit, for a vector too.
+If no names are given, all variables are counted.
+Names are the paths that vcdkit list writes. An argument without -i is a name, not a file.
+The rises and falls of a vector are those of its least significant bit.
 
 Exit status:
-  0  all was written
+  0  everything was written
   1  a name selects nothing, or not a valid dump
   2  usage error
   3  I/O error or out of memory",
@@ -128,8 +128,8 @@ pub const MERGE: Help<'static> = Help {
 The variables of the first file are in the scope in1, those of the second in in2, and so on.
 
 Exit status:
-  0  all was written
-  1  not a valid dump: what comes before the fault was written
+  0  everything was written
+  1  not a valid dump: the output ends before the fault
   2  usage error
   3  I/O error or out of memory",
 };
@@ -137,15 +137,15 @@ Exit status:
 pub const PROGRAM: Help<'static> = Help {
     about: "Reads value change dumps (VCD), and answers questions about them",
     usage: "vcdkit COMMAND ..",
-    after: "A command reads the dump from the file after -i, or from standard input. check, list and cut
-take the file without -i too, and merge reads the files that it names. Output goes to standard
+    after: "A command reads the dump from the file after -i, or from standard input. check, list and
+cut also take the file without -i, and merge reads the files that are named. Output goes to standard
 output. Each command has its own help, with examples: vcdkit check --help
 
-Scripts, each with its own --help: vcdkit-info, -find and -explain sum a dump up, find names and
-explain faults; -values, -table, -stats, -wave, -x and -when show values, periods, waveforms,
-unknown values and when a condition holds; -diff compares two dumps; -four-state, -endmend and
--join-bits mend dumps. If they are not installed: extras/ of the sources and of the tarball.
+There are scripts too, each with its own --help: vcdkit-info, -find and -explain sum a dump up, find
+names and explain faults; -values, -table, -stats, -wave, -x and -when show values, periods,
+waveforms, unknown values and when a condition holds; -diff compares two dumps; -four-state,
+-endmend and -join-bits repair dumps. They are in extras/ of the sources and of the tarball.
 
-Man page: man vcdkit. Manual, recipes and what producers write: share/doc/vcdkit, below the prefix
-of the installation (/usr/local/share/doc/vcdkit), or docs/ of the sources.",
+The man page is vcdkit(1). The manual, recipes and notes on simulators are in share/doc/vcdkit below
+the prefix of the installation, such as /usr/local/share/doc/vcdkit, or in docs/ of the sources.",
 };

@@ -26,7 +26,7 @@ the one on the PATH.
 """
 STATUSES_OF_A_FILTER = """
 exit status:
-  0  all was written
+  0  everything was written
   2  usage error
   3  I/O error
 """
@@ -44,7 +44,7 @@ class _Parser(argparse.ArgumentParser):
         return text + TIMES if "TIME" in text else text
 
 
-def parser(name: str, text: str, done: str = "all was written", failed: str = FAULT,
+def parser(name: str, text: str, done: str = "everything was written", failed: str = FAULT,
            wrong: str = "usage error") -> argparse.ArgumentParser:
     """Returns a parser of words, whose help has the text of a command and its exit statuses 0, 1
     and 2, those of a filter if nothing is said of status 1."""

@@ -1,7 +1,7 @@
 use Rattle.std.proofs.Common.{codes}
 use Rattle.std.proofs.lemmas.Result.{IfOk-weaker}
 use Rattle.clap.specs.Words.{with_rule}
-use Rattle.vcd_words.specs.Words.{alone_app, time_or_rule, time_rule, IsLocal}
+use Rattle.vcd_words.specs.Words.{file_app, time_or_rule, time_rule, IsLocal}
 use Rattle.vcd_words.proofs.CommandLemmas.{with_arg, with_default, with_hidden_default}
 use Rattle.vcd_words.proofs.command.cut.Goals as goal
 
@@ -12,5 +12,5 @@ returns c =
     let from : IsLocal c.default_value-from.result from_rule = with_default c.time.result c.default_value-from.result (time_rule (codes "from")) c.time.ensures _ c.default_value-from.ensures in
     let last : IsLocal c.default_value.result to_rule = with_default c.time-2.result c.default_value.result (time_rule (codes "to")) c.time-2.ensures _ c.default_value.ensures in
     let to = with_hidden_default c.default_value.result c.hide_default_value-to.result to_rule last _ c.hide_default_value-to.ensures in
-    let first = with_arg c.in_ok-alone.field-0 c.in_ok-arg.field-0 (alone_app (codes "cut")) c.in_ok-alone.ensures c.default_value-from.result from_rule c.in_ok-arg.ensures from in
-    IfOk-weaker c.arg-2.result _ _ (λ r h. with_arg c.in_ok-arg.field-0 r (with_rule (alone_app (codes "cut")) from_rule) first c.hide_default_value-to.result to_rule h to) c.arg-2.ensures
+    let first = with_arg c.in_ok-with_file.field-0 c.in_ok-arg.field-0 (file_app (codes "cut")) c.in_ok-with_file.ensures c.default_value-from.result from_rule c.in_ok-arg.ensures from in
+    IfOk-weaker c.arg-2.result _ _ (λ r h. with_arg c.in_ok-arg.field-0 r (with_rule (file_app (codes "cut")) from_rule) first c.hide_default_value-to.result to_rule h to) c.arg-2.ensures

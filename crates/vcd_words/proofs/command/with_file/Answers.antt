@@ -3,7 +3,7 @@ use Rattle.std.proofs.lemmas.Result.{IfOk-weaker}
 use Rattle.clap.specs.Words.{new_rule}
 use Rattle.vcd_words.specs.Words.{file_rule, one_input_app, IsLocal}
 use Rattle.vcd_words.proofs.CommandLemmas.{with_arg, with_help, with_value_name}
-use Rattle.vcd_words.proofs.command.alone.Goals as goal
+use Rattle.vcd_words.proofs.command.with_file.Goals as goal
 
 pub returns : goal.returns
 returns c =
