@@ -355,6 +355,9 @@ def tried():
         got = said([*words[:-1], "--", NESTED, words[-1]])
         if got != ("".join(time + "\n" for time in times.split()), "", 0 if times else 1):
             yield words, "", times, got
+        never = said(["--never", *words[:-1], "--", NESTED, words[-1]])
+        if never != (*got[:2], 1 - got[2]):
+            yield ["--never", *words], "", times, never
     with tempfile.TemporaryDirectory() as folder:
         files = {"dump": HEADER + "#0\n0!\n", "empty": "", "header": HEADER, "fault": HEADER + "#x",
                  "binary": "".join(map(chr, range(256))) * 9, "other": "PK\3\4"}

@@ -29,7 +29,7 @@ neither true nor false, as in Verilog: neither the comparison nor its ! holds.
 examples:
   vcdkit-when sim.vcd 'tb.bus == 0xdeadbeef'
   vcdkit-when --rise tb.clk --every --count sim.vcd.gz 'tb.valid & tb.ready'
-  vcdkit-when --rise tb.clk sim.vcd '!(tb.req -> tb.ack within 5)'
+  vcdkit-when --never --rise tb.clk sim.vcd '!(tb.req -> tb.ack within 5)'
   vcdkit-when --first --from 1us sim.vcd 'tb.dut.state is x'"""
 from typing import List
 
@@ -49,6 +49,8 @@ def main(words: List[str]) -> int:
     of.add_argument("--fall", metavar="CLOCK", help="evaluate at the falling edges of this signal")
     of.add_argument("--every", action="store_true",
                     help="list each edge at which it holds, not only where it begins to")
+    of.add_argument("--never", action="store_true",
+                    help="exit with 0 if it never held, and with 1 if it did, for a CI job")
     add_window(of)
     add_file(of)
     of.add_argument("condition", metavar="CONDITION", help="a condition (see below)")
@@ -71,4 +73,4 @@ def main(words: List[str]) -> int:
             break
     if asked.count:
         print(count)
-    return 0 if count else 1
+    return int((count > 0) == asked.never)
