@@ -148,7 +148,7 @@ pub(crate) fn size_of(token: &[u8]) -> Option<usize>
 // One more than the greatest size.
 const TOO_WIDE: usize = 16_777_216;
 
-/// Returns whether all bytes may be in a code: 33 to 126 (clause 18.2.1).
+/// Returns whether all bytes may be in a code: 33 to 126 (clause 18, identifier code).
 #[inline(always)]
 pub(crate) fn is_code(token: &[u8]) -> bool
     ensures { result ≡ list_all is_code_byte token.now }
