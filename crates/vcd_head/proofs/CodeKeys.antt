@@ -1,5 +1,5 @@
 -- The keys of the codes while a header is read.
-use Rattle.std.proofs.Common.{◌≡◌, ℕ, zero, suc, ◌+◌, ◌<◌, ◌==◌, not, Bool, true, false, cond, List, [], ◌∷◌, ◌++◌, length, map, find, bytes_eq, slice_get, position, get_or, Fits, w8, Some, None, refl, sym, ap, subst, ◌∙◌, arith}
+use Rattle.std.proofs.Common.{◌≡◌, ℕ, zero, suc, ◌+◌, ◌<◌, ◌==◌, not, Bool, true, false, cond, List, [], ◌∷◌, ◌++◌, length, map, find, bytes_eq, position, get_or, Fits, w8, Some, None, refl, sym, ap, subst, ◌∙◌, arith}
 use Rattle.std.specs.Prelude.{nat_lt}
 use Rattle.std.specs.List.{AllByRecursion, list_any, position_or_len, prefix_len}
 use Rattle.std.proofs.lemmas.Bool.{ltb-true, ltb-false, lt-ltb, or_parts}
@@ -11,7 +11,7 @@ use Rattle.vcd_model.specs.Declarations.{IdCode, has_text}
 use Rattle.vcd_view.specs.Finds.{Finds}
 use Rattle.vcd_view.specs.Keys.{AreBytes, key_in}
 use Rattle.vcd_view.proofs.KeyLemmas.{same_key}
-use Rattle.vcd_view.proofs.ListLemmas.{same_bytes}
+use Rattle.vcd_view.proofs.ListLemmas.{same_bytes, there}
 use Rattle.vcd_head.specs.Keys.{AreKeysOf, is_key, shape_in, shape_of}
 use Rattle.vcd_head.specs.declared.code_key.CodeKey.{CodeKey}
 
@@ -55,15 +55,10 @@ abbrev rest_of : List (List ℕ) → List (List ℕ)
 rest_of [] = []
 rest_of (x ∷ xs) = xs
 
-some_at : {X : Type 0} (xs : List X) (i : ℕ) → i < length xs → (x : X) × (slice_get xs i ≡ Some x)
-some_at [] i h = absurd (omega (arith, h))
-some_at (x ∷ xs) zero h = (x, refl)
-some_at (x ∷ xs) (suc i) h = some_at xs i (omega (arith, h))
-
 -- the first code with these bytes is the one that is found
 finds_first : (cs : List IdCode) (t : List ℕ) (b : Bool) → nat_lt (position_or_len (has_text t) cs) (length cs) ≡ b → Finds cs t (cond b (Some (position_or_len (has_text t) cs)) None)
 finds_first cs t true q =
-    let c = some_at cs (position_or_len (has_text t) cs) (ltb-true _ _ q) in
+    let c = there cs (position_or_len (has_text t) cs) (ltb-true _ _ q) in
     (c.0, c.1, find_at (has_text t) cs ∙ c.1)
 finds_first cs t false q = find_at (has_text t) cs ∙ slice_get_past cs (position_or_len (has_text t) cs) (ltb-false _ _ q)
 

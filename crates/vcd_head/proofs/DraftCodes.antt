@@ -21,19 +21,17 @@ use Rattle.vcd_head.specs.Draft.{HasCodes, CodeHeld}
 use Rattle.vcd_head.proofs.DraftLemmas.{range_at, held_grow}
 use Rattle.vcd_head.proofs.CodeKeys.{keys_more}
 use Rattle.vcd_head.proofs.CodesLemmas.{find_more, held_more}
-use Rattle.vcd_view.proofs.EntryLemmas.{code_found}
 use Rattle.vcd_view.proofs.ListLemmas.{all_push, same_bytes, bytes_flip, all_weaker, slice_get-seam}
 use Rattle.vcd_head.proofs.DraftGrows.{variables_push, codes-alias, codes-new}
+use Rattle.vcd_model.proofs.HeaderGrammar.{find_passes}
+use Rattle.std.proofs.Math.Bool.{or-false}
+use Rattle.vcd_view.proofs.RowLemmas.{code_of_shown}
 
 own_bytes : (a : List ℕ) → bytes_eq a a ≡ true
 own_bytes a = (bytes_eq-Decides a a).1 refl
 
-or_false : (x : Bool) → (x || false) ≡ x
-or_false true = refl
-or_false false = refl
-
 any_push : (vs : List Variable) (v : Variable) (t : List ℕ) → list_any (λ u. bytes_eq u.code t) (vs ++ v ∷ []) ≡ (list_any (λ u. bytes_eq u.code t) vs || bytes_eq v.code t)
-any_push vs v t = list_any-append (λ u. bytes_eq u.code t) vs (v ∷ []) ∙ ap (λ b. list_any (λ u. bytes_eq u.code t) vs || b) (or_false (bytes_eq v.code t))
+any_push vs v t = list_any-append (λ u. bytes_eq u.code t) vs (v ∷ []) ∙ ap (λ b. list_any (λ u. bytes_eq u.code t) vs || b) (or-false (bytes_eq v.code t))
 
 -- ---- an alias
 
@@ -53,7 +51,7 @@ codes_alias text es ds v h f =
   where
     seen_or : (t : List ℕ) (b : Bool) → bytes_eq v.code t ≡ b → (list_any (λ u. bytes_eq u.code t) (variables_of ds) || b) ≡ is_some (find (has_text t) (codes_of ds))
     seen_or t true e = or_right (list_any (λ u. bytes_eq u.code t) (variables_of ds)) true refl ∙ sym (ap is_some (subst (λ s. find (has_text s) (codes_of ds) ≡ Some (code_of v)) (same_bytes v.code t e) f))
-    seen_or t false e = or_false (list_any (λ u. bytes_eq u.code t) (variables_of ds)) ∙ h.seen t
+    seen_or t false e = or-false (list_any (λ u. bytes_eq u.code t) (variables_of ds)) ∙ h.seen t
 
 -- ---- a new code
 
@@ -134,14 +132,6 @@ agrees_as text es ds v k h f = by_kind (same_kind k v) refl
     by_kind true q = all_agree (codes_of ds) (variables_of ds) v k f h.known q
     by_kind false q = some_differ (codes_of ds) (variables_of ds) v k f h.known q (h.seen v.code ∙ ap is_some f)
 
-found_passes : {X : Type 0} (test : X → Bool) (xs : List X) (y : X) → find test xs ≡ Some y → test y ≡ true
-found_passes test [] y e = cc
-found_passes test (x ∷ xs) y e = by_test (test x) refl e (found_passes test xs y)
-  where
-    by_test : (b : Bool) → test x ≡ b → cond b (Some x) (find test xs) ≡ Some y → (find test xs ≡ Some y → test y ≡ true) → test y ≡ true
-    by_test true q f more = let s : x ≡ y = cc in subst (λ z. test z ≡ true) s q
-    by_test false q f more = more f
-
 flags_same : (a b : Bool) → same_flag a b ≡ true → a ≡ b
 flags_same true true e = refl
 flags_same true false e = cc
@@ -151,7 +141,7 @@ flags_same false false e = refl
 module _ (text : List ℕ) (es : Codes) (ds : List Declaration) (v : Variable) (bytes : List ℕ) (size : ℕ) (event : Bool) (position : ℕ) (c : Code) (h : HasCodes text es ds) (is : code_of v ≡ record { text = bytes; size = size; event = event }) (f : Finds (codes_of ds) v.code (Some position))
     (at : slice_get es.list.items position ≡ Some c) where
   listed_code : IsCode text c f.0
-  listed_code = let k = code_found text es.list.items (codes_of ds) position c h.held.stand at in subst (IsCode text c) (same_Some k.0 f.0 (sym k.1 ∙ f.1)) k.2
+  listed_code = let k = code_of_shown text es.list.items (codes_of ds) position c h.held.stand at in subst (IsCode text c) (same_Some k.0 f.0 (sym k.1 ∙ f.1)) k.2
 
   -- so it does where the code that is listed has this size and is of this kind
   pub agrees_at : agrees ds v ≡ is_of c size event
@@ -165,7 +155,7 @@ module _ (text : List ℕ) (es : Codes) (ds : List Declaration) (v : Variable) (
   found_is e =
       let k = listed_code in
       let p = and_parts (c.size == size) (same_flag c.event event) e in
-      let t : v.code ≡ f.0.text = (bytes_eq-Decides v.code f.0.text).0 (found_passes (has_text v.code) (codes_of ds) f.0 f.2) in
+      let t : v.code ≡ f.0.text = (bytes_eq-Decides v.code f.0.text).0 (find_passes (has_text v.code) (codes_of ds) f.0 f.2) in
       λ j. record { text = sym t j; size = (sym k.size_is ∙ eqb-true c.size size p.0 ∙ ap (λ (x : IdCode). x.size) (sym is)) j; event = (sym k.event_is ∙ flags_same c.event event p.1 ∙ ap (λ (x : IdCode). x.event) (sym is)) j }
 
 -- ---- a draft with one code more

@@ -1,5 +1,5 @@
 -- What is held stays held where texts, codes and rows grow.
-use Rattle.std.proofs.Common.{◌≡◌, ℕ, zero, suc, ◌+◌, ◌-◌, ◌≤◌, true, false, cond, List, [], ◌∷◌, ◌++◌, length, take, drop, slice_range, slice_get, filter_map, bytes_eq, Option, Some, None, refl, sym, ap, subst, ◌∙◌, arith}
+use Rattle.std.proofs.Common.{◌≡◌, ℕ, zero, suc, ◌+◌, ◌-◌, ◌≤◌, true, false, cond, List, [], ◌∷◌, ◌++◌, length, take, drop, slice_range, filter_map, bytes_eq, Option, Some, None, refl, sym, ap, subst, ◌∙◌, arith}
 use Rattle.std.specs.List.{AllZip, list_any}
 use Rattle.std.proofs.lemmas.List.{append_assoc, append-nil, take-append-le, length-append, length-drop}
 use Rattle.std.proofs.lemmas.List.Elements.{filter_map-append}
@@ -67,15 +67,6 @@ are_rows_push t cs e [] [] r d h k = (subst (λ x. IsRow t cs x r d) (append-nil
 are_rows_push t cs e [] (x ∷ ds) r d h k = absurd h
 are_rows_push t cs e (s ∷ rs) [] r d h k = absurd h
 are_rows_push t cs e (s ∷ rs) (x ∷ ds) r d h k = (h.0, are_rows_push t cs (e ++ x ∷ []) rs ds r d h.1 (subst (λ y. IsRow t cs y r d) (sym (append_assoc e (x ∷ []) ds)) k))
-
--- the row of a declaration
-pub row_at : (t : List ℕ) (cs : List IdCode) (e : List Declaration) (rs : List Row) (front back : List Declaration) (d : Declaration) → AreRows t cs e rs (front ++ d ∷ back) → (r : Row) × (slice_get rs (length front) ≡ Some r) × IsRow t cs (e ++ front) r d
-row_at t cs e [] [] back d h = absurd h
-row_at t cs e [] (x ∷ front) back d h = absurd h
-row_at t cs e (r ∷ rs) [] back d h = (r, refl, subst (λ x. IsRow t cs x r d) (sym (append-nil e)) h.0)
-row_at t cs e (r ∷ rs) (x ∷ front) back d h =
-    let m = row_at t cs (e ++ x ∷ []) rs front back d h.1 in
-    (m.0, m.1, subst (λ y. IsRow t cs y m.0 d) (append_assoc e (x ∷ []) front) m.2)
 
 -- ---- codes, one declaration on
 

@@ -20,6 +20,7 @@ use Rattle.vcd_view.specs.declared.view.Kind.TheVariants as kind
 use Rattle.vcd_view.proofs.RowLemmas.{rows_len}
 use Rattle.vcd_head.proofs.DraftLemmas.{open_is}
 use Rattle.vcd_head.proofs.TokenSteps.{append_not_nil}
+use Rattle.vcd_head.proofs.CodeChecks.{not_some}
 
 pub carried : {X : Type 0} {g : Ghosts X} (most : ℕ) (i : Input) (d : Draft) (f : Feed X g) (placed : List (Placed HeaderPhrase)) (p : Placed HeaderPhrase) → Reads most i (placed ++ p ∷ []) [] f → IsDraftOf most d (phrases_of placed ++ p.phrase ∷ []) → DraftsUpTo most i d f
 carried most i d f placed p r h = record { placed = placed ++ p ∷ []; reads = r; holds = subst (IsDraftOf most d) (sym (map-append (λ (q : Placed HeaderPhrase). q.phrase) placed (p ∷ []))) h; some = append_not_nil placed p }
@@ -88,17 +89,9 @@ failed_test b n e = rw e refl
 pub passed_test : (b : Bool) (n : ℕ) → b ≡ true → cond b None (Some n) ≡ None
 passed_test b n e = rw e refl
 
-pub passed_not : (b : Bool) (n : ℕ) → b ≡ false → cond (not b) None (Some n) ≡ None
-passed_not b n e = rw e refl
-
 pub failed_not : (b : Bool) (n : ℕ) → b ≡ true → cond (not b) None (Some n) ≡ Some n
 failed_not b n e = rw e refl
 
 -- `$end` ends the phrase
 pub whole_test : {X : Type 0} (b : Bool) (x : X) → b ≡ true → cond b (Some x) None ≡ Some x
 whole_test b x e = rw e refl
-
--- an option that is none of the values
-pub default_none : {X : Type 0} (o : Option X) → ((x : X) → o ≡ Some x → ⊥) → o ≡ None
-default_none None h = refl
-default_none (Some x) h = absurd (h x refl)

@@ -145,9 +145,6 @@ ready_by_walk h row rest e rows left held l walks m =
 pub ready_as_held : (h : Header) (row : ℕ) (rest : List ℕ) (e : Enclosing) → LeavesScopes h row rest e → 0 < e.held → IsReady h row rest e.rows e.left e.held
 ready_as_held h row rest e l s = record { rest_are = l.rest_are; holds = l.holds; known = l.known s; few = l.few; some = λ k. s }
 
-pub gives_none : (h : Header) (row : ℕ) (rest rows : List ℕ) (left held : ℕ) → IsReady h row rest rows left held → left ≡ 0 → rest ≡ []
-gives_none h row rest rows left held r e = r.rest_are ∙ ap (λ n. reverse (take n (enclosing (take row h.declarations)))) e
-
 take-more : (xs : List ℕ) (n x : ℕ) → slice_get xs n ≡ Some x → take (suc n) xs ≡ take n xs ++ x ∷ []
 take-more [] n x at = cc
 take-more (y ∷ xs) zero x at = let same : y ≡ x = cc in ap (λ z. z ∷ []) same

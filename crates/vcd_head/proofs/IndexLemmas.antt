@@ -1,5 +1,5 @@
 -- The order of codes by their bytes.
-use Rattle.std.proofs.Common.{◌≡◌, ◌⊎◌, inl, inr, ℕ, zero, suc, ◌+◌, ◌*◌, ◌^◌, ◌<◌, ◌≤◌, Bool, true, false, List, [], ◌∷◌, ◌++◌, length, map, get_or, bytes_eq, option_map, unwrap_or, refl, sym, ap, subst, ◌∙◌, arith, zero-add, add-one, pow-suc}
+use Rattle.std.proofs.Common.{◌≡◌, ◌⊎◌, inl, inr, ℕ, zero, suc, ◌+◌, ◌*◌, ◌^◌, ◌<◌, ◌≤◌, Bool, true, false, List, [], ◌∷◌, ◌++◌, length, map, get_or, bytes_eq, option_map, unwrap_or, refl, sym, ap, subst, ◌∙◌, arith, zero-add, add-one}
 use Rattle.std.specs.Prelude.{IsPermutation}
 use Rattle.std.specs.Cmp.{IsTotalOrder, IsStrictWeakOrder, nat_cmp_is}
 use Rattle.std.specs.List.{AllByRecursion, All, IsDistinct, range_with_len}
@@ -26,15 +26,10 @@ use Rattle.vcd_view.specs.Entries.{text_in}
 use Rattle.vcd_head.specs.Fronts.{ArePrefixes, bytes_at, prefix_in, order_of}
 use Rattle.vcd_view.specs.Keys.{AreBytes}
 use Rattle.vcd_view.proofs.ListLemmas.{bytes_flip, to_all}
-use Rattle.vcd_view.proofs.EntryLemmas.{code_found}
 use Rattle.vcd_view.proofs.LookUpLemmas.{codes_len, text_at, texts_range}
-use Rattle.vcd_view.proofs.RowLemmas.{text_within}
+use Rattle.vcd_view.proofs.RowLemmas.{text_within, code_of_shown}
 
 -- ---- prefixes
-
--- a byte more
-pub front_grown : (f n b : ℕ) → f < 256 ^ n → b < 256 → f * 256 + b < 256 ^ (n + 1)
-front_grown f n b l s = rw (add-one n, pow-suc 256 n) (omega (arith, l, s))
 
 -- eight bytes fit
 pub front_fits : (f n b : ℕ) → f < 256 ^ n → n < 8 → b < 256 → f * 256 + b < 2 ^ 64
@@ -148,7 +143,7 @@ pub bytes_are : (text : List ℕ) (list : List Code) (cs : List IdCode) (p : ℕ
 bytes_are text list cs p h l =
     let n = codes_len text list cs h.stand in
     let at = slice_get-get_or list p none (omega arith) in
-    let k = code_found text list cs p _ h.stand at in
+    let k = code_of_shown text list cs p _ h.stand at in
     ap (λ o. unwrap_or (option_map (λ (c : Code). text_in text c.start c.len) o) []) at ∙ text_within text _ _ k.2.within ∙ k.2.text_is ∙ sym (text_at cs p k.0 k.1)
   where
     none : Code

@@ -1,5 +1,5 @@
 -- The names that continue inside open scopes.
-use Rattle.std.proofs.Common.{◌≡◌, ◌≢◌, ◌⊎◌, ℕ, zero, suc, ◌+◌, ◌-◌, ◌<◌, ◌≤◌, Bool, true, false, ◌||◌, ◌==◌, List, [], ◌∷◌, ◌++◌, length, map, take, drop, get_or, set, slice_range, reverse, replicate, slice_get, Option, Some, None, option_map, inl, inr, refl, sym, ap, subst, ◌∙◌, arith}
+use Rattle.std.proofs.Common.{◌≡◌, ◌≢◌, ◌⊎◌, ℕ, zero, suc, ◌+◌, ◌-◌, ◌<◌, ◌≤◌, Bool, true, false, ◌||◌, ◌==◌, List, [], ◌∷◌, ◌++◌, length, map, take, drop, get_or, set, slice_range, reverse, slice_get, Option, Some, None, option_map, inl, inr, refl, sym, ap, subst, ◌∙◌, arith}
 use Rattle.std.specs.List.{AllByRecursion, list_any}
 use Rattle.std.proofs.lemmas.Bool.{ne_eqb}
 use Rattle.std.proofs.lemmas.Grind.{flat_map-append}
@@ -28,18 +28,12 @@ use Rattle.vcd_view.specs.declared.view.Row.{Row}
 use Rattle.vcd_view.specs.Shown.{HeadShown}
 use Rattle.vcd_view.specs.Views.{IsRow, Views, counted_from_one}
 use Rattle.vcd_view.proofs.RowLemmas.{row_of, rows_len}
-use Rattle.vcd_view.proofs.ListLemmas.{all_push, all_weaker}
+use Rattle.vcd_view.proofs.ListLemmas.{all_push, all_weaker, there}
 use Rattle.vcd_view.proofs.ParentLemmas.{around_none, around_some, parent_before}
 use Rattle.vcd_head.proofs.MatchLemmas.{or_true}
 use Rattle.vcd_head.proofs.RunLemmas.{text_is}
-use Rattle.vcd_head.proofs.SelectionLemmas.{there}
 
 -- ---- lists
-
-pub same_everywhere : {X : Type 0} (n i : ℕ) (x y : X) → slice_get (replicate n x) i ≡ Some y → x ≡ y
-same_everywhere zero i x y e = absurd (none-some y e)
-same_everywhere (suc n) zero x y e = same_Some x y e
-same_everywhere (suc n) (suc i) x y e = same_everywhere n i x y e
 
 -- what is read after a write
 pub set_at : {X : Type 0} (xs : List X) (p k : ℕ) (y x : X) → slice_get (set xs p y) k ≡ Some x → ((k ≡ p) × (y ≡ x)) ⊎ ((k ≢ p) × (slice_get xs k ≡ Some x))

@@ -1,5 +1,5 @@
 -- The marks that names give, and the header of these.
-use Rattle.std.proofs.Common.{◌≡◌, ◌⊎◌, inl, inr, ℕ, zero, suc, ◌+◌, ◌<◌, ◌≤◌, ◌==◌, Bool, true, false, cond, List, [], ◌∷◌, ◌++◌, length, map, flat_map, option_map, unwrap_or, refl, sym, ap, ◌∙◌, ne_eqb, arith}
+use Rattle.std.proofs.Common.{◌≡◌, ◌⊎◌, inl, inr, ℕ, ◌+◌, ◌<◌, ◌≤◌, ◌==◌, Bool, true, false, cond, List, [], ◌∷◌, ◌++◌, length, map, flat_map, option_map, unwrap_or, refl, sym, ap, ◌∙◌, ne_eqb, arith}
 use Rattle.std.specs.List.{AllByRecursion, range_with_len}
 use Rattle.std.proofs.lemmas.List.{length_push}
 use Rattle.std.proofs.lemmas.List.FromFn.{length-map-range_with_len, get_or-map-range_with_len}
@@ -16,6 +16,7 @@ use Rattle.vcd_view.specs.declared.view.Scale.{Scale}
 use Rattle.vcd_head.specs.Marks.{is_marked, marks_of}
 use Rattle.vcd_view.specs.Shown.{HeadShown}
 use Rattle.vcd_view.specs.Views.{Views}
+use Rattle.vcd_text.proofs.Steps.{before_or_from}
 
 all_append : (P : ℕ → Type 0) (xs ys : List ℕ) → AllByRecursion P xs → AllByRecursion P ys → AllByRecursion P (xs ++ ys)
 all_append P [] ys h k = k
@@ -42,19 +43,13 @@ places_below : (names : List (List ℕ)) (ds : List Declaration) → AllByRecurs
 unfolding marked_places
 places_below names ds = marked_below names [] ds (length ds) (omega arith)
 
--- the index is below n, or not
-by_order : (i n : ℕ) → (i < n) ⊎ (n ≤ i)
-by_order i zero = inr (omega arith)
-by_order zero (suc n) = inl (omega arith)
-by_order (suc i) (suc n) = elim (by_order i n) [ inl l ↦ inl (omega arith) | inr l ↦ inr (omega arith) ]
-
 mark_is : (b : Bool) → (cond b 1 0 == 1) ≡ b
 mark_is true = refl
 mark_is false = refl
 
 mark_at : (names : List (List ℕ)) (ds : List Declaration) (i : ℕ) → is_marked (marks_of names ds) i ≡ is_among (marked_places names ds) i
 unfolding marks_of
-mark_at names ds i = by_place (by_order i (length ds))
+mark_at names ds i = by_place (before_or_from i (length ds))
   where
     positions : List ℕ
     positions = marked_places names ds

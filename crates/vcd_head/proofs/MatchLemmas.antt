@@ -11,7 +11,8 @@ use Rattle.vcd_model.specs.Declarations.{Declaration, path_of}
 use Rattle.vcd_model.specs.Selection.{first_unmatched, is_selected, is_variable, selected, selects_path, with_path}
 use Rattle.vcd_model.proofs.Growing.{each_after-append}
 use Rattle.vcd_head.specs.Matched.{HaveMatched, IsFirstFalse, Matched, Matches}
-use Rattle.vcd_head.proofs.SelectionLemmas.{has_path, take-next, there, without_path}
+use Rattle.vcd_head.proofs.SelectionLemmas.{has_path, take-next, without_path}
+use Rattle.vcd_view.proofs.ListLemmas.{there}
 
 -- ---- tests
 

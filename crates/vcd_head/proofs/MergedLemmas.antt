@@ -17,7 +17,7 @@ use Rattle.vcd_view.specs.declared.view.Scale.{Scale}
 use Rattle.vcd_view.specs.Shown.{HeadShown}
 use Rattle.vcd_head.specs.Shown.{shown}
 use Rattle.vcd_view.specs.Views.{IsExponent, Views}
-use Rattle.vcd_head.proofs.WriteLemmas.{take-next}
+use Rattle.vcd_head.proofs.SelectionLemmas.{take-next}
 
 -- ---- a head among them
 

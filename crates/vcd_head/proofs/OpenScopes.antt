@@ -3,7 +3,7 @@ use Rattle.std.proofs.Common.{◌≡◌, ℕ, zero, suc, ◌<◌, Bool, cond, Li
 use Rattle.std.specs.Io.KnownBytes.{Appends}
 use Rattle.std.proofs.Math.Seq.{take-length}
 use Rattle.std.proofs.lemmas.Grind.{flat_map-append}
-use Rattle.std.proofs.lemmas.List.{append_assoc, append-nil, length-take-le}
+use Rattle.std.proofs.lemmas.List.{append_assoc, length-take-le}
 use Rattle.vcd_model.specs.Declarations.{Declaration, enclosing, parent}
 use Rattle.vcd_model.specs.Header.{Header}
 use Rattle.vcd_model.specs.HeadText.{up_line, up_lines_at}
@@ -136,7 +136,3 @@ closes_some m ds scope old mid new c line =
     let whole : up_lines_at m (enclosing ds) ≡ (up_lines_at m c.inner ++ up_lines_at m (scope ∷ [])) ++ up_lines_at m outer =
     ap (up_lines_at m) (c.split ∙ sym (append_assoc c.inner (scope ∷ []) outer)) ∙ flat_map-append f (c.inner ++ scope ∷ []) outer ∙ ap (λ l. l ++ up_lines_at m outer) (flat_map-append f c.inner (scope ∷ [])) in
     subst (AppendsSome old new) (sym whole) (appends-first old new _ (up_lines_at m outer) (appends-some old mid new (up_lines_at m c.inner) (up_lines_at m (scope ∷ [])) c.written line))
-
--- no scope is left
-pub closes_all : (m : ℕ → Bool) (ds : List Declaration) (next : Option ℕ) (old new : Option (List ℕ)) → Closes m ds next old new → next ≡ None → Appends old new (up_lines_at m (enclosing ds))
-closes_all m ds next old new c none = subst (λ l. Appends old new (up_lines_at m l)) (sym (c.split ∙ ap (λ o. c.inner ++ with_scopes ds o) none ∙ append-nil c.inner)) c.written

@@ -1,11 +1,11 @@
 -- Indexes of names, sorted.
-use Rattle.std.proofs.Common.{◌≡◌, ℕ, zero, suc, ◌+◌, ◌-◌, ◌<◌, ◌≤◌, List, [], ◌++◌, drop, get_or, length, replicate, inl, inr, refl, ◌∙◌, arith}
+use Rattle.std.proofs.Common.{◌≡◌, ℕ, zero, suc, ◌+◌, ◌-◌, ◌<◌, ◌≤◌, List, [], ◌++◌, get_or, length, replicate, inl, inr, refl, ◌∙◌, arith}
 use Rattle.std.specs.Cmp.{IsStrictWeakOrder}
 use Rattle.std.specs.List.{All, Contains}
 use Rattle.std.specs.List.Sorted.{IsSortedBy}
 use Rattle.std.proofs.lemmas.Bool.{cases_lt}
 use Rattle.std.proofs.lemmas.Cmp.{nat_list_cmp_total}
-use Rattle.std.proofs.lemmas.List.{get_or-append_right, get_or-drop, get_or_append_left, get_or_default}
+use Rattle.std.proofs.lemmas.List.{get_or-append_right, get_or_append_left, get_or_default}
 use Rattle.std.proofs.lemmas.List.MinMax.{ranks_by}
 use Rattle.std.proofs.lemmas.List.Sorted.{sorted_far}
 use Rattle.vcd_head.specs.NameOrder.{IsOrder, comes_before}
@@ -25,9 +25,6 @@ pub read_same : {X : Type 0} (x : X) (n k : ℕ) → get_or (replicate n x) k x 
 read_same x zero k = refl
 read_same x (suc n) zero = refl
 read_same x (suc n) (suc k) = read_same x n k
-
-pub same_left : {X : Type 0} (x : X) (room n i : ℕ) → get_or (drop n (replicate room x)) i x ≡ x
-same_left x room n i = get_or-drop n (replicate room x) i x ∙ read_same x room (n + i)
 
 -- sorted indexes of all names are their order, with zeros after them
 pub order_made : (names : List (List ℕ)) (used rest : List ℕ) (n : ℕ) → n ≡ length names → length used ≡ n → n ≤ 16384 → ((p : ℕ) → p < n → Contains used p) → All (λ p. p < n) used → IsSortedBy (comes_before names) used

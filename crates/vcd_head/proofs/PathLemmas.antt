@@ -100,6 +100,3 @@ point_some h row scope e old new mid last n name point =
     let rest = names_text (take row h.declarations) n.others in
     subst (AppendsSome old last) (sym (n.split ∙ sym (append_assoc front (46 ∷ []) rest)))
     (appends-first old last (front ++ 46 ∷ []) rest (appends-some old mid last front (46 ∷ []) (appends-twice old new mid n.written (name_of n.is.declared) n.puts name) point))
-
-pub names_all : (h : Header) (row : ℕ) (e : Enclosing) (old new : Option (List ℕ)) (n : HasNames h row e old new) → n.rest ≡ [] → Appends old new (scopes_text (take row h.declarations))
-names_all h row e old new n none = subst (Appends old new) (sym (n.split ∙ ap (λ l. n.written ++ names_text (take row h.declarations) l) none ∙ append-nil n.written)) n.puts

@@ -26,7 +26,9 @@ use Rattle.vcd_view.specs.Views.{IsRow, Views}
 use Rattle.vcd_view.proofs.RowLemmas.{row_of}
 use Rattle.vcd_head.proofs.EnclosingLemmas.{few_around}
 use Rattle.vcd_head.proofs.PathLemmas.{scope_at}
-use Rattle.vcd_head.proofs.WriteLemmas.{front-length, lines-append, lines-next, take-next}
+use Rattle.vcd_head.proofs.WriteLemmas.{front-length, lines-append, lines-next}
+use Rattle.vcd_head.proofs.SelectionLemmas.{take-next}
+use Rattle.std.proofs.Math.Bool.{or-true}
 
 -- ---- lists
 
@@ -38,10 +40,6 @@ all_take P (suc n) (x ∷ xs) h = (h.0, all_take P n xs h.1)
 all_lower : (m n : ℕ) (xs : List ℕ) → m ≤ n → AllByRecursion (λ x. x < m) xs → AllByRecursion (λ x. x < n) xs
 all_lower m n [] l h = tt
 all_lower m n (x ∷ xs) l h = let first = h.0 in (omega arith, all_lower m n xs l h.1)
-
-or_true : (b : Bool) → (b || true) ≡ true
-or_true true = refl
-or_true false = refl
 
 drop_none : (ps : List ℕ) (p : ℕ) → is_among ps p ≡ false → is_among (drop 1 ps) p ≡ false
 drop_none [] p h = refl
@@ -63,7 +61,7 @@ own_mark front back v =
     let before = places_after [] [] front in
     let rest = enclosing front ++ places_after [] (front ++ Declaration.Var v ∷ []) back in
     ap (λ l. is_among l n) (places_split [] [] front (Declaration.Var v ∷ back)) ∙ list_any-append (λ j. n == j) before (places_after [] front (Declaration.Var v ∷ back))
-    ∙ ap (λ b. is_among before n || (b || is_among rest n)) (eq-eqb n n refl) ∙ or_true (is_among before n)
+    ∙ ap (λ b. is_among before n || (b || is_among rest n)) (eq-eqb n n refl) ∙ or-true (is_among before n)
 
 -- so are those of the scopes around it
 var_marks : (ds : List Declaration) (i : ℕ) (v : Variable) → slice_get ds i ≡ Some (Declaration.Var v) → AllByRecursion (λ p. is_among (marked_places [] ds) p ≡ true) (i ∷ enclosing (take i ds))
@@ -446,7 +444,3 @@ opens_some h row count scope e e2 old mid new o n line =
     let whole : openings h.declarations (take count (enclosing (take row h.declarations))) ≡ (flat_map f o.done ++ f scope) ++ flat_map f n.others =
     ap (flat_map f) (o.split ∙ ap (λ l. o.done ++ l) n.parts) ∙ flat_map-append f o.done (scope ∷ n.others) ∙ sym (append_assoc (flat_map f o.done) (f scope) (flat_map f n.others)) in
     subst (AppendsSome old new) (sym whole) (appends-first old new _ (flat_map f n.others) (appends-some old mid new (flat_map f o.done) (f scope) o.puts (subst (AppendsSome mid new) (sym own) line)))
-
--- none is left
-pub opens_all : (h : Header) (row count : ℕ) (e : Enclosing) (old new : Option (List ℕ)) (o : Opens h row count e old new) → o.rest ≡ [] → Appends old new (openings h.declarations (take count (enclosing (take row h.declarations))))
-opens_all h row count e old new o none = subst (λ l. Appends old new (flat_map (opening h.declarations) l)) (sym (o.split ∙ ap (λ l. o.done ++ l) none ∙ append-nil o.done)) o.puts

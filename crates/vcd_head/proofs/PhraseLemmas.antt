@@ -19,20 +19,21 @@ use Rattle.vcd_head.specs.declared.fault.HeadFault.TheVariants.{TokenTooLong, En
 use Rattle.vcd_view.specs.declared.view.Kind.{Kind}
 use Rattle.vcd_view.specs.Keywords.{NoEnds}
 use Rattle.vcd_head.specs.Texts.{RunsOn, Welcomes}
-use Rattle.vcd_view.proofs.KeywordLemmas.{keyword_at, until, not_until}
+use Rattle.vcd_view.proofs.KeywordLemmas.{until, not_until}
+use Rattle.vcd_model.proofs.HeaderGrammar.{keyword_of-text}
 use Rattle.vcd_head.proofs.TokenSteps.{taken, taken_phrase, taken_last, refused}
 
 pub start_fault : (most : ℕ) (ps : List HeaderPhrase) (k : Keyword) → header_fault most ps [] (keyword_text k) ≡ first_failed (start_checks most (declarations_of ps) k)
 unfolding header_fault
-start_fault most ps k = ap (λ o. first_failed (start_of most (declarations_of ps) (keyword_text k) o)) (keyword_at k)
+start_fault most ps k = ap (λ o. first_failed (start_of most (declarations_of ps) (keyword_text k) o)) (keyword_of-text k)
 
 pub inner_fault : (most : ℕ) (ps : List HeaderPhrase) (k : Keyword) (before : List (List ℕ)) (t : List ℕ) → header_fault most ps (keyword_text k ∷ before) t ≡ first_failed (inner_checks (declarations_of ps) k before t)
 unfolding header_fault
-inner_fault most ps k before t = ap (λ o. first_failed (inner_of (declarations_of ps) o before t)) (keyword_at k)
+inner_fault most ps k before t = ap (λ o. first_failed (inner_of (declarations_of ps) o before t)) (keyword_of-text k)
 
 pub phrase_is : (k : Keyword) (ts : List (List ℕ)) → header_phrase (keyword_text k ∷ ts) ≡ phrase_with k ts
 unfolding header_phrase
-phrase_is k ts = ap (phrase_behind (keyword_text k) ts) (keyword_at k)
+phrase_is k ts = ap (phrase_behind (keyword_text k) ts) (keyword_of-text k)
 
 module _ {X : Type 0} {g : Ghosts X} (most : ℕ) (i : Input) (placed : List (Placed HeaderPhrase)) (k : Keyword) (f : Feed X g) where
   -- the keyword passes its checks

@@ -35,7 +35,8 @@ use Rattle.vcd_model.proofs.SoFarLemmas.{so_far-nothing}
 use Rattle.vcd_text.specs.Feed.{HasGiven}
 use Rattle.vcd_head.proofs.TokenSteps.{taken, taken_phrase, faultless_whole}
 use Rattle.vcd_head.proofs.PhraseLemmas.{begun, ended, ended_all, refused_inside, runs_freely, unknown_runs, unknown_is, unknown_free}
-use Rattle.vcd_view.proofs.KeywordLemmas.{not_until, until, is_keyword}
+use Rattle.vcd_view.proofs.KeywordLemmas.{not_until, until}
+use Rattle.vcd_model.proofs.HeaderGrammar.{keyword_is}
 use Rattle.vcd_head.proofs.WordLemmas.{fault_of_command, unknown_command}
 use Rattle.vcd_head.proofs.DraftLemmas.{holds_plain, holds_date, holds_version}
 use Rattle.vcd_head.proofs.DraftSteps.{carried, passed_test, failed_test, whole_test}
@@ -113,7 +114,7 @@ module _ {X : Type 0} {g : Ghosts X} (most : ℕ) (i : Input) where
 -- the first token of a phrase was looked at
 pub begun_by : {X : Type 0} {g : Ghosts X} (most : ℕ) (i : Input) (d : Draft) (f : Feed X g) (placed : List (Placed HeaderPhrase)) (k : Option WordOf) → option_map model_keyword k ≡ keyword_of (token_of f).bytes → ReadsToken most i placed [] f → IsDraftOf most d (phrases_of placed) → AtFirstToken most i k d f
 begun_by most i d f placed None e l h = record { placed = placed; token_read = l; other = sym e; holds = h }
-begun_by most i d f placed (Some k) e l h = record { placed = placed; token_read = l; keyword = is_keyword (token_of f).bytes (model_keyword k) (sym e); holds = h }
+begun_by most i d f placed (Some k) e l h = record { placed = placed; token_read = l; keyword = keyword_is (token_of f).bytes (model_keyword k) (sym e); holds = h }
 
 -- ---- the first and the last
 

@@ -1,5 +1,5 @@
 -- Numbers of codes that rise, and the keys that they encode.
-use Rattle.std.proofs.Common.{◌≡◌, ℕ, zero, suc, ◌+◌, ◌-◌, ◌<◌, ◌≤◌, ◌==◌, ◌&&◌, ◌||◌, not, nat_eq, nat_lt, Bool, true, false, cond, MatchResult, List, [], ◌∷◌, ◌++◌, length, map, get_or, slice_get, position, bytes_eq, unwrap_or, option_map, Result, Ok, Err, Some, None, refl, sym, ap, subst, ◌∙◌, arith, append_assoc}
+use Rattle.std.proofs.Common.{◌≡◌, ℕ, zero, suc, ◌+◌, ◌-◌, ◌<◌, ◌≤◌, ◌==◌, ◌||◌, not, nat_eq, nat_lt, Bool, true, false, cond, MatchResult, List, [], ◌∷◌, ◌++◌, length, map, get_or, slice_get, position, bytes_eq, unwrap_or, option_map, Result, Ok, Err, Some, None, refl, sym, ap, subst, ◌∙◌, arith, append_assoc}
 use Rattle.std.specs.Ordering.{nat_cmp}
 use Rattle.std.specs.List.{list_any, position_or_len}
 use Rattle.std.specs.List.Sorted.{IsBinarySearchResult}
@@ -17,6 +17,7 @@ use Rattle.vcd_head.specs.Keys.{is_key, same_shape, shape_in, shape_of}
 use Rattle.vcd_head.specs.declared.code_key.CodeKey.{CodeKey}
 use Rattle.vcd_head.specs.declared.code_key.CodeKey.TheVariants as key
 use Rattle.vcd_head.specs.declared.codes.Codes.{Codes}
+use Rattle.std.proofs.Math.Bool.{and-false, and-true}
 
 -- ---- the last of them
 
@@ -159,26 +160,18 @@ behind p (x ∷ xs) ys n =
 
 -- ---- the keys of numbers
 
-and_false : (b : Bool) → (b && false) ≡ false
-and_false true = refl
-and_false false = refl
-
-and_true : (b : Bool) → (b && true) ≡ b
-and_true true = refl
-and_true false = refl
-
 not_zero : (m : ℕ) → 0 < m → (m == 0) ≡ false
 not_zero m l = ne_eqb m 0 (λ e. omega (arith, e, l))
 
 module _ (t : List ℕ) where
   key_number : (n : ℕ) → (key_in t == 0) ≡ false → is_key t (key.Short n) ≡ nat_eq (key_in t) n
-  key_number n q = ap (λ b. bytes_eq (cond b (0 ∷ 0 ∷ t) (key_in t ∷ [])) (n ∷ [])) q ∙ and_true (nat_eq (key_in t) n)
+  key_number n q = ap (λ b. bytes_eq (cond b (0 ∷ 0 ∷ t) (key_in t ∷ [])) (n ∷ [])) q ∙ and-true (nat_eq (key_in t) n)
 
   other_number : (n : ℕ) → nat_eq (key_in t) n ≡ false → is_key t (key.Short n) ≡ false
   other_number n e = by_key (key_in t == 0) refl
     where
       by_key : (b : Bool) → (key_in t == 0) ≡ b → is_key t (key.Short n) ≡ false
-      by_key true q = ap (λ b. bytes_eq (cond b (0 ∷ 0 ∷ t) (key_in t ∷ [])) (n ∷ [])) q ∙ and_false (nat_eq 0 n)
+      by_key true q = ap (λ b. bytes_eq (cond b (0 ∷ 0 ∷ t) (key_in t ∷ [])) (n ∷ [])) q ∙ and-false (nat_eq 0 n)
       by_key false q = key_number n q ∙ e
 
   none_rising : (xs : List ℕ) → list_any (nat_eq (key_in t)) xs ≡ false → list_any (is_key t) (map (λ n. key.Short n) xs) ≡ false

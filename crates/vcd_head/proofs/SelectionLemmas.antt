@@ -1,5 +1,5 @@
 -- Which declarations names select.
-use Rattle.std.proofs.Common.{◌≡◌, ℕ, zero, suc, ◌+◌, ◌<◌, true, false, cond, List, [], ◌∷◌, ◌++◌, length, take, flat_map, slice_get, Some, None, refl, ap, ◌∙◌, add-one, arith}
+use Rattle.std.proofs.Common.{◌≡◌, ℕ, zero, suc, ◌+◌, true, false, cond, List, [], ◌∷◌, ◌++◌, length, take, flat_map, slice_get, Some, None, refl, ap, ◌∙◌, add-one, arith}
 use Rattle.std.proofs.lemmas.Bool.{cond-true, cond-false}
 use Rattle.std.proofs.lemmas.Grind.{flat_map-append}
 use Rattle.std.proofs.lemmas.List.{append-nil, length-take-le}
@@ -20,11 +20,6 @@ pub has_path : (names : List (List ℕ)) (e : List Declaration) (d : Declaration
 has_path names e (Declaration.Scope type name) h = cc
 has_path names e Declaration.Up h = cc
 has_path names e (Declaration.Var v) h = (record { path = path_of e (Declaration.Var v); variable = v }, cond-true (is_selected names e (Declaration.Var v)) _ None h)
-
-pub there : {X : Type 0} (xs : List X) (i : ℕ) → i < length xs → (x : X) × (slice_get xs i ≡ Some x)
-there [] i h = absurd (omega arith)
-there (x ∷ xs) zero h = (x, refl)
-there (x ∷ xs) (suc i) h = there xs i (omega arith)
 
 -- ---- the marked indexes, one declaration on
 

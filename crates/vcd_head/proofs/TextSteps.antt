@@ -51,10 +51,6 @@ module _ {X : Type 0} {g : Ghosts X} (most : ℕ) (i : Input) (placed : List (Pl
   pub ends_at_once : {Grows : List (List ℕ) → Type 0} → is_end (token_of f).bytes ≡ true → ReadsToken most i placed before f → Grows [] → EndsThere most i placed before f Grows
   ends_at_once e l grows = record { inner = []; none = tt; token_read = subst (λ (b : List (List ℕ)). ReadsToken most i placed b f) (sym (append-nil before)) l; ends = e; grows = grows }
 
-  -- nothing was read on yet
-  pub none_yet : {Grows : List (List ℕ) → Type 0} → Grows [] → Reads most i placed before f → ReadsOn most i placed before f Grows
-  none_yet grows r = record { inner = []; none = tt; reads = subst (λ (b : List (List ℕ)). Reads most i placed b f) (sym (append-nil before)) r; grows = grows }
-
   -- a token more was read on
   pub reads_more : {Grows' : List (List ℕ) → Type 0} (inner : List (List ℕ)) → RunsOn most placed before → NoEnds inner → is_end (token_of f).bytes ≡ false → ReadsToken most i placed (before ++ inner) f → Grows' (inner ++ (token_of f).bytes ∷ [])
       → ReadsOn most i placed before f Grows'

@@ -1,52 +1,19 @@
 -- What the tests of words say.
-use Rattle.std.proofs.Common.{◌≡◌, ℕ, ◌+◌, ◌-◌, ◌*◌, ◌<◌, ◌≤◌, Bool, true, false, cond, not, ◌&&◌, nat_lt, List, [], ◌∷◌, ◌++◌, length, take, get_or, Some, None, is_none, refl, ap, ◌∙◌, arith, add-one, pow-suc}
-use Rattle.std.specs.List.{list_all}
-use Rattle.std.specs.Char.{is_ascii_digit}
-use Rattle.std.proofs.lemmas.List.{length_push, take_more}
-use Rattle.std.proofs.lemmas.List.Folds.{list_all_at}
+use Rattle.std.proofs.Common.{◌≡◌, ℕ, ◌+◌, ◌-◌, ◌*◌, ◌<◌, Bool, true, false, cond, ◌&&◌, nat_lt, List, [], length, take, get_or, Some, None, is_none, refl, ap, ◌∙◌}
+use Rattle.std.proofs.lemmas.List.{take_more}
 use Rattle.std.proofs.lemmas.Option.{cond_some}
-use Rattle.std.proofs.lemmas.Bool.{ltb-true, and_parts, and_right, lt-ltb, le-ltb}
-use Rattle.vcd_model.specs.Bytes.{decimal_value, is_decimal, is_empty}
+use Rattle.std.proofs.lemmas.Bool.{ltb-true, and_parts}
+use Rattle.vcd_model.specs.Bytes.{decimal_value, is_decimal}
 use Rattle.vcd_model.specs.Keywords.{keyword_of, is_unknown_command, is_command}
 use Rattle.vcd_model.specs.HeaderChecks.{is_size, begins_change, header_fault}
 use Rattle.vcd_head.specs.Words.{size_in}
 use Rattle.vcd_model.specs.HeaderPhrases.{HeaderPhrase}
+use Rattle.vcd_model.proofs.Decimals.{decimal_value-push}
 
 -- ---- sizes
 
-decimal_value-push : (ds : List ℕ) (d : ℕ) → decimal_value (ds ++ d ∷ []) ≡ decimal_value ds * 10 + (d - 48)
-decimal_value-push [] d = omega arith
-decimal_value-push (x ∷ ds) d = rw (decimal_value-push ds d, length_push ds d, add-one, pow-suc) (omega arith)
-
 pub value_more : (token : List ℕ) (i : ℕ) → i < length token → decimal_value (take (i + 1) token) ≡ decimal_value (take i token) * 10 + (get_or token i 0 - 48)
 value_more token i h = rw (take_more token i 0 h) (decimal_value-push (take i token) (get_or token i 0))
-
-not_size : (token : List ℕ) → is_size token ≡ false → size_in token ≡ None
-not_size token e = rw e refl
-
-pub size_of_other : (token : List ℕ) (i : ℕ) → i < length token → is_ascii_digit (get_or token i 0) ≡ false → size_in token ≡ None
-size_of_other token i h e = not_size token (rw (list_all_at is_ascii_digit token i 0 h e) (by_empty (not (is_empty token))))
-  where
-    by_empty : (b : Bool) → ((b && false) && nat_lt 0 (decimal_value token) && nat_lt (decimal_value token) 16777216) ≡ false
-    by_empty true = refl
-    by_empty false = refl
-
-pub size_of_none : (token : List ℕ) → decimal_value token ≡ 0 → size_in token ≡ None
-size_of_none token e = not_size token (rw e (by_decimal (is_decimal token)))
-  where
-    by_decimal : (b : Bool) → (b && false && true) ≡ false
-    by_decimal true = refl
-    by_decimal false = refl
-
-pub size_of_much : (token : List ℕ) → 16777216 ≤ decimal_value token → size_in token ≡ None
-size_of_much token h = not_size token (rw (le-ltb (decimal_value token) 16777216 h) (and_right (is_decimal token && nat_lt 0 (decimal_value token)) false refl))
-
-filled : (token : List ℕ) → 0 < decimal_value token → not (is_empty token) ≡ true
-filled [] h = absurd (omega arith)
-filled (x ∷ token) h = refl
-
-pub size_of_digits : (token : List ℕ) → list_all is_ascii_digit token ≡ true → 0 < decimal_value token → decimal_value token < 16777216 → size_in token ≡ Some (decimal_value token)
-size_of_digits token a h k = rw (filled token h, a, lt-ltb 0 (decimal_value token) h, lt-ltb (decimal_value token) 16777216 k) refl
 
 -- ---- a first token that is no keyword
 

@@ -1,5 +1,5 @@
 -- The lines of a written header, by its rows.
-use Rattle.std.proofs.Common.{◌≡◌, ◌≢◌, ℕ, zero, suc, ◌+◌, ◌<◌, Bool, true, false, List, [], ◌∷◌, ◌++◌, length, take, drop, slice_get, get_or, flat_map, add-one, decimal, codes, Option, Some, None, option_map, unwrap_or, refl, sym, ap, subst, ◌∙◌, arith}
+use Rattle.std.proofs.Common.{◌≡◌, ◌≢◌, ℕ, ◌+◌, ◌<◌, Bool, true, false, List, [], ◌∷◌, ◌++◌, length, take, drop, slice_get, get_or, flat_map, add-one, decimal, codes, Option, Some, None, option_map, unwrap_or, refl, sym, ap, subst, ◌∙◌, arith}
 use Rattle.std.specs.List.{concat, join_with_byte}
 use Rattle.std.specs.Io.KnownBytes.{Appends}
 use Rattle.std.proofs.Math.Seq.{take-length}
@@ -20,6 +20,7 @@ use Rattle.vcd_view.specs.Shown.{HeadShown, text_in}
 use Rattle.vcd_view.specs.Views.{IsCode, IsRow, Views, code_text}
 use Rattle.vcd_view.proofs.RowLemmas.{rows_len, there, row_at, row_of, row_of_variable, text_within}
 use Rattle.vcd_view.proofs.ParentLemmas.{around_some, around_none}
+use Rattle.vcd_head.proofs.SelectionLemmas.{take-next}
 
 -- ---- a line
 
@@ -149,11 +150,6 @@ declared_there s h i v l =
 -- the lines of the first ones, and of those after
 pub lines-append : {X : Type 0} (f : List X → X → List ℕ) (xs ys : List X) → concat (each f (xs ++ ys)) ≡ concat (each f xs) ++ concat (each_after f xs ys)
 lines-append f xs ys = ap concat (each_after-append f [] xs ys) ∙ concat-append (each f xs) (each_after f xs ys)
-
-pub take-next : {X : Type 0} (xs : List X) (i : ℕ) (x : X) → slice_get xs i ≡ Some x → take (suc i) xs ≡ take i xs ++ x ∷ []
-take-next [] i x at = cc
-take-next (y ∷ xs) zero x at = let same : y ≡ x = cc in ap (λ z. z ∷ []) same
-take-next (y ∷ xs) (suc i) x at = ap (λ l. y ∷ l) (take-next xs i x at)
 
 -- one on
 pub lines-next : {X : Type 0} (f : List X → X → List ℕ) (ds : List X) (i : ℕ) (d : X) → slice_get ds i ≡ Some d → concat (each f (take (i + 1) ds)) ≡ concat (each f (take i ds)) ++ f (take i ds) d

@@ -3,7 +3,7 @@ ghost use Rattle.std.specs.Prelude.{◌≡◌, nat_eq, false, [], ◌∷◌, ◌
 ghost use Rattle.vcd_head.specs.Names.{Enters, EntersKey, IsNewCode, Rises, code_with, key_in, list_any};
 
 use crate::code_key::CodeKey;
-use crate::codes::{Codes, index_among, is_of_kind};
+use crate::codes::{Codes, index_among, is_declared_as};
 use crate::fault::HeadFault;
 use crate::rising::{index_in_rising, last_of};
 use crate::rows::token_len;
@@ -35,7 +35,7 @@ pub(crate) fn enter_code(
     let Some(code) = code_in(&known.list, position) else {
         return Ok(None);
     };
-    if !is_of_kind(code, size, event) {
+    if !is_declared_as(code, size, event) {
         return Ok(None);
     }
     Ok(Some(position))

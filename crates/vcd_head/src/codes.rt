@@ -41,7 +41,7 @@ impl Codes {
             return true;
         };
         match code_in(&self.list, position) {
-            Some(code) => is_of_kind(code, size, event),
+            Some(code) => is_declared_as(code, size, event),
             None => true,
         }
     }
@@ -73,7 +73,7 @@ impl Codes {
 
 /// Returns whether a code was declared with this size, and as an event or as none.
 #[inline(always)]
-pub(crate) fn is_of_kind(code: Code, size: usize, event: bool) -> bool
+pub(crate) fn is_declared_as(code: Code, size: usize, event: bool) -> bool
     ensures { result ≡ is_of code size event }
 {
     code.size == size && code.event == event

@@ -3,19 +3,18 @@ use Rattle.std.proofs.Common.{◌≡◌, ℕ, zero, suc, ◌≤◌, ◌<◌, max
 use Rattle.std.specs.List.{AllByRecursion, list_any, last_or}
 use Rattle.std.proofs.lemmas.List.{append_assoc, append-nil}
 use Rattle.std.proofs.lemmas.List.Folds.{list_any-append}
-use Rattle.std.proofs.lemmas.Bool.{le-leb, lt-leb, leb-true, le-ltb, lt-ltb, ltb-false}
-use Rattle.vcd_model.specs.Declarations.{IdCode, same_code}
+use Rattle.std.proofs.lemmas.Bool.{le-leb, lt-leb, leb-true, le-ltb, ltb-false, or_parts}
+use Rattle.vcd_model.specs.Declarations.{IdCode}
 use Rattle.vcd_model.specs.Header.{Header}
-use Rattle.vcd_model.specs.Items.{BodyItem, Change, Entry, entries, entry_after, marks, time_after}
-use Rattle.vcd_model.specs.Values.{value_of}
-use Rattle.vcd_model.specs.History.{gives_to, value_before}
+use Rattle.vcd_model.specs.Items.{BodyItem, Entry, entries, entry_after, marks, time_after}
+use Rattle.vcd_model.specs.History.{value_before}
 use Rattle.vcd_model.specs.ItemText.{text_after, time_unless, time_due, kept_by, may_keep, closing, last_mark}
 use Rattle.vcd_model.specs.HeadText.{head_for}
 use Rattle.vcd_model.specs.Cut.{is_mark_above, ends_cut, within, line_if_set, start_section, is_started, times_of, cut_open, cut_close, closing_above}
 use Rattle.vcd_model.proofs.Growing.{entries-append}
 use Rattle.vcd_model.proofs.Times.{marks-append}
 use Rattle.vcd_model.proofs.KeptLines.{keeps, kept_more, kept_same, kept_rise, last_is_enough, Rise}
-use Rattle.vcd_model.proofs.CutGrows.{all_below, all_within, due, goes_on, none_kept, or_parts, section_stays, so_far, so_far_is, started_more, whole_is}
+use Rattle.vcd_model.proofs.CutGrows.{all_below, all_within, due, goes_on, none_kept, section_stays, so_far, so_far_is, started_more, whole_is}
 use Rattle.vcd_model.proofs.CutKept.{above, closing_above_is}
 use Rattle.vcd_model.proofs.Latest.{behind, gives_at, last_value_is, latest, latest-append}
 
@@ -36,14 +35,6 @@ pub not_started : (a : ℕ) (p : List BodyItem) → is_started a p ≡ false →
 not_started a p e =
     let o = or_parts (a == 0) (list_any (nat_le a) (marks p)) e in
     all_below a 0 (marks p) [] (above_zero a o.0) (ap (list_any (nat_le a)) (append-nil (marks p)) ∙ o.1)
-
--- it is written if the time has come
-pub started_is : (a : ℕ) (p : List BodyItem) → is_started a p ≡ nat_le a (time_after p)
-started_is a p = by_case (is_started a p) refl
-  where
-    by_case : (b : Bool) → is_started a p ≡ b → is_started a p ≡ nat_le a (time_after p)
-    by_case true e = e ∙ sym (le-leb a (time_after p) (due a p e))
-    by_case false e = e ∙ sym (lt-leb a (time_after p) (not_started a p e))
 
 -- an item that is no timestamp changes nothing of it
 pub started_same : (a : ℕ) (p : List BodyItem) (x : BodyItem) → marks (x ∷ []) ≡ [] → is_started a (p ++ x ∷ []) ≡ is_started a p
@@ -83,20 +74,6 @@ lines_at_mark a p t (c ∷ cs) = rw (value_at_mark c a p t, lines_at_mark a p t 
 section_at_mark : (h : Header) (a : ℕ) (p : List BodyItem) (t : ℕ) → start_section h a (p ++ BodyItem.Time t ∷ []) ≡ start_section h a p
 unfolding start_section
 section_at_mark h a p t = rw (lines_at_mark a p t (filter (λ c. not c.event) h.codes)) refl
-
--- an item that gives this code no value leaves it
-pub value_other : (c : IdCode) (a : ℕ) (p : List BodyItem) (x : BodyItem) → gives_to c x ≡ false → value_before (p ++ x ∷ []) c a ≡ value_before p c a
-value_other c a p x e =
-    last_value_is c (λ u. nat_lt u a) (p ++ x ∷ []) ∙ ap (latest (gives_at c (λ u. nat_lt u a))) (entries-append p (x ∷ []))
-    ∙ latest-append (gives_at c (λ u. nat_lt u a)) (entries p) (entry_after p x ∷ [])
-    ∙ rw e (sym (last_value_is c (λ u. nat_lt u a) p))
-
--- a change of it before the time gives it
-pub value_new : (c : IdCode) (a : ℕ) (p : List BodyItem) (d : Change) → time_after p < a → same_code c d.code ≡ true → value_before (p ++ BodyItem.Changes d ∷ []) c a ≡ Some (value_of d)
-value_new c a p d low e =
-    last_value_is c (λ u. nat_lt u a) (p ++ BodyItem.Changes d ∷ []) ∙ ap (latest (gives_at c (λ u. nat_lt u a))) (entries-append p (BodyItem.Changes d ∷ []))
-    ∙ latest-append (gives_at c (λ u. nat_lt u a)) (entries p) (entry_after p (BodyItem.Changes d) ∷ [])
-    ∙ rw (e, lt-ltb (time_after p) a low) refl
 
 -- ---- the text with one item more
 

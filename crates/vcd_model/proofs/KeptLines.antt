@@ -3,15 +3,15 @@
 use Rattle.std.proofs.Common.{◌≡◌, ℕ, ◌≤◌, Bool, true, false, cond, ◌&&◌, ◌||◌, ◌==◌, List, [], ◌∷◌, ◌++◌, map, Option, Some, None, refl, sym, ap, ◌∙◌, subst, arith}
 use Rattle.std.specs.List.{list_any, last_or}
 use Rattle.std.proofs.lemmas.Bool.{eq-eqb, eqb-true}
-use Rattle.std.proofs.lemmas.List.{append_assoc, append-nil, map-append}
+use Rattle.std.proofs.lemmas.List.{append_assoc, append-nil}
 use Rattle.vcd_model.specs.Backward.{each_after}
 use Rattle.vcd_model.specs.Header.{Header}
 use Rattle.vcd_model.specs.HeadText.{head_for}
 use Rattle.vcd_model.specs.Items.{BodyItem, Entry, entry_after, entries, time_after, leaves_open}
-use Rattle.vcd_model.specs.ItemText.{item_line, time_line, time_unless, time_due, text_after, may_keep, kept_by, closing, last_mark}
-use Rattle.vcd_model.specs.Pick.{is_picked, pick_open, pick_close}
+use Rattle.vcd_model.specs.ItemText.{time_line, time_unless, time_due, may_keep, kept_by}
+use Rattle.vcd_model.specs.Pick.{is_picked, pick_open}
 use Rattle.vcd_model.specs.Selection.{selected}
-use Rattle.vcd_model.proofs.Growing.{text_after-append, kept_by-append, entries-append}
+use Rattle.vcd_model.proofs.Growing.{kept_by-append, entries-append}
 use Rattle.vcd_model.proofs.Times.{time_after-append}
 
 -- the times of the kept entries
@@ -98,33 +98,10 @@ kept_more chosen items x k e =
 pub kept_same : (chosen : Entry → Bool) (items : List BodyItem) (x : BodyItem) → keeps chosen items x ≡ false → kept_by chosen (entries (items ++ x ∷ [])) ≡ kept_by chosen (entries items)
 kept_same chosen items x e = kept_more chosen items x false e ∙ append-nil (kept_by chosen (entries items))
 
--- a kept item adds its line, after the line of its time if that is due
-pub text_kept : (chosen : Entry → Bool) (items : List BodyItem) (x : BodyItem) → keeps chosen items x ≡ true
-    → text_after [] (kept_by chosen (entries (items ++ x ∷ []))) ≡ text_after [] (kept_by chosen (entries items)) ++ (time_due (last_time chosen items) (time_after items) ++ item_line x)
-text_kept chosen items x e =
-    ap (text_after []) (kept_more chosen items x true e)
-    ∙ text_after-append [] (kept_by chosen (entries items)) (entry_after items x ∷ [])
-    ∙ ap (λ l. text_after [] (kept_by chosen (entries items)) ++ l) (append-nil (time_unless (kept_times chosen items) (time_after items) ++ item_line x) ∙ ap (λ l. l ++ item_line x) (time_unless_last chosen items))
-
--- an item that is not kept adds nothing
-pub text_dropped : (chosen : Entry → Bool) (items : List BodyItem) (x : BodyItem) → keeps chosen items x ≡ false → text_after [] (kept_by chosen (entries (items ++ x ∷ []))) ≡ text_after [] (kept_by chosen (entries items))
-text_dropped chosen items x e = ap (text_after []) (kept_same chosen items x e)
-
 -- the last of a list with one more at its end
 pub last_or-snoc : (o : Option ℕ) (ts : List ℕ) (t : ℕ) → last_or o (ts ++ t ∷ []) ≡ Some t
 last_or-snoc o [] t = refl
 last_or-snoc o (u ∷ ts) t = last_or-snoc (Some u) ts t
-
--- the time of a kept item is the last written one
-pub last_kept : (chosen : Entry → Bool) (items : List BodyItem) (x : BodyItem) → keeps chosen items x ≡ true → last_time chosen (items ++ x ∷ []) ≡ Some (time_after items)
-last_kept chosen items x e =
-    ap (λ es. last_or None (map (λ e. e.time) es)) (kept_more chosen items x true e)
-    ∙ ap (last_or None) (map-append (λ (e : Entry). e.time) (kept_by chosen (entries items)) (entry_after items x ∷ []))
-    ∙ last_or-snoc None (kept_times chosen items) (time_after items)
-
--- after an item that is not kept the last written time is the same
-pub last_dropped : (chosen : Entry → Bool) (items : List BodyItem) (x : BodyItem) → keeps chosen items x ≡ false → last_time chosen (items ++ x ∷ []) ≡ last_time chosen items
-last_dropped chosen items x e = ap (λ es. last_or None (map (λ e. e.time) es)) (kept_same chosen items x e)
 
 -- ---- `pick`
 
@@ -136,30 +113,3 @@ picked_by h names e = is_picked (selected names h.declarations) e.item
 pub pick_open_none : (h : Header) (names : List (List ℕ)) → pick_open h names [] ≡ head_for h names
 unfolding pick_open
 pick_open_none h names = append-nil (head_for h names)
-
--- a kept item adds its line, after the line of its time if that is due
-pub pick_open_kept : (h : Header) (names : List (List ℕ)) (items : List BodyItem) (x : BodyItem) → keeps (picked_by h names) items x ≡ true
-    → pick_open h names (items ++ x ∷ []) ≡ pick_open h names items ++ (time_due (last_time (picked_by h names) items) (time_after items) ++ item_line x)
-unfolding pick_open
-pick_open_kept h names items x e =
-    ap (λ l. head_for h names ++ l) (text_kept (picked_by h names) items x e)
-    ∙ sym (append_assoc (head_for h names) (text_after [] (kept_by (picked_by h names) (entries items))) (time_due (last_time (picked_by h names) items) (time_after items) ++ item_line x))
-
--- an item that is not kept adds nothing
-pub pick_open_dropped : (h : Header) (names : List (List ℕ)) (items : List BodyItem) (x : BodyItem) → keeps (picked_by h names) items x ≡ false → pick_open h names (items ++ x ∷ []) ≡ pick_open h names items
-unfolding pick_open
-pick_open_dropped h names items x e = ap (λ l. head_for h names ++ l) (text_dropped (picked_by h names) items x e)
-
--- without a timestamp nothing follows at the end
-pub pick_close_none : (h : Header) (names : List (List ℕ)) (items : List BodyItem) → last_mark items ≡ None → pick_close h names items ≡ []
-unfolding pick_close
-pick_close_none h names items e = ap (closing (kept_times (picked_by h names) items)) e
-
--- if the last timestamp is the greatest, its line follows if it is due
-pub pick_close_some : (h : Header) (names : List (List ℕ)) (items : List BodyItem) (t : ℕ) → last_mark items ≡ Some t → t ≡ time_after items → pick_close h names items ≡ time_due (last_time (picked_by h names) items) t
-unfolding pick_close
-pick_close_some h names items t e same =
-    ap (closing (kept_times (picked_by h names) items)) e
-    ∙ ap (time_unless (kept_times (picked_by h names) items)) same
-    ∙ time_unless_last (picked_by h names) items
-    ∙ ap (time_due (last_time (picked_by h names) items)) (sym same)

@@ -1,5 +1,5 @@
 -- The marked indexes are those of the selected variables, and of the scopes around them.
-use Rattle.std.proofs.Common.{◌≡◌, ℕ, zero, suc, ◌+◌, ◌<◌, ◌≤◌, ◌==◌, Bool, true, false, cond, ◌||◌, List, [], ◌∷◌, ◌++◌, length, map, flat_map, slice_get, Some, refl, sym, ap, ◌∙◌, subst, arith}
+use Rattle.std.proofs.Common.{◌≡◌, ℕ, ◌+◌, ◌<◌, ◌≤◌, ◌==◌, Bool, true, false, cond, ◌||◌, List, [], ◌∷◌, ◌++◌, length, map, flat_map, slice_get, Some, refl, sym, ap, ◌∙◌, subst, arith}
 use Rattle.std.specs.List.{AllByRecursion, list_any}
 use Rattle.std.proofs.lemmas.List.{append_assoc, length_push}
 use Rattle.std.proofs.lemmas.List.Concat.{flat_map-append}
@@ -13,6 +13,7 @@ use Rattle.vcd_model.proofs.Growing.{each_after-append}
 use Rattle.vcd_model.proofs.ScopeLemmas.{enclosing_below}
 use Rattle.vcd_model.proofs.HeadPhrases.{IsDeclared, AreDeclared}
 use Rattle.vcd_model.proofs.WrittenRows.{slice_get-more, slice_get-last, Open, IsNamed, HasOpen, has_scope, has_up, has_var, open_count}
+use Rattle.std.proofs.lemmas.Option.{slice_get_within}
 
 -- the scopes that are open after one more declaration
 pub opens_more : (earlier : List Declaration) (d : Declaration) (s : List Open) → HasOpen earlier s
@@ -23,12 +24,6 @@ opens_more earlier Declaration.Up [] is fine =
     absurd (let n = open_count earlier [] is in omega arith)
 opens_more earlier Declaration.Up (e ∷ s) is fine = (s, has_up earlier e s is)
 opens_more earlier (Declaration.Var v) s is fine = (s, has_var earlier s v is)
-
-slice_get-below : {X : Type 0} (xs : List X) (i : ℕ) (x : X) → slice_get xs i ≡ Some x
-    → i < length xs
-slice_get-below [] i x e = cc
-slice_get-below (y ∷ xs) zero x e = omega arith
-slice_get-below (y ∷ xs) (suc i) x e = let h = slice_get-below xs i x e in omega arith
 
 pub none_any : {X : Type 0} (test : X → Bool) (xs : List X)
     → AllByRecursion (λ x. test x ≡ false) xs → list_any test xs ≡ false
@@ -97,7 +92,7 @@ module _ (names : List (List ℕ)) where
   places_other n v (d ∷ ds) earlier s is are at =
       let more = opens_more earlier d s is are.0 in
       let opens = is.opens in
-      let low = slice_get-below earlier n (Declaration.Var v) at in
+      let low = slice_get_within earlier n (Declaration.Var v) at in
       let around : AllByRecursion (λ i. (n == i) ≡ false) (enclosing earlier) =
       subst (AllByRecursion (λ i. (n == i) ≡ false)) (sym opens.are)
       (named_other earlier n v s at is.named) in

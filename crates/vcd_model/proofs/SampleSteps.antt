@@ -6,7 +6,7 @@ use Rattle.std.proofs.lemmas.List.{append_assoc, append-nil}
 use Rattle.std.proofs.lemmas.List.Concat.{flat_map-append}
 use Rattle.std.proofs.lemmas.List.Elements.{filter-append}
 use Rattle.std.proofs.lemmas.List.Folds.{list_any-append}
-use Rattle.std.proofs.lemmas.Bool.{lt-ltb, le-ltb, ltb-false}
+use Rattle.std.proofs.lemmas.Bool.{lt-ltb, le-ltb, ltb-false, or_parts}
 use Rattle.vcd_model.specs.Declarations.{IdCode, code_of}
 use Rattle.vcd_model.specs.Header.{Header}
 use Rattle.vcd_model.specs.Items.{BodyItem, entries, entry_after, marks, time_after}
@@ -17,10 +17,10 @@ use Rattle.vcd_model.specs.Cut.{is_mark_above}
 use Rattle.vcd_model.specs.Outcome.{Request, ends_early}
 use Rattle.vcd_model.proofs.Growing.{entries-append}
 use Rattle.vcd_model.proofs.Times.{marks-append}
-use Rattle.vcd_model.proofs.CutGrows.{or_parts}
 use Rattle.vcd_model.proofs.FinalValues.{value_at_is}
 use Rattle.vcd_model.proofs.Latest.{gives_at, last_value_is, latest, latest-append}
-use Rattle.vcd_model.proofs.SampleGrows.{lines_stay, settled_more, rises_on, up_first, or-true}
+use Rattle.vcd_model.proofs.SampleGrows.{lines_stay, settled_more, rises_on, up_first}
+use Rattle.std.proofs.Math.Bool.{or-true}
 
 -- these times are settled, or none of them is
 abbrev pub AreSettled : Bool → List BodyItem → List ℕ → Type 0
@@ -72,11 +72,6 @@ settled_same items x t e = ap (list_any (nat_lt t)) (marks-append items (x ∷ [
 pub all_settled_same : (b : Bool) (items : List BodyItem) (x : BodyItem) (ts : List ℕ) → marks (x ∷ []) ≡ [] → AreSettled b items ts → AreSettled b (items ++ x ∷ []) ts
 all_settled_same b items x [] e h = tt
 all_settled_same b items x (t ∷ ts) e h = (settled_same items x t e ∙ h.0, all_settled_same b items x ts e h.1)
-
--- a settled time stays so
-pub still_settled : (items : List BodyItem) (x : BodyItem) (ts : List ℕ) → AreSettled true items ts → AreSettled true (items ++ x ∷ []) ts
-still_settled items x [] h = tt
-still_settled items x (t ∷ ts) h = (settled_more items (x ∷ []) t h.0, still_settled items x ts h.1)
 
 -- a timestamp settles the times below it
 settled_with : (items : List BodyItem) (t u : ℕ) → is_settled (items ++ BodyItem.Time t ∷ []) u ≡ (is_settled items u || (nat_lt u t || false))

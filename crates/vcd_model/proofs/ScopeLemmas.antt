@@ -1,13 +1,12 @@
 -- The enclosing scopes are a stack: what a declaration does to those that the declarations before
 -- it leave open.
-use Rattle.std.proofs.Common.{◌≡◌, ℕ, zero, suc, ◌+◌, ◌<◌, ◌≤◌, true, false, cond, List, [], ◌∷◌, ◌++◌, length, reverse, count_by, filter_map, take, drop, slice_get, Some, option_map, refl, sym, ap, subst, ◌∙◌, arith}
+use Rattle.std.proofs.Common.{◌≡◌, ℕ, zero, suc, ◌+◌, ◌<◌, ◌≤◌, true, false, cond, List, [], ◌∷◌, ◌++◌, length, reverse, count_by, take, drop, slice_get, Some, refl, sym, ap, subst, ◌∙◌, arith}
 use Rattle.std.proofs.lemmas.Bool.{eq-eqb, ne_eqb}
 use Rattle.std.proofs.Math.Seq.{take-append_seam}
-use Rattle.std.proofs.lemmas.List.{append_assoc, reverse-append, reverse-reverse, length-reverse, length-append, length-take-le}
-use Rattle.std.proofs.lemmas.List.Elements.{filter_map-append}
+use Rattle.std.proofs.lemmas.List.{append_assoc, reverse-append, reverse-reverse, length-reverse, length-append}
 use Rattle.std.specs.List.{AllByRecursion}
 use Rattle.std.proofs.lemmas.List.Sums.{sum_by-cons, sum_by-append}
-use Rattle.vcd_model.specs.Declarations.{Declaration, Variable, is_scope, is_up, is_balanced, open_scopes, enclosing_back, enclosing, name_of, names_at}
+use Rattle.vcd_model.specs.Declarations.{Declaration, Variable, is_scope, is_up, is_balanced, open_scopes, enclosing_back, enclosing}
 
 -- the enclosing scopes, looking back over these declarations if `closed` more scopes are closed
 -- than opened in between
@@ -193,26 +192,3 @@ slice_get-take xs zero i h = absurd (omega arith)
 slice_get-take [] (suc n) i h = refl
 slice_get-take (x ∷ xs) (suc n) zero h = refl
 slice_get-take (x ∷ xs) (suc n) (suc i) h = slice_get-take xs n i (omega arith)
-
--- names at indexes below n are among the first n declarations
-names-take : (ds : List Declaration) (n : ℕ) (places : List ℕ) → AllByRecursion (λ i. i < n) places → names_at (take n ds) (reverse places) ≡ names_at ds (reverse places)
-names-take ds n [] h = refl
-names-take ds n (i ∷ places) h =
-    let f = λ (j : ℕ). option_map name_of (slice_get (take n ds) j) in
-    let g = λ (j : ℕ). option_map name_of (slice_get ds j) in
-    ap (filter_map f) (reverse-append (i ∷ []) places) ∙ filter_map-append f (reverse places) (i ∷ []) ∙ ap (λ l. l ++ filter_map f (i ∷ [])) (names-take ds n places h.1)
-    ∙ ap (λ o. filter_map g (reverse places) ++ filter_map (λ (x : ℕ). option_map name_of o) (i ∷ [])) (slice_get-take ds n i h.0)
-    ∙ sym (ap (filter_map g) (reverse-append (i ∷ []) places) ∙ filter_map-append g (reverse places) (i ∷ []))
-
--- the names of the scopes around a declaration are those around its innermost scope, and that
--- scope's own
-pub names_around : (ds : List Declaration) (p : ℕ) (around : List ℕ) (type name : List ℕ) → enclosing ds ≡ p ∷ around → slice_get ds p ≡ Some (Declaration.Scope type name)
-    → names_at ds (reverse (enclosing ds)) ≡ names_at (take p ds) (reverse (enclosing (take p ds))) ++ name ∷ []
-names_around ds p around type name e at =
-    let inner = innermost ds p around e in
-    let few = length-take-le p ds (omega (arith, inner.before)) in
-    let under : AllByRecursion (λ i. i < p) around = subst (λ n. AllByRecursion (λ i. i < n) around) few (subst (AllByRecursion (λ i. i < length (take p ds))) inner.outer (enclosing_below (take p ds))) in
-    let g = λ (j : ℕ). option_map name_of (slice_get ds j) in
-    ap (λ ps. names_at ds (reverse ps)) e ∙ ap (filter_map g) (reverse-append (p ∷ []) around) ∙ filter_map-append g (reverse around) (p ∷ [])
-    ∙ ap (λ o. filter_map g (reverse around) ++ filter_map (λ (x : ℕ). option_map name_of o) (p ∷ [])) at
-    ∙ ap (λ l. l ++ name ∷ []) (sym (names-take ds p around under) ∙ ap (λ ps. names_at (take p ds) (reverse ps)) (sym inner.outer))

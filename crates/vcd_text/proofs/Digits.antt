@@ -1,5 +1,5 @@
 -- Decimal digits that are read one after the other.
-use Rattle.std.proofs.Common.{◌≡◌, ℕ, Bool, ◌+◌, ◌-◌, ◌*◌, ◌^◌, ◌<◌, ◌≤◌, true, false, cond, not, ◌==◌, List, [], ◌∷◌, ◌++◌, length, take, drop, get_or, Some, None, refl, sym, ap, ◌∙◌, arith, pow-suc, take-append-drop, length-append, pow-add, mul_assoc, add-mul}
+use Rattle.std.proofs.Common.{◌≡◌, ℕ, Bool, ◌+◌, ◌-◌, ◌*◌, ◌^◌, ◌<◌, ◌≤◌, true, false, cond, ◌==◌, List, [], ◌∷◌, ◌++◌, length, take, drop, get_or, Some, None, refl, sym, ap, ◌∙◌, arith, pow-suc, take-append-drop, length-append, pow-add, mul_assoc, add-mul}
 use Rattle.std.specs.List.{list_all}
 use Rattle.std.specs.Char.{is_ascii_digit}
 use Rattle.std.proofs.Math.Nat.{mul-le-mul_right, pow-le-pow_right}
@@ -23,14 +23,6 @@ read_more ds k number h d small r = record {
   value = rw (take_more ds k 0 h) (decimal_value-push (take k ds) (get_or ds k 0) ∙ ap (λ n. n * 10 + (get_or ds k 0 - 48)) r.value);
   small = small;
 }
-
--- no digit, no number
-pub no_digit : (ds : List ℕ) (k : ℕ) → k < length ds → is_ascii_digit (get_or ds k 0) ≡ false → spelled_below ds ≡ None
-no_digit ds k h d =
-    let parts : ds ≡ take (k + 1) ds ++ drop (k + 1) ds = sym (take-append-drop (k + 1) ds) in
-    let bad : list_all is_ascii_digit (take (k + 1) ds) ≡ false = rw (take_more ds k 0 h, list_all-append, d) (and_right (list_all is_ascii_digit (take k ds)) false refl) in
-    let all : list_all is_ascii_digit ds ≡ false = ap (list_all is_ascii_digit) parts ∙ rw (list_all-append, bad) refl in
-    rw (all, and_right (not (is_empty ds)) false refl) refl
 
 -- digits of which some first ones spell too much
 pub too_large : (ds : List ℕ) (k : ℕ) → 2 ^ 64 ≤ decimal_value (take k ds) → spelled_below ds ≡ None

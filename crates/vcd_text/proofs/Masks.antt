@@ -128,16 +128,6 @@ bits-on chunk at at' stop w bit mask m set below kept no_more gone is =
       other = λ j le lt none. m.other j (omega arith) lt (λ h. sym (kept (j + 64 - w.next) (omega arith) (omega arith)) ∙ none h);
     }
 
--- if no byte was looked over yet
-pub bits-empty : (chunk : List ℕ) (at stop : ℕ) → at ≤ stop → BitsAreWhite chunk at stop (bits-of 0 at)
-bits-empty chunk at stop le = record {
-  within = le;
-  ahead = λ k h. absurd (zero-one (sym (bit_at-zero k) ∙ h));
-  inside = λ k h. absurd (zero-one (sym (bit_at-zero k) ∙ h));
-  white = λ k h. absurd (zero-one (sym (bit_at-zero k) ∙ h));
-  other = λ j from below none. absurd (omega arith);
-}
-
 -- the bits from k on are kept
 kept_bit : (bits k i : ℕ) → k ≤ i → i < 64 → bit_at (bit_and bits (2 ^ 64 - 2 ^ k)) i ≡ bit_at bits i
 kept_bit bits k i le lt = omega (arith, bit_at_and bits (2 ^ 64 - 2 ^ k) i, bit_at_mask_inside k 64 i le lt, bit_at-lt bits i)

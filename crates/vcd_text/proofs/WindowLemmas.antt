@@ -13,8 +13,7 @@ use Rattle.vcd_text.specs.Answer.{whole, failed_after, Ends, NextGives}
 use Rattle.vcd_text.specs.ReadAhead.{Near, HasRest}
 use Rattle.vcd_text.specs.Given.{AtPlace, At, IsMarkAfter, NoHaltBefore, InPhase, HasGivenAt}
 use Rattle.vcd_text.specs.declared.registers.Parked.{Parked}
-use Rattle.vcd_text.specs.declared.registers.Phase.{Phase}
-use Rattle.vcd_text.specs.declared.registers.Phase.TheVariants.{Going, Ended, Halted}
+use Rattle.vcd_text.specs.declared.registers.Phase.TheVariants.{Going, Halted}
 use Rattle.vcd_text.specs.declared.answer.Halt.{Halt}
 use Rattle.vcd_text.specs.declared.window.Collected.TheVariants.{Whole, Part, TooLong}
 use Rattle.vcd_text.specs.declared.window.Filled.TheVariants.{More, Failed as fill-failed}
@@ -258,17 +257,6 @@ pub near-short : (chunk : ℕ) (rest : Option (List ℕ)) (n : ℕ) (i : Input) 
 near-short chunk None n i le = tt
 near-short chunk (Some more) n i le = omega arith
 
--- a new turn begins with an empty window
-pub begin-within : (limit : ℕ) (rest : Option (List ℕ)) (chunk token : List ℕ) (p : Parked) (text : List ℕ) (given : List Token) → At limit rest chunk p text given 0 → Within limit rest chunk token (record p { size = 0 }) text given
-begin-within limit rest chunk token p text given a =
-    let zeroth : looked p - 0 ≡ looked p = omega arith in
-    let none : looked p - looked p ≡ 0 = omega arith in
-    record {
-      at = record { place = a.place; begun = a.begun };
-      bytes = rw (zeroth, none) refl;
-      line = λ h. absurd (omega arith);
-    }
-
 zero-or-more : (n : ℕ) → (n ≡ 0) ⊎ (0 < n)
 zero-or-more zero = inl refl
 zero-or-more (suc n) = inr (omega arith)
@@ -380,12 +368,6 @@ fail-gives limit rest rest' chunk chunk' token old mid last i given r clean fill
 -- the registers, if the last token is let go
 abbrev pub cleared : Parked → Parked
 cleared p = record p { size = 0 }
-
--- another token is kept
-pub kept-stands : (limit : ℕ) (rest : Option (List ℕ)) (chunk : List ℕ) (p : Parked) (k : ℕ) (i : Input) (given : List Token) (phase : Phase) → InPhase phase limit rest chunk p i given → InPhase phase limit rest chunk (record p { kept = k }) i given
-kept-stands limit rest chunk p k i given Going st = (st.0, record { place = st.1.place; begun = st.1.begun })
-kept-stands limit rest chunk p k i given Ended st = st
-kept-stands limit rest chunk p k i given (Halted h) st = st
 
 -- ---- how far was read
 

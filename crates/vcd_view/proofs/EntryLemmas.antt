@@ -1,20 +1,20 @@
 -- The entries by which codes are looked up.
-use Rattle.std.proofs.Common.{◌≡◌, ◌≢◌, ℕ, zero, suc, ◌<◌, ◌≤◌, ◌^◌, nat_le, ◌==◌, ◌&&◌, ◌||◌, not, cond, Bool, true, false, List, [], ◌∷◌, length, set, replicate, Option, Some, None, option_map, unwrap_or, refl, sym, ap, subst, ◌∙◌, arith}
+use Rattle.std.proofs.Common.{◌≡◌, ◌≢◌, ℕ, zero, suc, ◌<◌, ◌^◌, nat_le, ◌==◌, ◌&&◌, ◌||◌, not, cond, Bool, true, false, List, [], ◌∷◌, length, set, replicate, Option, Some, None, option_map, unwrap_or, refl, sym, ap, subst, ◌∙◌, arith}
 use Rattle.std.specs.Prelude.{slice_get}
-use Rattle.std.specs.List.{AllZip, list_all}
+use Rattle.std.specs.List.{list_all}
 use Rattle.std.specs.Option.{option_or}
-use Rattle.std.proofs.lemmas.Bool.{and_parts, eqb-true, ne_eqb, eq-eqb, false≢true, le-leb, lt-leb}
+use Rattle.std.proofs.lemmas.Bool.{and_parts, eqb-true, ne_eqb, eq-eqb, false≢true, lt-leb}
 use Rattle.std.proofs.lemmas.Option.{none-some, same_Some, slice_get_within}
 use Rattle.vcd_view.specs.declared.view.Code.{Code}
 use Rattle.vcd_view.specs.declared.view.Entry.{Entry}
 use Rattle.vcd_view.specs.Finds.{Finds}
 use Rattle.vcd_view.specs.Keys.{AreBytes, key_in}
 use Rattle.vcd_model.specs.Declarations.{IdCode}
-use Rattle.vcd_view.specs.Views.{AreHeld, IsCode}
+use Rattle.vcd_view.specs.Views.{AreHeld}
 use Rattle.vcd_view.specs.Entries.{HasEntry, IsAt, are_right, is_right, is_entry_of, size_or_zero_of, index_in_entry, text_in, index_in_some}
 use Rattle.vcd_view.proofs.KeyLemmas.{bytes_at_place, key_below, same_key}
 use Rattle.vcd_view.proofs.LookUpLemmas.{first_with}
-use Rattle.vcd_view.proofs.RowLemmas.{text_within}
+use Rattle.vcd_view.proofs.RowLemmas.{text_within, code_of_shown}
 
 -- ---- tests of all elements
 
@@ -42,10 +42,6 @@ one_of_all p (y ∷ xs) (suc i) x h e = one_of_all p xs i x (and_parts (p y) (li
 
 -- ---- what an entry says
 
-or_true : (b : Bool) → (b || true) ≡ true
-or_true true = refl
-or_true false = refl
-
 -- the entry is that of this code
 abbrev says : List ℕ → Entry → Option Code → Bool
 says text e o = unwrap_or (option_map (is_entry_of text e) o) false
@@ -64,30 +60,12 @@ entry_tells text codes e h n l = by_code (slice_get codes e.position) refl
         let b = and_parts (e.key == key_in (text_in text c.start c.len)) (e.size_or_zero == size_or_zero_of c) (sym (ap (says text e) s) ∙ right) in
         (c, s, eqb-true _ _ b.0, eqb-true _ _ b.1)
 
--- an entry with the key and the size of the code at its index
-pub entry_stands : (text : List ℕ) (codes : List Code) (e : Entry) (c : Code) → slice_get codes e.position ≡ Some c → e.key ≡ key_in (text_in text c.start c.len) → e.size_or_zero ≡ size_or_zero_of c → is_right text codes e ≡ true
-entry_stands text codes e c s k m =
-    ap (λ (o : Option Code). (e.key == 0) || (nat_le (2 ^ 63) e.key || unwrap_or (option_map (is_entry_of text e) o) false)) s
-    ∙ ap (λ b. (e.key == 0) || (nat_le (2 ^ 63) e.key || b)) (both (e.key == key_in (text_in text c.start c.len)) (e.size_or_zero == size_or_zero_of c) (eq-eqb _ _ k) (eq-eqb _ _ m))
-    ∙ ap (λ b. (e.key == 0) || b) (or_true (nat_le (2 ^ 63) e.key)) ∙ or_true (e.key == 0)
-
--- an entry with the key of a long code
-pub entry_of_long : (text : List ℕ) (codes : List Code) (e : Entry) → 2 ^ 63 ≤ e.key → is_right text codes e ≡ true
-entry_of_long text codes e l = ap (λ b. (e.key == 0) || (b || unwrap_or (option_map (is_entry_of text e) (slice_get codes e.position)) false)) (le-leb (2 ^ 63) e.key l) ∙ or_true (e.key == 0)
-
 -- what the entry with a key says, which is among those that are right
 pub entry_found : (text : List ℕ) (codes : List Code) (es : List Entry) (i : ℕ) (e : Entry) (key : ℕ) → are_right text codes es ≡ true → slice_get es i ≡ Some e → (key ≡ 0 → ⊥) → key < 2 ^ 63 → e.key ≡ key
     → (c : Code) × (slice_get codes e.position ≡ Some c) × (key ≡ key_in (text_in text c.start c.len)) × (e.size_or_zero ≡ size_or_zero_of c)
 entry_found text codes es i e key h s n l k =
     let told = entry_tells text codes e (one_of_all (is_right text codes) es i e h s) (λ z. n (sym k ∙ z)) (omega (arith, k, l)) in
     (told.0, told.1, sym k ∙ told.2, told.3)
-
--- a code of a view is the header's at its index
-pub code_found : (text : List ℕ) (cs : List Code) (ks : List IdCode) (p : ℕ) (c : Code) → AllZip (IsCode text) cs ks → slice_get cs p ≡ Some c → (k : IdCode) × (slice_get ks p ≡ Some k) × IsCode text c k
-code_found text [] ks p c h e = absurd (none-some c e)
-code_found text (x ∷ cs) [] p c h e = absurd h
-code_found text (x ∷ cs) (k ∷ ks) zero c h e = (k, refl, subst (λ y. IsCode text y k) (same_Some x c e) h.0)
-code_found text (x ∷ cs) (k ∷ ks) (suc p) c h e = code_found text cs ks p c h.1 e
 
 -- ---- what entries give that are right
 
@@ -106,7 +84,7 @@ told_key t e h =
 gives : (text : List ℕ) (codes : List Code) (cs : List IdCode) (es : List Entry) (i : ℕ) (e : Entry) (t : List ℕ) → AreHeld text codes cs → are_right text codes es ≡ true → slice_get es i ≡ Some e → AreBytes t → e.key ≡ key_in t → e.key ≢ 0 → Finds cs t (Some e.position)
 gives text codes cs es i e t h right there a q n =
     let told = entry_tells text codes e (one_of_all (is_right text codes) es i e right there) n (omega (arith, q, key_below t a)) in
-    let k = code_found text codes cs e.position told.0 h.stand told.1 in
+    let k = code_of_shown text codes cs e.position told.0 h.stand told.1 in
     let read = text_within text told.0.start told.0.len k.2.within ∙ k.2.text_is in
     let equal : key_in t ≡ key_in k.0.text = sym q ∙ told.2 ∙ ap key_in read in
     let own : AreBytes k.0.text = bytes_at_place cs e.position k.0 h.texts k.1 in
@@ -157,7 +135,7 @@ entry_within text codes es t p right a n has =
 -- the index of a code with these bytes
 pub at_finds : (text : List ℕ) (codes : List Code) (cs : List IdCode) (t : List ℕ) (p : ℕ) → AreHeld text codes cs → IsAt text codes t p → Finds cs t (Some p)
 at_finds text codes cs t p h at =
-    let k = code_found text codes cs p at.0 h.stand at.1 in
+    let k = code_of_shown text codes cs p at.0 h.stand at.1 in
     (k.0, k.1, first_with cs t p k.0 h.distinct k.1 (sym at.2 ∙ text_within text at.0.start at.0.len k.2.within ∙ k.2.text_is))
 
 pub at_within : (text : List ℕ) (codes : List Code) (t : List ℕ) (p : ℕ) → IsAt text codes t p → p < length codes

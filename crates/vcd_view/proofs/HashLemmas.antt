@@ -1,8 +1,7 @@
 -- How codes are hashed.
-use Rattle.std.proofs.Common.{◌≡◌, ◌≢◌, ℕ, ◌<◌, ◌≤◌, List, [], ◌∷◌, drop, length, refl, arith}
+use Rattle.std.proofs.Common.{◌≡◌, ℕ, ◌≤◌, List, [], ◌∷◌, drop, length, refl, arith}
 use Rattle.std.specs.Int.{from_le_bytes, w64}
 use Rattle.vcd_view.specs.CodeHash.{hashed, mixed}
-use Rattle.vcd_view.specs.Keys.{packed}
 use Rattle.vcd_view.specs.declared.code_hash.CodeSeed.{CodeSeed}
 
 -- eight bytes are one word
@@ -16,18 +15,6 @@ word_first s state (a ∷ b ∷ c ∷ d ∷ e ∷ []) l = absurd (omega (arith, 
 word_first s state (a ∷ b ∷ c ∷ d ∷ e ∷ f ∷ []) l = absurd (omega (arith, l))
 word_first s state (a ∷ b ∷ c ∷ d ∷ e ∷ f ∷ g ∷ []) l = absurd (omega (arith, l))
 word_first s state (a ∷ b ∷ c ∷ d ∷ e ∷ f ∷ g ∷ h ∷ rest) l = refl
-
--- fewer are one
-pub rest_last : (s : CodeSeed) (state : ℕ) (bytes : List ℕ) → bytes ≢ [] → length bytes < 8 → hashed s state bytes ≡ mixed s state (packed bytes)
-rest_last s state [] n l = absurd (n refl)
-rest_last s state (a ∷ []) n l = refl
-rest_last s state (a ∷ b ∷ []) n l = refl
-rest_last s state (a ∷ b ∷ c ∷ []) n l = refl
-rest_last s state (a ∷ b ∷ c ∷ d ∷ []) n l = refl
-rest_last s state (a ∷ b ∷ c ∷ d ∷ e ∷ []) n l = refl
-rest_last s state (a ∷ b ∷ c ∷ d ∷ e ∷ f ∷ []) n l = refl
-rest_last s state (a ∷ b ∷ c ∷ d ∷ e ∷ f ∷ g ∷ []) n l = refl
-rest_last s state (a ∷ b ∷ c ∷ d ∷ e ∷ f ∷ g ∷ h ∷ rest) n l = absurd (omega (arith, l))
 
 -- only eight bytes
 pub word_alone : (s : CodeSeed) (state : ℕ) (bytes : List ℕ) → length bytes ≡ 8 → hashed s state bytes ≡ mixed s state (from_le_bytes w64 bytes)

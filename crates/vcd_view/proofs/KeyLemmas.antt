@@ -1,5 +1,5 @@
 -- Short codes as numbers.
-use Rattle.std.proofs.Common.{◌≡◌, ℕ, zero, suc, ◌+◌, ◌*◌, ◌^◌, ◌<◌, ◌≤◌, nat_le, cond, Bool, true, false, List, [], ◌∷◌, map, Some, unwrap_or, subst, length, get_or, refl, ap, ◌∙◌, arith, add-one, pow-suc}
+use Rattle.std.proofs.Common.{◌≡◌, ℕ, zero, suc, ◌+◌, ◌*◌, ◌^◌, ◌<◌, ◌≤◌, nat_le, cond, Bool, true, false, List, [], ◌∷◌, Some, subst, length, get_or, refl, ap, ◌∙◌, arith, add-one, pow-suc}
 use Rattle.std.proofs.Math.Nat.{pow-le-pow_right}
 use Rattle.std.proofs.lemmas.Bool.{leb-true}
 use Rattle.std.proofs.lemmas.Option.{none-some, same_Some}
@@ -56,12 +56,6 @@ key_below t h = by_length (nat_le (length t) 7) refl
 pub are_bytes : (bs : List ℕ) → ((i d : ℕ) → i < length bs → get_or bs i d < 256) → AreBytes bs
 are_bytes [] h = tt
 are_bytes (b ∷ bs) h = (h 0 0 (omega arith), are_bytes bs (λ i d l. h (suc i) d (omega arith)))
-
--- the key at a code's index
-pub key_at_place : (cs : List IdCode) (p : ℕ) (c : IdCode) → slice_get cs p ≡ Some c → unwrap_or (slice_get (map (λ (k : IdCode). key_in k.text) cs) p) 0 ≡ key_in c.text
-key_at_place [] p c e = absurd (none-some c e)
-key_at_place (k ∷ cs) zero c e = ap (λ (x : IdCode). key_in x.text) (same_Some k c e)
-key_at_place (k ∷ cs) (suc p) c e = key_at_place cs p c e
 
 -- the code at an index is of bytes
 pub bytes_at_place : (cs : List IdCode) (p : ℕ) (c : IdCode) → AllByRecursion (λ (k : IdCode). AreBytes k.text) cs → slice_get cs p ≡ Some c → AreBytes c.text

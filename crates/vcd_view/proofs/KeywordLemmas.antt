@@ -1,8 +1,8 @@
 -- Tokens that are keywords, and those up to `$end`.
-use Rattle.std.proofs.Common.{◌≡◌, ℕ, Bool, true, false, cond, List, [], ◌∷◌, ◌++◌, find, bytes_eq, Some, None, refl, sym, ap, subst, ◌∙◌}
+use Rattle.std.proofs.Common.{◌≡◌, ℕ, true, false, List, [], ◌∷◌, ◌++◌, bytes_eq, Some, None, refl, sym, ap, subst, ◌∙◌}
 use Rattle.std.proofs.lemmas.List.{append_assoc, append-nil}
 use Rattle.std.proofs.lemmas.Slice.Eq.{bytes_eq-Decides}
-use Rattle.vcd_model.specs.Keywords.{Keyword, keywords, keyword_of, keyword_text, is_end}
+use Rattle.vcd_model.specs.Keywords.{Keyword, keyword_of, keyword_text, is_end}
 use Rattle.vcd_model.specs.HeaderPhrases.{until_end}
 use Rattle.vcd_model.specs.Reading.{Grammar, Placed, phrases_of}
 use Rattle.vcd_model.specs.SoFar.{IsSoFar}
@@ -12,39 +12,10 @@ use Rattle.vcd_text.specs.Ahead.{TakesToken, bytes_of, longest_of, passed_of, st
 use Rattle.vcd_text.specs.Passed.{Passed, line_ahead}
 use Rattle.vcd_text.specs.declared.ahead.Ahead.{Ahead}
 use Rattle.vcd_view.specs.Keywords.{AreWords, NoEnds, texts_of}
-
--- what a search finds passes its test
-found : {X : Type 0} (p : X → Bool) (xs : List X) (x : X) → find p xs ≡ Some x → p x ≡ true
-found p [] x e = cc
-found p (y ∷ xs) x e = by_test (p y) refl e (found p xs x)
-  where
-    by_test : (b : Bool) → p y ≡ b → cond b (Some y) (find p xs) ≡ Some x → (find p xs ≡ Some x → p x ≡ true) → p x ≡ true
-    by_test true t f more = let same : y ≡ x = cc in ap p (sym same) ∙ t
-    by_test false t f more = more f
-
-pub keyword_at : (k : Keyword) → keyword_of (keyword_text k) ≡ Some k
-unfolding keyword_of
-keyword_at Keyword.Comment = refl
-keyword_at Keyword.Date = refl
-keyword_at Keyword.EndDefinitions = refl
-keyword_at Keyword.Scope = refl
-keyword_at Keyword.Timescale = refl
-keyword_at Keyword.Upscope = refl
-keyword_at Keyword.Var = refl
-keyword_at Keyword.Version = refl
-keyword_at Keyword.DumpAll = refl
-keyword_at Keyword.DumpOff = refl
-keyword_at Keyword.DumpOn = refl
-keyword_at Keyword.DumpVars = refl
-keyword_at Keyword.End = refl
-
--- a token of a keyword is its text
-pub is_keyword : (token : List ℕ) (k : Keyword) → keyword_of token ≡ Some k → token ≡ keyword_text k
-unfolding keyword_of
-is_keyword token k e = sym ((bytes_eq-Decides (keyword_text k) token).0 (found (λ k. bytes_eq (keyword_text k) token) keywords k e))
+use Rattle.vcd_model.proofs.HeaderGrammar.{keyword_of-text, keyword_is}
 
 pub keyword_found : (k : Keyword) (token : List ℕ) → bytes_eq (keyword_text k) token ≡ true → Some k ≡ keyword_of token
-keyword_found k token e = sym (ap keyword_of (sym ((bytes_eq-Decides (keyword_text k) token).0 e)) ∙ keyword_at k)
+keyword_found k token e = sym (ap keyword_of (sym ((bytes_eq-Decides (keyword_text k) token).0 e)) ∙ keyword_of-text k)
 
 -- ---- up to `$end`
 

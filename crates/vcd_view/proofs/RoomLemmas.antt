@@ -17,7 +17,7 @@ use Rattle.vcd_view.proofs.RowLemmas.{rows_len}
 
 -- ---- there are no more codes than declarations
 
-filter_map_len : {X Y : Type 0} (f : X → Option Y) (xs : List X) → length (filter_map f xs) ≤ length xs
+pub filter_map_len : {X Y : Type 0} (f : X → Option Y) (xs : List X) → length (filter_map f xs) ≤ length xs
 filter_map_len {Y = Y} f [] = omega arith
 filter_map_len {Y = Y} f (x ∷ xs) = one_more (f x) (filter_map f xs) (filter_map_len f xs)
   where

@@ -42,26 +42,13 @@ rise_is ts false (k, l, h) = by_test (do_rise ts) refl
     by_test false e = sym e
     by_test true e = let up = rises_at ts e k l in let low = h 0 in absurd (grind (arith, up, low))
 
--- a list that has something
-pub not_empty : (ts : List ℕ) → 0 < length ts → ts ≢ []
-not_empty ts some e = let none = ap length e in absurd (omega arith)
-
 -- ---- units
-
--- the first of two tests that both fail
-both_false : (a b : Bool) → (a || b) ≡ false → (a ≡ false) × (b ≡ false)
-both_false true b e = cc
-both_false false b e = (refl, e)
 
 units_are : (ns : List ℕ) (us : List (Option ℤ)) → length us ≡ length ns → has_unit (times_with ns us) ≡ has_units us
 units_are [] [] e = refl
 units_are [] (u ∷ us) e = absurd (omega arith)
 units_are (n ∷ ns) [] e = absurd (omega arith)
 units_are (n ∷ ns) (u ∷ us) e = ap (λ b. is_some u || b) (units_are ns us (omega arith))
-
--- the elements of two vectors of one length
-pub paired_lists : (ns : Vec ℕ) (us : Vec (Option ℤ)) → vec_len us ≡ vec_len ns → length us.items ≡ length ns.items
-paired_lists ns us e = sym us.ok.0 ∙ e ∙ ns.ok.0
 
 no_units : (n : ℕ) → has_units (replicate n None) ≡ false
 no_units zero = refl
@@ -187,10 +174,6 @@ some_there : (ts : List ℕ) → not (is_empty ts) ≡ true → ts ≢ []
 some_there [] e none = cc
 some_there (t ∷ ts) e none = cc
 
-some_long : (ts : List ℕ) → not (is_empty ts) ≡ true → 0 < length ts
-some_long [] e = cc
-some_long (t ∷ ts) e = omega arith
-
 module _ (ns : List ℕ) (us : List (Option ℤ)) (e : (length us == length ns && not (is_empty ns) && (has_units us || do_rise ns)) ≡ true) where
   parts_of : ((length us == length ns && not (is_empty ns)) ≡ true) × ((has_units us || do_rise ns) ≡ true)
   parts_of = and_parts _ _ e
@@ -200,12 +183,6 @@ module _ (ns : List ℕ) (us : List (Option ℤ)) (e : (length us == length ns &
 
   pub asked_some : ns ≢ []
   asked_some = some_there ns (and_parts _ _ parts_of.0).1
-
-  pub asked_long : 0 < length ns
-  asked_long = some_long ns (and_parts _ _ parts_of.0).1
-
-  pub asked_order : (has_units us || do_rise ns) ≡ true
-  asked_order = parts_of.1
 
   pub asked_rises : has_units us ≡ false → do_rise ns ≡ true
   asked_rises none = let rises = parts_of.1 in rw none at rises
@@ -228,11 +205,3 @@ pub asked_of : (ns : Vec ℕ) (us : Vec (Option ℤ)) → length us.items ≡ le
 asked_of ns us long some rises =
     let one : 0 < length ns.items = omega (arith, some, ns.ok.0) in
     and_from _ _ (and_from _ _ (eq-eqb _ _ long) (not_none ns.items one)) (either (has_units us.items) (do_rise ns.items) rises)
-
--- and still may once they are replaced by as many other numbers and units
-pub asked_again : (ns ms : List ℕ) (us vs : List (Option ℤ)) → (length us == length ns && not (is_empty ns) && (has_units us || do_rise ns)) ≡ true → length vs ≡ length ms → length ms ≡ length ns → (has_units vs || do_rise ms) ≡ true
-    → (length vs == length ms && not (is_empty ms) && (has_units vs || do_rise ms)) ≡ true
-asked_again ns ms us vs told paired many order =
-    let long = asked_long ns us told in
-    let one : 0 < length ms = omega (arith, long, many) in
-    and_from _ _ (and_from _ _ (eq-eqb _ _ paired) (not_none ms one)) order

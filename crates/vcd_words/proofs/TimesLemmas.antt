@@ -19,6 +19,7 @@ use Rattle.vcd_words.specs.Ticks.{has_units, times_with}
 use Rattle.vcd_words.specs.Times.{last_of, parts, IsOrderOf}
 use Rattle.vcd_words.specs.Words.{IsFaultIn}
 use Rattle.vcd_words.proofs.WordsLemmas.{fault-moves}
+use Rattle.std.proofs.Math.Bool.{and-true, or-false}
 
 -- ---- a word
 
@@ -57,12 +58,8 @@ or_assoc : (a b c : Bool) → (a || b || c) ≡ (a || (b || c))
 or_assoc true b c = refl
 or_assoc false b c = refl
 
-or_false : (a : Bool) → (a || false) ≡ a
-or_false true = refl
-or_false false = refl
-
 has_unit-push : (ms : List Moment) (m : Moment) → has_unit (ms ++ m ∷ []) ≡ (has_unit ms || is_some m.unit)
-has_unit-push [] m = or_false (is_some m.unit)
+has_unit-push [] m = or-false (is_some m.unit)
 has_unit-push (x ∷ ms) m = ap (λ b. is_some x.unit || b) (has_unit-push ms m) ∙ sym (or_assoc (is_some x.unit) (has_unit ms) (is_some m.unit))
 
 last_of-push : (ns : List ℕ) (n : ℕ) → last_of (ns ++ n ∷ []) ≡ Some n
@@ -74,13 +71,9 @@ and_assoc : (a b c : Bool) → (a && (b && c)) ≡ (a && b && c)
 and_assoc true b c = refl
 and_assoc false b c = refl
 
-and_true : (a : Bool) → (a && true) ≡ a
-and_true true = refl
-and_true false = refl
-
 do_rise-push : (ns : List ℕ) (n : ℕ) → do_rise (ns ++ n ∷ []) ≡ (do_rise ns && is_above (last_of ns) n)
 do_rise-push [] n = refl
-do_rise-push (x ∷ []) n = and_true (nat_lt x n)
+do_rise-push (x ∷ []) n = and-true (nat_lt x n)
 do_rise-push (x ∷ y ∷ ns) n = ap (λ b. nat_lt x y && b) (do_rise-push (y ∷ ns) n) ∙ and_assoc (nat_lt x y) (do_rise (y ∷ ns)) (is_above (last_of (y ∷ ns)) n)
 
 numbers-push : (ms : List Moment) (m : Moment) → map (λ (x : Moment). x.number) (ms ++ m ∷ []) ≡ map (λ (x : Moment). x.number) ms ++ m.number ∷ []

@@ -23,14 +23,14 @@ returns-in_default-clause-codes c = λ ds v h is is_size.
     let none : slice_get before.list.items position ≡ None = ap (λ l. slice_get l position) (sym e.list ∙ sym c.deref.ensures.value) ∙ sym c.code_in.ensures ∙ c.in_default.is in
     absurd (entered_listed c.args.text.now.items before c.enter_key.new.known ds v bytes c.args.size c.args.event position h is (all_bytes bytes c.type_inv.bytes) e.rises e.entered e.list none)
 
-pub returns-then-not-is_of_kind-clause-codes : goal.returns-then-not-is_of_kind-clause-codes
-returns-then-not-is_of_kind-clause-codes c = λ ds v h is is_size.
+pub returns-then-not-is_declared_as-clause-codes : goal.returns-then-not-is_declared_as-clause-codes
+returns-then-not-is_declared_as-clause-codes c = λ ds v h is is_size.
     let bytes = c.args.bytes.now in
     let before = c.args.known.now in
     let position = c.in_ok-position.position in
     let e : EntersKey bytes before c.enter_key.new.known position false = subst (EntersKey bytes before c.enter_key.new.known position) c.if-new.false (c.in_ok-position.ensures.enters h.rises) in
     let there : slice_get before.list.items position ≡ Some c.in-Some.code = ap (λ l. slice_get l position) (sym e.list ∙ sym c.deref.ensures.value) ∙ sym c.code_in.ensures ∙ c.in-Some.is in
-    entered_other c.args.text.now.items before c.enter_key.new.known ds v bytes c.args.size c.args.event position h is (all_bytes bytes c.type_inv.bytes) e.rises e.entered e.list c.in-Some.code there (sym c.is_of_kind.ensures ∙ c.if-not-is_of_kind.true)
+    entered_other c.args.text.now.items before c.enter_key.new.known ds v bytes c.args.size c.args.event position h is (all_bytes bytes c.type_inv.bytes) e.rises e.entered e.list c.in-Some.code there (sym c.is_declared_as.ensures ∙ c.if-not-is_declared_as.true)
 
 pub returns-clause-codes : goal.returns-clause-codes
 returns-clause-codes c = λ ds v h is is_size.
@@ -39,4 +39,4 @@ returns-clause-codes c = λ ds v h is is_size.
     let position = c.in_ok-position.position in
     let e : EntersKey bytes before c.enter_key.new.known position false = subst (EntersKey bytes before c.enter_key.new.known position) c.if-new.false (c.in_ok-position.ensures.enters h.rises) in
     let there : slice_get before.list.items position ≡ Some c.in-Some.code = ap (λ l. slice_get l position) (sym e.list ∙ sym c.deref.ensures.value) ∙ sym c.code_in.ensures ∙ c.in-Some.is in
-    entered_known c.args.text.now.items before c.enter_key.new.known ds v bytes c.args.size c.args.event position h is (all_bytes bytes c.type_inv.bytes) e.rises e.entered e.list c.in-Some.code there (sym c.is_of_kind.ensures ∙ c.if-not-is_of_kind.false)
+    entered_known c.args.text.now.items before c.enter_key.new.known ds v bytes c.args.size c.args.event position h is (all_bytes bytes c.type_inv.bytes) e.rises e.entered e.list c.in-Some.code there (sym c.is_declared_as.ensures ∙ c.if-not-is_declared_as.false)

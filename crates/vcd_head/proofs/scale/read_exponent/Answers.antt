@@ -5,9 +5,9 @@ use Rattle.vcd_model.specs.Keywords.{Keyword, keyword_text}
 use Rattle.vcd_model.specs.Scales.{exponent_of}
 use Rattle.vcd_text.specs.Feed.{token_of}
 use Rattle.vcd_head.specs.Words.{power_in, unit_in}
-use Rattle.vcd_head.proofs.DraftSteps.{default_none}
 use Rattle.vcd_head.proofs.ScaleChecks.{number_read, one_read, one_refused, two_added, two_refused}
 use Rattle.vcd_head.proofs.scale.read_exponent.Goals as goal
+use Rattle.vcd_head.proofs.CodeChecks.{not_some}
 
 pub returns-in_err-next_token-clause-reads : goal.returns-in_err-next_token-clause-reads
 returns-in_err-next_token-clause-reads g c =
@@ -32,14 +32,14 @@ returns-in-Some-unit_of-clause-reads g c = λ most i placed r.
 
 pub returns-in-Some-exponent_of-clause-reads : goal.returns-in-Some-exponent_of-clause-reads
 returns-in-Some-exponent_of-clause-reads g c = λ most i placed r.
-    let h = sym (c.power_of.ensures ∙ ap power_in c.token.ensures) ∙ default_none c.power_of.result c.in_default.not-Some in
+    let h = sym (c.power_of.ensures ∙ ap power_in c.token.ensures) ∙ not_some c.power_of.result c.in_default.not-Some in
     let x : exponent_of (token_of c.next_token.new.feed).bytes ≡ Some c.in-Some-exponent_of.exponent = sym (c.exponent_of.ensures ∙ ap exponent_of c.token-in_default.ensures) ∙ c.in-Some-exponent_of.is in
     let s = one_read most i placed c.next_token.new.feed c.in-Some-exponent_of.exponent h x (c.in_ok-next_token.ensures.reads most i r.given placed (keyword_text Keyword.Timescale ∷ []) r.stands r.so_far) in
     subst (ScaleRead most i placed c.next_token.new.feed) (sym s.fits) s
 
 pub returns-in-None-clause-reads : goal.returns-in-None-clause-reads
 returns-in-None-clause-reads g c = λ most i placed r.
-    let h = sym (c.power_of.ensures ∙ ap power_in c.token.ensures) ∙ default_none c.power_of.result c.in_default.not-Some in
+    let h = sym (c.power_of.ensures ∙ ap power_in c.token.ensures) ∙ not_some c.power_of.result c.in_default.not-Some in
     let x : exponent_of (token_of c.next_token.new.feed).bytes ≡ None = sym (c.exponent_of.ensures ∙ ap exponent_of c.token-in_default.ensures) ∙ c.in-None.is in
     one_refused most i placed c.next_token.new.feed h x (c.in_ok-next_token.ensures.reads most i r.given placed (keyword_text Keyword.Timescale ∷ []) r.stands r.so_far)
 

@@ -5,9 +5,10 @@ use Rattle.vcd_model.specs.Selection.{is_selected, is_variable, marked_places}
 use Rattle.vcd_head.specs.Marks.{AllMarked, Marked, scopes_at}
 use Rattle.vcd_view.proofs.RowLemmas.{rows_len}
 use Rattle.vcd_head.proofs.MarkLemmas.{marked_both, marked_first}
-use Rattle.vcd_head.proofs.SelectionLemmas.{marks_more, marks_same, there}
+use Rattle.vcd_head.proofs.SelectionLemmas.{marks_more, marks_same}
 use Rattle.vcd_head.proofs.selection.mark_all.Goals as goal
 use Rattle.vcd_head.proofs.selection.mark_all.Goals.{then-is_variable, else-is_variable}
+use Rattle.vcd_view.proofs.ListLemmas.{there}
 
 and_true : (b : Bool) → (b && true) ≡ b
 and_true true = refl

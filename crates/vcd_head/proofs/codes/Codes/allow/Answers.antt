@@ -17,7 +17,7 @@ returns-in-Some-code_in c = λ text ds v h is.
     let same = ap (λ (k : IdCode). k.text) (sym is) in
     let f = subst (λ t. Finds (codes_of ds) t c.find.result) same (c.find.ensures text (codes_of ds) h.held h.keys h.rises) in
     let there : slice_get c.args.self.now.list.items c.in-Some.position ≡ Some c.in-Some-code_in.code = search rules in
-    c.is_of_kind.ensures ∙ sym (agrees_at text c.args.self.now ds v c.args.bytes.now c.args.size c.args.event c.in-Some.position c.in-Some-code_in.code h is (subst (Finds (codes_of ds) v.code) c.in-Some.is f) there)
+    c.is_declared_as.ensures ∙ sym (agrees_at text c.args.self.now ds v c.args.bytes.now c.args.size c.args.event c.in-Some.position c.in-Some-code_in.code h is (subst (Finds (codes_of ds) v.code) c.in-Some.is f) there)
 
 pub returns-in-None : goal.returns-in-None
 returns-in-None c = λ text ds v h is.
