@@ -1,5 +1,5 @@
 -- Variables that lie ahead: their tokens are a phrase more.
-use Rattle.std.proofs.Common.{◌≡◌, ℕ, Result, Ok, Err, IfOk, MatchBool, true, List, [], ◌∷◌, ◌++◌, Bool, false, Some, None, bytes_eq, codes, refl, sym, ap, subst, ◌∙◌}
+use Rattle.std.proofs.Common.{◌≡◌, ℕ, true, List, [], ◌∷◌, ◌++◌, Bool, false, Some, None, bytes_eq, codes, refl, sym, ap, subst, ◌∙◌}
 use Rattle.std.proofs.lemmas.Slice.Eq.{bytes_eq-Decides}
 use Rattle.std.proofs.lemmas.List.{append_assoc, append-nil, map-append}
 use Rattle.vcd_model.specs.Checks.{first_failed}
@@ -25,21 +25,6 @@ use Rattle.vcd_head.proofs.DraftSteps.{passed_test}
 use Rattle.vcd_head.proofs.PhraseLemmas.{start_fault, inner_fault, phrase_is, var_welcomes_type, var_welcomes_reference, var_runs, var_whole}
 use Rattle.vcd_head.proofs.TextSteps.{runs_behind}
 use Rattle.vcd_head.proofs.WordLemmas.{size_found, size_parts}
-
--- tokens one after the other
-pub two_in_turn : (ts : List Token) (a b c : Token) → ((ts ++ a ∷ []) ++ b ∷ []) ++ c ∷ [] ≡ ts ++ a ∷ b ∷ c ∷ []
-two_in_turn [] a b c = refl
-two_in_turn (x ∷ ts) a b c = ap (λ l. x ∷ l) (two_in_turn ts a b c)
-
-pub one_in_turn : (ts : List Token) (a b : Token) → (ts ++ a ∷ []) ++ b ∷ [] ≡ ts ++ a ∷ b ∷ []
-one_in_turn [] a b = refl
-one_in_turn (x ∷ ts) a b = ap (λ l. x ∷ l) (one_in_turn ts a b)
-
--- what was taken is of the index that was passed
-pub taken_ahead : {E : Type 0} (r : Result Bool E) (A B C : Type 0) → (A → C) → IfOk r (λ taken. MatchBool taken A B) → IfOk r (λ taken. MatchBool taken C B)
-taken_ahead (Ok true) A B C f m = f m
-taken_ahead (Ok false) A B C f m = m
-taken_ahead (Err e) A B C f m = m
 
 -- tokens of a phrase that runs on
 pub runs_so_far : (most : ℕ) (placed : List (Placed HeaderPhrase)) (before : List (List ℕ)) (given inner : List Token) → RunsOn most placed before → NoEnds (texts_of inner) → IsSoFar (header_grammar most) given placed before

@@ -1,4 +1,4 @@
--- Variables whose phrases lie ahead.
+-- Variables and scopes whose phrases lie ahead.
 use Rattle.std.specs.Prelude.{◌≡◌, ℕ, ◌<◌, ◌≤◌, Bool, true, false, MatchBool, List, [], ◌∷◌, ◌++◌, length, Option, Some, IfSome, Result, IfOk}
 use Rattle.std.specs.List.{join_with_byte, list_all}
 use Rattle.vcd_model.specs.Bytes.{is_code_byte}
@@ -8,6 +8,7 @@ use Rattle.vcd_text.specs.Ahead.{bytes_of, longest_of, passed_of}
 use Rattle.vcd_text.specs.Passed.{Passed}
 use Rattle.vcd_text.specs.declared.ahead.Ahead.{Ahead}
 use Rattle.vcd_head.specs.declared.declarations.Reference.{Reference}
+use Rattle.vcd_head.specs.declared.declarations.ScopePhrase.{ScopePhrase}
 use Rattle.vcd_head.specs.declared.declarations.VariablePhrase.{VariablePhrase}
 use Rattle.vcd_head.specs.declared.draft.Draft.{Draft}
 use Rattle.vcd_head.specs.declared.fault.HeadFault.{HeadFault}
@@ -58,6 +59,24 @@ pub record IsVariable (ts : List Token) (v : VariablePhrase) : Type 0 where
   pub size_is : size_in digits.bytes ≡ Some v.size
   pub code_is : list_all is_code_byte v.code.now ≡ true
   pub reference : IsReference rest v.reference
+
+-- the tokens are the phrase of this scope
+pub record IsScope (ts : List Token) (s : ScopePhrase) : Type 0 where
+  pub begin_line : ℕ
+  pub type_line : ℕ
+  pub name_line : ℕ
+  pub end : Token
+  pub are : ts ≡ record { bytes = keyword_text Keyword.Scope; line = begin_line } ∷ record { bytes = s.word.now; line = type_line } ∷ record { bytes = s.name.now; line = name_line } ∷ end ∷ []
+  pub type_on : is_end s.word.now ≡ false
+  pub name_on : is_end s.name.now ≡ false
+  pub ends : is_end end.bytes ≡ true
+
+-- the tokens close a scope
+pub record IsUpscope (ts : List Token) : Type 0 where
+  pub begin_line : ℕ
+  pub end : Token
+  pub are : ts ≡ record { bytes = keyword_text Keyword.Upscope; line = begin_line } ∷ end ∷ []
+  pub ends : is_end end.bytes ≡ true
 
 -- the draft holds the phrases of the tokens given, and if the phrase that lies ahead was taken,
 -- that one too

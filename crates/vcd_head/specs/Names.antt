@@ -27,7 +27,7 @@ pub use Rattle.vcd_view.specs.Shown.{parts}
 pub use Rattle.vcd_view.specs.Views.{AreHeld, IsIndex, IsSize, IsViewOf, Views, counted_from_one, reference_of, type_of}
 pub use Rattle.vcd_view.specs.declared.view.Code.{Code}
 pub use Rattle.vcd_view.specs.declared.view.Scale.{Scale}
-pub use Rattle.vcd_head.specs.Ahead.{DraftsAhead, DraftsNext, Gives, GivesToken, GoesOnWithin, IsReference, IsVariable, LooksOn, MovesAhead, PassesOn, PassesTokens, TakesNext}
+pub use Rattle.vcd_head.specs.Ahead.{DraftsAhead, DraftsNext, Gives, GivesToken, GoesOnWithin, IsReference, IsScope, IsUpscope, IsVariable, LooksOn, MovesAhead, PassesOn, PassesTokens, TakesNext}
 pub use Rattle.vcd_head.specs.Calls.{MovesFurther, MovesOn, OrFails, ReadsAhead, ReadsAll, ReadsAny, ReadsEnd, ReadsNext, ReadsOne, ReadsOther, ReadsPhrase, ReadsRest, ReadsText, ReadsToEnd, ReadsWord}
 pub use Rattle.vcd_head.specs.Codes.{HasNone, Rises, is_of, keys_of}
 pub use Rattle.vcd_head.specs.Declares.{DeclaresVariable, IsBarred, MayStart, Takes as TakesPhrase, whole}

@@ -1,9 +1,12 @@
-// Variables whose phrases lie completely in the chunk. Their tokens are read without a change of
-// the feed.
+// Variables and scopes whose phrases lie completely in the chunk. Their tokens are read without a
+// change of the feed.
 ghost use Rattle.std.specs.Prelude.{◌≡◌, IfSome, IfErr};
-ghost use Rattle.vcd_head.specs.Names.{DraftsAhead, DraftsNext, Gives, GivesToken, GoesOnWithin, IsReference, IsVariable, LooksOn, MovesAhead, MovesOn, PassesOn, PassesTokens, ReadsAhead, TakesNext};
+ghost use Rattle.vcd_head.specs.Names.{DraftsAhead, DraftsNext, Gives, GivesToken, GoesOnWithin, IsReference, IsScope, IsUpscope, IsVariable, LooksOn, MovesAhead, MovesOn, PassesOn, PassesTokens, ReadsAhead, TakesNext};
 
-use crate::declarations::{Reference, VariablePhrase, check_start, declare};
+use crate::ahead_scopes::{scope_ahead, upscope_ahead};
+use crate::declarations::{
+    Reference, ScopePhrase, VariablePhrase, check_start, close_scope, declare, open_scope,
+};
 use crate::draft::Draft;
 use crate::fault::HeadFault;
 use crate::words::{is_code, is_end, is_var, size_of};
@@ -92,8 +95,35 @@ fn take_variable(
     declare(alloc, draft, variable)
 }
 
-/// Takes the next phrase, if it lies completely in the chunk and declares a variable. Returns
-/// whether it did.
+/// Opens a scope ahead, and returns whether it may come here. If not, `read_scope` finds the fault.
+#[inline(always)]
+fn take_scope(most: u64, draft: &mut Draft, scope: ScopePhrase<'_>) -> Result<bool, HeadFault>
+    ensures takes { TakesNext most (λ more. IsScope more scope.entry) draft.old draft.new result }
+    ensures memory { IfErr result (λ fault. fault ≡ HeadFault.OutOfMemory) }
+{
+    if check_start(draft, most, Kind::Scope).is_err() {
+        return Ok(false);
+    }
+    open_scope(draft, scope)?;
+    Ok(true)
+}
+
+/// Closes a scope by a phrase ahead, and returns whether it may come here. If not, `read_upscope`
+/// finds the fault.
+#[inline(always)]
+fn take_upscope(most: u64, draft: &mut Draft) -> Result<bool, HeadFault>
+    ensures takes { TakesNext most IsUpscope draft.old draft.new result }
+    ensures memory { IfErr result (λ fault. fault ≡ HeadFault.OutOfMemory) }
+{
+    if check_start(draft, most, Kind::Up).is_err() {
+        return Ok(false);
+    }
+    close_scope(draft)?;
+    Ok(true)
+}
+
+/// Takes the next phrase, if it lies completely in the chunk and declares a variable or a scope, or
+/// closes a scope. Returns whether it did.
 #[inline(always)]
 fn declare_next(
     alloc: Global,
@@ -112,11 +142,21 @@ fn declare_next(
         *ahead = next;
         return take_variable(alloc, most, draft, variable);
     }
+    let mut next = *ahead;
+    if let Some(scope) = scope_ahead(&mut next) {
+        *ahead = next;
+        return take_scope(most, draft, scope);
+    }
+    let mut next = *ahead;
+    if let Some(()) = upscope_ahead(&mut next) {
+        *ahead = next;
+        return take_upscope(most, draft);
+    }
     Ok(false)
 }
 
-/// Declares the variables that come next and lie completely in the chunk, and returns how many
-/// bytes were passed.
+/// Declares the variables and scopes that come next and lie completely in the chunk, and returns
+/// how many bytes were passed.
 fn declare_ahead(
     alloc: Global,
     ahead: Ahead<'_>,
@@ -137,8 +177,8 @@ fn declare_ahead(
     }
 }
 
-/// Reads the variables that come next, after a phrase, and lie completely in the chunk. The feed
-/// then shows no token.
+/// Reads the variables and scopes that come next, after a phrase, and lie completely in the chunk.
+/// The feed then shows no token.
 pub(crate) fn read_ahead<S: Source>(
     alloc: Global,
     feed: &mut Feed<'_, '_, '_, '_, S>,

@@ -29,7 +29,7 @@
 //! - `read`, `phrases`: the whole header; one phrase of it
 //! - `tokens`, `texts`, `words`: the next token; texts up to `$end`; tests of tokens
 //! - `scopes`, `variable`, `scale`: what a phrase says
-//! - `ahead`: variables whose phrases lie completely in the chunk
+//! - `ahead`, `ahead_scopes`: variables and scopes whose phrases lie completely in the chunk
 //! - `declarations`, `rows`, `code_place`: what these are checked for, however they are read; what
 //!   becomes of the head: rows, and the index of a code
 //! - `draft`, `codes`, `rising`, `code_key`, `finish`: a header while it is read, its codes, the
@@ -59,6 +59,7 @@
 #![tactic(auto)]
 
 mod ahead;
+mod ahead_scopes;
 mod code_key;
 mod code_place;
 mod codes;

@@ -28,6 +28,22 @@ pub(crate) fn is_event(word: &[u8]) -> bool
     matches!(word, [b'e', b'v', b'e', b'n', b't'])
 }
 
+/// Returns whether the token is `$scope`.
+#[inline(always)]
+pub(crate) fn is_scope(token: &[u8]) -> bool
+    ensures { result ≡ bytes_eq (codes "$scope") token.now }
+{
+    matches!(token, [b'$', b's', b'c', b'o', b'p', b'e'])
+}
+
+/// Returns whether the token is `$upscope`.
+#[inline(always)]
+pub(crate) fn is_upscope(token: &[u8]) -> bool
+    ensures { result ≡ bytes_eq (codes "$upscope") token.now }
+{
+    matches!(token, [b'$', b'u', b'p', b's', b'c', b'o', b'p', b'e'])
+}
+
 /// Returns whether the token could begin a timestamp or a value change.
 pub(crate) fn begins_change(token: &[u8]) -> bool
     ensures { result ≡ changes token.now }

@@ -1,7 +1,7 @@
 use Rattle.std.proofs.Common.{[], ◌∷◌, ◌++◌, refl, sym, subst, ◌∙◌, append-nil}
 use Rattle.vcd_model.specs.Tokens.{Token}
 use Rattle.vcd_text.specs.Passed.{Passed}
-use Rattle.vcd_head.proofs.AheadLemmas.{one_in_turn, two_in_turn}
+use Rattle.vcd_head.proofs.AheadScopes.{one_in_turn, two_in_turn}
 use Rattle.vcd_head.proofs.ahead.reference_ahead.Goals as goal
 
 pub returns-then-is_end-2-clause-gives : goal.returns-then-is_end-2-clause-gives
