@@ -1,8 +1,7 @@
 -- The entries by which codes are looked up.
-use Rattle.std.proofs.Common.{◌≡◌, ◌≢◌, ℕ, zero, suc, ◌<◌, ◌^◌, nat_le, ◌==◌, ◌&&◌, ◌||◌, not, cond, Bool, true, false, List, [], ◌∷◌, length, set, replicate, Option, Some, None, option_map, unwrap_or, refl, sym, ap, subst, ◌∙◌, arith}
+use Rattle.std.proofs.Common.{◌≡◌, ◌≢◌, ℕ, zero, suc, ◌<◌, ◌^◌, nat_le, ◌==◌, ◌&&◌, ◌||◌, Bool, true, false, List, [], ◌∷◌, length, set, replicate, Option, Some, None, option_map, unwrap_or, refl, sym, ap, subst, ◌∙◌, arith}
 use Rattle.std.specs.Prelude.{slice_get}
 use Rattle.std.specs.List.{list_all}
-use Rattle.std.specs.Option.{option_or}
 use Rattle.std.proofs.lemmas.Bool.{and_parts, eqb-true, ne_eqb, eq-eqb, false≢true, lt-leb}
 use Rattle.std.proofs.lemmas.Option.{none-some, same_Some, slice_get_within}
 use Rattle.vcd_view.specs.declared.view.Code.{Code}
@@ -11,7 +10,7 @@ use Rattle.vcd_view.specs.Finds.{Finds}
 use Rattle.vcd_view.specs.Keys.{AreBytes, key_in}
 use Rattle.vcd_model.specs.Declarations.{IdCode}
 use Rattle.vcd_view.specs.Views.{AreHeld}
-use Rattle.vcd_view.specs.Entries.{HasEntry, IsAt, are_right, is_right, is_entry_of, size_or_zero_of, index_in_entry, text_in, index_in_some}
+use Rattle.vcd_view.specs.Entries.{HasEntry, IsAt, are_right, is_right, is_entry_of, size_or_zero_of, text_in}
 use Rattle.vcd_view.proofs.KeyLemmas.{bytes_at_place, key_below, same_key}
 use Rattle.vcd_view.proofs.LookUpLemmas.{first_with}
 use Rattle.vcd_view.proofs.RowLemmas.{text_within, code_of_shown}
@@ -69,17 +68,6 @@ entry_found text codes es i e key h s n l k =
 
 -- ---- what entries give that are right
 
--- the key of an entry that gives an index
-pub told_key : (t : List ℕ) (e : Entry) → (not (key_in t == 0) && (e.key == key_in t)) ≡ true → (e.key ≡ key_in t) × (e.key ≢ 0)
-told_key t e h =
-    let b = and_parts (not (key_in t == 0)) (e.key == key_in t) h in
-    let k = eqb-true e.key (key_in t) b.1 in
-    (k, λ z. never (key_in t == 0) b.0 (eq-eqb (key_in t) 0 (sym k ∙ z)))
-  where
-    never : (x : Bool) → not x ≡ true → x ≡ true → ⊥
-    never true h e = cc
-    never false h e = cc
-
 -- an entry that is right gives the index of its code
 gives : (text : List ℕ) (codes : List Code) (cs : List IdCode) (es : List Entry) (i : ℕ) (e : Entry) (t : List ℕ) → AreHeld text codes cs → are_right text codes es ≡ true → slice_get es i ≡ Some e → AreBytes t → e.key ≡ key_in t → e.key ≢ 0 → Finds cs t (Some e.position)
 gives text codes cs es i e t h right there a q n =
@@ -91,36 +79,7 @@ gives text codes cs es i e t h right there a q n =
     let some : 0 < key_in t = omega (arith, n, q) in
     (k.0, k.1, first_with cs t e.position k.0 h.distinct k.1 (same_key t k.0.text a own equal some))
 
--- and so do some of them
-pub told_finds : (text : List ℕ) (codes : List Code) (cs : List IdCode) (es : List Entry) (t : List ℕ) (p : ℕ) → AreHeld text codes cs → are_right text codes es ≡ true → AreBytes t → (is : List ℕ) → index_in_some es t is ≡ Some p → Finds cs t (Some p)
-told_finds text codes cs es t p h right a [] z = absurd (none-some p z)
-told_finds text codes cs es t p h right a (i ∷ is) z = by_entry (told_finds text codes cs es t p h right a is) (slice_get es i) refl
-  where
-    by_entry : (index_in_some es t is ≡ Some p → Finds cs t (Some p)) → (o : Option Entry) → slice_get es i ≡ o → Finds cs t (Some p)
-    by_entry rest None s = rest (sym (ap (λ o. option_or (index_in_entry t o) (index_in_some es t is)) s) ∙ z)
-    by_entry rest (Some e) s = by_test (not (key_in t == 0) && (e.key == key_in t)) refl (sym (ap (λ o. option_or (index_in_entry t o) (index_in_some es t is)) s) ∙ z)
-      where
-        by_test : (b : Bool) → (not (key_in t == 0) && (e.key == key_in t)) ≡ b → option_or (cond b (Some e.position) None) (index_in_some es t is) ≡ Some p → Finds cs t (Some p)
-        by_test true q w = let k = told_key t e q in subst (λ x. Finds cs t (Some x)) (same_Some e.position p w) (gives text codes cs es i e t h right s a k.0 k.1)
-        by_test false q w = rest w
-
--- what they give is the index of a code
-pub told_within : (text : List ℕ) (codes : List Code) (es : List Entry) (t : List ℕ) (p : ℕ) → are_right text codes es ≡ true → AreBytes t → (is : List ℕ) → index_in_some es t is ≡ Some p → p < length codes
-told_within text codes es t p right a [] z = absurd (none-some p z)
-told_within text codes es t p right a (i ∷ is) z = by_entry (told_within text codes es t p right a is) (slice_get es i) refl
-  where
-    by_entry : (index_in_some es t is ≡ Some p → p < length codes) → (o : Option Entry) → slice_get es i ≡ o → p < length codes
-    by_entry rest None s = rest (sym (ap (λ o. option_or (index_in_entry t o) (index_in_some es t is)) s) ∙ z)
-    by_entry rest (Some e) s = by_test (not (key_in t == 0) && (e.key == key_in t)) refl (sym (ap (λ o. option_or (index_in_entry t o) (index_in_some es t is)) s) ∙ z)
-      where
-        by_test : (b : Bool) → (not (key_in t == 0) && (e.key == key_in t)) ≡ b → option_or (cond b (Some e.position) None) (index_in_some es t is) ≡ Some p → p < length codes
-        by_test true q w =
-            let k = told_key t e q in
-            let told = entry_tells text codes e (one_of_all (is_right text codes) es i e right s) k.1 (omega (arith, k.0, key_below t a)) in
-            subst (λ x. x < length codes) (same_Some e.position p w) (slice_get_within codes e.position told.0 told.1)
-        by_test false q w = rest w
-
--- ---- what the hash of a code leads to
+-- ---- what a look beside a code's own entry, or by its hash, leads to
 
 -- an entry with the key of a short code gives its index
 pub entry_finds : (text : List ℕ) (codes : List Code) (cs : List IdCode) (es : List Entry) (t : List ℕ) (p : ℕ) → AreHeld text codes cs → are_right text codes es ≡ true → AreBytes t → key_in t ≢ 0 → HasEntry es (key_in t) p → Finds cs t (Some p)

@@ -1,7 +1,6 @@
 -- The entries by which codes are looked up.
-use Rattle.std.specs.Prelude.{◌≡◌, ℕ, ◌+◌, ◌-◌, ◌*◌, ◌/◌, ◌%◌, ◌^◌, ◌==◌, ◌&&◌, ◌||◌, nat_le, bit_and, bit_or, bit_xor, not, cond, Bool, true, false, List, [], ◌∷◌, length, slice_get, slice_range, Option, Some, None, option_map, unwrap_or}
+use Rattle.std.specs.Prelude.{◌≡◌, ℕ, ◌+◌, ◌-◌, ◌*◌, ◌/◌, ◌%◌, ◌^◌, ◌==◌, ◌&&◌, ◌||◌, nat_le, bit_and, bit_or, cond, Bool, true, false, List, [], ◌∷◌, length, slice_get, slice_range, Some, option_map, unwrap_or}
 use Rattle.std.specs.List.{list_all}
-use Rattle.std.specs.Option.{option_or}
 use Rattle.vcd_view.specs.declared.view.Code.{Code}
 use Rattle.vcd_view.specs.declared.view.Entry.{Entry}
 use Rattle.vcd_view.specs.Keys.{key_in}
@@ -49,20 +48,6 @@ entry_in code entries = bit_and (number_in code) ((entries + (2 ^ 64 - 1)) % 2 ^
 -- the upper half how far one is from the next
 abbrev pub entry_after : ℕ → ℕ → ℕ → ℕ
 entry_after hash looks entries = bit_and ((hash + looks * bit_or (hash / 2 ^ 32) 1 % 2 ^ 64) % 2 ^ 64) ((entries + (2 ^ 64 - 1)) % 2 ^ 64)
-
--- the index that an entry gives for these bytes: its own, if its key is theirs
-abbrev pub index_in_entry : List ℕ → Option Entry → Option ℕ
-index_in_entry t None = None
-index_in_entry t (Some e) = cond (not (key_in t == 0) && (e.key == key_in t)) (Some e.position) None
-
--- the index that the first of these entries gives which is that of these bytes
-abbrev pub index_in_some : List Entry → List ℕ → List ℕ → Option ℕ
-index_in_some es t [] = None
-index_in_some es t (i ∷ is) = option_or (index_in_entry t (slice_get es i)) (index_in_some es t is)
-
--- the entries beside one
-abbrev pub beside : ℕ → List ℕ
-beside at = bit_xor at 1 ∷ bit_xor at 2 ∷ bit_xor at 3 ∷ []
 
 -- one of the entries has this key and this index
 abbrev pub HasEntry : List Entry → ℕ → ℕ → Type 0

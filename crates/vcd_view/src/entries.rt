@@ -1,8 +1,8 @@
 // The entries by which codes are looked up: where the entry of a code is, and what it keeps. Any
 // code may have any entry, and two codes may have the same one. Where an entry is decides only how
 // fast a look-up is.
-ghost use Rattle.std.specs.Prelude.{◌≡◌, ◌+◌, ◌-◌, ◌%◌, ◌^◌, ◌<◌, ◌≤◌, ℕ, List, true, bit_and, length, slice_get, Some, IfSome};
-ghost use Rattle.vcd_view.specs.Names.{AnyHeld, Finds, HasEntry, IsAt, above, are_right, beside, entry_after, entry_in, key_in, size_or_zero_of, number_in, index_in_entry, index_in_some};
+ghost use Rattle.std.specs.Prelude.{◌≡◌, ◌+◌, ◌-◌, ◌%◌, ◌^◌, ◌<◌, ◌≤◌, true, bit_and, length, Some, IfSome};
+ghost use Rattle.vcd_view.specs.Names.{AnyHeld, Finds, HasEntry, IsAt, above, are_right, entry_after, entry_in, key_in, size_or_zero_of, number_in};
 
 use crate::code_hash::CodeSeed;
 use crate::key::key_of;
@@ -74,36 +74,6 @@ fn number_of(code: &[u8]) -> usize
     number
 }
 
-/// Returns the index of the code with this key, if the entry at `at` is that of the code; else
-/// `None`.
-#[inline(always)]
-pub fn index_in_entry(entries: &[Entry], at: usize, key: u64) -> Option<usize>
-    ensures { (code : List ℕ) → key ≡ key_in code → result ≡ index_in_entry code (slice_get entries.now at) }
-{
-    let entry = entries.get(at)?;
-    if key != 0 && entry.key == key {
-        Some(entry.position as usize)
-    } else {
-        None
-    }
-}
-
-/// Returns the index of the code with this key, if one of the three entries beside its own is that
-/// of the code; else `None`. They are in the 64 bytes around that, so a look at them reads at most
-/// one cache line more.
-#[inline(always)]
-pub fn index_beside(entries: &[Entry], own: usize, key: u64) -> Option<usize>
-    ensures { (code : List ℕ) → key ≡ key_in code → result ≡ index_in_some entries.now code (beside own) }
-{
-    if let Some(position) = index_in_entry(entries, own ^ 1, key) {
-        return Some(position);
-    }
-    if let Some(position) = index_in_entry(entries, own ^ 2, key) {
-        return Some(position);
-    }
-    index_in_entry(entries, own ^ 3, key)
-}
-
 // The least key of the entry of a code of 8 bytes or more.
 const LONG: u64 = 1 << 63;
 
@@ -136,8 +106,8 @@ pub fn long_key(hash: u64) -> u64
     hash % LONG + LONG
 }
 
-/// Returns the index of a code, if one of the entries beside its own or one to which its hash leads
-/// is that of the code; else `None`, and the code may be there all the same.
+/// Returns the index of a code, if one of the last two entries beside its own or one to which its
+/// hash leads is that of the code; else `None`, and the code may be there all the same.
 // For codes of 8 bytes or more, and codes crafted to share entries: `check` of 100,000 takes 1.5 to
 // 2.6 times as long as for ordinary codes, and with only the binary search 8 to 13 times.
 pub(crate) fn index_by_hash(
@@ -161,11 +131,25 @@ pub(crate) fn index_by_hash(
         let hash = seed.hashed(0, code);
         return index_of_long(text, codes, entries, hash, code, probes);
     }
-    let own = entry_of(code, entries.len());
-    match index_beside(entries, own, key) {
+    match index_beside(entries, entry_of(code, entries.len()), key) {
         Some(position) => Some(position),
         None => index_of_key(entries, seed.mixed(0, key), key),
     }
+}
+
+// Returns the index that one of the last two entries beside a code's own gives, if it has this key;
+// otherwise `None`. With that entry and the first one beside it, they are 64 bytes, so a look at
+// them reads at most one cache line more.
+fn index_beside(entries: &[Entry], own: usize, key: u64) -> Option<usize>
+    ensures { IfSome result (λ position. HasEntry entries.now key position) }
+{
+    for other in 2..4 {
+        let entry = entries.get(own ^ other)?;
+        if entry.key == key {
+            return Some(entry.position as usize);
+        }
+    }
+    None
 }
 
 // Returns the index that an entry with this key gives, if the hash leads to that entry; otherwise

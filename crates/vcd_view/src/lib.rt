@@ -17,8 +17,8 @@
 //! # The modules
 //!
 //! - `view`: `HeadView` with its rows and codes, and `Need`
-//! - `look_up`, `probes`: a look at one entry, then a look by the hash, then a binary search;
-//!   comparisons, counted
+//! - `look_up`, `probes`: a look at one entry and at the one beside it, then a look by the hash,
+//!   then a binary search; comparisons, counted
 //! - `entries`, `key`: where a code's entry is, and what it holds; codes as numbers
 //! - `code_hash`: codes hashed by numbers that nobody knows
 //! - `room`: `need`, the room that an engine over a header needs
@@ -44,8 +44,7 @@ mod view;
 
 pub use code_hash::{CodeHasher, CodeSeed};
 pub use entries::{
-    MAX_LOOKS, code_number, entry_after, entry_for, entry_of, index_beside, index_in_entry,
-    long_key, size_or_zero_of,
+    MAX_LOOKS, code_number, entry_after, entry_for, entry_of, long_key, size_or_zero_of,
 };
 pub use key::key_of;
 pub use keyword::{Keyword, is, keyword_of, pass_words};

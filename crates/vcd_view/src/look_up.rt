@@ -21,8 +21,9 @@ pub struct Found {
 
 /// Returns the index of a code among the distinct codes; `None` if it is not among them.
 ///
-/// A look at one entry finds nearly all codes that simulators give. The others are looked for by
-/// their hash, and those that are not found so by a binary search.
+/// A look at one entry finds nearly all codes that simulators give, and a look at the first one
+/// beside it most of the others. The rest are looked for in the other two beside it and by their
+/// hash, and those that are not found so by a binary search.
 #[inline(always)]
 pub fn find(view: HeadView<'_>, code: &[u8]) -> Option<usize>
     ensures found { (h : Header) → IsViewOf view.entry h → Finds h.codes code.now result }
@@ -77,25 +78,26 @@ fn find_sized_counted(view: HeadView<'_>, code: &[u8], probes: &mut Probes) -> O
         → probes.old.count < probes.new.count }
     ensures few { AnyHeader view.entry (λ h. AreFew (length h.codes) probes.old.count probes.new.count) }
 {
-    match find_in_own_entry(view, code) {
-        Some(found) => Some(found),
-        None => {
-            let position = find_slowly(
-                view.text,
-                view.codes,
-                view.index,
-                view.entries,
-                view.seed,
-                code,
-                probes,
-            )?;
-            let code = code_in(view.codes, position)?;
-            Some(Found {
-                position,
-                size_or_zero: size_or_zero_of(code) as usize,
-            })
-        }
+    if let Some(found) = find_in_own_entry(view, code) {
+        return Some(found);
     }
+    if let Some(found) = find_in_entry(view, code, 1) {
+        return Some(found);
+    }
+    let position = find_slowly(
+        view.text,
+        view.codes,
+        view.index,
+        view.entries,
+        view.seed,
+        code,
+        probes,
+    )?;
+    let code = code_in(view.codes, position)?;
+    Some(Found {
+        position,
+        size_or_zero: size_or_zero_of(code) as usize,
+    })
 }
 
 /// Returns the index and size of a code by a look at only its own entry. `None` if another code has
@@ -107,11 +109,27 @@ pub fn find_in_own_entry(view: HeadView<'_>, code: &[u8]) -> Option<Found>
     ensures sized { IfSome result (λ found. IsSized view.entry.codes.now found) }
     ensures short { IfSome result (λ _. 0 < key_in code.now) }
 {
+    find_in_entry(view, code, 0)
+}
+
+// Returns the index and size of a code by a look at only one entry: its own if `other` is 0, and
+// the first one beside it if `other` is 1. `None` if that is not the entry of the code, or if the
+// code has more than 7 bytes.
+// Most changes that rtl_433 writes are of a code that the entry beside its own holds. If
+// `find_slowly` looks there, `check` takes 29 % more.
+#[inline(always)]
+fn find_in_entry(view: HeadView<'_>, code: &[u8], other: usize) -> Option<Found>
+    ensures found { (h : Header) → IsViewOf view.entry h
+        → IfSome result (λ found. Finds h.codes code.now (Some found.position)) }
+    ensures sized { IfSome result (λ found. IsSized view.entry.codes.now found) }
+    ensures short { IfSome result (λ _. 0 < key_in code.now) }
+{
     let key = key_of(code);
     if key == 0 {
         return None;
     }
-    let entry = view.entries.get(entry_of(code, view.entries.len()))?;
+    let own = entry_of(code, view.entries.len());
+    let entry = view.entries.get(own ^ other)?;
     if entry.key == key {
         Some(Found {
             position: entry.position as usize,
@@ -122,9 +140,10 @@ pub fn find_in_own_entry(view: HeadView<'_>, code: &[u8]) -> Option<Found>
     }
 }
 
-// Returns the index of a code that its own entry does not hold: by its hash, or else by a binary
-// search. `None` if it is not among the distinct codes. It takes no view, so that a look-up by one
-// entry need not make one ready, and it returns only a number, which needs no memory.
+// Returns the index of a code that neither its own entry nor the first one beside it holds: by a
+// look at the other two beside it, by its hash, or else by a binary search. `None` if it is not
+// among the distinct codes. It takes no view, so that a look-up by one entry need not make one
+// ready, and it returns only a number, which needs no memory.
 #[inline(never)]
 fn find_slowly(
     text: &[u8],

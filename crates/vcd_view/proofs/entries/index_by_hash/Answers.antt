@@ -1,9 +1,10 @@
-use Rattle.std.proofs.Common.{◌≢◌, sym, subst, ◌∙◌, arith}
+use Rattle.std.proofs.Common.{◌≢◌, subst, ◌∙◌, arith}
 use Rattle.std.proofs.lemmas.Grind.{get_or_default_zero}
 use Rattle.std.proofs.lemmas.Option.{IfSome_then}
-use Rattle.vcd_view.specs.Entries.{HasEntry, beside}
+use Rattle.std.specs.Option.{IfSome}
+use Rattle.vcd_view.specs.Entries.{HasEntry}
 use Rattle.vcd_view.specs.Keys.{AreBytes, key_in}
-use Rattle.vcd_view.proofs.EntryLemmas.{at_finds, at_within, entry_finds, entry_within, told_finds, told_within}
+use Rattle.vcd_view.proofs.EntryLemmas.{at_finds, at_within, entry_finds, entry_within}
 use Rattle.vcd_view.proofs.KeyLemmas.{are_bytes}
 use Rattle.vcd_view.proofs.entries.index_by_hash.Goals as goal
 
@@ -17,13 +18,17 @@ pub returns-in-Some-clause-found : goal.returns-in-Some-clause-found
 returns-in-Some-clause-found c = λ cs h.
     let code = c.args.code.now in
     let own : AreBytes code = are_bytes code (λ i d l. rw (get_or_default_zero code i d l) (let fit = c.type_inv.code i in omega (arith, fit))) in
-    told_finds c.args.text.now c.args.codes.now cs c.args.entries.now code c.in-Some.position h c.requires.right own (beside c.entry_of-own.result) (sym (c.index_beside.ensures code c.key_of-key.ensures) ∙ c.in-Some.is)
+    let some : key_in code ≢ 0 = λ z. c.if-key-eq0.false (c.key_of-key.ensures ∙ z) in
+    let has = subst (λ o. IfSome o (λ p. HasEntry c.args.entries.now c.key_of-key.result p)) c.in-Some.is c.index_beside.ensures in
+    entry_finds c.args.text.now c.args.codes.now cs c.args.entries.now code c.in-Some.position h c.requires.right own some (subst (λ k. HasEntry c.args.entries.now k c.in-Some.position) c.key_of-key.ensures has)
 
 pub returns-in-Some-clause-within : goal.returns-in-Some-clause-within
 returns-in-Some-clause-within c =
     let code = c.args.code.now in
     let own : AreBytes code = are_bytes code (λ i d l. rw (get_or_default_zero code i d l) (let fit = c.type_inv.code i in omega (arith, fit))) in
-    told_within c.args.text.now c.args.codes.now c.args.entries.now code c.in-Some.position c.requires.right own (beside c.entry_of-own.result) (sym (c.index_beside.ensures code c.key_of-key.ensures) ∙ c.in-Some.is)
+    let some : key_in code ≢ 0 = λ z. c.if-key-eq0.false (c.key_of-key.ensures ∙ z) in
+    let has = subst (λ o. IfSome o (λ p. HasEntry c.args.entries.now c.key_of-key.result p)) c.in-Some.is c.index_beside.ensures in
+    entry_within c.args.text.now c.args.codes.now c.args.entries.now code c.in-Some.position c.requires.right own some (subst (λ k. HasEntry c.args.entries.now k c.in-Some.position) c.key_of-key.ensures has)
 
 pub returns-in-None-clause-found : goal.returns-in-None-clause-found
 returns-in-None-clause-found c = λ cs h.
