@@ -160,22 +160,6 @@ mask_tells p xs i n f z room few fits e all k less none =
     let fit : get_or v k 0 < 256 = (Each1-get_or (Fits w8) v k 0 (omega arith) fits).fits in
     (omega (arith, fit, get_or-chunk i n xs k 0 less), sym at ∙ no_bit _ (sym bit ∙ none))
 
--- and of a bit that is set, the byte does
-pub mask_marks : (p : ℕ → Bool) (xs : List ℕ) (i n : ℕ) (f : ℕ → ℕ) (z : List ℕ) → i + n ≤ length xs → n ≤ 64 → Each1 (Fits w8) (chunk i n xs) → z ≡ map f (chunk i n xs) → agree_below (λ x. top 7 (f x)) p 256 ≡ true
-    → (k : ℕ) → k < n → bit_at (mask_l (map (top 7) z) % 2 ^ 64) k ≡ 1 → p (slice_index xs (i + k)) ≡ true
-mask_marks p xs i n f z room few fits e all k less set =
-    let v = chunk i n xs in
-    let ms = map p v in
-    let long : length v ≡ n = length-chunk i n xs room in
-    let mask : mask_l (map (top 7) z) % 2 ^ 64 ≡ mask_l ms = ap (λ l. mask_l l % 2 ^ 64) (ap (map (top 7)) e ∙ tops p f v all fits) ∙ mask_l-mod ms 64 (omega (arith, length-map v p)) in
-    let bit : bit_at (mask_l (map (top 7) z) % 2 ^ 64) k ≡ cond (get_or ms k false) 1 0 = ap (λ m. bit_at m k) mask ∙ bit_mask_l ms k in
-    let at : get_or ms k false ≡ p (get_or xs (i + k) 0) = get_or-map p v k 0 false (omega arith) ∙ ap p (get_or-chunk i n xs k 0 less) in
-    sym at ∙ a_bit _ (sym bit ∙ set)
-  where
-    a_bit : (b : Bool) → cond {A = ℕ} b 1 0 ≡ 1 → b ≡ true
-    a_bit true e = refl
-    a_bit false e = absurd (omega arith)
-
 pub others_tell : (xs : List ℕ) (i n : ℕ) (f : ℕ → ℕ) (z : List ℕ) → i + n ≤ length xs → n ≤ 64 → Each1 (Fits w8) (chunk i n xs) → z ≡ map f (chunk i n xs) → agree_below (λ x. top 7 (f x)) differs 256 ≡ true
     → (k : ℕ) → k < n → bit_at (mask_l (map (top 7) z) % 2 ^ 64) k ≡ 0 → is_value_digit (slice_index xs (i + k)) ≡ true
 others_tell xs i n f z room few fits e all k less none = let t = mask_tells differs xs i n f z room few fits e all k less none in two_alone (slice_index xs (i + k)) t.0 t.1
@@ -223,20 +207,6 @@ lower_alone b fit e = eqb-true (to_ascii_lowercase b) b (or_second (is_low b) (t
 pub capitals_tell : (xs : List ℕ) (i n : ℕ) (f : ℕ → ℕ) (z : List ℕ) → i + n ≤ length xs → n ≤ 64 → Each1 (Fits w8) (chunk i n xs) → z ≡ map f (chunk i n xs) → agree_below (λ x. top 7 (f x)) is_low 256 ≡ true
     → (k : ℕ) → k < n → bit_at (mask_l (map (top 7) z) % 2 ^ 64) k ≡ 0 → to_ascii_lowercase (slice_index xs (i + k)) ≡ slice_index xs (i + k)
 capitals_tell xs i n f z room few fits e all k less none = let t = mask_tells is_low xs i n f z room few fits e all k less none in lower_alone (slice_index xs (i + k)) t.0 t.1
-
--- a byte that is no zero
-abbrev pub is_other : ℕ → Bool
-is_other x = not (x == 48)
-
-pub no_other : (x : ℕ) → is_other x ≡ false → x ≡ 48
-no_other x e = by_test (x == 48) refl e
-  where
-    by_test : (b : Bool) → (x == 48) ≡ b → not b ≡ false → x ≡ 48
-    by_test true t h = eqb-true x 48 t
-    by_test false t h = cc
-
-pub an_other : (x : ℕ) → is_other x ≡ true → x ≡ 48 → ⊥
-an_other x e z = let no : is_other 48 ≡ true = ap is_other (sym z) ∙ e in cc
 
 -- a mask with no bit set below n
 pub low_clear : (mask n k : ℕ) → n ≤ 32 → bit_and mask (1 * 2 ^ n % 2 ^ 64 - 1) ≡ 0 → k < n → bit_at mask k ≡ 0

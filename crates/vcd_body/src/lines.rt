@@ -1,11 +1,11 @@
 // Changes whose bytes in the chunk are the line that would be written.
-ghost use Rattle.std.specs.Prelude.{◌≡◌, ◌≢◌, ℕ, ◌+◌, ◌-◌, ◌^◌, ◌<◌, ◌≤◌, List, [], true, false, drop, length, slice_index, slice_range, Some, IfSome};
+ghost use Rattle.std.specs.Prelude.{◌≡◌, ◌≢◌, ℕ, ◌+◌, ◌-◌, ◌^◌, ◌<◌, ◌≤◌, List, [], true, false, drop, length, slice_range, Some, IfSome};
 ghost use Rattle.vcd_body.specs.Names.{AreBinaryIf, BodyItem, HasChange, HasTimestamp, HasPlaces, HeadView, Header, IsDigitLine, IsItem, IsLowerAt, IsNeedless, IsSizedItem, IsTextLine, IsViewOf, LeavesFront, LeavesLine, LeavesShortest, LeavesText, SpellsScanned, StandsAt, bit_at, byte, bytes_without, extend, extended, is_white_space, item_line, line_without, short, str_to_ascii_lowercase, time_line, to_ascii_lowercase as lower};
 
 use crate::ahead::ScannedItem;
 use crate::change::{extension_of, may_have_capital, shortest};
 use crate::item::{Form, Item};
-use crate::words::{clear_bits, others_32};
+use crate::words::{clear_bits, others_32, others_64};
 use std::simd::prelude::*;
 
 /// Returns a mask whose bit k is set if byte `at + k` may be a capital letter: of letters and
@@ -103,18 +103,6 @@ fn has_one_blank(
     (text_end + 1 == code_at) & (bytes[from] == first) & (bytes[text_end] == b' ')
 }
 
-/// Returns a mask of the 64 bytes from `at` on: bit k is set if byte `at + k` is not the digit `0`.
-/// All 64 bytes must be there.
-#[inline(always)]
-fn nonzero_64(bytes: &[u8], at: usize) -> u64
-    requires { at + 64 ≤ length bytes.now }
-    ensures zero { (k : ℕ) → k < 64 → bit_at result k ≡ 0 → slice_index bytes.now (at + k) ≡ 48 }
-    ensures other { (k : ℕ) → k < 64 → bit_at result k ≡ 1 → slice_index bytes.now (at + k) ≢ 48 }
-{
-    let v = u8x64::from_slice(&bytes[at..]);
-    v.simd_ne(u8x64::splat(b'0')).to_bitmask()
-}
-
 /// Returns how many digits on the left the shortest digits of the same value leave out.
 #[inline(never)]
 fn needless(digits: &[u8]) -> usize
@@ -162,7 +150,7 @@ fn left_out_of_binary(bytes: &[u8], at: usize, digits: &[u8]) -> Option<usize>
         return Some(clear_bits(others_32(bytes, at, b'0'), n));
     }
     if n == 64 {
-        return Some(clear_bits(nonzero_64(bytes, at), 64));
+        return Some(clear_bits(others_64(bytes, at, b'0'), 64));
     }
     if digits[0] == b'1' {
         return Some(0);

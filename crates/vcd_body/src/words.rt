@@ -147,7 +147,7 @@ fn is_value_digit(byte: u8) -> bool
     byte == b'0' || byte == b'1' || byte == b'x' || byte == b'X' || byte == b'z' || byte == b'Z'
 }
 
-/// Returns a mask whose bit k is set if byte `at + k` is not this one.
+/// Returns a mask whose bit k is set if byte `at + k`, of 32 bytes, is not this one.
 #[inline(always)]
 pub(crate) fn others_32(bytes: &[u8], at: usize, byte: u8) -> u64
     requires { at + 32 ≤ length bytes.now }
@@ -156,6 +156,17 @@ pub(crate) fn others_32(bytes: &[u8], at: usize, byte: u8) -> u64
 {
     let v = u8x32::from_slice(&bytes[at..]);
     v.simd_ne(u8x32::splat(byte)).to_bitmask()
+}
+
+/// Returns a mask whose bit k is set if byte `at + k`, of 64 bytes, is not this one.
+#[inline(always)]
+pub(crate) fn others_64(bytes: &[u8], at: usize, byte: u8) -> u64
+    requires { at + 64 ≤ length bytes.now }
+    ensures same { (k : ℕ) → k < 64 → bit_at result k ≡ 0 → slice_index bytes.now (at + k) ≡ byte }
+    ensures other { (k : ℕ) → k < 64 → bit_at result k ≡ 1 → slice_index bytes.now (at + k) ≢ byte }
+{
+    let v = u8x64::from_slice(&bytes[at..]);
+    v.simd_ne(u8x64::splat(byte)).to_bitmask()
 }
 
 /// Returns how many of the lowest n bits of a mask are clear before the first set one. The result

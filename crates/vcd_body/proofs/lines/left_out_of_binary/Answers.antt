@@ -29,8 +29,8 @@ returns-then-n-eq64 c =
     let there : (j : ℕ) → j < length l → slice_index l j ≡ slice_index c.args.bytes.now (c.args.at + j) = λ j few. byte_there l c.args.bytes.now c.args.at (length l) j few c.requires.position in (
       omega (arith, less, all),
       λ two. short_behind_zeros k l (omega (arith, less, all))
-          (λ j few. there j (omega (arith, few, less, all)) ∙ c.nonzero_64.ensures.zero j (omega (arith, few, less)) (z.clear j few))
-          (λ more e. c.nonzero_64.ensures.other k less (z.set (omega (arith, more, all))) (sym (there k (omega (arith, less, all))) ∙ e))
+          (λ j few. there j (omega (arith, few, less, all)) ∙ c.others_64.ensures.same j (omega (arith, few, less)) (z.clear j few))
+          (λ more e. c.others_64.ensures.other k less (z.set (omega (arith, more, all))) (sym (there k (omega (arith, less, all))) ∙ e))
           (two refl),
     )
 
