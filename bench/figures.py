@@ -7,10 +7,11 @@ take that read the whole dump: wc, grep, and the converter vcd2fst if it is ther
     bench/figures.py /tmp/dumps/{scalars,many,wide,cpus}.vcd
 
 valgrind counts, so other work on the machine does not change the figures. Of each dump the first
-4 MB are read (MEGABYTES says how many), cut off between two lines. What the header takes is
-subtracted: a second run reads only the header. In both runs a comment of 1.1 MB follows the header,
-because vcdkit reads a short file with short buffers. All programs run in the C locale. VCDKIT names
-the program, else it is the vcdkit in the folder above. It takes a minute or two for each dump."""
+4 MB are read (MEGABYTES says how many, at least 3), cut off between two lines. A second run reads
+only half of that body, and a figure is the difference of the two runs, for each item that only the
+first one reads. So what the header takes is not in it, nor what a command writes at the end of a
+run, such as the rows of edges. All programs run in the C locale. VCDKIT names the program, else it
+is the vcdkit in the folder above. It takes two or three minutes for each dump."""
 import os
 import re
 import shutil
@@ -18,7 +19,6 @@ import subprocess
 import sys
 import tempfile
 
-PAD = b"$comment\n" + (b"x" * 79 + b"\n") * 14_000 + b"$end\n"
 LAST = str(2**64 - 1)
 COUNT = ["valgrind", "--tool=cachegrind", "--cache-sim=no", "--cachegrind-out-file=/dev/null"]
 
@@ -68,27 +68,31 @@ def write(path, text):
 
 
 def front_of(name, size):
-    """Returns the header of a dump, and so many bytes of its body, up to a line's end."""
+    """Returns the header and the body of the first bytes of a dump, up to a line's end."""
     with open(name, "rb") as file:
         text = file.read(size)
     end = text.index(b"\n", text.index(b"$enddefinitions")) + 1
     return text[:end], text[end:text.rindex(b"\n") + 1]
 
 
+def items_of(program, path, text):
+    """Writes a dump, and returns how many items it has."""
+    report = run([program, "check", write(path, text)]).stdout
+    if not report:  # a section is cut off: the dump ends before its time
+        report = run([program, "check", write(path, text[:text.rindex(b"\n#") + 1])]).stdout
+    return sum(int(count) for count in re.findall(rb"(?m)^(?:times|changes) (\d+)", report))
+
+
 def column_of(program, name, size, folder):
     """Returns the names of the rows and the figures of a dump."""
     head, body = front_of(name, size)
-    without = write(os.path.join(folder, "head.vcd"), head + PAD)
-    whole = write(os.path.join(folder, "whole.vcd"), head + PAD + body)
-    report = run([program, "check", whole]).stdout
-    if not report:  # a section is cut off: the body ends before its time
-        write(whole, head + PAD + body[:body.rindex(b"\n#") + 1])
-        report = run([program, "check", whole]).stdout
-    items = sum(int(count) for count in re.findall(rb"(?m)^(?:times|changes) (\d+)", report))
+    half, whole = os.path.join(folder, "half.vcd"), os.path.join(folder, "whole.vcd")
+    items = items_of(program, whole, head + body)
+    items -= items_of(program, half, head + body[:body.rindex(b"\n", 0, len(body) // 2) + 1])
     paths = [row.split(" ")[0] for row in run([program, "list", whole]).stdout.decode().split("\n")]
     column = []
     for row, words in rows_of(program, paths[:-1], folder):
-        more = instructions(words(whole)) - instructions(words(without))
+        more = instructions(words(whole)) - instructions(words(half))
         column.append((row, more / items / (2 if "merge" in row else 1)))
     return column
 

@@ -2,18 +2,22 @@
 ghost use Rattle.std.specs.Prelude.{◌-◌, ◌^◌, ◌<◌};
 ghost use Rattle.vcd_body.specs.Names.{Puts, time_due, time_line};
 
-use vcd_text::{Sink, WriteFailed, put, put_number};
+use itoa::write_digits;
+use vcd_text::{Sink, WriteFailed, put_parts};
 
 /// Writes the line of a time. If a write fails, a prefix was written.
+// One write. With one each for the `#`, the digits and the line feed, `merge` of scalars takes 2 %
+// more.
 #[cold]
 #[inline(never)]
 pub fn put_time<W: Sink>(time: u64, out: &mut W) -> Result<(), WriteFailed>
     requires { (W.device out.old).failures < 2 ^ 64 - 1 }
     ensures { Puts (W.device out.old) (W.device out.new) (time_line time) result }
 {
-    put(out, b"#")?;
-    put_number(out, time)?;
-    put(out, b"\n")
+    let mut digits = [0; 84];
+    let start = write_digits(time, &mut digits, 20);
+    let end = [b'\n', 0, 0, 0, 0, 0, 0, 0];
+    put_parts(out, b'#', &digits[start..], 20 - start, end, 1)
 }
 
 /// Writes the line of `time`, unless that was written last. If a write fails, a prefix was written.

@@ -1,12 +1,17 @@
-use Rattle.std.proofs.Common.{◌≡◌, [], ◌∷◌, Err, decimal, rules}
-use Rattle.vcd_text.proofs.Writes.{some-first, some-behind, both-written, puts-twice}
+use Rattle.std.proofs.Common.{◌≡◌, ◌-◌, ◌++◌, ◌∷◌, ◌∙◌, [], ap, subst, take, drop, decimal, arith, rules}
+use Rattle.std.specs.Prelude.{slice_range}
+use Rattle.std.proofs.lemmas.Fmt.{length-decimal-le}
+use Rattle.std.proofs.lemmas.List.{take-take, take_at}
+use Rattle.vcd_text.specs.Device.{Puts}
 use Rattle.vcd_body.proofs.time_line.put_time.Goals as goal
 
-pub returns-in_err-put_number : goal.returns-in_err-put_number
-returns-in_err-put_number g c =
-    let e : c.from_residual-in_err-put_number.result ≡ Err c.in_err-put_number.field-0.0 = search rules in
-    rw e (some-first (g.W.Sink.device _) (g.W.Sink.device _) (35 ∷ decimal c.args.time) (10 ∷ []) (some-behind (g.W.Sink.device _) (g.W.Sink.device _) (g.W.Sink.device _) (35 ∷ []) (decimal c.args.time) c.in_ok-put.ensures c.in_err-put_number.ensures))
+pub write_digits-start-requires : goal.write_digits-start-requires
+write_digits-start-requires g c = search (rules, length-decimal-le 20)
 
 pub returns : goal.returns
 returns g c =
-    puts-twice (g.W.Sink.device _) (g.W.Sink.device _) (g.W.Sink.device _) (35 ∷ decimal c.args.time) (10 ∷ []) c.put-2.result (both-written (g.W.Sink.device _) (g.W.Sink.device _) (g.W.Sink.device _) (35 ∷ []) (decimal c.args.time) c.in_ok-put.ensures c.in_ok-put_number.ensures) c.put-2.ensures
+    let start = c.write_digits-start.result in
+    let buf = c.write_digits-start.new.buf in
+    let long = c.write_digits-start.ensures.start in
+    let all : take (20 - start) (slice_range buf start 84) ≡ decimal c.args.time = take-take (20 - start) (84 - start) (drop start buf) (omega arith) ∙ ap (take (20 - start)) c.write_digits-start.ensures.written ∙ take_at (decimal c.args.time) _ (20 - start) (omega (arith, long)) in
+    subst (λ l. Puts (g.W.Sink.device c.args.out.now) (g.W.Sink.device c.put_parts.new.w) (35 ∷ l ++ 10 ∷ []) c.put_parts.result) all c.put_parts.ensures
