@@ -161,12 +161,6 @@ const PICK: [Step; 10] = [
     (LINES, LINES),
 ];
 
-#[test]
-fn a_pick_writes_what_is_due_before_it_reads_on(rt: HostRuntime) {
-    let left = reads_of(rt.alloc(), &["pick", "a", "b"], &PICK);
-    assert_eq!(rt; left, Ok((0, 11, 0)));
-}
-
 // Its last step ends the run.
 const CUT: [Step; 6] = [
     (HEAD, HEAD_WRITTEN),
@@ -177,12 +171,6 @@ const CUT: [Step; 6] = [
     (b"#8\n", b"#7\n"),
 ];
 
-#[test]
-fn a_cut_writes_what_is_due_before_it_reads_on(rt: HostRuntime) {
-    let left = reads_of(rt.alloc(), &["cut", "--from", "5", "--to", "7"], &CUT);
-    assert_eq!(rt; left, Ok((0, 6, 0)));
-}
-
 // Its last step ends the run.
 const SAMPLE: [Step; 5] = [
     (HEAD, b""),
@@ -191,12 +179,6 @@ const SAMPLE: [Step; 5] = [
     (b"1!\nb10 \"\n", b""),
     (b"#6\n", b"5 a 1\n5 b 00000010\n"),
 ];
-
-#[test]
-fn a_sample_writes_what_is_due_before_it_reads_on(rt: HostRuntime) {
-    let left = reads_of(rt.alloc(), &["sample", "--at", "0,5"], &SAMPLE);
-    assert_eq!(rt; left, Ok((0, 5, 0)));
-}
 
 const MERGED: &[u8] = b"$timescale\n\t1ns\n$end\n$scope module in1 $end\n$var wire 1 ! a $end\n\
     $var wire 8 \" b $end\n$upscope $end\n$enddefinitions $end\n";
@@ -211,8 +193,18 @@ const MERGE: [Step; 7] = [
     (b"#12\n", b""),
 ];
 
+// Words, the steps, and how many reads there are.
+const RUNS: [(&[&str], &[Step], usize); 4] = [
+    (&["pick", "a", "b"], &PICK, 11),
+    (&["cut", "--from", "5", "--to", "7"], &CUT, 6),
+    (&["sample", "--at", "0,5"], &SAMPLE, 5),
+    (&["merge", "-"], &MERGE, 8),
+];
+
 #[test]
-fn a_merge_writes_what_is_due_before_it_reads_on(rt: HostRuntime) {
-    let left = reads_of(rt.alloc(), &["merge", "-"], &MERGE);
-    assert_eq!(rt; left, Ok((0, 8, 0)));
+fn what_is_due_is_written_before_the_next_read(rt: HostRuntime) {
+    for (words, steps, reads) in &RUNS {
+        let left = reads_of(rt.alloc(), words, steps);
+        assert_eq!(rt; left, Ok((0, *reads, 0)), "of {words:?}");
+    }
 }
