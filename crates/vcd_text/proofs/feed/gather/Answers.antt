@@ -1,12 +1,10 @@
 use Rattle.std.specs.Prelude.{Err, IfSome, Ok, Result, Some}
 use Rattle.std.proofs.Common.{◌≡◌, ◌≢◌, ℕ, zero, suc, ◌+◌, ◌-◌, ◌≤◌, ◌<◌, List, length, Bool, true, false, arith, refl, ap, sym, subst, ◌∙◌, add-one}
-use Rattle.std.proofs.lemmas.Option.{none-some}
 use Rattle.vcd_text.specs.ReadAhead.{HasRest}
 use Rattle.vcd_text.specs.Registers.{Fits, looked, settled}
 use Rattle.vcd_text.specs.Turn.{Turns}
 use Rattle.vcd_text.specs.Window.{Collects, Finishes, Skips, is_white_at}
 use Rattle.vcd_text.specs.declared.window.Collected.TheVariants.{Whole}
-use Rattle.vcd_text.specs.declared.window.Filled.TheVariants.{End, More, Failed as fill-failed}
 use Rattle.vcd_text.specs.declared.registers.Parked.{Parked}
 use Rattle.vcd_text.specs.declared.answer.Next.TheVariants.{Finish, Token as token}
 use Rattle.vcd_text.specs.declared.answer.Next.{Next}
@@ -17,31 +15,8 @@ use Rattle.vcd_text.proofs.WindowLemmas.{after-skip, whole-stands, part-within, 
 use Rattle.vcd_text.proofs.FirstLemmas.{stays_long, stays_part, stays_whole}
 use Rattle.vcd_text.proofs.feed.gather.Goals as goal
 
--- ---- results that are two things
-
 err-is : (h : Halt) → ◌≡◌ {A = Result Next Halt} (Err h) (Err ReadFailed) → h ≡ ReadFailed
 err-is h e = cc
-
-ok-is : (r s : Next) → ◌≡◌ {A = Result Next Halt} (Ok r) (Ok s) → r ≡ s
-ok-is r s e = cc
-
-ok≢err : (r : Next) (h : Halt) → ◌≢◌ {A = Result Next Halt} (Ok r) (Err h)
-ok≢err r h e = cc
-
-finish≢token : ◌≢◌ {A = Result Next Halt} (Ok Finish) (Ok token)
-finish≢token e = cc
-
-long≢failed : TokenTooLong ≢ ReadFailed
-long≢failed e = cc
-
-input≢failed : InputTooLong ≢ ReadFailed
-input≢failed e = cc
-
-more≢failed : More ≢ fill-failed
-more≢failed e = cc
-
-end≢failed : End ≢ fill-failed
-end≢failed e = cc
 
 -- a whole token has bytes
 some-token : (chunk tok tok' : List ℕ) (old mid new : Parked) → (0 < old.size → mid ≡ old) → (old.size ≡ 0 → Skips chunk old mid) → Collects chunk tok tok' mid new Whole → 0 < new.size
@@ -67,16 +42,6 @@ some-token chunk tok tok' old mid new begun skips h = by_sizes old.size refl h.0
 -- how far the registers have come
 far-enough : (first old mid new : Parked) → first.base + first.at + old.size ≤ old.base + old.at → old.base + old.at + mid.size ≤ mid.base + mid.at + old.size → mid.base + mid.at + new.size ≤ new.base + new.at + mid.size → first.base + first.at + new.size ≤ new.base + new.at
 far-enough first old mid new a b d = omega (arith, a, b, d)
-
-far-filled : (first old mid new filled : Parked) → first.base + first.at + old.size ≤ old.base + old.at → old.base + old.at + mid.size ≤ mid.base + mid.at + old.size → mid.base + mid.at + new.size ≤ new.base + new.at + mid.size → (looked filled ≡ looked new) × (filled.size ≡ new.size) → first.base + first.at + filled.size ≤ filled.base + filled.at
-far-filled first old mid new filled a b d e = omega (arith, a, b, d, e.0, e.1)
-
-past-token : (first old mid new : Parked) → first.base + first.at + old.size ≤ old.base + old.at → old.base + old.at + mid.size ≤ mid.base + mid.at + old.size → looked mid + new.size < looked new + mid.size → looked first < looked new
-past-token first old mid new a b d = omega (arith, a, b, d)
-
--- whether all bytes that may be looked at are used up
-used-up : (p : Parked) → p.at ≡ p.stop → p.end ≤ p.stop → p.end ≤ p.at
-used-up p e l = rw e l
 
 module _ {X : Type 0} (failures : X → ℕ) (last_failed : X → Bool) (source source' : X) (chunk limit : ℕ) (old new : Parked) (fits : Fits new chunk limit) (kept : new.kept ≡ old.kept) where
   -- one that is settled already
@@ -173,7 +138,7 @@ returns-in-Ended-clause-turns g c = again-turns g.S.Source.failures g.S.Source.l
   line_feeds = c.requires.fits.line_feeds;
   size = omega arith;
   kept = c.requires.fits.kept;
-}) refl (Ok Finish) (ap settled c.in-Ended.is) finish≢token refl refl refl refl
+}) refl (Ok Finish) (ap settled c.in-Ended.is) (λ e. cc) refl refl refl refl
 
 pub returns-in-Halted-clause-turns : goal.returns-in-Halted-clause-turns
 returns-in-Halted-clause-turns g c = again-turns g.S.Source.failures g.S.Source.last_failed _ _ _ _ _ _ (record {
@@ -185,7 +150,7 @@ returns-in-Halted-clause-turns g c = again-turns g.S.Source.failures g.S.Source.
   line_feeds = c.requires.fits.line_feeds;
   size = omega arith;
   kept = c.requires.fits.kept;
-}) refl (Err c.in-Halted.halt) (ap settled c.in-Halted.is) (λ e. ok≢err _ _ (sym e)) refl refl refl refl
+}) refl (Err c.in-Halted.halt) (ap settled c.in-Halted.is) (λ e. cc) refl refl refl refl
 
 pub returns-in-Whole-clause-turns : goal.returns-in-Whole-clause-turns
 returns-in-Whole-clause-turns g c =
@@ -194,14 +159,14 @@ returns-in-Whole-clause-turns g c =
     let full = c.loop-parked.auto.token in
     let range = c.in-Whole.ensures.fits (rw (fits, full) (rw fits at (c.skip.ensures.fits (length c.args.token.now) (rw fits t.fits)))) in
     let phase = c.in-Whole.ensures.on.phase ∙ (c.skip.ensures.on.phase ∙ t.going) in
-    let further = past-token c.args.parked.now c.loop-parked.parked c.skip.new.parked c.collect.new.parked c.loop-parked.invariant.3 c.skip.ensures.on.looked (c.in-Whole.ensures.whole refl) in
+    let further : looked c.args.parked.now + c.collect.new.parked.size < looked c.collect.new.parked = omega (arith, c.in-Whole.ensures.whole, c.skip.ensures.on.looked, c.loop-parked.invariant.3) in
     token-turns g.S.Source.failures g.S.Source.last_failed _ _ _ _ _ _ (rw (fits, full) at range) (c.in-Whole.ensures.on.kept ∙ (c.skip.ensures.on.kept ∙ c.loop-parked.invariant.2)) c.in-Going.is
-    further (some-token _ _ _ _ _ _ c.skip.ensures.begun c.skip.ensures.skips c.in-Whole.ensures.collects) (λ h e. none-some _ (sym (ap settled phase) ∙ e)) c.loop-parked.invariant.0
+    (omega (arith, further)) (some-token _ _ _ _ _ _ c.skip.ensures.begun c.skip.ensures.skips c.in-Whole.ensures.collects) (λ h e. let none = ap settled phase in cc) c.loop-parked.invariant.0
 
 pub returns-in-Halted-clause-says : goal.returns-in-Halted-clause-says
 returns-in-Halted-clause-says g c = record {
   gives = λ i given st. again-gives _ _ _ c.args.token.now _ i given _ c.in-Halted.is st;
-  near = λ e. absurd (ok≢err _ _ (sym e));
+  near = λ e. absurd (cc);
   left = λ e i given st clean. absurd (failed-marked _ _ _ _ i given st (c.in-Halted.is ∙ ap Halted (err-is _ e)) clean);
 }
 
@@ -217,7 +182,7 @@ returns-in-Whole-clause-says g c =
           (after-skip _ _ _ _ _ _ _ _ t fits c.skip.ensures.begun c.skip.ensures.skips i given st);
       near = λ _ i given st. rw add-one (whole-near _ _ _ _ _ _ _ i given range full c.in-Whole.ensures.collects
           (after-skip _ _ _ _ _ _ _ _ t fits c.skip.ensures.begun c.skip.ensures.skips i given st));
-      left = λ e. absurd (ok≢err _ _ e);
+      left = λ e. absurd (cc);
     }
 
 pub returns-in-TooLong-clause-says : goal.returns-in-TooLong-clause-says
@@ -229,8 +194,8 @@ returns-in-TooLong-clause-says g c =
     record {
       gives = λ i given st. long-gives _ _ _ _ _ _ _ _ i given _ (t.clean i given st) range full c.in-TooLong.ensures.collects
           (after-skip _ _ _ _ _ _ _ _ t fits c.skip.ensures.begun c.skip.ensures.skips i given st) c.halted.ensures.result c.halted.ensures.halts;
-      near = λ e. absurd (ok≢err _ _ (sym e));
-      left = λ e. absurd (long≢failed (sym c.halted.ensures.result ∙ err-is _ e));
+      near = λ e. absurd (cc);
+      left = λ e. absurd (cc);
     }
 
 pub returns-then-parked-clause-says : goal.returns-then-parked-clause-says
@@ -246,8 +211,8 @@ returns-then-parked-clause-says g c =
           let w = part-within _ _ _ _ _ _ _ i.bytes given range full c.in-Part.ensures.collects
           (after-skip _ _ _ _ _ _ _ _ t fits c.skip.ensures.begun c.skip.ensures.skips i given st) in
           input-gives _ _ _ _ _ _ i given _ (t.clean i given st) range' (c.in-Part.ensures.part refl) c.if-parked.true w c.halted-then-parked.ensures.result c.halted-then-parked.ensures.halts;
-      near = λ e. absurd (ok≢err _ _ (sym e));
-      left = λ e. absurd (input≢failed (sym c.halted-then-parked.ensures.result ∙ err-is _ e));
+      near = λ e. absurd (cc);
+      left = λ e. absurd (cc);
     }
 
 pub loop-parked-preserved : goal.loop-parked-preserved
@@ -257,8 +222,8 @@ loop-parked-preserved g c =
     let full : length c.loop-parked.token ≡ length c.args.token.now = c.loop-parked.auto.token in
     let range = c.skip.ensures.fits (length c.args.token.now) (rw fits t.fits) in
     let range' = rw full at (c.in-Part.ensures.fits (rw full range)) in
-    let used = used-up c.collect.new.parked (c.in-Part.ensures.part refl) c.if-parked.false in (
-      c.in-More.ensures.failures more≢failed ∙ c.loop-parked.invariant.0,
+    let used : c.collect.new.parked.end ≤ c.collect.new.parked.at = omega (arith, c.in-Part.ensures.part refl, c.if-parked.false) in (
+      c.in-More.ensures.failures (λ e. cc) ∙ c.loop-parked.invariant.0,
       record {
         fits = rw (sym fits) (c.in-More.ensures.fits _ range');
         going = c.in-More.ensures.phase ∙ (c.in-Part.ensures.on.phase ∙ (c.skip.ensures.on.phase ∙ t.going));
@@ -268,7 +233,7 @@ loop-parked-preserved g c =
             (after-skip _ _ _ _ _ _ _ _ t fits c.skip.ensures.begun c.skip.ensures.skips i given st));
       },
       c.in-More.ensures.kept ∙ (c.in-Part.ensures.on.kept ∙ (c.skip.ensures.on.kept ∙ c.loop-parked.invariant.2)),
-      far-filled c.args.parked.now c.loop-parked.parked c.skip.new.parked c.collect.new.parked c.fill.new.parked c.loop-parked.invariant.3 c.skip.ensures.on.looked c.in-Part.ensures.on.looked c.in-More.ensures.looked,
+      omega (arith, c.in-More.ensures.looked.0, c.in-More.ensures.looked.1, c.in-Part.ensures.on.looked, c.skip.ensures.on.looked, c.loop-parked.invariant.3),
       λ u us w. absurd (stays_part _ _ _ _ _ _ _ _ _ _ u us t.fits fits c.skip.ensures.skips (c.loop-parked.invariant.4 u us w) c.in-Part.ensures.collects),
     )
 
@@ -278,7 +243,7 @@ returns-in-End-clause-says g c =
     let fits : length c.loop-parked.chunk ≡ length c.args.chunk.now = c.loop-parked.auto.chunk in
     let full : length c.loop-parked.token ≡ length c.args.token.now = c.loop-parked.auto.token in
     let range = c.skip.ensures.fits (length c.args.token.now) (rw fits t.fits) in
-    let used = used-up c.collect.new.parked (c.in-Part.ensures.part refl) c.if-parked.false in
+    let used : c.collect.new.parked.end ≤ c.collect.new.parked.at = omega (arith, c.in-Part.ensures.part refl, c.if-parked.false) in
     record {
       gives = λ i given st.
           let w = part-within _ _ _ _ _ _ _ i.bytes given range full c.in-Part.ensures.collects
@@ -287,9 +252,9 @@ returns-in-End-clause-says g c =
       near = λ is i given st.
           let w = part-within _ _ _ _ _ _ _ i.bytes given range full c.in-Part.ensures.collects
           (after-skip _ _ _ _ _ _ _ _ t fits c.skip.ensures.begun c.skip.ensures.skips i given st) in
-          let some : 0 < c.collect.new.parked.size = rw c.in-End.ensures.fills.0 at (c.finish.ensures.looked.1 (ok-is _ _ is)) in
+          let some : 0 < c.collect.new.parked.size = rw c.in-End.ensures.fills.0 at (c.finish.ensures.looked.1 (cc)) in
           rw add-one (finish-near _ _ _ _ _ _ _ i given used c.in-End.ensures.fills.1 some w);
-      left = λ e. absurd (ok≢err _ _ e);
+      left = λ e. absurd (cc);
     }
 
 pub returns-in-Failed-clause-says : goal.returns-in-Failed-clause-says
@@ -298,18 +263,18 @@ returns-in-Failed-clause-says g c =
     let fits : length c.loop-parked.chunk ≡ length c.args.chunk.now = c.loop-parked.auto.chunk in
     let full : length c.loop-parked.token ≡ length c.args.token.now = c.loop-parked.auto.token in
     let range = c.skip.ensures.fits (length c.args.token.now) (rw fits t.fits) in
-    let used = used-up c.collect.new.parked (c.in-Part.ensures.part refl) c.if-parked.false in
+    let used : c.collect.new.parked.end ≤ c.collect.new.parked.at = omega (arith, c.in-Part.ensures.part refl, c.if-parked.false) in
     record {
       gives = λ i given st.
           let w = part-within _ _ _ _ _ _ _ i.bytes given range full c.in-Part.ensures.collects
           (after-skip _ _ _ _ _ _ _ _ t fits c.skip.ensures.begun c.skip.ensures.skips i given st) in
           fail-gives _ _ _ _ _ _ _ _ _ i given _ (t.clean i given st) c.in-Failed.ensures.fills w c.halted-in-Failed.ensures.result c.halted-in-Failed.ensures.halts;
-      near = λ e. absurd (ok≢err _ _ (sym e));
+      near = λ e. absurd (cc);
       left = λ _ i given st _.
           let w = part-within _ _ _ _ _ _ _ i.bytes given range full c.in-Part.ensures.collects
           (after-skip _ _ _ _ _ _ _ _ t fits c.skip.ensures.begun c.skip.ensures.skips i given st) in
           let rest = fail-rest _ _ _ _ c.fill.new.chunk _ _ _ i given used c.in-Failed.ensures.fills w in
-          let same : looked c.halted-in-Failed.new.parked ≡ looked c.collect.new.parked = ap looked c.halted-in-Failed.ensures.halts ∙ c.in-Failed.ensures.looked.0 in
+          let same : looked c.halted-in-Failed.new.parked ≡ looked c.collect.new.parked = omega (arith, c.in-Failed.ensures.looked.0, ap looked (c.halted-in-Failed.ensures.halts)) in
           subst (λ n. HasRest (g.S.Source.rest c.fill.new.source) n i) (sym same) rest;
     }
 
@@ -324,7 +289,7 @@ returns-in-TooLong-clause-turns g c =
     let far = far-enough c.args.parked.now c.loop-parked.parked c.skip.new.parked c.collect.new.parked c.loop-parked.invariant.3 c.skip.ensures.on.looked on.looked in
     rw c.halted.ensures.result
     (halts-turns g.S.Source.failures g.S.Source.last_failed _ _ _ _ _ _ (c.halted.ensures.fits _ _ (rw (fits, full) at range)) (c.halted.ensures.kept ∙ (on.kept ∙ (c.skip.ensures.on.kept ∙ c.loop-parked.invariant.2))) c.in-Going.is TokenTooLong c.collect.new.parked.size
-    (rw (ap looked halts) far) (ap (λ (p : Parked). p.phase) halts) (ap (λ (p : Parked). p.size) halts) (λ e. absurd (long≢failed e)) (λ e. absurd (long≢failed e)) (λ _. c.loop-parked.invariant.0))
+    (rw (ap looked halts) far) (ap (λ (p : Parked). p.phase) halts) (ap (λ (p : Parked). p.size) halts) (λ e. absurd (cc)) (λ e. absurd (cc)) (λ _. c.loop-parked.invariant.0))
 
 pub returns-then-parked-clause-turns : goal.returns-then-parked-clause-turns
 returns-then-parked-clause-turns g c =
@@ -337,7 +302,7 @@ returns-then-parked-clause-turns g c =
     let far = far-enough c.args.parked.now c.loop-parked.parked c.skip.new.parked c.collect.new.parked c.loop-parked.invariant.3 c.skip.ensures.on.looked on.looked in
     rw c.halted-then-parked.ensures.result
     (halts-turns g.S.Source.failures g.S.Source.last_failed _ _ _ _ _ _ (c.halted-then-parked.ensures.fits _ _ (rw (fits, full) at range)) (c.halted-then-parked.ensures.kept ∙ (on.kept ∙ (c.skip.ensures.on.kept ∙ c.loop-parked.invariant.2))) c.in-Going.is InputTooLong c.collect.new.parked.size
-    (rw (ap looked halts) far) (ap (λ (p : Parked). p.phase) halts) (ap (λ (p : Parked). p.size) halts) (λ e. absurd (input≢failed e)) (λ e. absurd (input≢failed e)) (λ _. c.loop-parked.invariant.0))
+    (rw (ap looked halts) far) (ap (λ (p : Parked). p.phase) halts) (ap (λ (p : Parked). p.size) halts) (λ e. absurd (cc)) (λ e. absurd (cc)) (λ _. c.loop-parked.invariant.0))
 
 pub returns-in-Failed-clause-turns : goal.returns-in-Failed-clause-turns
 returns-in-Failed-clause-turns g c =
@@ -363,7 +328,7 @@ returns-in-End-clause-turns g c =
     let filled = c.in-End.ensures in
     let far = far-enough c.args.parked.now c.loop-parked.parked c.skip.new.parked c.collect.new.parked c.loop-parked.invariant.3 c.skip.ensures.on.looked on.looked in
     ends-turns g.S.Source.failures g.S.Source.last_failed _ _ _ _ _ _ (c.finish.ensures.fits _ _ (rw fits at (filled.fits _ (rw full at range)))) (c.finish.ensures.kept ∙ (filled.kept ∙ (on.kept ∙ (c.skip.ensures.on.kept ∙ c.loop-parked.invariant.2)))) c.in-Going.is
-    c.fill.new.parked c.finish.result (rw (filled.looked.0, filled.looked.1) far) c.finish.ensures.finishes (filled.failures end≢failed ∙ c.loop-parked.invariant.0)
+    c.fill.new.parked c.finish.result (rw (filled.looked.0, filled.looked.1) far) c.finish.ensures.finishes (filled.failures (λ e. cc) ∙ c.loop-parked.invariant.0)
 
 -- ---- if whole tokens lie ahead
 
