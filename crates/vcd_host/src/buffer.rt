@@ -82,7 +82,7 @@ fn as_word(bytes: [u8; 8]) -> [u8; 8]
 
 /// Copies 8 bytes into `to` from `position` on, in one write. `to` must have room for them.
 #[inline(always)]
-pub(crate) fn copy_few(to: &mut [u8], position: usize, from: [u8; 8])
+pub(crate) fn copy_eight(to: &mut [u8], position: usize, from: [u8; 8])
     requires room { position + 8 ≤ length to.old }
     ensures long { length to.new ≡ length to.old }
     ensures copied { take (position + 8) to.new ≡ take position to.old ++ from }
@@ -110,7 +110,7 @@ pub(crate) fn copy_parts(
 {
     to[position] = first;
     copy_short(to, position + 1, from);
-    copy_few(to, position + 1 + n, end);
+    copy_eight(to, position + 1 + n, end);
 }
 
 impl Buffer {
@@ -156,7 +156,7 @@ impl Buffer {
         ensures bytes { kept self.new ≡ kept self.old ++ take n bytes }
         ensures goes_on { 0 < n → self.new.failed_at < self.new.len + 1 }
     {
-        copy_few(&mut self.bytes, self.len, bytes);
+        copy_eight(&mut self.bytes, self.len, bytes);
         self.len += n;
     }
 

@@ -1,7 +1,7 @@
 //! An output into bytes that were lent.
 ghost use Rattle.std.specs.Prelude.{◌≡◌, ◌-◌, ◌^◌, ◌<◌, ◌≤◌, ◌++◌, [], IfSome, Some, length, take, false, true};
 
-use crate::buffer::{FEW, PARTS, SHORT, copy, copy_few, copy_parts, copy_short};
+use crate::buffer::{FEW, PARTS, SHORT, copy, copy_eight, copy_parts, copy_short};
 use crate::gone::Gone;
 use crate::host::Output;
 use vcd_text::{Sink, WriteFailed};
@@ -101,7 +101,7 @@ impl Sink for LentOutput<'_> {
         if self.bytes.len() - self.used <= FEW {
             return false;
         }
-        copy_few(self.bytes, self.used, bytes);
+        copy_eight(self.bytes, self.used, bytes);
         self.used += n;
         true
     }

@@ -26,7 +26,7 @@ returns-clause-copied c =
     ∙ take-append-add (take (position + 1) set) (take 64 from) n
     ∙ ap (λ (l : List ℕ). take (position + 1) set ++ l) (take-take n 64 from few)
     ∙ ap (λ (l : List ℕ). l ++ take n from) one in
-    c.copy_few.ensures.copied
+    c.copy_eight.ensures.copied
     ∙ ap (λ (l : List ℕ). l ++ end) front
     ∙ append_assoc begin (take n from) end
     ∙ append_assoc (take position to) (first ∷ []) (take n from ++ end)

@@ -13,11 +13,11 @@ returns-clause-bytes c =
     let room = c.requires.room in
     let value = c.deref_mut.ensures.value in
     let held : length (take b.len xs) ≡ b.len = length-take-le b.len xs (omega (arith, ap length value, b.size, room)) in
-    let new = c.copy_few.new.to in
-    let all : b.bytes.len ≡ length new = omega (arith, c.copy_few.ensures.long, c.deref_mut.ensures.len, b.size) in
+    let new = c.copy_eight.new.to in
+    let all : b.bytes.len ≡ length new = omega (arith, c.copy_eight.ensures.long, c.deref_mut.ensures.len, b.size) in
     ap (take (b.len + n)) (ap (λ k. take k (new ++ drop (length new) b.bytes.items)) all ∙ take-append_seam new (drop (length new) b.bytes.items))
     ∙ sym (take-take (b.len + n) (b.len + 8) new (omega (arith, few)))
-    ∙ ap (take (b.len + n)) c.copy_few.ensures.copied
+    ∙ ap (take (b.len + n)) c.copy_eight.ensures.copied
     ∙ ap (λ k. take (k + n) (take b.len xs ++ bytes)) (sym held)
     ∙ take-append-add (take b.len xs) bytes n
     ∙ ap (λ (l : List ℕ). take b.len l ++ take n bytes) value
