@@ -26,10 +26,10 @@ code_digit (suc (suc zero)) h = refl
 code_digit (suc (suc (suc zero))) h = refl
 code_digit (suc (suc (suc (suc c)))) h = absurd (omega arith)
 
--- the code of a digit this many places before the last, of values that are the same
-end_code : (ds text : List ℕ) (size back d : ℕ) → back < length ds → back < length text → ((i : ℕ) → Fits w8 (get_or text i 0)) → extend ds size ≡ extend (str_to_ascii_lowercase text) size → slice_get ds (length ds - 1 - back) ≡ Some d
-    → code_of d ≡ code_of (get_or text (length text - 1 - back) 0)
-end_code ds text size back d few less fits e at =
+-- a digit this many places before the last, of values that are the same
+pub end_digit : (ds text : List ℕ) (size back d : ℕ) → back < length ds → back < length text → extend ds size ≡ extend (str_to_ascii_lowercase text) size → slice_get ds (length ds - 1 - back) ≡ Some d
+    → d ≡ to_ascii_lowercase (get_or text (length text - 1 - back) 0)
+end_digit ds text size back d few less e at =
     let lower = str_to_ascii_lowercase text in
     let n = length text - 1 - back in
     let m = length-map text to_ascii_lowercase in
@@ -37,8 +37,14 @@ end_code ds text size back d few less fits e at =
     let j : length lower - 1 - back ≡ n = omega (arith, m) in
     let y = ap (slice_get lower) j ∙ slice_get-map to_ascii_lowercase text n ∙ ap (option_map to_ascii_lowercase) (slice_get-get_or text n 0 (omega arith)) in
     let same : Some d ≡ Some (to_ascii_lowercase (get_or text n 0)) = sym at ∙ s ∙ y in
-    let digit : d ≡ to_ascii_lowercase (get_or text n 0) = cc same in
-    ap code_of digit ∙ code_lower (get_or text n 0) (fits n).fits
+    cc same
+
+-- its code
+end_code : (ds text : List ℕ) (size back d : ℕ) → back < length ds → back < length text → ((i : ℕ) → Fits w8 (get_or text i 0)) → extend ds size ≡ extend (str_to_ascii_lowercase text) size → slice_get ds (length ds - 1 - back) ≡ Some d
+    → code_of d ≡ code_of (get_or text (length text - 1 - back) 0)
+end_code ds text size back d few less fits e at =
+    let n = length text - 1 - back in
+    ap code_of (end_digit ds text size back d few less e at) ∙ code_lower (get_or text n 0) (fits n).fits
 
 -- so it is of packed digits
 pub ends_same : (share text : List ℕ) (len q back size : ℕ) → q ≡ quarter_of len → back < q → back < length text → ((i : ℕ) → Fits w8 (get_or share i 0)) → ((i : ℕ) → Fits w8 (get_or text i 0)) → extend (digits_in len share) size ≡ extend (str_to_ascii_lowercase text) size

@@ -1,9 +1,9 @@
 // Whether a change gives a code another value than it has.
 ghost use Rattle.std.specs.Prelude.{◌≡◌, ◌≤◌, ◌<◌, length, true, get_or};
-ghost use Rattle.vcd_body.specs.Names.{Decides, HasDigits, are_two, differs, digits_of, extend, extended, extension, held_in, model_form, str_to_ascii_lowercase, value_at_size, value_with};
+ghost use Rattle.vcd_body.specs.Names.{AreTwo, Decides, HasDigits, are_two, differs, digits_of, extend, extended, extension, held_in, model_form, str_to_ascii_lowercase, value_at_size, value_with};
 
 use crate::change::extended_by;
-use crate::held::{count_of, digit_shown};
+use crate::held::{count_of, digit_held, digit_shown};
 use crate::item::Form;
 use crate::packed::holds_packed;
 use crate::slot::{HeldValue, State, digit_of_state};
@@ -43,6 +43,25 @@ fn shown_digit(held: HeldValue<'_>, size: usize, index: usize) -> u8
     digit_shown(held, size, index).unwrap_or(0)
 }
 
+// Returns whether a held digit is another one than that of a text at the same place, counted from
+// the last digit.
+// It looks at no other digit for each, so it takes fewer steps than `are_same`.
+fn places_differ(held: HeldValue<'_>, text: &[u8]) -> bool
+    ensures { result ≡ true → AreTwo (digits_of held.entry) text.now }
+{
+    let count = count_of(held);
+    for back in 0..count.min(text.len()) {
+        let digit = text[text.len() - 1 - back].to_ascii_lowercase();
+        let Some(own) = digit_held(held, count - 1 - back) else {
+            return false;
+        };
+        if own != digit {
+            return true;
+        }
+    }
+    false
+}
+
 // Returns whether the held digits and those of a text are the same, both extended to a size that is
 // at least their lengths. It looks from the right, where most differ.
 fn are_same(held: HeldValue<'_>, text: &[u8], size: usize) -> bool
@@ -51,6 +70,9 @@ fn are_same(held: HeldValue<'_>, text: &[u8], size: usize) -> bool
     requires text_fits { length text.now ≤ size }
     ensures { Decides result (extend (digits_of held.entry) size ≡ extended text.now size) }
 {
+    if places_differ(held, text) {
+        return false;
+    }
     let mut index = size;
     while index > 0 {
         index -= 1;
