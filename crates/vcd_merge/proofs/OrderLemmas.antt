@@ -191,15 +191,18 @@ pub record MovesUp (xs ys : List ℕ) (at len k : ℕ) : Type 0 where
   pub here : get_or ys at 0 ≡ k
   pub above : (p : ℕ) → at ≤ p → p < len → get_or ys (p + 1) 0 ≡ get_or xs p 0
 
-module _ (xs zs : List ℕ) (at len : ℕ) (most : at ≤ len) (room : len < length xs) (is : zs ≡ take (len - at) (drop at xs)) where
+module _ (xs zs : List ℕ) (at len : ℕ) (most : at ≤ len) (few : len < 64) (room : at + 64 < length xs) (is : zs ≡ take (at + 64 - at) (drop at xs)) where
   moved : List ℕ
-  moved = put_mid (at + 1) (len + 1 - (at + 1)) xs zs
+  moved = put_mid (at + 1) (at + 65 - (at + 1)) xs zs
+
+  whole : zs ≡ take 64 (drop at xs)
+  whole = is ∙ (let all : at + 64 - at ≡ 64 = omega arith in ap (λ n. take n (drop at xs)) all)
 
   front : length (take (at + 1) xs) ≡ at + 1
   front = length-take-le (at + 1) xs (omega arith)
 
-  many : length zs ≡ len - at
-  many = ap (λ (l : List ℕ). length l) is ∙ length-take-le (len - at) (drop at xs) (let e = length-drop at xs in omega (arith, e, room))
+  many : length zs ≡ 64
+  many = ap (λ (l : List ℕ). length l) whole ∙ length-take-le 64 (drop at xs) (let e = length-drop at xs in omega (arith, e, room))
 
   moved_below : (p : ℕ) → p < at + 1 → get_or moved p 0 ≡ get_or xs p 0
   unfolding moved
@@ -210,24 +213,24 @@ module _ (xs zs : List ℕ) (at len : ℕ) (most : at ≤ len) (room : len < len
   moved_above p l w =
       let place : p + 1 ≡ length (take (at + 1) xs) + (p - at) = omega (arith, front, l) in
       let old : at + (p - at) ≡ p = omega (arith, l) in
-      let less : p - at < len - at = omega (arith, l, w) in
+      let less : p - at < 64 = omega (arith, l, w, few) in
       ap (λ (n : ℕ). get_or moved n 0) place
       ∙ get_or-append-add (take (at + 1) xs) _ (p - at) 0
       ∙ get_or_append_left zs _ 0 (p - at) (omega (arith, less, many))
-      ∙ ap (λ (l : List ℕ). get_or l (p - at) 0) is
-      ∙ get_or-take (len - at) (drop at xs) (p - at) 0 less
+      ∙ ap (λ (l : List ℕ). get_or l (p - at) 0) whole
+      ∙ get_or-take 64 (drop at xs) (p - at) 0 less
       ∙ get_or-drop at xs (p - at) 0
       ∙ ap (λ (n : ℕ). get_or xs n 0) old
 
   moved_long : length moved ≡ length xs
   unfolding moved
-  moved_long = let rest = length-drop (len + 1 - (at + 1)) (drop (at + 1) xs) in let first = length-drop (at + 1) xs in length-append (take (at + 1) xs) _ ∙ ap (λ (n : ℕ). length (take (at + 1) xs) + n) (length-append zs _) ∙ omega (arith, front, many, rest, first, room, most)
+  moved_long = let rest = length-drop (at + 65 - (at + 1)) (drop (at + 1) xs) in let first = length-drop (at + 1) xs in length-append (take (at + 1) xs) _ ∙ ap (λ (n : ℕ). length (take (at + 1) xs) + n) (length-append zs _) ∙ omega (arith, front, many, rest, first, room)
 
-  pub moved_behind : (k : ℕ) → MovesUp xs (slice_set (put_mid (at + 1) (len + 1 - (at + 1)) xs zs) at k) at len k
+  pub moved_behind : (k : ℕ) → MovesUp xs (slice_set (put_mid (at + 1) (at + 65 - (at + 1)) xs zs) at k) at len k
   unfolding moved
   moved_behind k = record {
     below = λ p l. get_or-set_other moved at p k 0 (λ e. omega (arith, l, e)) ∙ moved_below p (omega (arith, l));
-    here = get_or-set_same moved at k 0 (omega (arith, moved_long, most, room));
+    here = get_or-set_same moved at k 0 (omega (arith, moved_long, room));
     above = λ p l w. get_or-set_other moved at (p + 1) k 0 (λ e. omega (arith, l, e)) ∙ moved_above p l w;
   }
 

@@ -48,7 +48,8 @@ fn end_before(seats: &[Seat], input: usize, other: usize) -> u64
 /// look at all seats.
 #[derive(Clone, Copy)]
 pub(crate) struct TurnOrder {
-    inputs: [u8; 64],
+    // Those that wait, and room for a copy of 64 bytes from any of them on.
+    inputs: [u8; 128],
     len: usize,
     /// Each turn ends at this time at the latest.
     until: u64,
@@ -101,8 +102,11 @@ impl TurnOrder {
         ensures until { self.new.until ≡ self.old.until }
     {
         let index = self.index_for(input, seats);
-        let old = self.inputs;
-        self.inputs[index + 1..self.len + 1].copy_from_slice(&old[index..self.len]);
+        // Always 64 bytes, since a copy of an unknown length is a call: with that, `merge` of
+        // scalars takes 1.5 % more.
+        let mut moved = [0; 64];
+        moved.copy_from_slice(&self.inputs[index..index + 64]);
+        self.inputs[index + 1..index + 65].copy_from_slice(&moved);
         self.inputs[index] = input as u8;
         self.len += 1;
     }
@@ -134,7 +138,7 @@ impl TurnOrder {
         ensures until { result.until ≡ until }
     {
         let mut order = TurnOrder {
-            inputs: [0; 64],
+            inputs: [0; 128],
             len: 0,
             until,
         };
