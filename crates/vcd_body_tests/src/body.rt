@@ -117,13 +117,8 @@ fn transcript(alloc: Global, header: &[u8], body: &[u8], fails: bool) -> Result<
     Ok(items_from(alloc, &mut feed, head.view())?)
 }
 
-// These are the items of the body after the header of six lines, and then its end or its fault.
-fn gives(alloc: Global, body: &[u8], items: &str) -> Result<bool, Fail> {
-    Ok(transcript(alloc, HEAD, body, false)?.as_str() == items)
-}
-
-// Bodies and their items, up to the end.
-const ITEMS: [(&[u8], &str); 4] = [
+// Bodies and their items, up to the end or the fault.
+const BODIES: [(&[u8], &str); 25] = [
     (b"", "Finish"),
     (
         b"#0\n$dumpvars\nZ!\nBx \"\n$end\n#05\n1!\nb101 \"\n#5\n",
@@ -135,10 +130,7 @@ const ITEMS: [(&[u8], &str); 4] = [
         "Off End On 0:RealText:nan End All 1:RealText:-1.5e3 End Finish",
     ),
     (b"#18446744073709551615", "#18446744073709551615 Finish"),
-];
-
-// Bodies with a value or a time that is refused, and their items up to the fault.
-const REFUSED_VALUES: [(&[u8], &str); 12] = [
+    // A value or a time that is refused.
     (b"#5\n#5\n1!\n#4\n", "#5 #5 0:Scalar:1 fault 14 at 10"),
     (b"#5\n$dumpvars\n#4\n", "#5 Vars fault 19 at 9"),
     (b"#x\n", "fault 13 at 7"),
@@ -154,10 +146,7 @@ const REFUSED_VALUES: [(&[u8], &str); 12] = [
         b"r11111111111111111111111111111111111111111111111111111111111111111 \"\n",
         "fault 18 at 7",
     ),
-];
-
-// Bodies with a command or an end that is refused, and their items up to the fault.
-const REFUSED_COMMANDS: [(&[u8], &str); 9] = [
+    // A command or an end that is refused.
     (b"$end\n", "fault 4 at 7"),
     (b"$var", "fault 4 at 7"),
     (b"$dumpvars\n$dumpon\n", "Vars fault 4 at 8"),
@@ -172,38 +161,37 @@ const REFUSED_COMMANDS: [(&[u8], &str); 9] = [
     ),
 ];
 
-// Each of these bodies has these items.
-fn give<R: Abort + AllocGlobal>(rt: &R, bodies: &[(&[u8], &str)]) -> Result<(), Fail> {
+// Each of these bodies has these items after this header. The read after it fails, or it ends.
+fn give<R: Abort + AllocGlobal>(
+    rt: &R,
+    header: &[u8],
+    bodies: &[(&[u8], &str)],
+    fails: bool,
+) -> Result<(), Fail> {
     for (body, items) in bodies {
-        assert!(rt; gives(rt.alloc(), body, items)?, "{items}");
+        assert_eq!(rt;
+            transcript(rt.alloc(), header, body, fails)?.as_str(),
+            *items
+        );
     }
     Ok(())
 }
 
+// An event whose value is wider than its size.
+const WIDE_EVENT: [(&[u8], &str); 1] = [(b"b101 % 1%", "0:Vector:101 0:Scalar:1 Finish")];
+
+const BROKEN: [(&[u8], &str); 1] = [(b"#5\n1!\n#4", "#5 0:Scalar:1 fault 31 at 9")];
+
 #[test]
 fn bodies_have_their_items(rt: HostRuntime) -> Result<(), Fail> {
-    give(&rt, &ITEMS)?;
-    give(&rt, &REFUSED_VALUES)?;
-    give(&rt, &REFUSED_COMMANDS)
-}
-
-#[test]
-fn event_wider_than_its_size(rt: HostRuntime) -> Result<(), Fail> {
-    let items = transcript(
-        rt.alloc(),
+    give(&rt, HEAD, &BODIES, false)?;
+    give(
+        &rt,
         b"$var event 1 % go $end $enddefinitions $end\n",
-        b"b101 % 1%",
+        &WIDE_EVENT,
         false,
     )?;
-    assert_eq!(rt; items.as_str(), "0:Vector:101 0:Scalar:1 Finish");
-    Ok(())
-}
-
-#[test]
-fn source_that_fails(rt: HostRuntime) -> Result<(), Fail> {
-    let items = transcript(rt.alloc(), HEAD, b"#5\n1!\n#4", true)?;
-    assert_eq!(rt; items.as_str(), "#5 0:Scalar:1 fault 31 at 9");
-    Ok(())
+    give(&rt, HEAD, &BROKEN, true)
 }
 
 // What is taken ahead: the items; for each whether its bytes are its line (`=`), are its line
@@ -310,12 +298,12 @@ impl Visit<()> for Noted {
     }
 }
 
-// The items that are taken ahead, and then the next one.
+// What is noted of the items that are taken ahead, and then the next item.
 fn taken_from<S: Source>(
     alloc: Global,
     feed: &mut Feed<'_, '_, '_, '_, S>,
     view: HeadView<'_>,
-) -> Result<String, AllocError>
+) -> Result<Noted, AllocError>
     requires { S.failures (source_of feed.old) ≡ 0 }
 {
     let mut page = Watch::new(Narrow::new(0));
@@ -323,20 +311,21 @@ fn taken_from<S: Source>(
     let walked = walk_ahead(&mut (), visit, view, Regs::new(), feed.ahead(), &mut page);
     let passed = walked.ahead.passed();
     let mut regs = walked.regs;
-    let noted = walked.visit;
+    let mut noted = walked.visit;
     pass_items(feed, passed);
-    noted.noted?;
-    let mut items = noted.items;
     let next = next_shown(alloc, feed, view, &mut regs)?;
-    items.push_str("then ")?;
-    items.push_str(&next.0)?;
-    Ok(items)
+    noted.items.push_str("then ")?;
+    noted.items.push_str(&next.0)?;
+    match noted.noted {
+        Ok(()) => Ok(noted),
+        Err(failed) => Err(failed),
+    }
 }
 
-// The items that are taken ahead of the body's first, and then the next one. The whole input is in
-// the chunk.
-fn taken_ahead(alloc: Global, body: &[u8]) -> Result<String, Fail> {
-    let text = joined(alloc, [HEAD, body, b""])?;
+// What is noted of the items that are taken ahead of the body's first, and the next one, if a dump
+// has these three parts. The whole input is in the chunk.
+fn taken_ahead(alloc: Global, parts: [&[u8]; 3]) -> Result<Noted, Fail> {
+    let text = joined(alloc, parts)?;
     let mut source = Watch::new(Pieces::new(&text, 512));
     let mut chunk = [0u8; 512];
     let mut token = [0u8; 72];
@@ -346,44 +335,39 @@ fn taken_ahead(alloc: Global, body: &[u8]) -> Result<String, Fail> {
     Ok(taken_from(alloc, &mut feed, head.view())?)
 }
 
+// What comes after the items of a body that are taken ahead.
+const COMMENT: &[u8] =
+    b"$comment of more than sixty-three bytes, for the look ahead to end before it $end\n";
+
 // Bodies, the items that are taken ahead, and the next one. A vector that is wider than its code is
-// left to the reader that names the fault.
-const TAKEN: [(&[u8], &str); 2] = [
+// left to the reader that names the fault, and so are the begin of a section inside another one,
+// the end of none, and a real number without digits.
+const TAKEN: [(&[u8], &str); 5] = [
     (
-        b"#0\n1!\nb101 \"\n#05 Z! bx \"\n#4\n\
-            $comment of more than sixty-three bytes, for the look ahead to end before it $end\n",
+        b"#0\n1!\nb101 \"\n#05 Z! bx \"\n#4\n",
         "#0 0:Scalar:1 1:Vector:101 #5 0:Scalar:Z 1:Vector:x then fault 14 at 11",
     ),
+    (b"#0\nb10110 \"\n", "#0 then fault 17 at 8"),
     (
-        b"#0\nb10110 \"\n\
-            $comment of more than sixty-three bytes, for the look ahead to end before it $end\n",
-        "#0 then fault 17 at 8",
+        b"$dumpvars\n1!\nb1 \"\n$end\n#5\n$dumpoff $end\n$dumpall\n0!\n$dumpon\n",
+        "Vars 0:Scalar:1 1:Vector:1 End #5 Off End All 0:Scalar:0 then fault 4 at 15",
+    ),
+    (b"$dumpon $end\n$end\n", "On End then fault 4 at 8"),
+    (
+        b"#0\nr1.5 \"\n1!\nR-2E3 !\n\
+            r1234567890123456789012345678901234567890123456789012345678901234 \"\nr \"\n",
+        "#0 1:RealText:1.5 0:Scalar:1 0:RealText:-2E3 \
+            1:RealText:1234567890123456789012345678901234567890123456789012345678901234 \
+            then fault 15 at 12",
     ),
 ];
 
 #[test]
-fn plain_items_taken_ahead(rt: HostRuntime) -> Result<(), Fail> {
+fn items_are_taken_ahead(rt: HostRuntime) -> Result<(), Fail> {
     for (body, items) in TAKEN {
-        assert_eq!(rt; taken_ahead(rt.alloc(), body)?.as_str(), items);
+        let taken = taken_ahead(rt.alloc(), [HEAD, body, COMMENT])?;
+        assert_eq!(rt; taken.items.as_str(), items);
     }
-    Ok(())
-}
-
-// The begin of a section, inside another one, and the end of none, are left to the feed.
-#[test]
-fn sections_taken_ahead(rt: HostRuntime) -> Result<(), Fail> {
-    let body = b"$dumpvars\n1!\nb1 \"\n$end\n#5\n$dumpoff $end\n$dumpall\n0!\n$dumpon\n\
-        $comment of more than sixty-three bytes, for the look ahead to end before it $end\n";
-    assert_eq!(rt;
-        taken_ahead(rt.alloc(), body)?.as_str(),
-        "Vars 0:Scalar:1 1:Vector:1 End #5 Off End All 0:Scalar:0 then fault 4 at 15"
-    );
-    let body = b"$dumpon $end\n$end\n\
-        $comment of more than sixty-three bytes, for the look ahead to end before it $end\n";
-    assert_eq!(rt;
-        taken_ahead(rt.alloc(), body)?.as_str(),
-        "On End then fault 4 at 8"
-    );
     Ok(())
 }
 
@@ -391,33 +375,6 @@ fn sections_taken_ahead(rt: HostRuntime) -> Result<(), Fail> {
 const CODES: &[u8] =
     b"$var wire 1 ! clk $end $var reg 4 \" q $end $var reg 40 & w $end $var event 1 % go $end \
         $enddefinitions $end\n";
-
-// What is noted of the items that are taken ahead.
-fn noted_from<S: Source>(
-    alloc: Global,
-    feed: &mut Feed<'_, '_, '_, '_, S>,
-    view: HeadView<'_>,
-) -> Result<Noted, AllocError> {
-    let mut page = Watch::new(Narrow::new(0));
-    let visit = Noted::new(alloc);
-    let noted = walk_ahead(&mut (), visit, view, Regs::new(), feed.ahead(), &mut page).visit;
-    match noted.noted {
-        Ok(()) => Ok(noted),
-        Err(failed) => Err(failed),
-    }
-}
-
-// Which of the items that are taken ahead, from the body's first on, have their lines as bytes.
-fn standing(alloc: Global, body: &[u8]) -> Result<String, Fail> {
-    let text = joined(alloc, [CODES, body, &[b'\n'; 64]])?;
-    let mut source = Watch::new(Pieces::new(&text, 512));
-    let mut chunk = [0u8; 512];
-    let mut token = [0u8; 72];
-    let mut value = [0u8; 72];
-    let mut feed = Feed::new(&mut source, &mut chunk, &mut token, &mut value);
-    let head = head_of(alloc, &mut feed)?;
-    Ok(noted_from(alloc, &mut feed, head.view())?.marks)
-}
 
 // Changes, and which of them have their lines as bytes: single digits, vectors of a few digits,
 // vectors with digits that are left out, vectors of more than 30 digits that are left out and that
@@ -451,31 +408,17 @@ const STANDING: [(&[u8], &str); 6] = [
 #[test]
 fn changes_that_stand_as_their_lines(rt: HostRuntime) -> Result<(), Fail> {
     for (body, marks) in STANDING {
-        assert_eq!(rt; standing(rt.alloc(), body)?.as_str(), marks);
+        let taken = taken_ahead(rt.alloc(), [CODES, body, &[b'\n'; 64]])?;
+        assert_eq!(rt; taken.marks.as_str(), marks);
     }
     Ok(())
 }
 
-#[test]
-fn real_numbers_taken_ahead(rt: HostRuntime) -> Result<(), Fail> {
-    let body = b"#0\nr1.5 \"\n1!\nR-2E3 !\n\
-        r1234567890123456789012345678901234567890123456789012345678901234 \"\nr \"\n\
-        $comment of more than sixty-three bytes, for the look ahead to end before it $end\n";
-    assert_eq!(rt;
-        taken_ahead(rt.alloc(), body)?.as_str(),
-        "#0 1:RealText:1.5 0:Scalar:1 0:RealText:-2E3 \
-            1:RealText:1234567890123456789012345678901234567890123456789012345678901234 \
-            then fault 15 at 12"
-    );
-    Ok(())
-}
-
-// A change of digits, of which there is at least one, is written like this, if the code is no
-// event.
-fn writes(size: usize, form: Form, text: &[u8], line: &[u8]) -> bool {
+// A change is written like this. If the code is no event, it has at least one digit.
+fn writes(size: usize, event: bool, form: Form, text: &[u8], id: Id<'_>, line: &[u8]) -> bool {
     let mut page = Watch::new(Narrow::new(80));
     !text.is_empty()
-        && put_change(size, false, form, text, Id::Own(b"!"), &mut page).is_ok()
+        && put_change(size, event, form, text, id, &mut page).is_ok()
         && page.device.held() == line
 }
 
@@ -506,66 +449,61 @@ const LINES: [(usize, Form, &[u8], &[u8]); 17] = [
 ];
 
 #[test]
-fn shortest_digits_are_written(rt: HostRuntime) {
+fn changes_are_written(rt: HostRuntime) {
     for (size, form, text, line) in LINES {
-        assert!(rt; writes(size, form, text, line));
+        assert!(rt; writes(size, false, form, text, Id::Own(b"!"), line));
+    }
+    for (event, form, text, id, line) in OTHER_LINES {
+        assert!(rt; writes(2, event, form, text, id, line));
     }
 }
 
-#[test]
-fn numbers_and_events_are_written(rt: HostRuntime) {
-    let mut page = Watch::new(Narrow::new(80));
-    assert!(rt;
-        put_change(
-            1,
-            false,
-            Form::RealText,
-            b"-1.5E3",
-            Id::Own(b"\""),
-            &mut page
-        )
-        .is_ok()
-    );
-    assert!(rt; put_change(2, true, Form::Vector, b"b101", Id::Own(b"#"), &mut page).is_ok());
-    assert!(rt; put_change(1, true, Form::Scalar, b"x", Id::Number(2), &mut page).is_ok());
-    assert_eq!(rt; page.device.held(), b"r-1.5E3 \"\n1#\n1#\n".as_slice());
-}
-
-// The number that is given for the digits of the body's first change.
-fn bits_told(alloc: Global, body: &[u8]) -> Result<Option<Bits>, Fail> {
-    let text = joined(alloc, [CODES, body, &[b'1'; 64]])?;
-    let mut source = Watch::new(Pieces::new(&text, 512));
-    let mut chunk = [0u8; 512];
-    let mut token = [0u8; 72];
-    let mut value = [0u8; 72];
-    let mut feed = Feed::new(&mut source, &mut chunk, &mut token, &mut value);
-    let head = head_of(alloc, &mut feed)?;
-    Ok(noted_from(alloc, &mut feed, head.view())?.bits)
-}
+// A number, and events, whose form and text do not count.
+const OTHER_LINES: [(bool, Form, &[u8], Id<'static>, &[u8]); 3] = [
+    (
+        false,
+        Form::RealText,
+        b"-1.5E3",
+        Id::Own(b"\""),
+        b"r-1.5E3 \"\n",
+    ),
+    (true, Form::Vector, b"b101", Id::Own(b"#"), b"1#\n"),
+    (true, Form::Scalar, b"x", Id::Number(2), b"1#\n"),
+];
 
 // Changes, and how many digits of which number are given: 1 to 32 binary ones, wherever they end.
-const TOLD: [(&[u8], usize, usize); 7] = [
-    (b"b0 & ", 1, 0),
-    (b"b1 & ", 1, 1),
-    (b" b01 & ", 2, 1),
-    (b"b10001 & ", 5, 17),
-    (b"b1000000000000001 & ", 16, 32_769),
-    (b"b1000000000000000000000000000001 & ", 31, 1_073_741_825),
-    (b"b10000000000000000000000000000001 & ", 32, 2_147_483_649),
+const TOLD: [(&[u8], Option<(usize, usize)>); 10] = [
+    (b"b0 & ", Some((1, 0))),
+    (b"b1 & ", Some((1, 1))),
+    (b" b01 & ", Some((2, 1))),
+    (b"b10001 & ", Some((5, 17))),
+    (b"b1000000000000001 & ", Some((16, 32_769))),
+    (
+        b"b1000000000000000000000000000001 & ",
+        Some((31, 1_073_741_825)),
+    ),
+    (
+        b"b10000000000000000000000000000001 & ",
+        Some((32, 2_147_483_649)),
+    ),
+    (b"b100000000000000000000000000000001 & ", None),
+    (b"b1x & ", None),
+    (b"1! ", None),
 ];
 
 #[test]
 fn digits_told_as_a_number(rt: HostRuntime) -> Result<(), Fail> {
-    for (body, len, number) in TOLD {
-        let told = bits_told(rt.alloc(), body)?;
-        assert!(rt; told.is_some() && told == Bits::new(len, number));
-    }
-    for body in [
-        b"b100000000000000000000000000000001 & ".as_slice(),
-        b"b1x & ",
-        b"1! ",
-    ] {
-        assert!(rt; bits_told(rt.alloc(), body)?.is_none());
+    for (body, told) in TOLD {
+        let bits = taken_ahead(rt.alloc(), [CODES, body, &[b'1'; 64]])?.bits;
+        match told {
+            Some((len, number)) => {
+                assert!(rt;
+                    bits.is_some() && bits == Bits::new(len, number),
+                    "of {body:?}"
+                );
+            }
+            None => assert!(rt; bits.is_none(), "of {body:?}"),
+        }
     }
     Ok(())
 }
