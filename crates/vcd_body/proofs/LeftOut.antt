@@ -56,15 +56,6 @@ module _ (l rest : List ℕ) (s : (size : ℕ) → str_to_ascii_lowercase rest �
 pub end_is : (l : List ℕ) (k : ℕ) → take (length l - k) (drop k l) ≡ drop k l
 end_is l k = ap (λ m. take m (drop k l)) (sym (length-drop k l)) ∙ take-length (drop k l)
 
--- it is there too
-pub end_place : (bytes l : List ℕ) (at k : ℕ) → k ≤ length l → l ≡ slice_range bytes at (at + length l) → take (length l - k) (drop k l) ≡ slice_range bytes (at + k) (at + k + length (take (length l - k) (drop k l)))
-end_place bytes l at k few position =
-    let rest = length l - k in
-    let size : length (take rest (drop k l)) ≡ rest = ap length (end_is l k) ∙ length-drop k l in
-    let all : at + length l - at ≡ k + rest = omega arith in
-    let some : at + k + length (take rest (drop k l)) - (at + k) ≡ rest = omega arith in
-    end_is l k ∙ ap (drop k) position ∙ ap (λ n. drop k (take n (drop at bytes))) all ∙ drop-take k rest (drop at bytes) ∙ ap (take rest) (drop-drop k at bytes) ∙ ap (λ n. take n (drop (at + k) bytes)) (sym some)
-
 -- ---- bytes
 
 first_of : (n : ℕ) (l : List ℕ) (first : ℕ) (rest : List ℕ) → take n l ≡ first ∷ rest → take 1 l ≡ first ∷ []

@@ -196,9 +196,6 @@ pub flip : (b : Bool) → not b ≡ true → b ≡ false
 flip true e = cc
 flip false e = refl
 
-pub apart : (a b : ℕ) → not (a == b) ≡ true → a ≡ b → ⊥
-apart a b e = eqb-false a b (flip (a == b) e)
-
 pub one_byte : (bytes : List ℕ) (p : ℕ) → p < length bytes → slice_range bytes p (p + 1) ≡ slice_index bytes p ∷ []
 one_byte bytes p inside =
     let one : p + 1 - p ≡ 1 = omega arith in
@@ -311,20 +308,6 @@ bit_line_there bytes from to code_at text code e (digit, is, t) long fits =
     token_text bytes from to (digit ∷ code) t (omega arith) ∙ ap (λ d. d ∷ code) (sym lower) ∙ ap (λ l. str_to_ascii_lowercase l ++ code) (sym is)
 
 -- ---- digits
-
--- unchanged they are those that are written
-pub bare_short : (s : List ℕ) → IsBare s → (size : ℕ) → s ≡ short (extend s size)
-bare_short s b size = bare_is_short s (max size (length s)) b (omega arith) ∙ ap short (sym (extend_where_fits s size (max size (length s)) refl))
-
-pub one_digit : (s : List ℕ) → 1 ≤ length s → length s < 2 → IsBare s
-one_digit [] some few = absurd (omega arith)
-one_digit (x ∷ []) some few = tt
-one_digit (x ∷ y ∷ s) some few = absurd (omega arith)
-
-pub two_digits : (s : List ℕ) → 2 ≤ length s → (get_or s 0 0 ≡ extension (get_or s 1 0 ∷ []) → ⊥) → IsBare s
-two_digits [] more n = absurd (omega arith)
-two_digits (x ∷ []) more n = absurd (omega arith)
-two_digits (x ∷ y ∷ s) more n = n
 
 -- ---- lines of items
 

@@ -204,10 +204,6 @@ is_low x = bit_and x 32 == 0
 pub lower_alone : (b : ℕ) → b < 256 → is_low b ≡ false → to_ascii_lowercase b ≡ b
 lower_alone b fit e = eqb-true (to_ascii_lowercase b) b (or_second (is_low b) (to_ascii_lowercase b == b) e (agree_below_at (λ x. is_low x || (to_ascii_lowercase x == x)) (λ _. true) 256 b refl fit))
 
-pub capitals_tell : (xs : List ℕ) (i n : ℕ) (f : ℕ → ℕ) (z : List ℕ) → i + n ≤ length xs → n ≤ 64 → Each1 (Fits w8) (chunk i n xs) → z ≡ map f (chunk i n xs) → agree_below (λ x. top 7 (f x)) is_low 256 ≡ true
-    → (k : ℕ) → k < n → bit_at (mask_l (map (top 7) z) % 2 ^ 64) k ≡ 0 → to_ascii_lowercase (slice_index xs (i + k)) ≡ slice_index xs (i + k)
-capitals_tell xs i n f z room few fits e all k less none = let t = mask_tells is_low xs i n f z room few fits e all k less none in lower_alone (slice_index xs (i + k)) t.0 t.1
-
 -- a mask with no bit set below n
 pub low_clear : (mask n k : ℕ) → n ≤ 32 → bit_and mask (1 * 2 ^ n % 2 ^ 64 - 1) ≡ 0 → k < n → bit_at mask k ≡ 0
 low_clear mask n k few e less =

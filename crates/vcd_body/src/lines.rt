@@ -1,67 +1,18 @@
 // Changes whose bytes in the chunk are the line that would be written.
 ghost use Rattle.std.specs.Prelude.{◌≡◌, ◌≢◌, ℕ, ◌+◌, ◌-◌, ◌^◌, ◌<◌, ◌≤◌, List, [], true, false, drop, length, slice_range, Some, IfSome};
-ghost use Rattle.vcd_body.specs.Names.{AreBinaryIf, BodyItem, HasChange, HasTimestamp, HasPlaces, HeadView, Header, IsDigitLine, IsItem, IsLowerAt, IsNeedless, IsSizedItem, IsTextLine, IsViewOf, LeavesFront, LeavesLine, LeavesShortest, LeavesText, SpellsScanned, StandsAt, bit_at, byte, bytes_without, extend, extended, is_white_space, item_line, line_without, short, str_to_ascii_lowercase, time_line, to_ascii_lowercase as lower};
+ghost use Rattle.vcd_body.specs.Names.{AreBinaryIf, BodyItem, HasChange, HasTimestamp, HasPlaces, HeadView, Header, IsDigitLine, IsItem, IsNeedless, IsSizedItem, IsTextLine, IsViewOf, LeavesFront, LeavesLine, LeavesShortest, LeavesText, SpellsScanned, StandsAt, bit_at, byte, bytes_without, extend, extended, is_white_space, item_line, line_without, short, str_to_ascii_lowercase, time_line, to_ascii_lowercase as lower};
 
 use crate::ahead::ScannedItem;
-use crate::change::{extension_of, may_have_capital, shortest};
+use crate::change::{may_have_capital, shortest};
 use crate::item::{Form, Item};
 use crate::words::{clear_bits, others_32, others_64};
 use std::simd::prelude::*;
 
-/// Returns a mask whose bit k is set if byte `at + k` may be a capital letter: of letters and
-/// digits, only capital letters have bit 5 clear.
-#[inline(always)]
-fn capitals_32(bytes: &[u8], at: usize) -> u64
-    requires { at + 32 ≤ length bytes.now }
-    ensures { (k : ℕ) → k < 32 → bit_at result k ≡ 0 → IsLowerAt bytes.now (at + k) }
-{
-    let v = u8x32::from_slice(&bytes[at..]) & u8x32::splat(0x20);
-    v.simd_eq(u8x32::splat(0)).to_bitmask()
-}
-
-/// Returns whether n bytes from an offset on are no capital letters. The 32 bytes there are read.
-#[inline(always)]
-fn are_lower_at(bytes: &[u8], at: usize, n: usize) -> bool
-    requires room { at + 32 ≤ length bytes.now }
-    requires few { n ≤ 32 }
-    ensures { result ≡ true → (k : ℕ) → k < n → IsLowerAt bytes.now (at + k) }
-{
-    capitals_32(bytes, at) & ((1 << n) - 1) == 0
-}
-
-// Returns true only if all of these digits are in lower case. Not inlined, since most values have
-// fewer digits.
-#[inline(never)]
-fn are_all_lower(digits: &[u8]) -> bool
+/// Returns true only if all of these digits are in lower case.
+fn are_lower(digits: &[u8]) -> bool
     ensures { result ≡ true → str_to_ascii_lowercase digits.now ≡ digits.now }
 {
     !may_have_capital(digits)
-}
-
-/// Returns whether the digits, which begin at an offset of these bytes, are in lower case. Up to 32
-/// of them, as most are, take one look.
-#[inline(always)]
-fn are_lower(bytes: &[u8], at: usize, digits: &[u8]) -> bool
-    requires { StandsAt bytes.now at digits.now }
-    ensures { result ≡ true → str_to_ascii_lowercase digits.now ≡ digits.now }
-{
-    let n = digits.len();
-    if n <= 32 && bytes.len() - at >= 32 {
-        return are_lower_at(bytes, at, n);
-    }
-    are_all_lower(digits)
-}
-
-/// Returns true only if there are digits, and none can be left out on the left.
-#[inline(always)]
-fn are_shortest(digits: &[u8]) -> bool
-    ensures { result ≡ true → (size : ℕ) → digits.now ≡ short (extend digits.now size) }
-{
-    match digits {
-        [first, second, ..] => *first != extension_of(*second),
-        [_] => true,
-        [] => false,
-    }
 }
 
 /// Returns whether a digit is in lower case: of letters and digits, only capital letters have bit 5
@@ -115,18 +66,16 @@ fn needless(digits: &[u8]) -> usize
 }
 
 /// Returns how many digits on the left the shortest digits of the same value leave out. `None` if
-/// these are not in lower case, or if there is no digit. The digits begin at this offset of the
-/// bytes.
+/// these are not in lower case, or if there is no digit.
 #[inline(never)]
-fn needless_before_lower(bytes: &[u8], at: usize, digits: &[u8]) -> Option<usize>
-    requires { StandsAt bytes.now at digits.now }
+fn needless_before_lower(digits: &[u8]) -> Option<usize>
     ensures { IfSome result (IsNeedless digits.now) }
 {
     if digits.is_empty() {
         return None;
     }
     let k = needless(digits);
-    if !are_lower(bytes, at + k, &digits[k..]) {
+    if !are_lower(&digits[k..]) {
         return None;
     }
     Some(k)
@@ -172,13 +121,7 @@ fn left_out_of(bytes: &[u8], at: usize, digits: &[u8], binary: bool) -> Option<u
     if binary {
         return left_out_of_binary(bytes, at, digits);
     }
-    if !are_shortest(digits) {
-        return needless_before_lower(bytes, at, digits);
-    }
-    if !are_lower(bytes, at, digits) {
-        return None;
-    }
-    Some(0)
+    needless_before_lower(digits)
 }
 
 /// Returns how many digits after a `b` to leave out, so that the rest is the line with the code
