@@ -97,7 +97,7 @@ const NONE: usize = usize::MAX;
 // how many of its calls fail.
 type Row = (bool, usize, &'static [Order], &'static [usize], u64);
 
-const ROWS: [Row; 11] = [
+static ROWS: [Row; 11] = [
     // What is full is passed on with the next byte, and what has no room in the whole buffer by
     // itself.
     (

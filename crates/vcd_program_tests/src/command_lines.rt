@@ -4,7 +4,7 @@ use std::alloc::{AllocError, Global};
 use vcd_program::{Left, MemoryFile, run_in_memory};
 
 // Three dumps of a variable, each with its own name; two that stop; and one on standard input.
-const FILES: [MemoryFile<'static>; 5] = [
+static FILES: [MemoryFile<'static>; 5] = [
     MemoryFile {
         name: b"a.vcd",
         bytes: b"$timescale 1ns $end $var wire 1 ! a $end $enddefinitions $end #1 1!\n",
@@ -49,7 +49,7 @@ struct Row {
 
 const NOTHING: Said = Said::Just(b"");
 
-const ROWS: [Row; 29] = [
+static ROWS: [Row; 29] = [
     Row {
         words: &["list"],
         opened: &[None],

@@ -6,7 +6,7 @@ use vcd_text::Watch;
 
 // A folder, and the memory of the process, of which nothing can be read at its first address. Both
 // can be opened.
-const UNREADABLE: [(&str, &[u8]); 2] = [
+static UNREADABLE: [(&str, &[u8]); 2] = [
     ("/", b"vcdkit: /: read failed\n"),
     ("/proc/self/mem", b"vcdkit: /proc/self/mem: read failed\n"),
 ];

@@ -194,7 +194,7 @@ const MERGE: [Step; 7] = [
 ];
 
 // Words, the steps, and how many reads there are.
-const RUNS: [(&[&str], &[Step], usize); 4] = [
+static RUNS: [(&[&str], &[Step], usize); 4] = [
     (&["pick", "a", "b"], &PICK, 11),
     (&["cut", "--from", "5", "--to", "7"], &CUT, 6),
     (&["sample", "--at", "0,5"], &SAMPLE, 5),
