@@ -117,18 +117,6 @@ differ_in_digit x y size r d = differ_at_longest (x ∷ []) (y ∷ []) size 1 (o
 abbrev pub SameFrom : ℕ → List ℕ → List ℕ → Type 0
 SameFrom position xs ys = (k : ℕ) → position ≤ k → get_or xs k 0 ≡ get_or ys k 0
 
-get_past : (xs : List ℕ) (k d : ℕ) → length xs ≤ k → get_or xs k d ≡ d
-get_past [] k d h = refl
-get_past (x ∷ xs) zero d h = absurd (omega arith)
-get_past (x ∷ xs) (suc k) d h = get_past xs k d (omega arith)
-
--- before the first
-pub none_yet : (xs ys : List ℕ) (size : ℕ) → length xs ≤ size → length ys ≤ size → SameFrom size (extend xs size) (extend ys size)
-none_yet xs ys size few less k most =
-    let a = length_extended xs size in
-    let b = length_extended ys size in
-    get_past (extend xs size) k 0 (omega arith) ∙ sym (get_past (extend ys size) k 0 (omega arith))
-
 -- as many digits on both sides are compared as they are
 pub differ_where_as_many : (xs ys : List ℕ) (size : ℕ) → length xs ≡ length ys → (r : Bool) → Decides r (xs ≡ ys) → not r ≡ not (bytes_eq (extend xs size) (extend ys size))
 differ_where_as_many xs ys size many r d =

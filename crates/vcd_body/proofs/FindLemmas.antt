@@ -1,7 +1,6 @@
 -- The code that a look-up has found, and its texts.
-use Rattle.std.proofs.Common.{◌≡◌, ℕ, zero, suc, Bool, true, false, cond, ◌&&◌, ◌^◌, ◌<◌, nat_lt, List, [], ◌∷◌, Option, Some, None, IfSome, refl, sym, subst}
+use Rattle.std.proofs.Common.{◌≡◌, ℕ, Bool, true, false, cond, ◌&&◌, ◌^◌, ◌<◌, nat_lt, List, Option, Some, None, IfSome, refl, sym, subst}
 use Rattle.std.specs.Prelude.{slice_get}
-use Rattle.std.specs.List.{AllZip}
 use Rattle.std.proofs.lemmas.Bool.{and_parts, lt-ltb, ltb-true}
 use Rattle.std.proofs.lemmas.Option.{cond_some}
 use Rattle.vcd_model.specs.Bytes.{is_decimal, decimal_value}
@@ -11,17 +10,11 @@ use Rattle.vcd_text.specs.Digits.{spelled_below}
 use Rattle.vcd_view.specs.declared.view.Code.{Code}
 use Rattle.vcd_view.specs.Shown.{HeadShown}
 use Rattle.vcd_view.specs.Views.{Views, IsCode}
-
-zip_at : (text : List ℕ) (xs : List Code) (ys : List IdCode) (k : ℕ) (c : IdCode) → AllZip (IsCode text) xs ys → slice_get ys k ≡ Some c → (code : Code) × (slice_get xs k ≡ Some code) × IsCode text code c
-zip_at text [] [] k c a e = cc
-zip_at text [] (y ∷ ys) k c a e = absurd a
-zip_at text (x ∷ xs) [] k c a e = absurd a
-zip_at text (x ∷ xs) (y ∷ ys) zero c a e = let s : y ≡ c = cc in (x, refl, rw (sym s) a.0)
-zip_at text (x ∷ xs) (y ∷ ys) (suc k) c a e = zip_at text xs ys k c a.1 e
+use Rattle.vcd_view.proofs.RowLemmas.{code_at}
 
 -- the view's code at the index of a header's code
 pub code_at : (s : HeadShown) (h : Header) → Views s h → (position : ℕ) (c : IdCode) → slice_get h.codes position ≡ Some c → (code : Code) × (slice_get s.codes position ≡ Some code) × IsCode s.text code c
-code_at s h v position c e = zip_at s.text s.codes h.codes position c v.codes e
+code_at s h v position c e = code_at s.text s.codes h.codes position c v.codes e
 
 -- a number is what the digits spell, and is below 2^64
 pub time_spelled : (digits : List ℕ) (time : ℕ) → spelled_below digits ≡ Some time → ((is_decimal digits && nat_lt (decimal_value digits) (2 ^ 64)) ≡ true) × (decimal_value digits ≡ time)

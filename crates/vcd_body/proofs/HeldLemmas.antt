@@ -1,5 +1,5 @@
 -- The value that a slot holds, digit by digit.
-use Rattle.std.proofs.Common.{◌≡◌, ℕ, zero, suc, ◌-◌, ◌<◌, ◌≤◌, List, [], ◌∷◌, ◌++◌, length, take, replicate, slice_get, Some, None, refl, sym, ap, ◌∙◌, arith}
+use Rattle.std.proofs.Common.{◌≡◌, ℕ, zero, suc, ◌-◌, ◌<◌, ◌≤◌, List, [], ◌∷◌, ◌++◌, length, replicate, slice_get, Some, None, refl, sym, ap, ◌∙◌, arith}
 use Rattle.vcd_model.specs.Values.{extend, extension}
 use Rattle.vcd_body.specs.Kept.{Held, bytes_for, digit_in, value_at_size}
 use Rattle.vcd_body.specs.Binary.{binary_digits, count_in, number_in}
@@ -11,12 +11,6 @@ use Rattle.vcd_body.proofs.BinaryLemmas.{some_binary}
 use Rattle.vcd_body.proofs.PackedLemmas.{length_digits}
 
 -- ---- held digits
-
-pub get_taken : {X : Type 0} (xs : List X) (n i : ℕ) → i < n → slice_get (take n xs) i ≡ slice_get xs i
-get_taken xs zero i h = absurd (omega arith)
-get_taken [] (suc n) i h = refl
-get_taken (x ∷ xs) (suc n) zero h = refl
-get_taken (x ∷ xs) (suc n) (suc i) h = get_taken xs n i (omega arith)
 
 -- this many packed digits are held
 pub length_held : (len : ℕ) (bytes : List ℕ) → bytes_for len ≤ length bytes → length (digits_in len bytes) ≡ len

@@ -11,7 +11,8 @@ use Rattle.vcd_body.specs.Contents.{new_at}
 use Rattle.vcd_body.specs.Stored.{AreLaidOut, IsUnset, end_at, holding_of, kept_in, kept_with, len_in, room_of, share_from, share_of, some_by, start_of, start_or, state_in, used, whole}
 use Rattle.vcd_body.specs.declared.slot.Share.{Share}
 use Rattle.vcd_body.specs.declared.slot.Slot.{Slot}
-use Rattle.vcd_body.proofs.StoreLemmas.{get_other, get_set, no_slot, same_or_not, some_at, whole_is}
+use Rattle.vcd_body.proofs.StoreLemmas.{get_other, get_set, no_slot, same_or_not, whole_is}
+use Rattle.vcd_view.proofs.ListLemmas.{there}
 
 abbrev unset_slot : Slot
 unset_slot = record { number = 0; tag = 0; steps = 0 ∷ 0 ∷ 0 ∷ [] }
@@ -63,17 +64,17 @@ module _ (codes : List Code) (slots : List Slot) (shares : List Share) (n end : 
   end_is k h at = by_end (cases_lt (k + 1) (length shares))
     where
       by_end : (k + 1 < length shares) ⊎ (length shares ≤ k + 1) → end_at shares end k ≡ start_of codes n (k + 1)
-      by_end (inl l) = let t = some_at shares (k + 1) l in ap (start_or end) t.1 ∙ ap (λ (x : Share). x.start) (are (k + 1) t.0 t.1)
+      by_end (inl l) = let t = there shares (k + 1) l in ap (start_or end) t.1 ∙ ap (λ (x : Share). x.start) (are (k + 1) t.0 t.1)
       by_end (inr l) =
           let w = slice_get_within shares k h at in
           let last : length codes ≡ k + 1 = omega arith in
           ap (start_or end) (slice_get_past shares (k + 1) l) ∙ ends ∙ ap (start_of codes n) last
 
   code_there : (k : ℕ) (s : Slot) → slice_get slots k ≡ Some s → (c : Code) × (slice_get codes k ≡ Some c)
-  code_there k s at = let w = slice_get_within slots k s at in some_at codes k (omega (arith, w, same))
+  code_there k s at = let w = slice_get_within slots k s at in there codes k (omega (arith, w, same))
 
   share_there : (k : ℕ) (s : Slot) → slice_get slots k ≡ Some s → (h : Share) × (slice_get shares k ≡ Some h)
-  share_there k s at = let w = slice_get_within slots k s at in some_at shares k (omega (arith, w, same, all))
+  share_there k s at = let w = slice_get_within slots k s at in there shares k (omega (arith, w, same, all))
 
   pub laid : AreLaidOut slots shares end
   laid = λ k s at.
@@ -98,7 +99,7 @@ module _ (codes : List Code) (slots : List Slot) (shares : List Share) (n end : 
           ap (option_map (kept_with values (end_at shares (length values) k))) (no_slot slots shares k e) ∙ sym (ap (option_map (λ (c : Code). unset (start_of codes n (k + 1) - start_of codes n k))) none)
         where
           by_order : (k < length slots) ⊎ (length slots ≤ k) → length slots ≤ k
-          by_order (inl h) = let t = some_at slots k h in absurd (let f : None ≡ Some t.0 = sym e ∙ t.1 in cc)
+          by_order (inl h) = let t = there slots k h in absurd (let f : None ≡ Some t.0 = sym e ∙ t.1 in cc)
           by_order (inr h) = h
       by_slot (Some s) e =
           let c = code_there k s e in

@@ -1,5 +1,5 @@
 -- Lines that are in some bytes but for digits on the left that are not needed.
-use Rattle.std.proofs.Common.{◌≡◌, ◌≢◌, ℕ, zero, suc, ◌+◌, ◌-◌, ◌≤◌, ◌<◌, ◌==◌, false, List, [], ◌∷◌, ◌++◌, length, replicate, take, drop, Option, Some, None, IfSome, SomeIff, sym, ap, ap₂, subst, ◌∙◌, append_assoc, arith}
+use Rattle.std.proofs.Common.{◌≡◌, ◌≢◌, ℕ, zero, suc, ◌+◌, ◌-◌, ◌≤◌, ◌<◌, ◌==◌, false, List, [], ◌∷◌, ◌++◌, length, replicate, take, drop, Option, Some, None, IfSome, sym, ap, ap₂, subst, ◌∙◌, append_assoc, arith}
 use Rattle.std.specs.Prelude.{slice_index, slice_range}
 use Rattle.std.specs.Char.{to_ascii_lowercase}
 use Rattle.std.specs.Str.{str_to_ascii_lowercase}
@@ -13,12 +13,9 @@ use Rattle.vcd_body.specs.declared.item.Form.TheVariants as form
 use Rattle.vcd_body.specs.Spelled.{HasChange, bytes_without, line_without}
 use Rattle.vcd_body.proofs.LineLemmas.{one_byte}
 use Rattle.vcd_body.proofs.Shortest.{extend_wide}
+use Rattle.vcd_body.proofs.WordLemmas.{some_bytes}
 
 -- ---- digits
-
-positive : (l : List ℕ) → (length l == 0) ≡ false → 0 < length l
-positive [] e = cc
-positive (x ∷ l) e = omega arith
 
 not_empty : (l : List ℕ) → 0 < length l → l ≢ []
 not_empty [] h = absurd (omega arith)
@@ -40,7 +37,7 @@ module _ (l rest : List ℕ) (s : (size : ℕ) → str_to_ascii_lowercase rest �
   pub shortest_end : (length rest ≤ length l) × ((size : ℕ) → str_to_ascii_lowercase (drop (length l - length rest) l) ≡ short (extend (str_to_ascii_lowercase l) size))
   shortest_end =
       let low = str_to_ascii_lowercase l in
-      let more = positive l some in
+      let more = some_bytes l some in
       let size = length-map l to_ascii_lowercase in
       let size' = length-map rest to_ascii_lowercase in
       let e : str_to_ascii_lowercase rest ≡ short low = s (length low) ∙ ap short (extend_wide low (length low) (omega arith)) in
@@ -100,11 +97,6 @@ shortest_line bytes from to k first text rest digits within few is e = without_s
 pub if_some_more : {A : Type 0} {P Q : A → Type 0} (o : Option A) → ((x : A) → P x → Q x) → IfSome o P → IfSome o Q
 if_some_more (Some x) f p = f x p
 if_some_more None f p = tt
-
--- a number of digits that is subtracted from all
-pub some_left : (n m : ℕ) (Q : ℕ → Type 0) (o : Option ℕ) → SomeIff o (m ≤ n) (n - m) → Q (n - m) → IfSome o (λ k. (k ≤ n) × Q k)
-some_left n m Q (Some k) (le, is) q = (omega (arith, is), subst Q (sym is) q)
-some_left n m Q None none q = tt
 
 -- ---- prefixes of lines
 

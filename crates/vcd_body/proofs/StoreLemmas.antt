@@ -2,7 +2,7 @@
 -- it keeps of the others what it kept.
 use Rattle.std.proofs.Common.{◌≡◌, ◌≢◌, ℕ, zero, suc, ◌+◌, ◌-◌, ◌*◌, ◌/◌, ◌%◌, ◌<◌, ◌≤◌, ◌==◌, nat_lt, nat_le, Bool, true, false, cond, List, [], ◌∷◌, length, take, drop, map, slice_get, slice_set, Option, Some, None, refl, sym, subst, ap, ◌∙◌, arith, ◌⊎◌, inl, inr}
 use Rattle.std.specs.Prelude.{get_or, option_and_then, option_map}
-use Rattle.std.proofs.lemmas.Bool.{and_right, cases_lt, eq-eqb, eqb-false, ne_eqb, le-leb, lt-leb, lt-ltb}
+use Rattle.std.proofs.lemmas.Bool.{and_right, cases_lt, eq-eqb, ne_eqb, le-leb, lt-leb, lt-ltb}
 use Rattle.std.proofs.lemmas.List.{drop-take, get_or-take, length-append, length-drop, length-take}
 use Rattle.std.specs.Str.{byte}
 use Rattle.std.proofs.lemmas.Option.{slice_get_past, slice_get_within}
@@ -12,27 +12,18 @@ use borrow.Rule.Slice.PartMut.{put_mid}
 use Rattle.vcd_body.specs.Kept.{Held, Kept, bytes_for, counts_if, counts_with, fits, held_as, one_more, room_for, with_held, with_step, with_text}
 use Rattle.vcd_body.specs.Packed.{digits_in, held_digit, quarter_of}
 use Rattle.vcd_body.specs.Steps.{counts_after, with_steps}
-use Rattle.vcd_body.specs.Stored.{AreLaidOut, ChangesAt, IsHeldAs, IsLaid, Whole, text_bytes, end_at, held_by, held_of, holding_of, holding_at, kept_in, kept_with, len_in, number_of, one_digit, set_whole, some_by, start_or, state_in, used, used_by, whole, whole_at}
+use Rattle.vcd_body.specs.Stored.{AreLaidOut, ChangesAt, IsHeldAs, IsLaid, Whole, text_bytes, end_at, held_by, held_of, holding_of, kept_in, kept_with, len_in, number_of, one_digit, set_whole, some_by, start_or, state_in, used, used_by, whole, whole_at}
 use Rattle.vcd_body.specs.declared.item.Form.{Form}
 use Rattle.vcd_body.specs.declared.item.Form.TheVariants as form
-use Rattle.vcd_body.specs.declared.slot.Holding.{Holding}
 use Rattle.vcd_body.specs.declared.slot.Share.{Share}
 use Rattle.vcd_body.specs.declared.slot.Slot.{Slot}
 use Rattle.vcd_body.specs.declared.slot.State.{State}
 use Rattle.vcd_body.specs.declared.slot.State.TheVariants as state
 use Rattle.vcd_body.proofs.PackedLemmas.{digits_of_first}
+use Rattle.vcd_view.proofs.ListLemmas.{there}
+use Rattle.vcd_body.proofs.WordLemmas.{some_bytes}
 
 -- ---- elements
-
-pub some_at : {X : Type 0} (xs : List X) (k : ℕ) → k < length xs → (x : X) × (slice_get xs k ≡ Some x)
-some_at [] k h = absurd (omega arith)
-some_at (x ∷ xs) zero h = (x, refl)
-some_at (x ∷ xs) (suc k) h = some_at xs k (omega arith)
-
-pub length_past : {X : Type 0} (xs : List X) (k : ℕ) → slice_get xs k ≡ None → length xs ≤ k
-length_past [] k h = omega arith
-length_past (x ∷ xs) zero h = absurd (let f : Some x ≡ None = h in cc)
-length_past (x ∷ xs) (suc k) h = let l = length_past xs k h in omega arith
 
 pub get_set : {X : Type 0} (xs : List X) (k : ℕ) (x : X) → k < length xs → slice_get (slice_set xs k x) k ≡ Some x
 get_set [] k x h = absurd (omega arith)
@@ -45,11 +36,6 @@ get_other (y ∷ xs) zero zero x h = absurd (h refl)
 get_other (y ∷ xs) zero (suc j) x h = refl
 get_other (y ∷ xs) (suc k) zero x h = refl
 get_other (y ∷ xs) (suc k) (suc j) x h = get_other xs k j x (λ e. h (ap suc e))
-
-pub set_same : {X : Type 0} (xs : List X) (k : ℕ) (x : X) → slice_get xs k ≡ Some x → slice_set xs k x ≡ xs
-set_same [] k x h = refl
-set_same (y ∷ xs) zero x h = let same : y ≡ x = cc in ap (λ z. z ∷ xs) (sym same)
-set_same (y ∷ xs) (suc k) x h = ap (λ l. y ∷ l) (set_same xs k x h)
 
 pub same_or_not : (j k : ℕ) → (j ≡ k) ⊎ (j ≢ k)
 same_or_not j k = by_order (cases_lt j k) (cases_lt k j)
@@ -96,15 +82,6 @@ parts_of slots shares k d is = by_parts (slice_get slots k) refl (slice_get shar
     by_parts None e p f = absurd (let g : None ≡ Some d = sym (no_slot slots shares k e) ∙ is in cc)
     by_parts (Some s) e None f = absurd (let g : None ≡ Some d = sym (no_share slots shares k f) ∙ is in cc)
     by_parts (Some s) e (Some h) f = (s, h, e, f, cc (sym (whole_is slots shares k s h e f) ∙ is))
-
--- where nothing is held, nothing is there
-pub no_holding : (slots : List Slot) (shares : List Share) (k : ℕ) → holding_at slots shares k ≡ None → whole_at slots shares k ≡ None
-no_holding slots shares k none = by_parts (slice_get slots k) (slice_get shares k) none
-  where
-    by_parts : (o : Option Slot) (p : Option Share) → option_and_then (λ (x : Slot). option_map (holding_of x) p) o ≡ None → option_and_then (λ (x : Slot). option_map (whole x) p) o ≡ None
-    by_parts None p e = refl
-    by_parts (Some s) None e = refl
-    by_parts (Some s) (Some h) e = absurd (let f : Some (holding_of s h) ≡ None = e in cc)
 
 -- ---- shares
 
@@ -267,22 +244,6 @@ some_in shares n k s h l there =
     let same : l.share ≡ h = cc (sym l.there ∙ there) in
     subst (λ (x : Share). 1 ≤ some_by (state_in s.tag) (len_in s.tag s.number x.upper)) same l.some
 
--- how it is held
-pub holding_is : (slots : List Slot) (shares : List Share) (k : ℕ) (s : Slot) (h : Share) → slice_get slots k ≡ Some s → slice_get shares k ≡ Some h → holding_at slots shares k ≡ Some (holding_of s h)
-holding_is slots shares k s h at there = ap (option_and_then (λ (x : Slot). option_map (holding_of x) (slice_get shares k))) at ∙ ap (option_map (holding_of s)) there
-
-pub holding_parts : (slots : List Slot) (shares : List Share) (k : ℕ) (v : Holding) → holding_at slots shares k ≡ Some v → (s : Slot) × (h : Share) × (slice_get slots k ≡ Some s) × (slice_get shares k ≡ Some h) × (holding_of s h ≡ v)
-holding_parts slots shares k v is = by_parts (slice_get slots k) refl (slice_get shares k) refl
-  where
-    by_share : (o : Option Slot) (p : Option Share) → p ≡ None → option_and_then (λ (x : Slot). option_map (holding_of x) p) o ≡ None
-    by_share None p e = refl
-    by_share (Some s) p e = ap (option_map (holding_of s)) e
-
-    by_parts : (o : Option Slot) → slice_get slots k ≡ o → (p : Option Share) → slice_get shares k ≡ p → (s : Slot) × (h : Share) × (slice_get slots k ≡ Some s) × (slice_get shares k ≡ Some h) × (holding_of s h ≡ v)
-    by_parts None e p f = absurd (let g : None ≡ Some v = sym (ap (option_and_then (λ (x : Slot). option_map (holding_of x) (slice_get shares k))) e) ∙ is in cc)
-    by_parts (Some s) e None f = absurd (let g : None ≡ Some v = sym (by_share (slice_get slots k) (slice_get shares k) f) ∙ is in cc)
-    by_parts (Some s) e (Some h) f = (s, h, e, f, cc (sym (holding_is slots shares k s h e f) ∙ is))
-
 module _ (slots : List Slot) (shares : List Share) (n : ℕ) (laid : AreLaidOut slots shares n) where
   -- a share ends where a later one begins, or before
   ends_before : (m j : ℕ) (d : Slot) (g : Share) → slice_get slots (j + 1 + m) ≡ Some d → slice_get shares (j + 1 + m) ≡ Some g → end_at shares n j ≤ g.start
@@ -292,7 +253,7 @@ module _ (slots : List Slot) (shares : List Share) (n : ℕ) (laid : AreLaidOut 
       omega (arith, s)
   ends_before (suc m) j d g at there =
       let w = slice_get_within slots (j + 1 + suc m) d at in
-      let c = some_at slots (j + 1) (omega (arith, w)) in
+      let c = there slots (j + 1) (omega (arith, w)) in
       let l = laid (j + 1) c.0 c.1 in
       let e : j + 1 + suc m ≡ j + 1 + 1 + m = omega arith in
       let more = ends_before m (j + 1) d g (ap (slice_get slots) (sym e) ∙ at) (ap (slice_get shares) (sym e) ∙ there) in
@@ -621,7 +582,3 @@ one_step true true k = refl
 one_step true false k = refl
 one_step false true k = refl
 one_step false false k = refl
-
--- a text that is not empty
-pub some_text : (text : List ℕ) → (length text == 0) ≡ false → 0 < length text
-some_text text h = let n : length text ≢ 0 = eqb-false (length text) 0 h in omega arith

@@ -1,6 +1,6 @@
 -- The value of a code of a view, as the table has it.
 use Rattle.std.proofs.lemmas.List.{take_all}
-use Rattle.std.proofs.Common.{take, drop, length-drop, ◌-◌, ◌≡◌, ◌≢◌, [], ◌≤◌, Bool, true, false, cond, ℕ, ◌+◌, arith, List, slice_get, Option, Some, None, min, refl, subst, sym, ap, ap₂, ◌∙◌}
+use Rattle.std.proofs.Common.{take, drop, length-drop, ◌-◌, ◌≡◌, ◌≢◌, [], ◌≤◌, Bool, true, cond, ℕ, ◌+◌, arith, List, slice_get, Option, Some, min, refl, subst, sym, ap, ap₂, ◌∙◌}
 use Rattle.std.specs.Prelude.{option_map, option_and_then, unwrap_or, length, map, slice_range, ◌∷◌, sum_by}
 use Rattle.std.specs.List.{AllZip}
 use Rattle.std.proofs.lemmas.List.Sums.{sum_by-cons}
@@ -15,7 +15,7 @@ use Rattle.vcd_view.specs.declared.view.Code.{Code}
 use Rattle.vcd_view.specs.declared.view.HeadView.{HeadView}
 use Rattle.vcd_body.specs.Contents.{IsLaidOut, KeepsTable, codes_shown, held_at, line_of, shown_as, shown_code, value_in}
 use Rattle.vcd_body.specs.Kept.{Held, Kept, value_at_size}
-use Rattle.vcd_body.specs.Stored.{AreLaidOut, Whole, end_at, held_by, held_from, holding_of, kept_with, len_of, room_of, share_of, some_by, used, whole_at}
+use Rattle.vcd_body.specs.Stored.{AreLaidOut, Whole, end_at, held_by, held_from, holding_of, kept_with, len_of, room_of, share_of, some_by, used}
 use denote.Enum.Bare.{sameb}
 use Rattle.vcd_body.specs.contracts.slot.State.{the_type}
 use Rattle.vcd_body.specs.declared.slot.Holding.{Holding}
@@ -71,10 +71,6 @@ is_real state.Packed h = cc
 is_real state.Bits h = cc
 is_real state.Real h = refl
 
--- there is no value where there is no slot or no share
-pub nothing_at : (t : Table) (code : ℕ) → whole_at t.slots.now t.shares.now code ≡ None → held_at t code ≡ Held.Unset
-nothing_at t code none = ap (λ (o : Option Whole). unwrap_or (option_map (λ (k : Kept). k.held) (option_map (kept_with t.values.now (end_at t.shares.now (length t.values.now) code)) o)) Held.Unset) none
-
 pub code_there : (v : HeadView) (code : ℕ) (c : Code) → slice_get v.codes.now code ≡ Some c → slice_get (codes_shown v) code ≡ Some (shown_code v.text.now c)
 code_there v code c at = slice_get-map (shown_code v.text.now) v.codes.now code ∙ ap (option_map (shown_code v.text.now)) at
 
@@ -85,9 +81,6 @@ pub line_there : (v : HeadView) (t : Table) (code : ℕ) (c : Code) → slice_ge
 line_there v t code c e =
     ap (λ (o : Option IdCode). unwrap_or (option_map (λ (x : IdCode). line_if_set x (value_in (codes_shown v) t code)) o) []) (code_there v code c e)
     ∙ ap (line_if_set (shown_code v.text.now c)) (value_there v t code c e)
-
-abbrev choice : Option Kept → Bool
-choice o = unwrap_or (option_map (λ (k : Kept). k.chosen) o) false
 
 -- ---- the codes of a header
 

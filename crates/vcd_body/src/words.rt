@@ -110,7 +110,7 @@ pub(crate) fn is_comment(token: &[u8]) -> bool
 
 /// Returns what a keyword means at the beginning of a phrase of the body: a comment, the begin of a
 /// section, `$end`, or a keyword that belongs only in the header.
-fn command_for(keyword: Keyword) -> KeywordUse
+fn use_of(keyword: Keyword) -> KeywordUse
     ensures { result ≡ command_is keyword }
 {
     match keyword {
@@ -135,7 +135,7 @@ fn command_for(keyword: Keyword) -> KeywordUse
 pub(crate) fn command_of(token: &[u8]) -> Option<KeywordUse>
     ensures { StandsFor token.now result }
 {
-    Some(command_for(keyword_of(token)?))
+    Some(use_of(keyword_of(token)?))
 }
 
 /// Returns whether the byte is a digit of a value.

@@ -8,4 +8,4 @@ pub returns : goal.returns
 returns c =
     let k = c.in_ok-keyword_of.field-0 in
     let known : keyword_of c.args.token.now ≡ Some (model_keyword k) = search rules in
-    rw c.command_for.ensures (stands_for c.args.token.now k known)
+    rw c.use_of.ensures (stands_for c.args.token.now k known)

@@ -5,10 +5,11 @@ use Rattle.std.proofs.lemmas.Option.{slice_get-get_or}
 use borrow.Rule.Slice.PartMut.{put_mid}
 use Rattle.vcd_body.specs.Kept.{with_text}
 use Rattle.vcd_body.specs.Stored.{Whole, end_at, holding_of, kept_with, some_by, used, used_by, whole}
-use Rattle.vcd_body.proofs.StoreLemmas.{blank, blank_share, both_laid, fits_in, form_kept, form_past, length-put_mid, none_fits, not_outside, share_changes, some_text, text_stays}
+use Rattle.vcd_body.proofs.StoreLemmas.{blank, blank_share, both_laid, fits_in, form_kept, form_past, length-put_mid, none_fits, not_outside, share_changes, text_stays}
 use Rattle.vcd_body.proofs.TableLemmas.{keeps_laid}
 use Rattle.vcd_body.proofs.table.Table.set_text_in.Goals as goal
 use Rattle.vcd_body.proofs.table.Table.set_text_in.Goals.{then-end-start-via-then-end-start, then-end-start-via-else-end-start+then-self-end, then-is_empty-via-then-is_empty, then-is_empty-via-else-is_empty+then-text_bytes-end}
+use Rattle.vcd_body.proofs.WordLemmas.{some_bytes}
 
 pub returns : goal.returns
 returns c =
@@ -23,7 +24,7 @@ returns c =
     let at = slice_get-get_or slots code blank (omega (arith, c.requires.code)) in
     let there = slice_get-get_or parts code blank_share (omega (arith, c.requires.code)) in
     let end = c.requires.end in
-    let some = some_text text (sym c.is_empty.ensures ∙ c.if-is_empty.false) in
+    let some = some_bytes text (sym c.is_empty.ensures ∙ c.if-is_empty.false) in
     let new = c.hold_text.new in
     let is = c.hold_text.ensures in
     let held = c.hold-state.ensures in
