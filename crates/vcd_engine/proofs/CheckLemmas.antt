@@ -1,9 +1,8 @@
 -- What `check` keeps after one item more, and its report.
-use Rattle.std.proofs.Common.{◌≡◌, ℕ, suc, ◌+◌, ◌≤◌, Bool, true, false, cond, List, [], ◌∷◌, ◌++◌, length, count_by, filter_map, codes, Option, Some, None, refl, sym, ap, ◌∙◌, arith, append-nil, append_assoc, decimal}
+use Rattle.std.proofs.Common.{◌≡◌, ℕ, suc, ◌+◌, ◌≤◌, Bool, true, false, cond, List, [], ◌∷◌, ◌++◌, length, count_by, filter_map, codes, refl, sym, ap, ◌∙◌, arith, append-nil, append_assoc, decimal}
 use Rattle.std.proofs.lemmas.List.{length_push}
 use Rattle.std.proofs.lemmas.List.Elements.{filter_map-append}
 use Rattle.std.proofs.lemmas.List.Sums.{sum_by-append, count_by-le-length}
-use Rattle.std.specs.List.{cons_option}
 use Rattle.std.proofs.lemmas.Slice.Zip.{AllZip-long}
 use Rattle.vcd_model.specs.CheckAndList.{check_close, count_line, number_or_dash}
 use Rattle.vcd_model.specs.Declarations.{Declaration, IdCode, is_scope, variables_of}
@@ -21,6 +20,7 @@ use Rattle.vcd_engine.specs.Engine.{last_of}
 use Rattle.vcd_engine.specs.Report.{opens_scope, declares_variable}
 use Rattle.vcd_engine.specs.declared.task_state.check.Check.{Check}
 use Rattle.vcd_engine.proofs.EngineLemmas.{marks_push, marks_stay}
+use Rattle.vcd_view.proofs.RoomLemmas.{filter_map_len}
 
 -- ---- the counts
 
@@ -65,14 +65,6 @@ module _ (items : List BodyItem) (c : Check) (a : AreCounted items c) where
   }
 
 -- ---- no count is greater than the number of items
-
-filter_map_len : {X Y : Type 0} (f : X → Option Y) (xs : List X) → length (filter_map f xs) ≤ length xs
-filter_map_len {Y = Y} f [] = omega arith
-filter_map_len {Y = Y} f (x ∷ xs) = one_more (f x) (filter_map f xs) (filter_map_len f xs)
-  where
-    one_more : (o : Option Y) (ys : List Y) → length ys ≤ length xs → length (cons_option o ys) ≤ suc (length xs)
-    one_more None ys l = omega arith
-    one_more (Some y) ys l = omega arith
 
 -- each count is at most the number of items
 pub record AreFew (n : ℕ) (c : Check) : Type 0 where

@@ -36,7 +36,6 @@ use Rattle.vcd_view.specs.declared.view.Code.{Code}
 use Rattle.vcd_view.specs.declared.view.HeadView.{HeadView}
 use Rattle.vcd_view.proofs.LookUpLemmas.{codes_len}
 use Rattle.vcd_view.proofs.RowLemmas.{code_at}
-use Rattle.vcd_body.proofs.StoreLemmas.{some_at}
 use Rattle.std.proofs.lemmas.Option.{slice_get-get_or}
 use Rattle.vcd_body.specs.Contents.{codes_shown, held_at, line_of}
 use Rattle.vcd_body.specs.Kept.{value_at_size}
@@ -50,6 +49,8 @@ use Rattle.vcd_engine.proofs.PickLemmas.{last_time}
 use Rattle.vcd_engine.proofs.ItemTextLemmas.{may_is}
 use Rattle.vcd_engine.proofs.ListLemmas.{next}
 use Rattle.vcd_engine.proofs.ValuesLemmas.{held_still}
+use Rattle.vcd_view.proofs.ListLemmas.{there}
+use Rattle.vcd_body.proofs.OtherBytes.{off}
 
 -- ---- the values before a time
 
@@ -307,12 +308,12 @@ values_rest cs items time i = ap (λ l. values_text l items time) (sym (take-app
 pub read_code : (v : HeadView) (h : Header) (i : ℕ) (d : Code) → IsViewOf v h → i < length v.codes.now → (c : IdCode) × (slice_get h.codes i ≡ Some c) × ((get_or v.codes.now i d).event ≡ c.event)
 read_code v h i d views within =
     let same = codes_len v.text.now v.codes.now h.codes views.codes in
-    let there = some_at h.codes i (omega (arith, same, within)) in
-    let m = code_at v.text.now v.codes.now h.codes i there.0 views.codes there.1 in
+    let found = there h.codes i (omega (arith, same, within)) in
+    let m = code_at v.text.now v.codes.now h.codes i found.0 views.codes found.1 in
     let read = slice_get-get_or v.codes.now i d within in
     let known = m.1 in
     let one : get_or v.codes.now i d ≡ m.0 = cc in
-    (there.0, there.1, ap (λ (y : Code). y.event) one ∙ m.2.event_is)
+    (found.0, found.1, ap (λ (y : Code). y.event) one ∙ m.2.event_is)
 
 -- ---- a timestamp, after the start section
 
@@ -397,10 +398,6 @@ starts_plain h m le none held later = record {
 }
 
 -- ---- items that are taken ahead
-
-pub unbegun : (b : Bool) → not b ≡ true → b ≡ false
-unbegun true e = cc
-unbegun false e = refl
 
 module _ (h : Header) (items : List BodyItem) (m : Cut) (time : ℕ) (is : AreCut m h items) where
   mark_quiet : time ≤ m.to → (is_started m.from items ≡ true) ⊎ (time < m.from) → TakesQuietly (AreCut m h (items ++ BodyItem.Time time ∷ [])) (Request.Cut m.from m.to) h items (BodyItem.Time time)

@@ -1,5 +1,5 @@
 -- The text of `list`, line by line.
-use Rattle.std.proofs.Common.{◌≡◌, ◌≢◌, ℕ, zero, suc, ◌+◌, List, [], ◌∷◌, ◌++◌, length, take, drop, slice_get, flat_map, filter_map, add-one, decimal, Option, Some, None, refl, sym, ap, subst, ◌∙◌}
+use Rattle.std.proofs.Common.{◌≡◌, ◌≢◌, ℕ, ◌+◌, List, [], ◌∷◌, ◌++◌, length, take, drop, slice_get, flat_map, filter_map, add-one, decimal, Option, Some, None, refl, sym, ap, subst, ◌∙◌}
 use Rattle.std.specs.Io.KnownBytes.{Appends}
 use Rattle.std.proofs.Math.Seq.{take-length}
 use Rattle.std.proofs.lemmas.List.{append_assoc, append-nil, take-append-drop}
@@ -18,7 +18,9 @@ use Rattle.vcd_view.specs.declared.view.Kind.TheVariants as kind
 use Rattle.vcd_view.specs.declared.view.Row.{Row}
 use Rattle.vcd_view.specs.Shown.{HeadShown}
 use Rattle.vcd_view.specs.Views.{IsCode, IsRow, Views, code_text}
-use Rattle.vcd_view.proofs.RowLemmas.{rows_len, row_at, row_of, row_of_variable, there}
+use Rattle.vcd_view.proofs.RowLemmas.{rows_len, row_at, row_of_variable, there}
+use Rattle.vcd_head.proofs.SelectionLemmas.{take-next}
+use Rattle.vcd_head.proofs.WriteLemmas.{code_there, own_text}
 
 -- the line of a variable that has these declarations before it
 abbrev pub line_after : List Declaration → Variable → List ℕ
@@ -31,10 +33,6 @@ line_is path type size code =
     ap (λ l. l ++ 10 ∷ [])
     (append_assoc ((path ++ 32 ∷ type) ++ 32 ∷ []) size (32 ∷ code) ∙ append_assoc (path ++ 32 ∷ type) (32 ∷ []) (size ++ 32 ∷ code) ∙ append_assoc path (32 ∷ type) (32 ∷ (size ++ 32 ∷ code)))
 
--- the text of the code of a variable's row
-pub code_text_of : (s : HeadShown) (h : Header) (i : ℕ) (r : Row) (v : Variable) → Views s h → slice_get s.rows i ≡ Some r → slice_get h.declarations i ≡ Some (Declaration.Var v) → code_text h.codes r.code ≡ v.code
-code_text_of s h i r v views at declared = rw ((row_of s h i r (Declaration.Var v) views at declared).own.2) refl
-
 -- the texts that are written for a row make its line
 pub line_of_row : (s : HeadShown) (h : Header) (i : ℕ) (r : Row) (c : Code) (v : Variable) (type bytes : List ℕ) → Views s h → slice_get s.rows i ≡ Some r → slice_get s.codes r.code ≡ Some c → slice_get h.declarations i ≡ Some (Declaration.Var v)
     → type ≡ v.type → bytes ≡ code_text h.codes r.code
@@ -45,15 +43,12 @@ line_of_row s h i r c v type bytes views at there declared types codes =
     let same : row.code ≡ c = cc in
     let code = subst (λ (y : Code). IsCode s.text y (code_of v)) same row.code_is in
     let n : c.size ≡ v.size = code.size_is in
-    let b : bytes ≡ v.code = codes ∙ code_text_of s h i r v views at declared in
+    let b : bytes ≡ v.code = codes ∙ own_text s h i r v views at declared in
     rw (types, n, b) (line_is (path_of (take i h.declarations) (Declaration.Var v)) v.type (decimal v.size) v.code)
 
 -- a variable's row is there, and its code
 pub row_there : (s : HeadShown) (h : Header) (i : ℕ) (v : Variable) → Views s h → slice_get h.declarations i ≡ Some (Declaration.Var v) → slice_get s.rows i ≢ None
 row_there s h i v views declared none = let r = there s h i views (slice_get_within h.declarations i (Declaration.Var v) declared) in cc
-
-pub code_there : (s : HeadShown) (h : Header) (i : ℕ) (r : Row) (v : Variable) → Views s h → slice_get s.rows i ≡ Some r → slice_get h.declarations i ≡ Some (Declaration.Var v) → slice_get s.codes r.code ≢ None
-code_there s h i r v views at declared none = let known = (row_of_variable s h i r v views at declared).code_there in cc
 
 -- ---- the lines
 
@@ -71,12 +66,6 @@ lines-append xs ys =
 pub text_is_lines : (h : Header) → list_text h ≡ lines_after [] h.declarations
 unfolding list_text selected
 text_is_lines h = refl
-
--- one declaration on
-take-next : {X : Type 0} (xs : List X) (i : ℕ) (x : X) → slice_get xs i ≡ Some x → take (suc i) xs ≡ take i xs ++ x ∷ []
-take-next [] i x at = cc
-take-next (y ∷ xs) zero x at = let same : y ≡ x = cc in ap (λ z. z ∷ []) same
-take-next (y ∷ xs) (suc i) x at = ap (λ l. y ∷ l) (take-next xs i x at)
 
 pub next : {X : Type 0} (ds : List X) (i : ℕ) (d : X) → slice_get ds i ≡ Some d → take (i + 1) ds ≡ take i ds ++ d ∷ []
 next ds i d at = ap (λ n. take n ds) (add-one i) ∙ take-next ds i d at

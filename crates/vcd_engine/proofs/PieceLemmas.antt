@@ -3,7 +3,7 @@ use Rattle.std.proofs.Common.{◌≡◌, ℕ, ◌+◌, ◌-◌, ◌≤◌, lengt
 use Rattle.std.proofs.lemmas.List.{take-take}
 use Rattle.std.specs.Prelude.{slice_index}
 use Rattle.vcd_text.specs.Device.{Device, Puts, Writes, WritesSome}
-use Rattle.vcd_text.proofs.AheadLemmas.{length-ahead, slice_range-append}
+use Rattle.vcd_text.proofs.AheadLemmas.{slice_range-append}
 use Rattle.vcd_text.proofs.Writes.{both-written, counts-on, some-behind, some-first}
 use Rattle.vcd_body.specs.Device.{Grows, GrowsSome}
 use Rattle.std.specs.Borrow.{Bor}
@@ -46,10 +46,6 @@ pub none_between : (bytes : List ℕ) (from to : ℕ) → to ≤ from → slice_
 none_between bytes from to e = let none : to - from ≡ 0 = omega arith in ap (λ n. take n (drop from bytes)) none
 
 -- ---- what is pending
-
--- how long it is
-pub pending_long : (bytes : List ℕ) (p : PendingCopy) → IsPart bytes p → length (pending_in bytes p) ≡ p.to - p.from
-pending_long bytes p part = length-ahead bytes p.from p.to part.1
 
 -- it begins the rest of these bytes
 pub front_is : (bytes : List ℕ) (from to : ℕ) → to ≤ length bytes → take (to - from) (slice_range bytes from (length bytes)) ≡ slice_range bytes from to

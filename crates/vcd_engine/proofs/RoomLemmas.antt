@@ -64,6 +64,3 @@ same_within r r' most same within = subst (λ x. IsWithin x most) (sym same) wit
 -- what an engine holds, after its begin and after a step
 pub lent_within : (limit chunk : ℕ) (v v' : HeadView) (r most : RoomSize) → v' ≡ v → IsWithin r most → AreWithinBound limit chunk v most → AreWithinBound limit chunk v' r
 lent_within limit chunk v v' r most same within bound = subst (λ w. AreWithinBound limit chunk w r) (sym same) (still_within limit chunk v r most within bound)
-
-pub still_lent : (limit chunk limit' chunk' : ℕ) (v v' : HeadView) (r r' : RoomSize) → limit' ≡ limit → chunk' ≡ chunk → v' ≡ v → r' ≡ r → AreWithinBound limit chunk v r → AreWithinBound limit' chunk' v' r'
-still_lent limit chunk limit' chunk' v v' r r' l n s t bound = rw (l, n, s, t) bound

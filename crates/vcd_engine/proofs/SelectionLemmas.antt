@@ -1,21 +1,15 @@
 -- The codes of marked variables are those of the selected ones.
-use Rattle.std.proofs.Common.{◌≡◌, ◌≢◌, ℕ, zero, suc, ◌+◌, ◌<◌, ◌≤◌, ◌==◌, ◌&&◌, ◌||◌, Bool, true, false, cond, min, List, [], ◌∷◌, ◌++◌, length, take, drop, map, get_or, filter_map, flat_map, bytes_eq, slice_get, Option, Some, None, option_map, unwrap_or, refl, sym, ap, subst, ◌∙◌, arith, add-one, zero-add}
+use Rattle.std.proofs.Common.{◌≡◌, ◌≢◌, ℕ, zero, suc, ◌+◌, ◌<◌, ◌≤◌, ◌==◌, ◌&&◌, ◌||◌, Bool, true, false, cond, min, List, [], ◌∷◌, ◌++◌, length, take, drop, map, get_or, filter_map, flat_map, bytes_eq, slice_get, Some, None, refl, sym, ap, ◌∙◌, arith, add-one, zero-add}
 use denote.Enum.Bare.{sameb}
-use Rattle.std.specs.Cmp.Lexicographic.{slice_cmp}
 use Rattle.std.specs.List.{AllByRecursion, range_with_len}
-use Rattle.std.specs.List.Sorted.{IsStrictlySortedBy}
-use Rattle.std.specs.Ordering.{nat_cmp}
-use Rattle.std.specs.declared.cmp.Ordering.TheVariants.{Less}
 use Rattle.std.proofs.Math.Bool.{or-false, and-false}
 use Rattle.std.proofs.lemmas.Bool.{eq-eqb, ne_eqb, or_parts}
 use Rattle.std.proofs.lemmas.Grind.{flat_map-append}
 use Rattle.std.proofs.lemmas.List.{length-map, length-take-le, take_all}
 use Rattle.std.proofs.lemmas.List.Elements.{filter_map-append}
 use Rattle.std.proofs.lemmas.List.Folds.{list_any-append}
-use Rattle.std.proofs.lemmas.List.FromFn.{get_or-range_with_len, get_or-map-range_with_len, length-range_with_len}
-use Rattle.std.proofs.lemmas.List.Sorted.{Contains-permutation}
-use Rattle.std.proofs.lemmas.Map.Text.{is_eq-slice_cmp}
-use Rattle.std.proofs.lemmas.Option.{none-some, same_Some, slice_get-get_or, slice_get-map, slice_get_within, get_or_from_slice_get}
+use Rattle.std.proofs.lemmas.List.FromFn.{get_or-map-range_with_len, length-range_with_len}
+use Rattle.std.proofs.lemmas.Option.{none-some, same_Some, slice_get-get_or, slice_get_within, get_or_from_slice_get}
 use Rattle.std.proofs.lemmas.Slice.Eq.{bytes_eq-Decides}
 use Rattle.std.proofs.lemmas.Slice.Zip.{AllZip-long}
 use Rattle.vcd_model.specs.Backward.{each, each_after}
@@ -26,47 +20,16 @@ use Rattle.vcd_model.proofs.Growing.{each_after-append}
 use Rattle.vcd_model.proofs.ScopeLemmas.{enclosing-scope, enclosing-up, enclosing-var, enclosing_below}
 use Rattle.vcd_head.specs.Marks.{marks_of}
 use Rattle.vcd_view.specs.Shown.{HeadShown}
-use Rattle.vcd_view.specs.Views.{IsCode, IsIndex, IsRow, Views, code_text}
+use Rattle.vcd_view.specs.Views.{IsCode, IsIndex, IsRow, Views}
 use Rattle.vcd_view.specs.contracts.view.Kind.{the_type}
 use Rattle.vcd_view.specs.declared.view.Kind.TheVariants as kind
 use Rattle.vcd_view.specs.declared.view.Row.{Row}
 use Rattle.vcd_view.proofs.RowLemmas.{row_at, rows_len}
+use Rattle.vcd_head.proofs.SelectionLemmas.{take-next}
+use Rattle.vcd_head.proofs.MarkLemmas.{among-append}
+use Rattle.vcd_view.proofs.LookUpLemmas.{same_place}
 
 -- ---- codes of equal text have one index
-
--- a text that is below all is below each
-less_at : (t u : List ℕ) (xs : List (List ℕ)) (i : ℕ) → AllByRecursion (λ y. slice_cmp nat_cmp t y ≡ Less) xs → slice_get xs i ≡ Some u → slice_cmp nat_cmp t u ≡ Less
-less_at t u [] i h at = absurd (none-some u at)
-less_at t u (x ∷ xs) zero h at = subst (λ y. slice_cmp nat_cmp t y ≡ Less) (same_Some x u at) h.0
-less_at t u (x ∷ xs) (suc i) h at = less_at t u xs i h.1 at
-
-not_less : (t : List ℕ) → slice_cmp nat_cmp t t ≢ Less
-not_less t e = let same = is_eq-slice_cmp t t ∙ (bytes_eq-Decides t t).1 refl in let b = rw e at same in cc
-
--- in a list that rises strictly each text has one index
-one_place : (xs : List (List ℕ)) (i j : ℕ) (t : List ℕ) → IsStrictlySortedBy (slice_cmp nat_cmp) xs → slice_get xs i ≡ Some t → slice_get xs j ≡ Some t → i ≡ j
-unfolding IsStrictlySortedBy
-one_place [] i j t h a b = absurd (none-some t a)
-one_place (x ∷ xs) zero zero t h a b = refl
-one_place (x ∷ xs) zero (suc j) t h a b = absurd (not_less t (subst (λ y. slice_cmp nat_cmp y t ≡ Less) (same_Some x t a) (less_at x t xs j h.0 b)))
-one_place (x ∷ xs) (suc i) zero t h a b = absurd (not_less t (subst (λ y. slice_cmp nat_cmp y t ≡ Less) (same_Some x t b) (less_at x t xs i h.0 a)))
-one_place (x ∷ xs) (suc i) (suc j) t h a b = ap suc (one_place xs i j t h.1 a b)
-
--- at which entry of the index a code is, and its text there
-indexed : (ks : List IdCode) (index : List ℕ) (p : ℕ) (k : IdCode) → IsIndex ks index → slice_get ks p ≡ Some k → (i : ℕ) × (slice_get index i ≡ Some p) × (slice_get (map (code_text ks) index) i ≡ Some k.text)
-indexed ks index p k h at =
-    let l = slice_get_within ks p k at in
-    let has = Contains-permutation (range_with_len 0 (length ks)) index p h.positions (p, rw length-range_with_len l, get_or-range_with_len 0 (length ks) p p l ∙ zero-add p) in
-    let there : slice_get index has.0 ≡ Some p = slice_get-get_or index has.0 p has.1 ∙ ap Some has.2 in
-    (has.0, there, slice_get-map (code_text ks) index has.0 ∙ ap (option_map (code_text ks)) there ∙ ap (λ (o : Option IdCode). Some (unwrap_or (option_map (λ c. c.text) o) [])) at)
-
--- two codes of equal text are one
-same_place : (ks : List IdCode) (index : List ℕ) (p q : ℕ) (k j : IdCode) → IsIndex ks index → slice_get ks p ≡ Some k → slice_get ks q ≡ Some j → k.text ≡ j.text → p ≡ q
-same_place ks index p q k j h a b e =
-    let x = indexed ks index p k h a in
-    let y = indexed ks index q j h b in
-    let same = one_place (map (code_text ks) index) x.0 y.0 j.text h.rising (x.2 ∙ ap Some e) y.2 in
-    same_Some p q (sym x.1 ∙ ap (slice_get index) same ∙ y.1)
 
 -- an index is that of a code just where the texts are equal
 place_test : (ks : List IdCode) (index : List ℕ) (p q : ℕ) (k j : IdCode) → IsIndex ks index → slice_get ks p ≡ Some k → slice_get ks q ≡ Some j → (p == q) ≡ bytes_eq j.text k.text
@@ -89,11 +52,8 @@ own names earlier d = cond (is_selected names earlier d) (length earlier ∷ enc
 abbrev marked_from : List (List ℕ) → List Declaration → List Declaration → List ℕ
 marked_from names earlier ds = flat_map (λ ps. ps) (each_after (own names) earlier ds)
 
-among_append : (xs ys : List ℕ) (i : ℕ) → is_among (xs ++ ys) i ≡ (is_among xs i || is_among ys i)
-among_append xs ys i = list_any-append (λ j. i == j) xs ys
-
 among_neither : (xs ys : List ℕ) (i : ℕ) → is_among xs i ≡ false → is_among ys i ≡ false → is_among (xs ++ ys) i ≡ false
-among_neither xs ys i a b = among_append xs ys i ∙ rw (a, b) refl
+among_neither xs ys i a b = among-append xs ys i ∙ rw (a, b) refl
 
 among_more : (x : ℕ) (xs : List ℕ) (i : ℕ) → i ≢ x → is_among xs i ≡ false → is_among (x ∷ xs) i ≡ false
 among_more x xs i differs h = rw (ne_eqb i x differs) h
@@ -170,8 +130,8 @@ marked_is names ds i v at =
     let here : is_among (own names front d) i ≡ is_selected names front d = ap (is_among (own names front d)) (sym few) ∙ own_is names front d in
     let parts : marked_from names [] ds ≡ marked_from names [] front ++ (own names front d ++ marked_from names (front ++ d ∷ []) rest) =
     ap (marked_from names []) (parted ds i d at) ∙ ap (flat_map (λ ps. ps)) (each_after-append (own names) [] front (d ∷ rest)) ∙ flat_map-append (λ ps. ps) (each_after (own names) [] front) (own names front d ∷ each_after (own names) (front ++ d ∷ []) rest) in
-    ap (λ ps. is_among ps i) parts ∙ among_append (marked_from names [] front) (own names front d ++ marked_from names (front ++ d ∷ []) rest) i
-    ∙ ap (λ b. b || is_among (own names front d ++ marked_from names (front ++ d ∷ []) rest) i) before ∙ among_append (own names front d) (marked_from names (front ++ d ∷ []) rest) i
+    ap (λ ps. is_among ps i) parts ∙ among-append (marked_from names [] front) (own names front d ++ marked_from names (front ++ d ∷ []) rest) i
+    ∙ ap (λ b. b || is_among (own names front d ++ marked_from names (front ++ d ∷ []) rest) i) before ∙ among-append (own names front d) (marked_from names (front ++ d ∷ []) rest) i
     ∙ ap (λ b. is_among (own names front d) i || b) behind ∙ or-false (is_among (own names front d) i) ∙ here
 
 -- a mark is 1 just where its index is marked
@@ -190,17 +150,11 @@ mark_test names ds i m at =
 
 -- ---- one declaration more
 
--- the front of a list with one element more
-take_next : {X : Type 0} (xs : List X) (i : ℕ) (x : X) → slice_get xs i ≡ Some x → take (suc i) xs ≡ take i xs ++ x ∷ []
-take_next [] i x at = absurd (none-some x at)
-take_next (y ∷ xs) zero x at = ap (λ z. z ∷ []) (same_Some y x at)
-take_next (y ∷ xs) (suc i) x at = ap (λ l. y ∷ l) (take_next xs i x at)
-
 -- what is selected with one declaration more
 pub selected_next : (names : List (List ℕ)) (ds : List Declaration) (i : ℕ) (d : Declaration) → slice_get ds i ≡ Some d → selected names (take (i + 1) ds) ≡ selected names (take i ds) ++ filter_map (λ o. o) (with_path names (take i ds) d ∷ [])
 unfolding selected
 selected_next names ds i d at =
-    ap (λ n. filter_map (λ o. o) (each (with_path names) (take n ds))) (add-one i) ∙ ap (λ l. filter_map (λ o. o) (each (with_path names) l)) (take_next ds i d at)
+    ap (λ n. filter_map (λ o. o) (each (with_path names) (take n ds))) (add-one i) ∙ ap (λ l. filter_map (λ o. o) (each (with_path names) l)) (take-next ds i d at)
     ∙ ap (filter_map (λ o. o)) (each_after-append (with_path names) [] (take i ds) (d ∷ [])) ∙ filter_map-append (λ o. o) (each (with_path names) (take i ds)) (with_path names (take i ds) d ∷ [])
 
 -- which codes are selected with one declaration more

@@ -30,6 +30,7 @@ use Rattle.vcd_body.specs.declared.table.Table.{Table}
 use Rattle.vcd_engine.specs.Edges.{AreTallied, numbers}
 use Rattle.vcd_engine.specs.Values.{AreHeld}
 use Rattle.vcd_engine.proofs.ValuesLemmas.{IsNew, SetsValue, change_holds, held_still, new_holds}
+use Rattle.vcd_engine.proofs.ItemTextLemmas.{some_text}
 
 -- ---- a table whose counters alone change
 
@@ -178,12 +179,6 @@ small_counts c items few =
     let a = are_few c items in
     let changes = a.changes in let rises = a.rises in let falls = a.falls in
     (omega (arith, changes, few), omega (arith, rises, few), omega (arith, falls, few))
-
--- a text that a code may have is not empty
-some_text : (f : Form) (c : Code) (text : List ℕ) → IsText f c text → 0 < length text
-some_text written.Scalar c text (d, digit, is) = let l = ap length is in omega (arith, l)
-some_text written.Vector c text good = good.0
-some_text written.RealText c text good = good.0
 
 -- ---- a code of a header
 

@@ -32,6 +32,7 @@ use Rattle.vcd_body.specs.declared.table.Table.{Table}
 use Rattle.vcd_body.proofs.TableLemmas.{room_needed}
 use Rattle.vcd_body.specs.Given.{IsItem}
 use Rattle.vcd_engine.specs.Values.{AreHeld, HasShares, table_bytes}
+use Rattle.std.proofs.lemmas.Option.{same_Some}
 
 -- ---- a new table
 
@@ -73,9 +74,6 @@ held_still t h items x none held = record {
 -- what a call that sets the value of a code promises
 abbrev pub SetsValue : Form → List ℕ → ℕ → Table → Table → Type 0
 SetsValue form text code old new = (c : Code) (k : Kept) → IsText form c text → c.event ≡ false → kept_at old code ≡ Some k → share_of c.size ≤ k.room → value_at_size c.size (held_at new code) ≡ Some (value_with c.size (model_form form) text)
-
-same_Some : {A : Type 0} (x y : A) → Some x ≡ Some y → x ≡ y
-same_Some x y e = cc
 
 module _ (v : HeadView) (h : Header) (old new : Table) (items : List BodyItem) (place : ℕ) (form : Form) (text : List ℕ) (c : IdCode) (views : IsViewOf v h) (declared : slice_get h.codes place ≡ Some c) (held : AreHeld old h items)
     (f : Kept → Kept) (room : (k : Kept) → (f k).room ≡ k.room) (changes : ChangesCode place f old new) where

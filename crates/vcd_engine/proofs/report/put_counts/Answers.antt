@@ -1,12 +1,12 @@
 use Rattle.std.proofs.Common.{◌≡◌, ◌+◌, ◌∙◌, Err, ap, arith, rules}
 use Rattle.vcd_engine.specs.Report.{named_line}
-use Rattle.vcd_engine.proofs.Lines.{lines-some}
 use Rattle.vcd_engine.proofs.report.put_counts.Goals as goal
+use Rattle.vcd_head.proofs.WriteLemmas.{texts-some}
 
 pub returns-in_err-put_count : goal.returns-in_err-put_count
 returns-in_err-put_count g c =
     let e : c.from_residual.result ≡ Err c.in_err-put_count.field-0.0 = search rules in
     rw e (
-      lines-some _ _ _ named_line c.args.counts.now c.loop-name.name-index _ (omega arith) c.loop-name.invariant.1 c.in_err-put_count.ensures.0,
+      texts-some _ _ _ named_line c.args.counts.now c.loop-name.name-index _ (omega arith) c.loop-name.invariant.1 c.in_err-put_count.ensures.0,
       c.in_err-put_count.ensures.1 ∙ ap (λ n. n + 1) c.loop-name.invariant.0,
     )

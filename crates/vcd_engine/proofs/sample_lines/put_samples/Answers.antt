@@ -3,14 +3,15 @@ use Rattle.std.specs.Io.KnownBytes.{Appends}
 use Rattle.std.proofs.lemmas.List.{take_all}
 use Rattle.vcd_model.specs.Sample.{is_settled, sample_lines}
 use Rattle.vcd_model.specs.Selection.{selected}
-use Rattle.vcd_engine.proofs.Lines.{all-at, lines-some}
+use Rattle.vcd_engine.proofs.Lines.{all-at}
 use Rattle.vcd_engine.proofs.sample_lines.put_samples.Goals as goal
+use Rattle.vcd_head.proofs.WriteLemmas.{texts-some}
 
 pub returns-in_err-put_lines-clause-takes : goal.returns-in_err-put_lines-clause-takes
 returns-in_err-put_lines-clause-takes g c = λ h items names views marked held late.
     let e : c.from_residual.result ≡ Err c.in_err-put_lines.field-0.0 = search rules in
     rw e
-    (lines-some _ _ _ (sample_lines (selected names h.declarations) items) c.args.times.now c.loop-time.time-index _ (omega arith) (c.loop-time.invariant.1 h items names views marked held late)
+    (texts-some _ _ _ (sample_lines (selected names h.declarations) items) c.args.times.now c.loop-time.time-index _ (omega arith) (c.loop-time.invariant.1 h items names views marked held late)
     (c.in_err-put_lines.ensures.0 h items names views marked held (all-at (λ t. is_settled items t ≡ false) c.args.times.now c.loop-time.time-index _ (omega arith) late)))
 
 pub returns-clause-takes : goal.returns-clause-takes

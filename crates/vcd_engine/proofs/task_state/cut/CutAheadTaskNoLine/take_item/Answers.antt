@@ -1,7 +1,8 @@
 use Rattle.std.proofs.Common.{[]}
-use Rattle.vcd_engine.proofs.CutLemmas.{item_held, none_before, unbegun}
+use Rattle.vcd_engine.proofs.CutLemmas.{item_held, none_before}
 use Rattle.vcd_engine.proofs.PieceLemmas.{none_on}
 use Rattle.vcd_engine.proofs.task_state.cut.CutAheadTaskNoLine.take_item.Goals as goal
+use Rattle.vcd_body.proofs.OtherBytes.{off}
 
 pub returns-clause-takes : goal.returns-clause-takes
 returns-clause-takes g c = λ h items past x views known re read few is.
@@ -9,7 +10,7 @@ returns-clause-takes g c = λ h items past x views known re read few is.
     let m = c.args.self.now in
     let p = c.args.item.scanned in
     let none = c.requires.span.none in
-    let before = unbegun m.started c.requires.ready in
+    let before = off m.started c.requires.ready in
     let held = c.set_item.ensures.held v h items x views c.requires.span.good read (is.held before) in (
       ([], none_before v h items past m p.text.now p.item x views known is read none before, none_on _ (g.W.Sink.device c.args._out.now)),
       item_held v h items past m p.text.now p.item x views known is read none c.set_item.new.table before held,
