@@ -1,7 +1,7 @@
 -- Inputs after one was read on its turn: none of the others comes before the key that it reached.
 use Rattle.std.proofs.Common.{◌≡◌, ◌≢◌, ℕ, true, false, List, [], ◌∷◌, ◌++◌, length, slice_get, Option, Some, ◌⊎◌, inl, inr, refl, sym, ap, subst, ◌∙◌, append-nil, append_assoc}
 use Rattle.std.specs.List.{AllByRecursion}
-use Rattle.std.proofs.lemmas.Option.{slice_get_within}
+use Rattle.std.proofs.lemmas.Option.{slice_get_within, same_Some}
 use Rattle.vcd_model.specs.Header.{Header}
 use Rattle.vcd_model.specs.Input.{Input}
 use Rattle.vcd_model.specs.Items.{BodyItem}
@@ -13,8 +13,8 @@ use Rattle.vcd_merge.specs.MergeStep.{AreGiven, Standing}
 use Rattle.vcd_merge.specs.MergeTrail.{GoOn, GoesOn, IsReached, ReadInTurn}
 use Rattle.vcd_merge.specs.Seat.{Lane, ReadsNoMore}
 use Rattle.vcd_merge.specs.declared.seat.Seat.{Seat}
-use Rattle.vcd_merge.proofs.MergeSteps.{next_first, same_header, same_or_not, seat_spot}
-use Rattle.vcd_merge.proofs.PartLemmas.{get_other, get_set, same_some}
+use Rattle.vcd_merge.proofs.MergeSteps.{next_first, same_header, seat_spot}
+use Rattle.vcd_body.proofs.StoreLemmas.{same_or_not, get_other, get_set}
 
 -- ---- inputs that continue
 
@@ -44,7 +44,7 @@ module _ (ds es : List Dump) (seats news : List Seat) (k : ℕ) (next : IsNext s
       by_place : (j : ℕ) (c : Dump) (y : Seat) → (j ≡ k) ⊎ (j ≢ k) → slice_get es j ≡ Some c → slice_get news j ≡ Some y → y.finished ≡ false → GoesOn ds seats j c
       by_place j c y (inl here) at_c at_y on =
           let both : Some e ≡ Some c = sym own ∙ ap (slice_get es) (sym here) ∙ at_c in
-          let is : e ≡ c = same_some e c both in
+          let is : e ≡ c = same_Some e c both in
           record {
             dump = d;
             seat = next.seat;

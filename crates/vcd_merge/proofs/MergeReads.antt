@@ -20,8 +20,10 @@ use Rattle.vcd_merge.specs.Seat.{Lane, ReadsNoMore}
 use Rattle.vcd_merge.specs.declared.seat.Seat.{Seat}
 use Rattle.vcd_body.specs.declared.answer.Stop.{Stop}
 use Rattle.vcd_merge.proofs.InTurn.{in_turn, turn_on}
-use Rattle.vcd_merge.proofs.MergeSteps.{get_map, len_map, same_or_not, some_at}
-use Rattle.vcd_merge.proofs.PartLemmas.{get_set}
+use Rattle.vcd_merge.proofs.MergeSteps.{len_map}
+use Rattle.vcd_view.proofs.ListLemmas.{there}
+use Rattle.vcd_body.proofs.StoreLemmas.{same_or_not, get_set}
+use Rattle.vcd_head.proofs.InsideLemmas.{get_mapped}
 
 -- ---- lists
 
@@ -39,11 +41,11 @@ module _ {X A : Type 0} (f : X → ℕ) (xs ys : List X) (k : ℕ) (result : Res
   own_failures y at =
       let w = slice_get_within ys k y at in
       let m = as_many in
-      let x = some_at xs k (omega (arith, w, m)) in
+      let x = there xs k (omega (arith, w, m)) in
       let n = len_map f xs in
       let set = get_set (map f xs) k (get_or (map f xs) k 0 + reads_failed result) (omega (arith, w, m, n)) in
-      let e : Some (f y) ≡ Some (get_or (map f xs) k 0 + reads_failed result) = sym (get_map f ys k y at) ∙ ap (λ l. slice_get l k) counts ∙ set in
-      let g = get_or_from_slice_get (map f xs) k (f x.0) 0 (get_map f xs k x.0 x.1) in
+      let e : Some (f y) ≡ Some (get_or (map f xs) k 0 + reads_failed result) = sym (get_mapped f ys k y at) ∙ ap (λ l. slice_get l k) counts ∙ set in
+      let g = get_or_from_slice_get (map f xs) k (f x.0) 0 (get_mapped f xs k x.0 x.1) in
       let v : f y ≡ get_or (map f xs) k 0 + reads_failed result = cc in
       (x.0, x.1, v ∙ ap (λ n. n + reads_failed result) g)
 
@@ -79,15 +81,6 @@ module _ {X : Type 0} (rest : X → Option (List ℕ)) (failures : X → ℕ) (h
   pub record AreReadSoFar (ds : List Dump) (seats : List Seat) (xs : List X) : Type 0 where
     pub each : (j : ℕ) (l : Lane) (old new : Supply) → slice_get lanes j ≡ Some l → slice_get olds j ≡ Some old → slice_get (supplies xs) j ≡ Some new → (new.failures ≡ old.failures) × IsReadSo limit chunk hs ds seats j l old new l.input
 
-  -- before the first step
-  pub none_read : (ds : List Dump) (seats : List Seat) (xs : List X) → supplies xs ≡ olds → AreReadSoFar ds seats xs
-  none_read ds seats xs e = record {
-    each = λ j l old new at_l at_old at_new.
-        let same : Some new ≡ Some old = sym at_new ∙ ap (λ (s : List Supply). slice_get s j) e ∙ at_old in
-        let is : new ≡ old = cc in
-        (ap (λ (s : Supply). s.failures) is, inl is);
-  }
-
   -- other inputs may continue
   pub still_read : (ds es : List Dump) (seats news : List Seat) (xs : List X) → GoOn ds seats es news → AreReadSoFar ds seats xs → AreReadSoFar es news xs
   still_read ds es seats news xs go so_far = record {
@@ -106,11 +99,11 @@ module _ {X : Type 0} (rest : X → Option (List ℕ)) (failures : X → ℕ) (h
       by_place : (j : ℕ) (l : Lane) (old new : Supply) → slice_get lanes j ≡ Some l → slice_get olds j ≡ Some old → (x : X) → slice_get ms j ≡ Some x → supply rest failures x ≡ new → (slice_get ss j ≡ Some x) ⊎ ReadInTurn limit chunk hs es news j l l.input (rest x)
           → (new.failures ≡ old.failures) × IsReadSo limit chunk hs es news j l old new l.input
       by_place j l old new at_l at_old x at_x is (inl at_s) =
-          let e = so_far.each j l old new at_l at_old (get_map (supply rest failures) ss j x at_s ∙ ap (λ (z : Supply). Some z) is) in
+          let e = so_far.each j l old new at_l at_old (get_mapped (supply rest failures) ss j x at_s ∙ ap (λ (z : Supply). Some z) is) in
           (e.0, still_so limit chunk hs ds es seats news j l old new l.input go e.1)
       by_place j l old new at_l at_old x at_x is (inr turn) =
-          let y = unmap failures ss j (failures x) (ap (λ (ns : List ℕ). slice_get ns j) (sym same) ∙ get_map failures ms j x at_x) in
-          let before = so_far.each j l old (supply rest failures y.0) at_l at_old (get_map (supply rest failures) ss j y.0 y.1) in
+          let y = unmap failures ss j (failures x) (ap (λ (ns : List ℕ). slice_get ns j) (sym same) ∙ get_mapped failures ms j x at_x) in
+          let before = so_far.each j l old (supply rest failures y.0) at_l at_old (get_mapped (supply rest failures) ss j y.0 y.1) in
           (ap (λ (z : Supply). z.failures) (sym is) ∙ sym y.2 ∙ before.0, inr (subst (λ (z : Supply). ReadInTurn limit chunk hs es news j l l.input z.rest) is turn))
 
   -- each input is left whole
@@ -132,7 +125,7 @@ module _ {X : Type 0} (rest : X → Option (List ℕ)) (failures : X → ℕ) (h
     own l old new at_l at_old at_new =
         let x = unmap (supply rest failures) s'.sources k new at_new in
         let y = own_failures failures s.sources s'.sources k result counts x.0 x.1 in
-        let before = so_far.each k l old (supply rest failures y.0) at_l at_old (get_map (supply rest failures) s.sources k y.0 y.1) in
+        let before = so_far.each k l old (supply rest failures y.0) at_l at_old (get_mapped (supply rest failures) s.sources k y.0 y.1) in
         let source : r.source ≡ x.0 = cc (sym r.source_at ∙ x.1) in
         let lane : r.lane ≡ l = cc (sym r.lane_at ∙ at_l) in
         let is : supply rest failures r.source ≡ new = ap (supply rest failures) source ∙ x.2 in (
@@ -146,7 +139,7 @@ module _ {X : Type 0} (rest : X → Option (List ℕ)) (failures : X → ℕ) (h
     other : (j : ℕ) (new : Supply) → j ≢ k → slice_get (supplies s'.sources) j ≡ Some new → slice_get (supplies s.sources) j ≡ Some new
     other j new apart at_new =
         let x = unmap (supply rest failures) s'.sources j new at_new in
-        get_map (supply rest failures) s.sources j x.0 (sym (r.others j apart) ∙ x.1) ∙ ap (λ (z : Supply). Some z) x.2
+        get_mapped (supply rest failures) s.sources j x.0 (sym (r.others j apart) ∙ x.1) ∙ ap (λ (z : Supply). Some z) x.2
 
     -- an input whose turn it was not is left whole
     pub other_left : (j : ℕ) (l : Lane) (old new : Supply) → j ≢ k → slice_get lanes j ≡ Some l → slice_get olds j ≡ Some old → slice_get (supplies s'.sources) j ≡ Some new → IsRead limit chunk hs es news j l old new l.input

@@ -13,7 +13,7 @@ use Rattle.vcd_body.specs.declared.answer.More.{More}
 use Rattle.vcd_body.specs.declared.answer.Stop.{Stop}
 use Rattle.vcd_merge.proofs.SpotLemmas.{same_next}
 use Rattle.vcd_merge.proofs.MergeReads.{AreReadSoFar, read_along}
-use Rattle.vcd_merge.proofs.MergeRuns.{keeps_limit}
+use Rattle.vcd_merge.proofs.PartLemmas.{same_part}
 
 module _ {X : Type 0} (rest : X → Option (List ℕ)) (failures : X → ℕ) (hs : List Header) (lanes : List Lane) (alone : Bool) (ds : List Dump) (s s' : Standing X) (out new : Device) (result : Result More Stop) (r : RunGives rest failures hs lanes alone ds s s' out new result) where
   -- what is due after it is on the output
@@ -30,10 +30,10 @@ module _ {X : Type 0} (rest : X → Option (List ℕ)) (failures : X → ℕ) (h
 
   module _ (limit chunk : ℕ) (is_limit : part_len (length s.seats) s.tokens ≡ limit) (is_chunk : part_len (length s.seats) s.chunks ≡ chunk) where
     pub mid_limit : part_len (length r.mid.seats) r.mid.tokens ≡ limit
-    mid_limit = keeps_limit (length s.seats) (length r.mid.seats) s.tokens r.mid.tokens r.seats r.tokens ∙ is_limit
+    mid_limit = same_part (length s.seats) (length r.mid.seats) s.tokens r.mid.tokens r.seats r.tokens ∙ is_limit
 
     pub mid_chunk : part_len (length r.mid.seats) r.mid.chunks ≡ chunk
-    mid_chunk = keeps_limit (length s.seats) (length r.mid.seats) s.chunks r.mid.chunks r.seats r.chunks ∙ is_chunk
+    mid_chunk = same_part (length s.seats) (length r.mid.seats) s.chunks r.mid.chunks r.seats r.chunks ∙ is_chunk
 
     -- each input was read on its turn alone
     pub mid_read : (olds : List Supply) → AreReadSoFar rest failures hs limit chunk lanes olds ds s.seats s.sources → AreReadSoFar rest failures hs limit chunk lanes olds r.dumps r.mid.seats r.mid.sources

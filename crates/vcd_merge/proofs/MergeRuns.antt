@@ -1,5 +1,5 @@
 -- A merge as a loop over steps.
-use Rattle.std.proofs.Common.{◌≡◌, ◌≢◌, ◌∙◌, ℕ, zero, suc, ◌+◌, ◌-◌, ◌^◌, ◌/◌, ◌<◌, ◌++◌, true, false, List, [], ◌∷◌, length, map, slice_get, slice_set, Some, None, ap, ap₂, sym, subst, refl, Result, Ok, Err, arith, ◌⊎◌, inl, inr, append-nil}
+use Rattle.std.proofs.Common.{◌≡◌, ◌≢◌, ◌∙◌, ℕ, zero, suc, ◌+◌, ◌-◌, ◌^◌, ◌<◌, ◌++◌, true, false, List, [], ◌∷◌, length, map, slice_get, slice_set, Some, None, ap, ap₂, sym, subst, refl, Result, Ok, Err, arith, ◌⊎◌, inl, inr, append-nil}
 use Rattle.std.specs.Prelude.{All, Option, get_or, option_map}
 use Rattle.std.specs.List.{list_any}
 use Rattle.std.proofs.lemmas.List.{set-get_or}
@@ -39,7 +39,7 @@ use Rattle.vcd_merge.proofs.MergeReads as reads
 use Rattle.vcd_merge.proofs.InTurn.{go_item, go_same, go_still}
 use Rattle.vcd_merge.proofs.OnTurn.{begins, on_turn}
 use Rattle.vcd_merge.proofs.MergeReads.{AreReadSoFar, IsRead, IsReadSo, cut_left, left_whole, other_left, read_more, reads_for}
-use Rattle.vcd_merge.proofs.MergeSteps.{get_map, len_map, same_or_not}
+use Rattle.vcd_merge.proofs.MergeSteps.{len_map}
 use Rattle.vcd_merge.proofs.MergeStops.{BackFits, EndFits, HasLaterFault, StopFits, WriteFits, backs, clean_is, ends, fault_merged, kept_some, stops, writes, written_some}
 use Rattle.vcd_merge.proofs.MergeWholes as whole
 use Rattle.vcd_merge.proofs.MergeWholes.{Wholes, choose_all, entire, entire_of, fit_at, opened_of}
@@ -47,6 +47,9 @@ use Rattle.vcd_merge.proofs.WholesFit.{left_all}
 use Rattle.vcd_merge.proofs.WholesOpened.{AreNeeded, entire_headers, follows, opened_dumps, opened_headers}
 use Rattle.vcd_merge.proofs.SpotLemmas.{same_next}
 use Rattle.vcd_merge.proofs.Unsettled.{unsettled}
+use Rattle.vcd_body.proofs.StoreLemmas.{same_or_not}
+use Rattle.vcd_head.proofs.InsideLemmas.{get_mapped}
+use Rattle.vcd_merge.proofs.PartLemmas.{same_part}
 
 -- ---- what is counted
 
@@ -82,9 +85,6 @@ open_behind h items ts have = unsettled_alone Request.Merge h items ts refl (non
     none_early : (xs : List BodyItem) → list_any (ends_early Request.Merge) xs ≡ false
     none_early [] = refl
     none_early (x ∷ xs) = none_early xs
-
-pub keeps_limit : (n n' : ℕ) (t t' : List ℕ) → n' ≡ n → length t' ≡ length t → part_len n' t' ≡ part_len n t
-keeps_limit n n' t t' e l = ap (λ m. m / n') l ∙ ap (λ m. length t / m) e
 
 module _ {X : Type 0} (rest : X → _) (failures : X → ℕ) (hs : List Header) (lanes : List Lane) where
   -- there are as many sources as lanes
@@ -123,11 +123,11 @@ module _ {X : Type 0} (rest : X → _) (failures : X → ℕ) (hs : List Header)
     unread same rests = record {
       each = λ j l old new at_l at_old at_new.
           let x = reads.unmap (supply rest failures) s'.sources j new at_new in
-          let y = reads.unmap failures s.sources j (failures x.0) (ap (λ (ns : List ℕ). slice_get ns j) (sym same) ∙ get_map failures s'.sources j x.0 x.1) in
+          let y = reads.unmap failures s.sources j (failures x.0) (ap (λ (ns : List ℕ). slice_get ns j) (sym same) ∙ get_mapped failures s'.sources j x.0 x.1) in
           let both : Some (rest y.0) ≡ Some (rest x.0) = ap (option_map rest) (sym y.1) ∙ sym (rests j) ∙ ap (option_map rest) x.1 in
           let is : rest y.0 ≡ rest x.0 = cc in
           let supplies : supply rest failures y.0 ≡ new = ap₂ (λ (r : Option (List ℕ)) (n : ℕ). record { rest = r; failures = n }) is y.2 ∙ x.2 in
-          so_far.each j l old new at_l at_old (get_map (supply rest failures) s.sources j y.0 y.1 ∙ ap (λ (z : Supply). Some z) supplies);
+          so_far.each j l old new at_l at_old (get_mapped (supply rest failures) s.sources j y.0 y.1 ∙ ap (λ (z : Supply). Some z) supplies);
     }
 
     -- the merge continues: it holds an item more, or the same, and the output has what is due
@@ -182,7 +182,7 @@ module _ {X : Type 0} (rest : X → _) (failures : X → ℕ) (hs : List Header)
         AreAllRead = (k : ℕ) (x : whole.Whole hs limit) (old new : Supply) → P k x → slice_get lanes k ≡ Some x.lane → slice_get olds k ≡ Some old → slice_get news k ≡ Some new → IsRead limit chunk hs es ends k x.lane old new x.left
 
         lane_of : (k : ℕ) (x : whole.Whole hs limit) → slice_get ws.list k ≡ Some x → slice_get lanes k ≡ Some x.lane
-        lane_of k x at = ap (λ (ls : List Lane). slice_get ls k) (sym ws.lanes_are) ∙ get_map (λ (y : whole.Whole hs limit). y.lane) ws.list k x at
+        lane_of k x at = ap (λ (ls : List Lane). slice_get ls k) (sym ws.lanes_are) ∙ get_mapped (λ (y : whole.Whole hs limit). y.lane) ws.list k x at
 
         fits : (k : ℕ) (x : whole.Whole hs limit) → slice_get ws.list k ≡ Some x → P k x
         fits k x at = let i : 0 + k ≡ k = omega arith in subst (λ (j : ℕ). P j x) i (fit_at hs limit P 0 k ws.list x at ws.fit)
@@ -192,7 +192,7 @@ module _ {X : Type 0} (rest : X → _) (failures : X → ℕ) (hs : List Header)
             → key_lt (key_after (factor hs x.lane.header) k r.items) (key_after (factor hs d.header) i d.items) ≡ true
         others_later k x old new r i d f other at e =
             let v = reads.unmap (entire hs limit) ws.list i d at in
-            let there = ap (λ (l : List Dump). slice_get l i) (sym ws.dumps_are) ∙ get_map (λ (y : whole.Whole hs limit). y.dump) ws.list i v.0 v.1 in
+            let there = ap (λ (l : List Dump). slice_get l i) (sym ws.dumps_are) ∙ get_mapped (λ (y : whole.Whole hs limit). y.dump) ws.list i v.0 v.1 in
             let place = key_after (factor hs x.lane.header) k r.items in
             let behind = later i v.0 (fits i v.0 v.1) place (λ y at_y on. r.reached i v.0.dump y other there at_y on) f (ap (λ (z : Dump). z.fault) v.2 ∙ e) in
             subst (λ (z : Dump). key_lt place (key_after (factor hs z.header) i z.items) ≡ true) v.2 behind
@@ -202,7 +202,7 @@ module _ {X : Type 0} (rest : X → _) (failures : X → ℕ) (hs : List Header)
         needed each = λ k x old new at at_old at_new.
             let y = reads.unmap (supply rest failures) s'.sources k new at_new in
             reads_for rest failures limit chunk hs es ends k x.lane old new x.left y.0 y.2 (settles_among os k x.lane.header)
-            (λ r ts have. unsettled hs os (entire_of hs limit ws.list) k (opened_of hs limit x) r.items (opened_headers hs limit ws.list ∙ ap (map (λ (l : Lane). l.header)) ws.lanes_are ∙ holds.given.lanes_are) (opened_dumps hs limit ws.list) (get_map (opened_of hs limit) ws.list k x at) r.small (others_later k x old new r) ts have)
+            (λ r ts have. unsettled hs os (entire_of hs limit ws.list) k (opened_of hs limit x) r.items (opened_headers hs limit ws.list ∙ ap (map (λ (l : Lane). l.header)) ws.lanes_are ∙ holds.given.lanes_are) (opened_dumps hs limit ws.list) (get_mapped (opened_of hs limit) ws.list k x at) r.small (others_later k x old new r) ts have)
             (each k x old new (fits k x at) (lane_of k x at) at_old at_new).1
 
         -- and than what settles it alone
@@ -355,7 +355,7 @@ module _ (hs : List Header) (lanes : List Lane) (limit chunk : ℕ) (headers : m
       let more = begun k l at_l in
       let r = read_body l.header.codes more.0 in
       let dump = dump_of (factor hs l.header) l.header (body_fault_of (stream_of limit l.input) r) r in
-      let e : Some (record { header = l.header; items = []; fault = None }) ≡ Some d = sym (get_map (λ (m : Lane). record { header = m.header; items = []; fault = None }) lanes k l at_l) ∙ at_d in
+      let e : Some (record { header = l.header; items = []; fault = None }) ≡ Some d = sym (get_mapped (λ (m : Lane). record { header = m.header; items = []; fault = None }) lanes k l at_l) ∙ at_d in
       let is : record { header = l.header; items = []; fault = None } ≡ d = cc in (
         record { lane = l; dump = d; same = ap (λ (x : Dump). x.header) is; left = l.input; items = dump.items; fault = dump.fault; has = record { rest = more.0; tokens = more.1; is = refl } },
         refl,

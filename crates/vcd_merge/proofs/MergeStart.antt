@@ -27,8 +27,11 @@ use Rattle.vcd_merge.specs.MergeParts.{AreParts, AreSeated, part, part_len, spot
 use Rattle.vcd_merge.specs.MergeStart.{AreBegun, AreOpen, HasBegun, HaveNoItems, begun, no_items}
 use Rattle.vcd_merge.specs.MergeStep.{Holds, IsReady, last_written, standing_of}
 use Rattle.vcd_merge.specs.Seat.{AtSeat, GaveParked, IsSeated, Lane, Spot}
-use Rattle.vcd_merge.proofs.MergeSteps.{get_map, same_or_not, some_at, spot_seat}
-use Rattle.vcd_merge.proofs.PartLemmas.{get_other, get_set, part_long}
+use Rattle.vcd_merge.proofs.MergeSteps.{spot_seat}
+use Rattle.vcd_merge.proofs.PartLemmas.{part_long}
+use Rattle.vcd_view.proofs.ListLemmas.{there}
+use Rattle.vcd_body.proofs.StoreLemmas.{same_or_not, get_other, get_set}
+use Rattle.vcd_head.proofs.InsideLemmas.{get_mapped}
 
 -- ---- seats that are set one after the other
 
@@ -36,9 +39,6 @@ use Rattle.vcd_merge.proofs.PartLemmas.{get_other, get_set, part_long}
 pub record SetSoFar (R : ℕ → Seat → Seat → Type 0) (n : ℕ) (old new : List Seat) : Type 0 where
   pub done : (j : ℕ) (s s' : Seat) → j < n → slice_get old j ≡ Some s → slice_get new j ≡ Some s' → R j s s'
   pub left : (j : ℕ) → n ≤ j → slice_get new j ≡ slice_get old j
-
-pub none_set : (R : ℕ → Seat → Seat → Type 0) (old : List Seat) → SetSoFar R 0 old old
-none_set R old = record { done = λ j s s' l a b. absurd (omega arith); left = λ j l. refl }
 
 pub one_more : (R : ℕ → Seat → Seat → Type 0) (n : ℕ) (old mid : List Seat) (v : Seat) → SetSoFar R n old mid → n < length mid → ((s : Seat) → slice_get old n ≡ Some s → R n s v) → SetSoFar R (n + 1) old (slice_set mid n v)
 one_more R n old mid v h l here = record {
@@ -130,7 +130,7 @@ begins {X} rest hs lanes heads old new sources chunks tokens values show few lan
     sources_are = omega arith;
     views = λ k head l a b. shown_at heads hs k head l.header show a (header_there k l b);
     at = λ k l d p a b spot.
-        let same : Some (record { header = l.header; items = []; fault = None }) ≡ Some d = sym (get_map (λ (x : Lane). record { header = x.header; items = []; fault = None }) lanes k l a) ∙ b in
+        let same : Some (record { header = l.header; items = []; fault = None }) ≡ Some d = sym (get_mapped (λ (x : Lane). record { header = x.header; items = []; fault = None }) lanes k l a) ∙ b in
         let none : [] ≡ d.items = items_of_same (record { header = l.header; items = []; fault = None }) d same in
         subst (λ items. AtSeat (factor hs l.header) (first_number (take k hs)) l items p) none (at_place k l p a spot);
     before = λ k d s a b f. subst (AllByRecursion (λ y. key_lt y.key (key_after (factor hs d.header) k d.items) ≡ true)) (sym (no_keyed hs 0 [] lanes)) tt;
@@ -142,14 +142,14 @@ begins {X} rest hs lanes heads old new sources chunks tokens values show few lan
     long = AllZip-long _ heads hs show
 
     header_there : (k : ℕ) (l : Lane) → slice_get lanes k ≡ Some l → slice_get hs k ≡ Some l.header
-    header_there k l a = ap (λ (x : List Header). slice_get x k) (sym lanes_are) ∙ get_map (λ (x : Lane). x.header) lanes k l a
+    header_there k l a = ap (λ (x : List Header). slice_get x k) (sym lanes_are) ∙ get_mapped (λ (x : Lane). x.header) lanes k l a
 
     at_place : (k : ℕ) (l : Lane) (p : Spot) → slice_get lanes k ≡ Some l → spot_at rest new sources chunks tokens k ≡ Some p → AtSeat (factor hs l.header) (first_number (take k hs)) l [] p
     at_place k l p a spot =
         let at = spot_seat rest (record { heads = heads; seats = new; written = None; sources = sources; chunks = chunks; tokens = tokens; values = values }) k p spot in
         let w = slice_get_within new k p.seat at in
-        let s = some_at old k (omega arith) in
-        let head = some_at heads k (omega arith) in
+        let s = there old k (omega arith) in
+        let head = there heads k (omega arith) in
         let is = set k l.header s.0 p.seat (header_there k l a) s.1 at in
         let v = shown_at heads hs k head.0 l.header show head.1 (header_there k l a) in
         let spot_old = other_seat (slice_get new k) (slice_get old k) (option_map rest (slice_get sources k)) (part (part_len (length old) chunks) k chunks) (part (part_len (length old) tokens) k tokens) p s.0
@@ -177,7 +177,7 @@ ready_at_first heads old new sources chunks tokens values some heads_many many s
   parts = subst (λ n. AreParts n chunks tokens values) (sym many) parts;
   seated = subst (λ n. All (IsSeated (part_len n chunks) (part_len n tokens)) new) (sym many) (seated_still (part_len (length old) chunks) (part_len (length old) tokens) old new many set seated);
   some =
-      let first = some_at new 0 (omega arith) in (
+      let first = there new 0 (omega arith) in (
         0,
         record {
           seat = first.0;
@@ -191,7 +191,7 @@ ready_at_first heads old new sources chunks tokens values some heads_many many s
     as_set : (j : ℕ) (s : Seat) → slice_get new j ≡ Some s → (s.time ≡ 0) × (s.finished ≡ false)
     as_set j s at =
         let w = slice_get_within new j s at in
-        let was = some_at old j (omega arith) in
+        let was = there old j (omega arith) in
         let is = set j was.0 s was.1 at in
         (ap (λ (x : Seat). x.time) is, ap (λ (x : Seat). x.finished) is)
 
@@ -224,8 +224,8 @@ pub heads_given : {X : Type 0} (rest : X → Option (List ℕ)) (lanes : List La
     → HaveNoItems rest lanes seats sources chunks tokens → (k : ℕ) (l : Lane) → slice_get lanes k ≡ Some l → (more : List Token) × ((stream_of (part_len (length seats) tokens) l.input).tokens ≡ l.front ++ more)
 heads_given rest lanes seats sources chunks tokens values parts lanes_many sources_many none k l at =
     let w = slice_get_within lanes k l at in
-    let x = some_at seats k (omega arith) in
-    let y = some_at sources k (omega arith) in
+    let x = there seats k (omega arith) in
+    let y = there sources k (omega arith) in
     let n = length seats in
     let chunk = part (part_len n chunks) k chunks in
     let token = part (part_len n tokens) k tokens in

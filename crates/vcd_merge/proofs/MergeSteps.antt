@@ -1,6 +1,6 @@
 -- What a merge holds after one item more of the input whose turn it is, and where that input has
 -- finished.
-use Rattle.std.proofs.Common.{◌≡◌, ◌≢◌, ℕ, zero, suc, ◌*◌, ◌<◌, ◌≤◌, true, false, List, [], ◌∷◌, ◌++◌, length, take, map, slice_get, Option, Some, None, refl, sym, ap, subst, ◌∙◌, arith, ◌⊎◌, inl, inr}
+use Rattle.std.proofs.Common.{◌≡◌, ◌≢◌, ℕ, suc, ◌*◌, ◌<◌, ◌≤◌, true, false, List, [], ◌∷◌, ◌++◌, length, take, map, slice_get, Option, Some, None, refl, sym, ap, subst, ◌∙◌, arith, ◌⊎◌, inl, inr}
 use Rattle.std.specs.Prelude.{option_map}
 use Rattle.std.specs.List.{AllByRecursion}
 use Rattle.std.proofs.lemmas.Bool.{cases_lt}
@@ -20,31 +20,15 @@ use Rattle.vcd_model.specs.MergeByInput.{keyed_rest, with_item}
 use Rattle.vcd_model.proofs.MergeChanges.{later_key}
 use Rattle.vcd_model.proofs.MergeOrder.{key_chain}
 use Rattle.vcd_model.proofs.MergedLists.{all_with_item, headers_stay}
-use Rattle.vcd_merge.proofs.PartLemmas.{get_other, get_set}
+use Rattle.vcd_view.proofs.ListLemmas.{there}
+use Rattle.vcd_body.proofs.StoreLemmas.{same_or_not, get_other, get_set}
+use Rattle.vcd_head.proofs.InsideLemmas.{get_mapped}
 
 -- ---- positions
-
-pub some_at : {X : Type 0} (xs : List X) (k : ℕ) → k < length xs → (x : X) × (slice_get xs k ≡ Some x)
-some_at [] k h = absurd (omega arith)
-some_at (x ∷ xs) zero h = (x, refl)
-some_at (x ∷ xs) (suc k) h = some_at xs k (omega arith)
-
-pub get_map : {X Y : Type 0} (f : X → Y) (xs : List X) (k : ℕ) (x : X) → slice_get xs k ≡ Some x → slice_get (map f xs) k ≡ Some (f x)
-get_map f [] k x h = cc
-get_map f (y ∷ xs) zero x h = let e : y ≡ x = cc in ap (λ z. Some (f z)) e
-get_map f (y ∷ xs) (suc k) x h = get_map f xs k x h
 
 pub len_map : {X Y : Type 0} (f : X → Y) (xs : List X) → length (map f xs) ≡ length xs
 len_map f [] = refl
 len_map f (x ∷ xs) = ap suc (len_map f xs)
-
-pub same_or_not : (j k : ℕ) → (j ≡ k) ⊎ (j ≢ k)
-same_or_not j k = by_order (cases_lt j k) (cases_lt k j)
-  where
-    by_order : (j < k) ⊎ (k ≤ j) → (k < j) ⊎ (j ≤ k) → (j ≡ k) ⊎ (j ≢ k)
-    by_order (inl l) m = inr (λ e. omega arith)
-    by_order (inr l) (inl m) = inr (λ e. omega arith)
-    by_order (inr l) (inr m) = inl (omega arith)
 
 apart : (k j : ℕ) → j ≢ k → k ≤ j → k < j
 apart k j other h = by_order (cases_lt k j)
@@ -67,7 +51,7 @@ module _ {X : Type 0} (rest : X → Option (List ℕ)) (s : Standing X) where
   pub seat_spot : (k : ℕ) (x : Seat) → length s.sources ≡ length s.seats → slice_get s.seats k ≡ Some x → (p : Spot) × (spot_at rest s.seats s.sources s.chunks s.tokens k ≡ Some p) × (p.seat ≡ x)
   seat_spot k x same at =
       let w = slice_get_within s.seats k x at in
-      let y = some_at s.sources k (omega arith) in (
+      let y = there s.sources k (omega arith) in (
         record { seat = x; rest = rest y.0; chunk = part (part_len (length s.seats) s.chunks) k s.chunks; token = part (part_len (length s.seats) s.tokens) k s.tokens },
         rw (at, y.1) refl,
         refl,
@@ -76,15 +60,15 @@ module _ {X : Type 0} (rest : X → Option (List ℕ)) (s : Standing X) where
 module _ {X : Type 0} (rest : X → Option (List ℕ)) (hs : List Header) (lanes : List Lane) (ds : List Dump) (s : Standing X) (g : AreGiven rest hs lanes ds s) where
   -- lane and dump of a seat, under one header
   pub lane_at : (k : ℕ) → k < length s.seats → (l : Lane) × (slice_get lanes k ≡ Some l)
-  lane_at k h = let e = ap (λ (x : List Header). length x) g.lanes_are in let m = g.many in let n = len_map (λ (l : Lane). l.header) lanes in some_at lanes k (omega arith)
+  lane_at k h = let e = ap (λ (x : List Header). length x) g.lanes_are in let m = g.many in let n = len_map (λ (l : Lane). l.header) lanes in there lanes k (omega arith)
 
   pub dump_at : (k : ℕ) → k < length s.seats → (d : Dump) × (slice_get ds k ≡ Some d)
-  dump_at k h = let e = ap (λ (x : List Header). length x) g.dumps_are in let m = g.many in let n = len_map (λ (d : Dump). d.header) ds in some_at ds k (omega arith)
+  dump_at k h = let e = ap (λ (x : List Header). length x) g.dumps_are in let m = g.many in let n = len_map (λ (d : Dump). d.header) ds in there ds k (omega arith)
 
   pub same_header : (k : ℕ) (l : Lane) (d : Dump) → slice_get lanes k ≡ Some l → slice_get ds k ≡ Some d → l.header ≡ d.header
   same_header k l d a b =
-      let x = get_map (λ (y : Lane). y.header) lanes k l a in
-      let y = get_map (λ (z : Dump). z.header) ds k d b in
+      let x = get_mapped (λ (y : Lane). y.header) lanes k l a in
+      let y = get_mapped (λ (z : Dump). z.header) ds k d b in
       let u = ap (λ (h : List Header). slice_get h k) g.lanes_are in
       let v = ap (λ (h : List Header). slice_get h k) g.dumps_are in
       let e : Some l.header ≡ Some d.header = sym x ∙ u ∙ sym v ∙ y in

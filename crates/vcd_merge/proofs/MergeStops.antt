@@ -25,11 +25,14 @@ use Rattle.vcd_merge.specs.Seat.{AtSeat, HasDump, Lane, Spot}
 use Rattle.vcd_merge.specs.declared.seat.Seat.{Seat}
 use Rattle.vcd_merge.proofs.SpotLemmas.{token_len}
 use Rattle.vcd_model.proofs.MergeSoFar.{after_key, all_keyed, fault_outcome_is, none_between, outcome_begins, still_late, still_later, up_to_last}
-use Rattle.vcd_merge.proofs.MergeSteps.{all_before, dump_at, get_map, lane_at, len_map, next_first, same_header, same_or_not, seat_spot, some_at}
+use Rattle.vcd_merge.proofs.MergeSteps.{all_before, dump_at, lane_at, len_map, next_first, same_header, seat_spot}
 use Rattle.vcd_merge.proofs.MergeWholes.{AllFit, Whole, Wholes, choose_all, entire, entire_of, fit_at, so_far}
 use Rattle.vcd_merge.proofs.WholesFit.{grown_all, late_all, others_all}
 use Rattle.vcd_merge.proofs.WholesOpened.{entire_headers}
 use Rattle.vcd_merge.proofs.WholeInputs.{finished, goes_on}
+use Rattle.vcd_view.proofs.ListLemmas.{there}
+use Rattle.vcd_body.proofs.StoreLemmas.{same_or_not}
+use Rattle.vcd_head.proofs.InsideLemmas.{get_mapped}
 
 -- a fault of the input comes after any position that was reached while it had not finished
 abbrev pub HasLaterFault : (hs : List Header) (limit : ℕ) → List Seat → (k : ℕ) → Whole hs limit → Type 0
@@ -53,7 +56,7 @@ module _ {X : Type 0} (rest : X → _) (hs : List Header) (lanes : List Lane) (d
       let b = len_map (λ (x : Dump). x.header) ds in
       let c = slice_get_within ds k d at_d in
       let h : k < length s'.seats = omega (arith, many, a, b, c) in
-      let seat = some_at s'.seats k h in
+      let seat = there s'.seats k h in
       let p = seat_spot rest s' k seat.0 g.sources_are seat.1 in
       record {
         spot = p.0;
@@ -356,10 +359,10 @@ module _ {X : Type 0} (rest : X → _) (hs : List Header) (lanes : List Lane) (d
       let a = ap (λ (x : List Lane). length x) stops.lanes_are in
       let b = len_map (λ (w : Whole hs limit). w.lane) stops.list in
       let c = slice_get_within lanes input has.lane has.lane_at in
-      let w = some_at stops.list input (omega (arith, a, b, c)) in
+      let w = there stops.list input (omega (arith, a, b, c)) in
       let fit = fit_at hs limit StopFits 0 input stops.list w.0 w.1 stops.fit in
       let i : 0 + input ≡ input = omega arith in
-      get_map (entire hs limit) stops.list input w.0 w.1 ∙ ap (λ (x : Dump). Some x) (fit.own i)
+      get_mapped (entire hs limit) stops.list input w.0 w.1 ∙ ap (λ (x : Dump). Some x) (fit.own i)
 
   pub fault_merged : (names : List (List ℕ)) → merge_outcome names (entire_of hs limit stops.list) ≡ fault_outcome (merge_open hs (merged_items ds)) (name_at names input) fault_is
   fault_merged names =

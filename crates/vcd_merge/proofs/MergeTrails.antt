@@ -29,9 +29,10 @@ use Rattle.vcd_body.proofs.Results.{writes-none}
 use Rattle.vcd_merge.proofs.MergeAnswers.{again, are_marked, ended, open_with, stopped, taken, written_with_it}
 use Rattle.vcd_merge.proofs.InTurn.{go_item, go_still, go_through, in_turn, turn_on}
 use Rattle.vcd_merge.proofs.MergeCounts.{map_set}
-use Rattle.vcd_merge.proofs.MergeSteps.{get_map, same_or_not}
-use Rattle.vcd_merge.proofs.PartLemmas.{get_other, get_set, len_put, parts_same, same_part, seated_put, spot_other, spot_put}
+use Rattle.vcd_merge.proofs.PartLemmas.{len_put, parts_same, same_part, seated_put, spot_other, spot_put}
 use Rattle.vcd_merge.proofs.SpotLemmas.{Found, chunk_len, spot_source, token_len}
+use Rattle.vcd_body.proofs.StoreLemmas.{same_or_not, get_other, get_set}
+use Rattle.vcd_head.proofs.InsideLemmas.{get_mapped}
 
 -- the merge with one input at a stage
 abbrev lent : (n k : ℕ) → (xs ys : List ℕ) → List ℕ
@@ -186,7 +187,7 @@ module _ {X : Type 0} (rest : X → Option (List ℕ)) (failures : X → ℕ) (h
 
     failures_still : map failures new.sources ≡ map failures m.mid.sources
     failures_still =
-        let own = get_or_from_slice_get (map failures m.mid.sources) k (failures b.source) 0 (get_map failures m.mid.sources k b.source m.source_at) in
+        let own = get_or_from_slice_get (map failures m.mid.sources) k (failures b.source) 0 (get_mapped failures m.mid.sources k b.source m.source_at) in
         map_set failures m.mid.sources k c.source ∙ ap (slice_set (map failures m.mid.sources) k) (on.failures_are ∙ sym own) ∙ set-get_or (map failures m.mid.sources) k 0
 
     step_goes : GoOn m.dumps m.mid.seats (with_item m.dumps k m.dump on.item) new.seats

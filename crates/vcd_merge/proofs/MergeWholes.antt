@@ -9,7 +9,8 @@ use Rattle.vcd_model.specs.Reading.{Fault}
 use Rattle.vcd_model.specs.Merge.{Dump, factor}
 use Rattle.vcd_model.specs.Outcome.{Opened}
 use Rattle.vcd_merge.specs.Seat.{HasDump, Lane}
-use Rattle.vcd_merge.proofs.PartLemmas.{none_is, same_some}
+use Rattle.vcd_merge.proofs.PartLemmas.{none_is}
+use Rattle.std.proofs.lemmas.Option.{same_Some}
 
 -- the index of the first of a list that begins at n, and of the others
 pub at_first : (n : ℕ) → n ≡ n + 0
@@ -90,5 +91,5 @@ module _ (hs : List Header) (limit : ℕ) where
 
   pub fit_at : (P : ℕ → Whole hs limit → Type 0) (n k : ℕ) (ws : List (Whole hs limit)) (w : Whole hs limit) → slice_get ws k ≡ Some w → AllFit P n ws → P (n + k) w
   fit_at P n k [] w at fit = absurd (none_is w at)
-  fit_at P n zero (x ∷ ws) w at fit = subst (λ (j : ℕ). P j w) (at_first n) (subst (P n) (same_some x w at) fit.0)
+  fit_at P n zero (x ∷ ws) w at fit = subst (λ (j : ℕ). P j w) (at_first n) (subst (P n) (same_Some x w at) fit.0)
   fit_at P n (suc k) (x ∷ ws) w at fit = subst (λ (j : ℕ). P j w) (at_next n k) (fit_at P (n + 1) k ws w at fit.1)

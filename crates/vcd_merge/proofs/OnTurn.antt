@@ -13,9 +13,10 @@ use Rattle.vcd_merge.specs.MergeTrail.{IsReached}
 use Rattle.vcd_merge.specs.Seat.{AtSeat, HasDump, Lane, Spot}
 use Rattle.vcd_merge.specs.declared.seat.Seat.{Seat}
 use Rattle.vcd_merge.proofs.MergeReads.{IsReadSo}
-use Rattle.vcd_merge.proofs.MergeSteps.{len_map, same_header, seat_spot, some_at}
+use Rattle.vcd_merge.proofs.MergeSteps.{len_map, same_header, seat_spot}
 use Rattle.vcd_merge.proofs.SpotLemmas.{token_len}
 use Rattle.vcd_merge.proofs.WholeInputs.{goes_on}
+use Rattle.vcd_view.proofs.ListLemmas.{there}
 
 module _ {X : Type 0} (rest : X → Option (List ℕ)) (hs : List Header) (lanes : List Lane) (limit chunk : ℕ) (ds : List Dump) (s : Standing X) (g : AreGiven rest hs lanes ds s) (ready : IsReady s) (is_limit : part_len (length s.seats) s.tokens ≡ limit) where
   -- there is a seat for each input
@@ -25,7 +26,7 @@ module _ {X : Type 0} (rest : X → Option (List ℕ)) (hs : List Header) (lanes
       let a = ap (λ (x : List Header). length x) g.dumps_are in
       let b = len_map (λ (x : Dump). x.header) ds in
       let c = slice_get_within ds k d at in
-      some_at s.seats k (omega (arith, many, a, b, c))
+      there s.seats k (omega (arith, many, a, b, c))
 
   -- which says how far it has come
   at_seat : (k : ℕ) (l : Lane) (d : Dump) (y : Seat) → slice_get lanes k ≡ Some l → slice_get ds k ≡ Some d → slice_get s.seats k ≡ Some y → (p : Spot) × (first : ℕ) × AtSeat (factor hs l.header) first l d.items p × (p.seat ≡ y) × (length p.token ≡ limit)

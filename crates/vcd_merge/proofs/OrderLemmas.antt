@@ -147,8 +147,6 @@ not_in seats n out j k (inr l) w e = w.other (e ∙ l)
 
 -- where the seat at an index is known, so is whether an input waits
 module _ (seats : List Seat) (k : ℕ) (x : Seat) (here : slice_get seats k ≡ Some x) where
-  one_seat : (s : Seat) → Some x ≡ Some s → x ≡ s
-  one_seat s e = cc
 
   -- it goes in among the others
   pub put_in : (n out m : ℕ) (xs : List ℕ) (len : ℕ) → x.finished ≡ false → k < m → ((j : ℕ) → j < n → j < m) → ((j : ℕ) → j < m → j ≢ k → (j < n) × (j ≢ out)) → AreInOrder (λ j. Waits seats n out j ⊎ (j ≡ k)) (time_of seats) xs len → IsOrder seats m m xs len
@@ -168,22 +166,6 @@ module _ (seats : List Seat) (k : ℕ) (x : Seat) (here : slice_get seats k ≡ 
           by_order (inl l) h = inl (apart (λ e. omega (arith, l, e)))
           by_order (inr l) (inl h) = inl (apart (λ e. omega (arith, h, e)))
           by_order (inr l) (inr h) = inr (omega (arith, l, h))
-
-  -- it has finished, so the others are all that wait
-  pub passed_over : (n out m : ℕ) (xs : List ℕ) (len : ℕ) → x.finished ≡ true → ((j : ℕ) → j < n → j < m) → ((j : ℕ) → j < m → j ≢ k → (j < n) × (j ≢ out)) → IsOrder seats n out xs len → IsOrder seats m m xs len
-  passed_over n out m xs len done to back o = said_so (Waits seats n out) (Waits seats m m) (time_of seats) (time_of seats) xs len now old (λ j i. refl) o
-    where
-      now : (j : ℕ) → Waits seats n out j → Waits seats m m j
-      now j w = let h = to j w.within in record { within = h; other = λ e. omega (arith, h, e); seat = w.seat; there = w.there; unfinished = w.unfinished }
-
-      apart : (j : ℕ) → Waits seats m m j → j ≢ k
-      apart j w e = let f : x ≡ w.seat = one_seat w.seat (sym here ∙ ap (slice_get seats) (sym e) ∙ w.there) in let g : true ≡ false = sym done ∙ ap (λ (s : Seat). s.finished) f ∙ w.unfinished in no_both g
-        where
-          no_both : true ≡ false → ⊥
-          no_both g = cc
-
-      old : (j : ℕ) → Waits seats m m j → Waits seats n out j
-      old j w = let b = back j w.within (apart j w) in record { within = b.0; other = b.1; seat = w.seat; there = w.there; unfinished = w.unfinished }
 
 -- what was copied one index up, and then has one more in the gap
 pub record MovesUp (xs ys : List ℕ) (at len k : ℕ) : Type 0 where

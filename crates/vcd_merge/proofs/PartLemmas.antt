@@ -1,7 +1,7 @@
 -- The parts of the windows, where one of them was written.
-use Rattle.std.proofs.Common.{◌≡◌, ◌≢◌, ℕ, zero, suc, ◌+◌, ◌-◌, ◌*◌, ◌/◌, ◌<◌, ◌≤◌, List, [], ◌∷◌, length, take, drop, slice_get, slice_set, Option, Some, None, refl, sym, ap, subst, ◌∙◌, arith, ◌⊎◌, inl, inr, length-take, length-drop}
+use Rattle.std.proofs.Common.{◌≡◌, ◌≢◌, ℕ, suc, ◌+◌, ◌-◌, ◌*◌, ◌/◌, ◌<◌, ◌≤◌, List, length, take, drop, slice_set, Option, Some, None, refl, sym, ap, subst, ◌∙◌, arith, ◌⊎◌, inl, inr, length-take, length-drop}
 use Rattle.std.specs.Prelude.{get_or, All}
-use Rattle.std.proofs.lemmas.Option.{slice_get-get_or}
+use Rattle.std.proofs.lemmas.Option.{slice_get-get_or, same_Some}
 use Rattle.std.proofs.Math.Nat.{mul-le-mul_left}
 use Rattle.std.proofs.Math.ListN.{length-set}
 use Rattle.std.proofs.lemmas.List.{drop-take}
@@ -12,6 +12,7 @@ use Rattle.vcd_merge.specs.MergeParts.{AreParts, AreSeated, part, part_len, spot
 use Rattle.std.proofs.lemmas.List.Elements.{All-set}
 use Rattle.vcd_merge.specs.Seat.{Spot, IsSeated}
 use Rattle.vcd_merge.specs.declared.seat.Seat.{Seat}
+use Rattle.vcd_body.proofs.StoreLemmas.{get_other, get_set}
 
 -- a part ends where the next begins
 pub part_ends : (len n place : ℕ) → place < n → place * len + len ≤ n * len
@@ -22,8 +23,6 @@ part_before len j place h = part_ends len place j h
 
 -- the written part, and the others
 module _ (len n place : ℕ) (xs ys : List ℕ) (all : n * len ≡ length xs) (within : place < n) (same : length ys ≡ len) where
-  put : List ℕ
-  put = put_mid (place * len) (place * len + len - place * len) xs ys
 
   pub part_put : part len place (put_mid (place * len) (place * len + len - place * len) xs ys) ≡ ys
   part_put =
@@ -65,25 +64,8 @@ part_long len n place xs all within = let e = part_ends len n place within in om
 pub same_part : (n n' : ℕ) (xs xs' : List ℕ) → n' ≡ n → length xs' ≡ length xs → part_len n' xs' ≡ part_len n xs
 same_part n n' xs xs' e l = ap (λ m. m / n') l ∙ ap (λ m. length xs / m) e
 
--- where there is one element, there is no other, and not none
-pub same_some : {A : Type 0} (x y : A) → Some x ≡ Some y → x ≡ y
-same_some x y e = cc
-
 pub none_is : {A : Type 0} (x : A) → None ≡ Some x → ⊥
 none_is x e = cc
-
--- an element that was set, and the others
-pub get_set : {X : Type 0} (xs : List X) (k : ℕ) (x : X) → k < length xs → slice_get (slice_set xs k x) k ≡ Some x
-get_set [] k x h = absurd (omega arith)
-get_set (y ∷ xs) zero x h = refl
-get_set (y ∷ xs) (suc k) x h = get_set xs k x (omega arith)
-
-pub get_other : {X : Type 0} (xs : List X) (k j : ℕ) (x : X) → j ≢ k → slice_get (slice_set xs k x) j ≡ slice_get xs j
-get_other [] k j x h = refl
-get_other (y ∷ xs) zero zero x h = absurd (h refl)
-get_other (y ∷ xs) zero (suc j) x h = refl
-get_other (y ∷ xs) (suc k) zero x h = refl
-get_other (y ∷ xs) (suc k) (suc j) x h = get_other xs k j x (λ e. h (ap suc e))
 
 -- windows of the same lengths are parted alike
 pub parts_same : (n m : ℕ) (c c' t t' v v' : List ℕ) → AreParts n c t v → m ≡ n → length c' ≡ length c → length t' ≡ length t → length v' ≡ length v → AreParts m c' t' v'

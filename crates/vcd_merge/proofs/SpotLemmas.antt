@@ -1,7 +1,7 @@
 -- What belongs to an input of a merge, before a step of it and after.
 use Rattle.std.proofs.Common.{◌≡◌, ℕ, ◌*◌, ◌<◌, ◌≤◌, ◌⊎◌, List, length, take, slice_get, Option, Some, None, refl, sym, ap, subst, ◌∙◌, arith, inl, inr}
 use Rattle.std.specs.Prelude.{option_map}
-use Rattle.std.proofs.lemmas.Option.{slice_get_within}
+use Rattle.std.proofs.lemmas.Option.{slice_get_within, same_Some}
 use Rattle.vcd_model.specs.Header.{Header}
 use Rattle.vcd_model.specs.HeadText.{first_number}
 use Rattle.vcd_model.specs.Merge.{Dump, factor}
@@ -14,8 +14,9 @@ use Rattle.vcd_merge.specs.MergeParts.{part, part_len, spot_at, spot_of}
 use Rattle.vcd_merge.specs.Seat.{AtSeat, Lane, Spot}
 use Rattle.vcd_merge.specs.declared.seat.Seat.{Seat}
 use Rattle.vcd_merge.proofs.PartLemmas.{part_long}
-use Rattle.vcd_merge.proofs.MergeSteps.{dump_at, lane_at, some_at, seat_spot, spot_seat}
-use Rattle.vcd_merge.proofs.PartLemmas.{same_part, same_some}
+use Rattle.vcd_merge.proofs.MergeSteps.{dump_at, lane_at, seat_spot, spot_seat}
+use Rattle.vcd_merge.proofs.PartLemmas.{same_part}
+use Rattle.vcd_view.proofs.ListLemmas.{there}
 
 -- all that belongs to the input whose turn it is
 pub record Found {X : Type 0} (rest : X → Option (List ℕ)) (hs : List Header) (lanes : List Lane) (ds : List Dump) (s : Standing X) (k : ℕ) : Type 0 where
@@ -35,7 +36,7 @@ found rest hs lanes ds s k g ready next =
     let w = slice_get_within s.seats k next.seat next.there in
     let l = lane_at rest hs lanes ds s g k w in
     let d = dump_at rest hs lanes ds s g k w in
-    let h = some_at s.heads k (subst (λ n. k < n) (sym ready.heads) w) in
+    let h = there s.heads k (subst (λ n. k < n) (sym ready.heads) w) in
     let p = seat_spot rest s k next.seat ready.sources next.there in
     record {
       lane = l.0;
@@ -52,12 +53,12 @@ found rest hs lanes ds s k g ready next =
 
 -- the parts that a spot has
 chunk_in : (o : Option Seat) (r : Option (Option (List ℕ))) (c t : List ℕ) (p : Spot) → spot_of o r c t ≡ Some p → c ≡ p.chunk
-chunk_in (Some s) (Some rest) c t p e = ap (λ (q : Spot). q.chunk) (same_some (record { seat = s; rest = rest; chunk = c; token = t }) p e)
+chunk_in (Some s) (Some rest) c t p e = ap (λ (q : Spot). q.chunk) (same_Some (record { seat = s; rest = rest; chunk = c; token = t }) p e)
 chunk_in (Some s) None c t p e = cc
 chunk_in None r c t p e = cc
 
 token_in : (o : Option Seat) (r : Option (Option (List ℕ))) (c t : List ℕ) (p : Spot) → spot_of o r c t ≡ Some p → t ≡ p.token
-token_in (Some s) (Some rest) c t p e = ap (λ (q : Spot). q.token) (same_some (record { seat = s; rest = rest; chunk = c; token = t }) p e)
+token_in (Some s) (Some rest) c t p e = ap (λ (q : Spot). q.token) (same_Some (record { seat = s; rest = rest; chunk = c; token = t }) p e)
 token_in (Some s) None c t p e = cc
 token_in None r c t p e = cc
 
@@ -83,7 +84,7 @@ module _ {X : Type 0} (rest : X → Option (List ℕ)) (s s' : Standing X) (k : 
       (token_in (slice_get s'.seats k) (option_map rest (slice_get s'.sources k)) (part (part_len n s'.chunks) k s'.chunks) (part (part_len n s'.tokens) k s'.tokens) p at)
 
 rest_in : {X : Type 0} (rest : X → Option (List ℕ)) (o : Option Seat) (x : Option X) (c t : List ℕ) (p : Spot) → spot_of o (option_map rest x) c t ≡ Some p → (y : X) × (x ≡ Some y) × (p.rest ≡ rest y)
-rest_in rest (Some s) (Some y) c t p e = (y, refl, sym (ap (λ (q : Spot). q.rest) (same_some (record { seat = s; rest = rest y; chunk = c; token = t }) p e)))
+rest_in rest (Some s) (Some y) c t p e = (y, refl, sym (ap (λ (q : Spot). q.rest) (same_Some (record { seat = s; rest = rest y; chunk = c; token = t }) p e)))
 rest_in rest (Some s) None c t p e = cc
 rest_in rest None x c t p e = cc
 

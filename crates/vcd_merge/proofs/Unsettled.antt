@@ -20,8 +20,9 @@ use Rattle.vcd_model.specs.SettledMerge.{SeenBody, are_past, dump_seen, fault_me
 use Rattle.vcd_merge.specs.MergeRun.{known_first, known_whole, settles_among}
 use Rattle.vcd_body.specs.Asked.{HaveJust}
 use Rattle.vcd_merge.proofs.MergeCounts.{map_set}
-use Rattle.vcd_merge.proofs.MergeSteps.{get_map, same_or_not}
-use Rattle.vcd_merge.proofs.PartLemmas.{get_other, get_set}
+use Rattle.std.proofs.Math.Bool.{and-false}
+use Rattle.vcd_body.proofs.StoreLemmas.{same_or_not, get_other, get_set}
+use Rattle.vcd_head.proofs.InsideLemmas.{get_mapped}
 
 -- ---- lists
 
@@ -39,11 +40,6 @@ late_each b hs n (d ∷ ds) each = (
   late_each b hs (n + 1) ds (λ i c f at e. let j : n + suc i ≡ n + 1 + i = omega arith in subst (λ (m : ℕ). key_lt (key_after (factor hs c.header) m c.items) b ≡ false) j (each (suc i) c f at e)),
 )
 
--- one input is not past the fault
-and_never : (b : Bool) → (b && false) ≡ false
-and_never true = refl
-and_never false = refl
-
 not_past : (f : Option KeyedFault) (hs : List Header) (n k : ℕ) (ss : List SeenBody) (s : SeenBody) → slice_get ss k ≡ Some s → (is_at_its_end s (dump_seen hs s) || is_past f hs (n + k) (dump_seen hs s)) ≡ false → are_past f hs n ss ≡ false
 not_past f hs n k [] s at e = cc
 not_past f hs n zero (t ∷ ss) s at e =
@@ -54,7 +50,7 @@ not_past f hs n zero (t ∷ ss) s at e =
 not_past f hs n (suc k) (t ∷ ss) s at e =
     let i : n + suc k ≡ n + 1 + k = omega arith in
     let more = not_past f hs (n + 1) k ss s at (subst (λ (m : ℕ). (is_at_its_end s (dump_seen hs s) || is_past f hs m (dump_seen hs s)) ≡ false) i e) in
-    ap (λ (b : Bool). (is_at_its_end t (dump_seen hs t) || is_past f hs n (dump_seen hs t)) && b) more ∙ and_never _
+    ap (λ (b : Bool). (is_at_its_end t (dump_seen hs t) || is_past f hs n (dump_seen hs t)) && b) more ∙ and-false _
 
 -- ---- dumps
 
@@ -127,7 +123,7 @@ module _ (hs : List Header) (os : List Opened) (ds : List Dump) (k : ℕ) (o : O
     same_headers =
         map_set (λ (s : SeenBody). s.header) (map known_whole os) k first
         ∙ ap (λ (l : List Header). slice_set l k o.header) (whole_headers os)
-        ∙ set_same (map (λ (o : Opened). o.header) os) k o.header (get_map (λ (o : Opened). o.header) os k o at)
+        ∙ set_same (map (λ (o : Opened). o.header) os) k o.header (get_mapped (λ (o : Opened). o.header) os k o at)
         ∙ headers
 
     own_is : dump_seen hs first ≡ own
@@ -140,7 +136,7 @@ module _ (hs : List Header) (os : List Opened) (ds : List Dump) (k : ℕ) (o : O
         ∙ ap (slice_set ds k) own_is
 
     there : slice_get ss k ≡ Some first
-    there = get_set (map known_whole os) k first (slice_get_within (map known_whole os) k (known_whole o) (get_map known_whole os k o at))
+    there = get_set (map known_whole os) k first (slice_get_within (map known_whole os) k (known_whole o) (get_mapped known_whole os k o at))
 
     by_first : (f : Option KeyedFault) → first_fault (map (dump_seen hs) ss) ≡ f → are_past f hs 0 ss ≡ false
     by_first None e = not_past None hs 0 k ss first there (ap (λ (d : Dump). is_at_its_end first d || is_past None hs (0 + k) d) own_is)

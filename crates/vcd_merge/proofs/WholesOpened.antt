@@ -12,9 +12,9 @@ use Rattle.vcd_merge.specs.Seat.{Lane}
 use Rattle.vcd_body.specs.declared.answer.Done.{Done}
 use Rattle.vcd_body.specs.declared.answer.Stop.{Stop}
 use Rattle.vcd_merge.proofs.MergeReads.{unmap}
-use Rattle.vcd_merge.proofs.MergeSteps.{get_map}
-use Rattle.vcd_merge.proofs.PartLemmas.{same_some}
 use Rattle.vcd_merge.proofs.MergeWholes.{Whole, entire, opened_of, lanes_of, so_far, lefts_of, entire_of}
+use Rattle.vcd_head.proofs.InsideLemmas.{get_mapped}
+use Rattle.std.proofs.lemmas.Option.{same_Some}
 
 module _ (hs : List Header) (limit : ℕ) where
   opened_all : (ws : List (Whole hs limit)) → AreOpened limit (lanes_of hs limit ws) (lefts_of hs limit ws) (map (opened_of hs limit) ws)
@@ -45,8 +45,8 @@ module _ (hs : List Header) (limit : ℕ) where
       → (k : ℕ) (l : Lane) (s t : Supply) (i : Input) → slice_get (lanes_of hs limit ws) k ≡ Some l → slice_get olds k ≡ Some s → slice_get news k ≡ Some t → slice_get (lefts_of hs limit ws) k ≡ Some i → ReadsAsNeeded limit chunk s t i l.front (settles_among (map (opened_of hs limit) ws) k l.header)
   needed_all chunk ws olds news needed k l s t i at_l at_s at_t at_i =
       let w = unmap (λ (w : Whole hs limit). w.lane) ws k l at_l in
-      let left : Some w.0.left ≡ Some i = sym (get_map (λ (w : Whole hs limit). w.left) ws k w.0 w.1) ∙ at_i in
-      subst (λ (j : Input). ReadsAsNeeded limit chunk s t j l.front (settles_among (map (opened_of hs limit) ws) k l.header)) (same_some w.0.left i left)
+      let left : Some w.0.left ≡ Some i = sym (get_mapped (λ (w : Whole hs limit). w.left) ws k w.0 w.1) ∙ at_i in
+      subst (λ (j : Input). ReadsAsNeeded limit chunk s t j l.front (settles_among (map (opened_of hs limit) ws) k l.header)) (same_Some w.0.left i left)
       (subst (λ (m : Lane). ReadsAsNeeded limit chunk s t w.0.left m.front (settles_among (map (opened_of hs limit) ws) k m.header)) w.2 (needed k w.0 s t w.1 at_s at_t))
 
   -- a merge over them has the outcome of their dumps

@@ -5,11 +5,12 @@ use Rattle.vcd_head.specs.Shown.{shown}
 use Rattle.vcd_view.specs.Views.{Views}
 use Rattle.vcd_merge.specs.MergeParts.{part_len}
 use Rattle.vcd_merge.specs.Seat.{AtSeat}
-use Rattle.vcd_merge.proofs.PartLemmas.{get_other, len_put, lent_len, part_ends, part_other, spot_lent, spot_put, spot_other, seated_put}
+use Rattle.vcd_merge.proofs.PartLemmas.{len_put, lent_len, part_ends, part_other, spot_lent, spot_put, spot_other, seated_put}
 use Rattle.vcd_body.specs.Answer.{NamesInput, reads_failed}
 use Rattle.vcd_merge.proofs.MergeCounts.{get_map_or, left_moved, map_set, set_last}
 use Rattle.vcd_body.proofs.Results.{if_ok_more}
 use Rattle.vcd_merge.proofs.merge_steps.run_turn.Goals as goal
+use Rattle.vcd_body.proofs.StoreLemmas.{get_other}
 
 pub overflow_mul-chunk_at : goal.overflow_mul-chunk_at
 overflow_mul-chunk_at g c =

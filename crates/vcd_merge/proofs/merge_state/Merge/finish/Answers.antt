@@ -10,10 +10,11 @@ use Rattle.vcd_body.specs.declared.answer.Stop.{Stop}
 use Rattle.vcd_body.specs.declared.answer.Stop.TheVariants.{Read}
 use Rattle.vcd_body.specs.declared.answer.More.TheVariants.{Again, Ended}
 use Rattle.vcd_merge.specs.declared.windows.Windows.{Windows}
-use Rattle.vcd_merge.proofs.MergeRuns.{advances_on, ended_merge, keeps_limit, long, same_failures, still_low, stopped_merge}
+use Rattle.vcd_merge.proofs.MergeRuns.{advances_on, ended_merge, long, same_failures, still_low, stopped_merge}
 use Rattle.vcd_merge.proofs.MergeCounts.{still_named}
 use Rattle.vcd_merge.proofs.MergeRunOn.{mid_chunk, mid_counts, mid_limit, mid_next, mid_read, mid_writes}
 use Rattle.vcd_merge.proofs.merge_state.Merge.finish.Goals as goal
+use Rattle.vcd_merge.proofs.PartLemmas.{same_part}
 
 same_twice : (a b c : Windows) → SameLengths a b → SameLengths b c → SameLengths a c
 same_twice a b c p q = record { chunks = q.chunks ∙ p.chunks; tokens = q.tokens ∙ p.tokens; values = q.values ∙ p.values }
@@ -32,8 +33,8 @@ items-preserved g c =
     let s' : Standing g.row.S.Denot = standing_of c.run_step.new.merge c.run_step.new.sources c.run_step.new.windows in
     let lim = part_len (length c.args.self.now.seats.now) c.args.windows.now.tokens.now in
     let chu = part_len (length c.args.self.now.seats.now) c.args.windows.now.chunks.now in
-    let limit = keeps_limit (length c.args.self.now.seats.now) (length c.items.self.seats.now) c.args.windows.now.tokens.now c.items.windows.tokens.now v.seats v.windows.tokens in
-    let chunk = keeps_limit (length c.args.self.now.seats.now) (length c.items.self.seats.now) c.args.windows.now.chunks.now c.items.windows.chunks.now v.seats v.windows.chunks in
+    let limit = same_part (length c.args.self.now.seats.now) (length c.items.self.seats.now) c.args.windows.now.tokens.now c.items.windows.tokens.now v.seats v.windows.tokens in
+    let chunk = same_part (length c.args.self.now.seats.now) (length c.items.self.seats.now) c.args.windows.now.chunks.now c.items.windows.chunks.now v.seats v.windows.chunks in
     let counts = st.runs.leaves.touches.reads ∙ ap (λ (r : Result More Stop). failures_with (map g.S.Source.failures c.items.sources) st.runs.input r) again in record {
       going = st.going ∙ ap goes_on again;
       ready = st.runs.leaves.ready again;
@@ -66,8 +67,8 @@ returns-in_err-run_step-clause-gives g c = λ hs lanes ds names begin holds w.
     let s' : Standing g.row.S.Denot = standing_of c.run_step.new.merge c.run_step.new.sources c.run_step.new.windows in
     let lim = part_len (length c.args.self.now.seats.now) c.args.windows.now.tokens.now in
     let chu = part_len (length c.args.self.now.seats.now) c.args.windows.now.chunks.now in
-    let limit = keeps_limit (length c.args.self.now.seats.now) (length c.items.self.seats.now) c.args.windows.now.tokens.now c.items.windows.tokens.now v.seats v.windows.tokens in
-    let chunk = keeps_limit (length c.args.self.now.seats.now) (length c.items.self.seats.now) c.args.windows.now.chunks.now c.items.windows.chunks.now v.seats v.windows.chunks in
+    let limit = same_part (length c.args.self.now.seats.now) (length c.items.self.seats.now) c.args.windows.now.tokens.now c.items.windows.tokens.now v.seats v.windows.tokens in
+    let chunk = same_part (length c.args.self.now.seats.now) (length c.items.self.seats.now) c.args.windows.now.chunks.now c.items.windows.chunks.now v.seats v.windows.chunks in
     let many = long g.S.Source.rest g.S.Source.failures hs lanes e.0 s c.args.sources.now v.ready v.reads e.1.given in
     let r = st.runs.gives false hs lanes e.0 (λ f. cc) e.1 in
     let written = mid_writes g.S.Source.rest g.S.Source.failures hs lanes false e.0 s s' out new (Err c.in_err-run_step.field-0.0) r begin e.2 in
@@ -112,8 +113,8 @@ returns-in-Ended-clause-gives g c = λ hs lanes ds names begin holds w.
     let s' : Standing g.row.S.Denot = standing_of c.run_step.new.merge c.run_step.new.sources c.run_step.new.windows in
     let lim = part_len (length c.args.self.now.seats.now) c.args.windows.now.tokens.now in
     let chu = part_len (length c.args.self.now.seats.now) c.args.windows.now.chunks.now in
-    let limit = keeps_limit (length c.args.self.now.seats.now) (length c.items.self.seats.now) c.args.windows.now.tokens.now c.items.windows.tokens.now v.seats v.windows.tokens in
-    let chunk = keeps_limit (length c.args.self.now.seats.now) (length c.items.self.seats.now) c.args.windows.now.chunks.now c.items.windows.chunks.now v.seats v.windows.chunks in
+    let limit = same_part (length c.args.self.now.seats.now) (length c.items.self.seats.now) c.args.windows.now.tokens.now c.items.windows.tokens.now v.seats v.windows.tokens in
+    let chunk = same_part (length c.args.self.now.seats.now) (length c.items.self.seats.now) c.args.windows.now.chunks.now c.items.windows.chunks.now v.seats v.windows.chunks in
     let many = long g.S.Source.rest g.S.Source.failures hs lanes e.0 s c.args.sources.now v.ready v.reads e.1.given in
     let counts = st.runs.leaves.touches.reads ∙ ap (λ (r : Result More Stop). failures_with (map g.S.Source.failures c.items.sources) st.runs.input r) is in
     let r = st.runs.gives false hs lanes e.0 (λ f. cc) e.1 in
