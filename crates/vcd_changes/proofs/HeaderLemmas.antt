@@ -11,9 +11,6 @@ use Rattle.vcd_model.proofs.SoFarLemmas.{whole-more}
 abbrev Longer : {X : Type 0} → List X → List X → Type 0
 Longer {X} xs ys = (more : List X) × (ys ≡ xs ++ more)
 
-longer_on : {X : Type 0} (x : X) (xs ys : List X) → Longer xs ys → Longer (x ∷ xs) (x ∷ ys)
-longer_on x xs ys l = (l.0, ap (λ zs. x ∷ zs) l.1)
-
 prefixes : {X : Type 0} (xs ys rest rest' : List X) → xs ++ rest ≡ ys ++ rest' → Longer xs ys ⊎ Longer ys xs
 prefixes [] ys rest rest' e = inl (ys, refl)
 prefixes (x ∷ xs) [] rest rest' e = inr (x ∷ xs, refl)
