@@ -209,11 +209,6 @@ over_written : (task : Request) (h : Header) (name : List ℕ) (s : Stream) (ts 
 over_written task h name s ts (Some i) = all_written s _ _ _ refl
 over_written task h name s ts None = body_written task h name s ts
 
--- a job over one input is no merge
-abbrev IsOne : Request → Type 0
-IsOne Request.Merge = ⊥
-IsOne task = Unit {0}
-
 cut_one : (units : Bool) (a b : Result ℕ ℕ) → cut_request units a b ≢ Ok Request.Merge
 cut_one units (Ok from) (Ok to) e = by_test (units && nat_lt to from) e
   where

@@ -1,5 +1,5 @@
 -- A head is read again as what it was written from.
-use Rattle.std.proofs.Common.{◌≡◌, ℕ, ◌+◌, ◌<◌, ◌≤◌, Bool, true, false, cond, List, [], ◌∷◌, ◌++◌, length, map, filter_map, bytes_eq, Option, Some, None, IsTrue, option_map, unwrap_or, inl, inr, refl, sym, ap, ◌∙◌, subst, arith}
+use Rattle.std.proofs.Common.{◌≡◌, ℕ, ◌+◌, ◌<◌, ◌≤◌, Bool, true, false, cond, List, [], ◌∷◌, ◌++◌, length, map, filter_map, bytes_eq, Some, None, IsTrue, option_map, unwrap_or, inl, inr, refl, sym, ap, ◌∙◌, subst, arith}
 use Rattle.std.specs.List.{AllByRecursion, list_all, cons_option}
 use Rattle.std.proofs.lemmas.List.{append_assoc, append-nil}
 use Rattle.std.proofs.lemmas.Slice.Eq.{bytes_eq-Decides}
@@ -152,10 +152,6 @@ module _ (names : List (List ℕ)) (ds : List Declaration) (are : AreDeclared []
   rows_selected = let w = rows_written in w.chosen ∙ map_same (selected names ds)
 
 -- ---- the codes
-
-cons_in : {X : Type 0} (o : Option X) (xs : List X) (x : X) → In x xs → In x (cons_option o xs)
-cons_in None xs x i = i
-cons_in (Some y) xs x i = inr i
 
 selected_in : (names : List (List ℕ)) (earlier ds : List Declaration) (s : Selected)
     → In s (filter_map (λ o. o) (each_after (with_path names) earlier ds))

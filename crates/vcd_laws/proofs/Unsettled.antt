@@ -3,7 +3,7 @@
 use Rattle.std.proofs.Common.{◌≡◌, ◌≢◌, ℕ, zero, suc, ◌+◌, ◌-◌, ◌^◌, ◌<◌, ◌≤◌, Bool, true, false, not, cond, ◌&&◌, ◌||◌, is_some, is_none, List, [], ◌∷◌, ◌++◌, length, filter, drop, Option, Some, None, Result, Ok, Err, ◌⊎◌, inl, inr, refl, sym, ap, ◌∙◌, subst, arith, append-nil, length-append, length-drop}
 use Rattle.std.specs.List.{list_any, range_with_len, before_first}
 use Rattle.std.proofs.lemmas.List.{drop-append-le}
-use Rattle.std.proofs.lemmas.Bool.{lt-ltb, lt-leb, and_parts}
+use Rattle.std.proofs.lemmas.Bool.{lt-ltb, lt-leb, and_parts, or_parts}
 use Rattle.vcd_model.specs.Bytes.{is_white_space, as_line, is_empty}
 use Rattle.vcd_model.specs.Input.{Input, Mark}
 use Rattle.vcd_model.specs.Tokens.{Token, Stream, HaltPlace, begins_token, token_places, run_at, end_at, line_at, tokens_of, first_halt, comes_before, given_places, stream_of}
@@ -23,7 +23,6 @@ use Rattle.vcd_model.specs.Settled.{is_faulty, body_settles, is_settled_by, is_s
 use Rattle.vcd_laws.specs.Dumps.{input_of}
 use Rattle.vcd_laws.specs.Checked.{run_of}
 use Rattle.vcd_laws.specs.Final.{Prefix, first_tokens, IsShort, UnsettledIsOpen}
-use Rattle.vcd_model.proofs.JobLemmas.{neither}
 use Rattle.vcd_model.proofs.SoFarLemmas.{at_token, token_step}
 use Rattle.vcd_laws.proofs.ShortTokens.{AllShort, no_long, not_halted}
 use Rattle.vcd_model.proofs.TokenTexts.{texts_from, forward, texts_of-tokens}
@@ -110,7 +109,7 @@ body_open : (task : Request) (h : Header) (name : List ℕ) (s : Stream) (ts : L
 unfolding body_of over_body
 body_open task h name s ts e =
     let r = read_body h.codes ts in
-    let n = neither (is_faulty r.ending) (list_any (ends_early task) (body_items r)) e in
+    let n = or_parts (is_faulty r.ending) (list_any (ends_early task) (body_items r)) e in
     rw (n.1, over_body) (end_open task h (body_items r) name s (body_fault_of s r) (open_fault s r (at_its_end h.codes ts n.0)))
 
 -- if names may select nothing
@@ -141,7 +140,7 @@ merge_is_open : (h : Header) (name : List ℕ) (s : Stream) (ts : List Token)
 unfolding body_of
 merge_is_open h name s ts good e =
     let r = read_body h.codes ts in
-    let n = neither (is_faulty r.ending) (list_any (ends_early Request.Merge) (body_items r)) e in
+    let n = or_parts (is_faulty r.ending) (list_any (ends_early Request.Merge) (body_items r)) e in
     subst (λ ds. OpenEnd s (merge_outcome (name ∷ []) ds)) (sym (one_dump (opened_at h s ts) good))
     (merge_end h (body_items r) name s (body_fault_of s r) (open_fault s r (at_its_end h.codes ts n.0)))
 
