@@ -14,7 +14,7 @@ use Rattle.vcd_text.specs.Device.{Supply, supply}
 use Rattle.vcd_head.specs.Shown.{shown}
 use Rattle.vcd_view.specs.Views.{Views}
 use Rattle.vcd_head.specs.declared.head.Head.{Head}
-use Rattle.vcd_view.proofs.ListLemmas.{all_zip_push}
+use Rattle.vcd_view.proofs.ListLemmas.{all_zip_push, there}
 use Rattle.vcd_view.proofs.RowLemmas.{rows_len}
 use Rattle.vcd_merge.specs.MergeParts.{part, part_len, SameLengths}
 use Rattle.vcd_merge.specs.Seat.{GaveParked, IsSeated, Lane, Spot}
@@ -22,7 +22,6 @@ use Rattle.vcd_merge.specs.declared.windows.Windows.{Windows}
 use Rattle.vcd_body.specs.declared.answer.Stop.TheVariants.{Dump, Read, Write, Unmatched}
 use Rattle.vcd_merge.specs.declared.seat.Seat.{Seat}
 use Rattle.vcd_merge.proofs.MergeCounts.{map_set}
-use Rattle.vcd_merge.proofs.PartLemmas.{get_other, get_set}
 use Rattle.vcdkit.specs.declared.failure.Failure.{Failure}
 use Rattle.vcdkit.specs.declared.failure.Failure.TheVariants.{Stopped, Refused, OutOfMemory}
 use Rattle.vcdkit.specs.Failure.{failure_of, CountsRead, CountsReads}
@@ -30,6 +29,8 @@ use Rattle.vcdkit.specs.declared.inputs.BegunInput.{BegunInput}
 use Rattle.vcdkit.specs.Inputs.{AreBegun, AreParked, AreShown, Begins, BeginsAt, HasFailed, HaveBegun, IsBegun, IsNew, SameParts, Stops, headers_in, place_of}
 use Rattle.vcdkit.proofs.HeaderLemmas.{begun_only, none_read}
 use Rattle.vcdkit.proofs.InputsLemmas.{begun_more, stops_at}
+use Rattle.vcd_body.proofs.StoreLemmas.{get_other, get_set}
+use Rattle.std.proofs.lemmas.Option.{slice_get_within}
 
 -- ---- an element that was pushed
 
@@ -47,11 +48,6 @@ get_place [] y zero x e = inr (refl, cc)
 get_place [] y (suc j) x e = cc
 get_place (z ∷ xs) y zero x e = inl (omega arith, e)
 get_place (z ∷ xs) y (suc j) x e = elim (get_place xs y j x e) [ inl h ↦ (let a = h.0 in inl (omega arith, h.1)) | inr h ↦ inr (ap suc h.0, h.1) ]
-
-pub there : {X : Type 0} (xs : List X) (k : ℕ) → k < length xs → (x : X) × (slice_get xs k ≡ Some x)
-there [] k h = absurd (omega arith)
-there (x ∷ xs) zero h = (x, refl)
-there (x ∷ xs) (suc k) h = there xs k (omega arith)
 
 -- ---- failed reads
 
@@ -73,17 +69,12 @@ read_at f [] k x at = cc
 read_at f (z ∷ xs) zero x at = let same : z ≡ x = cc in ap f same
 read_at f (z ∷ xs) (suc k) x at = read_at f xs k x at
 
-get_within : {X : Type 0} (xs : List X) (k : ℕ) (x : X) → slice_get xs k ≡ Some x → k < length xs
-get_within [] k x at = cc
-get_within (z ∷ xs) zero x at = omega arith
-get_within (z ∷ xs) (suc k) x at = let h = get_within xs k x at in omega arith
-
 -- a read of the reader at an index failed, and of no other
 pub counts_at : {X : Type 0} (f : X → ℕ) (old xs : List X) (k : ℕ) (x y : X) (why : Option Failure) → map f xs ≡ map f old → slice_get xs k ≡ Some x → CountsRead k (f x) (f y) why → CountsReads (map f old) (map f (slice_set xs k y)) why
 counts_at f old xs k x y None same at c = set_own f xs k x y at c ∙ same
 counts_at f old xs k x y (Some (Stopped (Dump input line fault))) same at c = set_own f xs k x y at c ∙ same
 counts_at f old xs k x y (Some (Stopped (Read input))) same at c =
-    let within = get_within xs k x at in
+    let within = slice_get_within xs k x at in
     let long : length (map f old) ≡ length xs = ap length (sym same) ∙ length-map xs f in
     let here = c.0 in
     let e : f y ≡ slice_index (map f old) input + 1 = c.1 ∙ ap (λ n. n + 1) (sym (read_at f xs k x at) ∙ ap₂ slice_index same (sym here)) in

@@ -2,22 +2,11 @@
 use Rattle.std.proofs.Common.{◌≤◌, arith}
 use Rattle.std.specs.Prelude.{Option, Some, None}
 use Rattle.vcd_body.specs.declared.answer.Stop.TheVariants.{Dump, Read, Write, Unmatched}
-use Rattle.vcd_words.specs.declared.job.UseFault.{UseFault}
 use Rattle.vcd_words.specs.declared.job.UseFault.TheVariants as use_fault
 use Rattle.vcd_words.specs.declared.refusal.Refusal.TheVariants as refusal
 use Rattle.vcdkit.specs.declared.failure.Failure.{Failure}
 use Rattle.vcdkit.specs.declared.failure.Failure.TheVariants.{Stopped, Refused, OutOfMemory}
-use Rattle.vcdkit.specs.Message.{end_status, use_outcome}
-
-pub fault-low : (f : UseFault) → (use_outcome f).status ≤ 3
-fault-low use_fault.BadWords = omega arith
-fault-low (use_fault.BadLimit word) = omega arith
-fault-low (use_fault.BadTime word) = omega arith
-fault-low use_fault.FromAboveTo = omega arith
-fault-low use_fault.NotRising = omega arith
-fault-low use_fault.TooManyFiles = omega arith
-fault-low use_fault.InputTwice = omega arith
-fault-low use_fault.OutOfMemory = omega arith
+use Rattle.vcdkit.specs.Message.{end_status}
 
 pub end-low : (why : Option Failure) → end_status why ≤ 3
 end-low None = omega arith

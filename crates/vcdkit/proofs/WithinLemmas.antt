@@ -22,7 +22,7 @@ use Rattle.vcd_text.specs.Answer.{whole}
 use Rattle.vcd_text.specs.Device.{Device, Supply}
 use Rattle.vcd_text.specs.ReadAhead.{Near, ReadsAsNeeded}
 use Rattle.vcd_text.specs.ReadAhead.ReadsAsNeeded.{Nothing, ToToken, ToEnd}
-use Rattle.vcd_view.proofs.ListLemmas.{from_all}
+use Rattle.vcd_view.proofs.ListLemmas.{from_all, all_weaker}
 use Rattle.vcd_head.specs.Reads.{HasFault}
 use Rattle.vcd_body.specs.Answer.{IsLeft}
 use Rattle.vcd_body.specs.declared.answer.Stop.TheVariants.{Dump as Faulty, Read, Write, Unmatched}
@@ -303,10 +303,6 @@ short_text longest wide narrow text n within = by_limit n.limit
         let below = less.0 in
         inr (omega (arith, few, most), omega (arith, few, most, below))
 
-all_on : {X : Type 0} (P Q : X → Type 0) (xs : List X) → ((x : X) → P x → Q x) → AllByRecursion P xs → AllByRecursion Q xs
-all_on P Q [] on all = tt
-all_on P Q (x ∷ xs) on all = (on x all.0, all_on P Q xs on all.1)
-
 all_unknown : (texts : List (List ℕ)) → AllByRecursion (λ (text : List ℕ). IfSome None (λ (most : ℕ). length text ≤ most)) texts
 all_unknown [] = tt
 all_unknown (text ∷ texts) = (tt, all_unknown texts)
@@ -330,4 +326,4 @@ module _ {X : Type 0} (rest : X → Option (List ℕ)) where
   pub short_texts : (longest : Option ℕ) (wide narrow : Job) (readers : List X) (texts : List (List ℕ)) → Narrows longest wide narrow → AreWithin rest longest readers → map rest readers ≡ map (λ text. Some text) texts
       → AllByRecursion (IsShort narrow.limit wide.limit) texts
   short_texts longest wide narrow readers texts n within is =
-      all_on (λ text. IfSome longest (λ most. length text ≤ most)) (IsShort narrow.limit wide.limit) texts (λ text few. short_text longest wide narrow text n few) (texts_within longest readers texts within is)
+      all_weaker (λ text. IfSome longest (λ most. length text ≤ most)) (IsShort narrow.limit wide.limit) texts (λ text few. short_text longest wide narrow text n few) (texts_within longest readers texts within is)
