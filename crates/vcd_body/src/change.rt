@@ -6,23 +6,24 @@ use crate::item::Form;
 use crate::words::{clear_bits, others_32, rest_of};
 use vcd_text::{Sink, WriteFailed, put};
 
-// Returns the digit by which digits that begin with `digit`, in lower case, are extended on the
-// left: `0` for a `1`, otherwise the same digit.
+/// Returns the digit by which digits that begin with `digit`, in lower case, are extended on the
+/// left: `0` for a `1`, otherwise the same digit.
 pub(crate) fn extension_of(digit: u8) -> u8
     ensures { result ≡ extension (digit ∷ []) }
 {
     if digit == b'1' { b'0' } else { digit }
 }
 
-// Returns the digit in lower case by which digits that begin with `digit` are extended on the left.
+/// Returns the digit, in lower case, by which digits that begin with `digit` are extended on the
+/// left.
 pub(crate) fn extended_by(digit: u8) -> u8
     ensures { result ≡ extension (lower digit ∷ []) }
 {
     extension_of(digit.to_ascii_lowercase())
 }
 
-// Returns how many bytes on the left equal the first one, or a smaller number: it looks at 32 at a
-// time.
+/// Returns how many bytes on the left equal the first one, or a smaller number: it looks at 32 at a
+/// time.
 fn same_as_first(bytes: &[u8]) -> usize
     requires { 32 ≤ length bytes.now }
     ensures few { result < length bytes.now }
@@ -41,9 +42,9 @@ fn same_as_first(bytes: &[u8]) -> usize
     last + clear_bits(others_32(bytes, last, first), 32)
 }
 
-// Returns digits that extend to the same value, without some of the first ones. Of 32 or more
-// digits it leaves out those that are the same as the first, except the last of these, unless the
-// first is `1`.
+/// Returns digits that extend to the same value, without some of the first ones. Of 32 or more
+/// digits it leaves out those that are the same as the first, except the last of these, unless the
+/// first is `1`.
 // Without it `pick` of all of a dump of Verilator's takes 2.8 times as many instructions.
 fn without_same(digits: &[u8]) -> &[u8]
     requires { 0 < length digits.now }
@@ -58,7 +59,7 @@ fn without_same(digits: &[u8]) -> &[u8]
     &digits[same_as_first(digits).saturating_sub(1)..]
 }
 
-// Returns the shortest digits that extend to the same value.
+/// Returns the shortest digits that extend to the same value.
 pub(crate) fn shortest(digits: &[u8]) -> &[u8]
     requires { 0 < length digits.now }
     ensures { (size : ℕ) → str_to_ascii_lowercase result.now ≡ short (extended digits.now size) }
@@ -73,9 +74,9 @@ pub(crate) fn shortest(digits: &[u8]) -> &[u8]
     rest
 }
 
-// Returns whether some byte may be a capital letter: these have bit 5 clear, and digits of a value
-// in lower case have it set. With two comparisons of each digit instead, `merge` of wide vectors
-// takes 7 % more.
+/// Returns whether some byte may be a capital letter: these have bit 5 clear, and digits of a value
+/// in lower case have it set. With two comparisons of each digit instead, `merge` of wide vectors
+/// takes 7 % more.
 pub(crate) fn may_have_capital(bytes: &[u8]) -> bool
     ensures { result ≡ false → str_to_ascii_lowercase bytes.now ≡ bytes.now }
 {
@@ -86,7 +87,7 @@ pub(crate) fn may_have_capital(bytes: &[u8]) -> bool
     all == 0
 }
 
-// Copies `bytes`, in lower case, to the front of `to`.
+/// Copies `bytes`, in lower case, to the front of `to`.
 fn lower_into(to: &mut [u8], bytes: &[u8])
     requires { length bytes.now ≤ length to.old }
     ensures { take (length bytes.now) to.new ≡ str_to_ascii_lowercase bytes.now }
@@ -96,7 +97,7 @@ fn lower_into(to: &mut [u8], bytes: &[u8])
     }
 }
 
-// Writes the bytes in lower case, 64 at a time.
+/// Writes the bytes in lower case, 64 at a time.
 #[cold]
 #[inline(never)]
 fn put_lowered<W: Sink>(w: &mut W, bytes: &[u8]) -> Result<(), WriteFailed>
@@ -114,7 +115,7 @@ fn put_lowered<W: Sink>(w: &mut W, bytes: &[u8]) -> Result<(), WriteFailed>
     Ok(())
 }
 
-// Writes the bytes in lower case. Most are in lower case already.
+/// Writes the bytes in lower case. Most bytes are in lower case already.
 fn put_lower<W: Sink>(w: &mut W, bytes: &[u8]) -> Result<(), WriteFailed>
     requires { (W.device w.old).failures < 2 ^ 64 - 1 }
     ensures { Puts (W.device w.old) (W.device w.new) (str_to_ascii_lowercase bytes.now) result }
@@ -125,7 +126,7 @@ fn put_lower<W: Sink>(w: &mut W, bytes: &[u8]) -> Result<(), WriteFailed>
     put(w, bytes)
 }
 
-// Writes a byte, a code and a line feed.
+/// Writes a byte, a code and a line feed.
 #[inline(never)]
 pub(crate) fn put_end<W: Sink>(w: &mut W, first: u8, id: &[u8]) -> Result<(), WriteFailed>
     requires { (W.device w.old).failures < 2 ^ 64 - 1 }
@@ -136,7 +137,7 @@ pub(crate) fn put_end<W: Sink>(w: &mut W, first: u8, id: &[u8]) -> Result<(), Wr
     put(w, b"\n")
 }
 
-// Writes the line of a code of one bit: all of `digits` in lower case, then `id`.
+/// Writes the line of a code of one bit: all of `digits` in lower case, then `id`.
 #[cold]
 #[inline(never)]
 fn put_all<W: Sink>(w: &mut W, digits: &[u8], id: &[u8]) -> Result<(), WriteFailed>
@@ -149,7 +150,7 @@ fn put_all<W: Sink>(w: &mut W, digits: &[u8], id: &[u8]) -> Result<(), WriteFail
     put(w, b"\n")
 }
 
-// Writes the line of a change of a real number: `r`, the text, a blank and the code.
+/// Writes the line of a change of a real number: `r`, the text, a blank and the code.
 #[inline(never)]
 pub(crate) fn put_real<W: Sink>(w: &mut W, text: &[u8], id: &[u8]) -> Result<(), WriteFailed>
     requires { (W.device w.old).failures < 2 ^ 64 - 1 }
@@ -160,7 +161,7 @@ pub(crate) fn put_real<W: Sink>(w: &mut W, text: &[u8], id: &[u8]) -> Result<(),
     put_end(w, b' ', id)
 }
 
-// Writes a `b` and the shortest digits of the same value.
+/// Writes a `b` and the shortest digits of the same value.
 #[inline(always)]
 pub(crate) fn put_shortest<W: Sink>(w: &mut W, digits: &[u8]) -> Result<(), WriteFailed>
     requires failures { (W.device w.old).failures < 2 ^ 64 - 1 }
@@ -172,8 +173,8 @@ pub(crate) fn put_shortest<W: Sink>(w: &mut W, digits: &[u8]) -> Result<(), Writ
     put_lower(w, shortest(digits))
 }
 
-// Writes the line of a change that is rare: of an event, of a real number, or of digits after `b`
-// for a code of one bit. If a write fails, a prefix was written.
+/// Writes the line of a change that is rare: of an event, of a real number, or of digits after `b`
+/// for a code of one bit. If a write fails, a prefix was written.
 pub(crate) fn put_rare<W: Sink>(
     event: bool,
     form: Form,

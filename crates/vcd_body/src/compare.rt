@@ -8,7 +8,7 @@ use crate::item::Form;
 use crate::packed::holds_packed;
 use crate::slot::{HeldValue, State, digit_of_state};
 
-// Returns the digit by which a text is extended.
+/// Returns the digit by which a text is extended.
 fn extension_of_text(text: &[u8]) -> u8
     ensures { result ≡ extension (str_to_ascii_lowercase text.now) }
 {
@@ -18,7 +18,7 @@ fn extension_of_text(text: &[u8]) -> u8
     }
 }
 
-// Returns the digit at an index of a text that is extended to a size; 0 if there is none.
+/// Returns the digit at an index of a text that is extended to a size; 0 if there is none.
 #[inline(always)]
 fn text_digit(text: &[u8], size: usize, index: usize) -> u8
     ensures { result ≡ get_or (extend (str_to_ascii_lowercase text.now) size) index 0 }
@@ -33,8 +33,8 @@ fn text_digit(text: &[u8], size: usize, index: usize) -> u8
     }
 }
 
-// Returns the digit at an index of the held digits, which are extended to a size; 0 if there is
-// none.
+/// Returns the digit at an index of the held digits, which are extended to a size; 0 if there is
+/// none.
 #[inline(always)]
 fn shown_digit(held: HeldValue<'_>, size: usize, index: usize) -> u8
     requires digits { HasDigits held }
@@ -43,9 +43,9 @@ fn shown_digit(held: HeldValue<'_>, size: usize, index: usize) -> u8
     digit_shown(held, size, index).unwrap_or(0)
 }
 
-// Returns whether a held digit is another one than that of a text at the same place, counted from
-// the last digit.
-// It looks at no other digit for each, so it takes fewer steps than `are_same`.
+/// Returns true only if some held digit differs from that of a text at the same place, counted from
+/// the last digit.
+// It extends neither of them, so it takes fewer steps for each digit than `are_same`.
 fn places_differ(held: HeldValue<'_>, text: &[u8]) -> bool
     ensures { result ≡ true → AreTwo (digits_of held.entry) text.now }
 {
@@ -62,8 +62,8 @@ fn places_differ(held: HeldValue<'_>, text: &[u8]) -> bool
     false
 }
 
-// Returns whether the held digits and those of a text are the same, both extended to a size that is
-// at least their lengths. It looks from the right, where most differ.
+/// Returns whether the held digits and those of a text are the same, both extended to a size that
+/// is at least their lengths. It looks from the right, where most differ.
 fn are_same(held: HeldValue<'_>, text: &[u8], size: usize) -> bool
     requires digits { HasDigits held }
     requires held_fit { length (digits_of held) ≤ size }
@@ -83,8 +83,8 @@ fn are_same(held: HeldValue<'_>, text: &[u8], size: usize) -> bool
     true
 }
 
-// Returns whether a text gives a code of this size other digits than several that are held, or is
-// itself of several. It takes as long as these digits and the text are, whatever the size is.
+/// Returns whether a text gives a code of this size other digits than several that are held, or is
+/// itself of several. It takes as long as these digits and the text are, whatever the size is.
 #[inline(never)]
 fn several_differ(held: HeldValue<'_>, size: usize, text: &[u8]) -> bool
     requires digits { HasDigits held }
@@ -100,8 +100,8 @@ fn several_differ(held: HeldValue<'_>, size: usize, text: &[u8]) -> bool
     }
 }
 
-// Returns whether a text gives a code of this size other digits than the held ones. Most texts are
-// one digit.
+/// Returns whether a text gives a code of this size other digits than the held ones. Most texts are
+/// one digit.
 #[inline(always)]
 fn digits_differ(held: HeldValue<'_>, size: usize, text: &[u8]) -> bool
     requires digits { HasDigits held }

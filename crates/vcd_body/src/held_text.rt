@@ -10,7 +10,7 @@ use vcd_text::{Sink, WriteFailed, put};
 // How many digits one call writes at most.
 const BLOCK: usize = 64;
 
-// Writes a digit `count` times.
+/// Writes a digit `count` times.
 fn put_repeated<W: Sink>(digit: u8, count: usize, w: &mut W) -> Result<(), WriteFailed>
     requires { (W.device w.old).failures < 2 ^ 64 - 1 }
     ensures { Puts (W.device w.old) (W.device w.new) (replicate count digit) result }
@@ -25,8 +25,8 @@ fn put_repeated<W: Sink>(digit: u8, count: usize, w: &mut W) -> Result<(), Write
     Ok(())
 }
 
-// Returns the digit at an index of the held digits, as a byte (`b'0'`, `b'1'`, `b'x'` or `b'z'`),
-// or the number 0 after the last.
+/// Returns the digit at an index of the held digits, as a byte (`b'0'`, `b'1'`, `b'x'` or `b'z'`),
+/// or the number 0 after the last.
 #[inline(always)]
 fn digit_or(held: HeldValue<'_>, index: usize) -> u8
     ensures { result ≡ get_or (digits_of held.entry) index 0 }
@@ -34,7 +34,7 @@ fn digit_or(held: HeldValue<'_>, index: usize) -> u8
     digit_held(held, index).unwrap_or(0)
 }
 
-// Copies the digits from an index on to `to`.
+/// Copies the digits from an index on to `to`.
 fn fill(held: HeldValue<'_>, from: usize, to: &mut [u8])
     requires { from + length to.old ≤ length (digits_of held) }
     ensures { to.new ≡ take (length to.old) (drop from (digits_of held.entry)) }
@@ -44,7 +44,7 @@ fn fill(held: HeldValue<'_>, from: usize, to: &mut [u8])
     }
 }
 
-// Writes the digits that are held, from an index on.
+/// Writes the digits that are held, from an index on.
 fn put_from<W: Sink>(held: HeldValue<'_>, from: usize, w: &mut W) -> Result<(), WriteFailed>
     requires failures { (W.device w.old).failures < 2 ^ 64 - 1 }
     ensures { Puts (W.device w.old) (W.device w.new) (drop from (digits_of held.entry)) result }
@@ -61,7 +61,7 @@ fn put_from<W: Sink>(held: HeldValue<'_>, from: usize, w: &mut W) -> Result<(), 
     Ok(())
 }
 
-// Returns the index at which the shortest digits begin that extend to the same value.
+/// Returns the index at which the shortest digits begin that extend to the same value.
 fn first_needed(held: HeldValue<'_>) -> usize
     requires some { 0 < length (digits_of held) }
     ensures { (size : ℕ) → drop result (digits_of held.entry)
@@ -78,7 +78,7 @@ fn first_needed(held: HeldValue<'_>) -> usize
     from
 }
 
-// Writes all digits that are held, and the code, as a line.
+/// Writes all digits that are held, and the code, as a line.
 fn put_all_held<W: Sink>(held: HeldValue<'_>, id: &[u8], w: &mut W) -> Result<(), WriteFailed>
     requires failures { (W.device w.old).failures < 2 ^ 64 - 1 }
     ensures { PutsTo W.device w.old w.new (digits_of held.entry ++ (id.now ++ 10 ∷ [])) result }
@@ -88,7 +88,7 @@ fn put_all_held<W: Sink>(held: HeldValue<'_>, id: &[u8], w: &mut W) -> Result<()
     put(w, b"\n")
 }
 
-// Writes the shortest digits after `b`, and the code, as a line.
+/// Writes the shortest digits after `b`, and the code, as a line.
 fn put_short_held<W: Sink>(held: HeldValue<'_>, id: &[u8], w: &mut W) -> Result<(), WriteFailed>
     requires failures { (W.device w.old).failures < 2 ^ 64 - 1 }
     requires some { 0 < length (digits_of held) }
@@ -122,7 +122,7 @@ pub(crate) fn put_value_line<W: Sink>(
     }
 }
 
-// Writes the digits that are held, extended to a size.
+/// Writes the digits that are held, extended to a size.
 fn put_extended<W: Sink>(held: HeldValue<'_>, size: usize, w: &mut W) -> Result<(), WriteFailed>
     requires failures { (W.device w.old).failures < 2 ^ 64 - 1 }
     requires some { 0 < length (digits_of held) }
@@ -133,7 +133,7 @@ fn put_extended<W: Sink>(held: HeldValue<'_>, size: usize, w: &mut W) -> Result<
     put_from(held, 0, w)
 }
 
-// Writes the text of a real number in full.
+/// Writes the text of a real number in full.
 fn put_real_text<W: Sink>(text: &[u8], w: &mut W) -> Result<(), WriteFailed>
     requires { (W.device w.old).failures < 2 ^ 64 - 1 }
     ensures { Puts (W.device w.old) (W.device w.new) (114 ∷ text.now) result }

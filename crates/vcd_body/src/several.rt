@@ -8,8 +8,8 @@ use crate::slot::{Holding, State, holding_of};
 use crate::step::{Step, step_to_text};
 use crate::table::Table;
 
-// Returns the step from `len` packed digits, in the first bytes of a share, to those of a text, if
-// they differ in one of the last.
+/// Returns the step from `len` packed digits, in the first bytes of a share, to those of a text, if
+/// they differ in one of the last.
 #[inline(always)]
 fn packed_step(bytes: &[u8], len: usize, text: &[u8]) -> Option<Step>
     ensures some { IfSome result (λ _. 1 ≤ length text.now) }

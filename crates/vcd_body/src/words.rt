@@ -277,8 +277,8 @@ fn are_many_digits(digits: &[u8]) -> bool
     are_digits_32(digits, last)
 }
 
-// Returns whether all of these bytes are digits of a value. It looks at 32 at a time: one by one,
-// `check` of wide vectors takes 16 % more.
+/// Returns whether all of these bytes are digits of a value. It looks at 32 at a time: one by one,
+/// `check` of wide vectors takes 16 % more.
 #[inline(never)]
 pub(crate) fn are_all_digits(digits: &[u8]) -> bool
     ensures { result ≡ list_all is_digit digits.now }

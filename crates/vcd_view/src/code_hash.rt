@@ -54,7 +54,7 @@ impl CodeSeed {
         }
     }
 
-    // Returns the state after these bytes, of any number, by a loop over words, as `hashed` does.
+    /// Returns the state after these bytes, of any number, by a loop over words, as `hashed` does.
     fn hashed_by_words(self, state: u64, bytes: &[u8]) -> u64
         ensures { result ≡ hashed self state bytes.now }
     {
@@ -72,7 +72,7 @@ impl CodeSeed {
     }
 }
 
-// Returns a number of 128 bits that a hasher gives: its hashes of `first` and of the next number.
+/// Returns a number of 128 bits that a hasher gives: its hashes of `first` and of the next number.
 fn number_of<B: BuildHasher>(hasher: &B, first: u64) -> u128
     requires { first < 2 ^ 32 }
     ensures { result ≡ drawn B.BuildHasher B.Hasher.Hasher hasher.now first }

@@ -51,7 +51,7 @@ pub fn code_number(code: &[u8]) -> usize
     }
 }
 
-// Returns the number with one more digit below its lowest.
+/// Returns the number with one more digit below its lowest.
 #[inline(always)]
 fn above(number: usize, byte: u8) -> usize
     ensures { result ≡ above number byte }
@@ -61,7 +61,7 @@ fn above(number: usize, byte: u8) -> usize
         .wrapping_add(usize::from(byte).wrapping_sub(32))
 }
 
-// Returns the number of a code of any length.
+/// Returns the number of a code of any length.
 fn number_of(code: &[u8]) -> usize
     ensures { result ≡ number_in code.now }
 {
@@ -137,9 +137,9 @@ pub(crate) fn index_by_hash(
     }
 }
 
-// Returns the index that one of the last two entries beside a code's own gives, if it has this key;
-// otherwise `None`. With that entry and the first one beside it, they are 64 bytes, so a look at
-// them reads at most one cache line more.
+/// Returns the index that one of the last two entries beside a code's own gives, if one of them has
+/// this key; otherwise `None`. A code's own entry and the three beside it have 64 bytes, so a look
+/// at them reads at most one cache line more.
 fn index_beside(entries: &[Entry], own: usize, key: u64) -> Option<usize>
     ensures { IfSome result (λ position. HasEntry entries.now key position) }
 {
@@ -152,8 +152,8 @@ fn index_beside(entries: &[Entry], own: usize, key: u64) -> Option<usize>
     None
 }
 
-// Returns the index that an entry with this key gives, if the hash leads to that entry; otherwise
-// `None`.
+/// Returns the index that an entry with this key gives, if the hash leads to that entry; otherwise
+/// `None`.
 fn index_of_key(entries: &[Entry], hash: u64, key: u64) -> Option<usize>
     ensures { IfSome result (λ position. HasEntry entries.now key position) }
 {
@@ -169,8 +169,8 @@ fn index_of_key(entries: &[Entry], hash: u64, key: u64) -> Option<usize>
     None
 }
 
-// Returns the index that an entry gives for this code of 8 bytes or more, if its hash leads to that
-// entry; otherwise `None`. Another code may have the same key, so one comparison is made.
+/// Returns the index that an entry gives for this code of 8 bytes or more, if its hash leads to
+/// that entry; otherwise `None`. Another code may have the same key, so one comparison is made.
 fn index_of_long(
     text: &[u8],
     codes: &[Code],

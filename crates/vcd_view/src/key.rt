@@ -29,7 +29,7 @@ pub fn key_of(code: &[u8]) -> u64
     }
 }
 
-// Returns the key of these bytes with one more byte before them.
+/// Returns the key of these bytes with one more byte before them.
 #[inline(always)]
 fn prepended(key: u64, byte: u8) -> u64
     requires { key < 2 ^ 56 }
@@ -38,7 +38,7 @@ fn prepended(key: u64, byte: u8) -> u64
     key * 256 + u64::from(byte)
 }
 
-// Returns the bytes and a blank after them as a number, the first byte lowest.
+/// Returns the bytes and a blank after them as a number, the first byte lowest.
 fn packed_of(code: &[u8]) -> u64
     requires { length code.now ≤ 7 }
     ensures { result ≡ packed code.now }

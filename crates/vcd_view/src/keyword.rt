@@ -65,8 +65,8 @@ pub fn keyword_of(token: &[u8]) -> Option<Keyword>
     }
 }
 
-// Passes the next token and returns it, unless it is `$end`. `None` also if `Ahead::next` gives no
-// token; then nothing has changed.
+/// Passes the next token and returns it, unless it is `$end`. `None` also if `Ahead::next` gives no
+/// token; then nothing has changed.
 #[inline(always)]
 fn word_ahead<'a>(ahead: &mut Ahead<'a>) -> Option<&'a [u8]>
     ensures takes { IfSome result (λ token. TakesToken ahead.old ahead.new token.now) }
@@ -82,7 +82,7 @@ fn word_ahead<'a>(ahead: &mut Ahead<'a>) -> Option<&'a [u8]>
     Some(token)
 }
 
-// Returns how many bytes the words ahead have.
+/// Returns how many bytes the words ahead have.
 fn words_len(ahead: Ahead<'_>) -> usize
     requires { passed_of ahead ≡ 0 }
     ensures { PassesWordsTo ahead.entry result }

@@ -64,8 +64,8 @@ pub fn find_counted(view: HeadView<'_>, code: &[u8], probes: &mut Probes) -> Opt
     Some(found.position)
 }
 
-// Returns the index of a code among the distinct codes, with its size, and counts the comparisons
-// of codes.
+/// Returns the index of a code among the distinct codes, with its size, and counts the comparisons
+/// of codes.
 #[inline(always)]
 fn find_sized_counted(view: HeadView<'_>, code: &[u8], probes: &mut Probes) -> Option<Found>
     ensures found { (h : Header) → IsViewOf view.entry h
@@ -112,9 +112,9 @@ pub fn find_in_own_entry(view: HeadView<'_>, code: &[u8]) -> Option<Found>
     find_in_entry(view, code, 0)
 }
 
-// Returns the index and size of a code by a look at only one entry: its own if `other` is 0, and
-// the first one beside it if `other` is 1. `None` if that is not the entry of the code, or if the
-// code has more than 7 bytes.
+/// Returns the index and size of a code by a look at only one entry: its own if `other` is 0, and
+/// the first one beside it if `other` is 1. `None` if that is not the entry of the code, or if the
+/// code has more than 7 bytes.
 // Most changes that rtl_433 writes are of a code that the entry beside its own holds. If
 // `find_slowly` looks there, `check` takes 29 % more.
 #[inline(always)]
@@ -140,10 +140,10 @@ fn find_in_entry(view: HeadView<'_>, code: &[u8], other: usize) -> Option<Found>
     }
 }
 
-// Returns the index of a code that neither its own entry nor the first one beside it holds: by a
-// look at the other two beside it, by its hash, or else by a binary search. `None` if it is not
-// among the distinct codes. It takes no view, so that a look-up by one entry need not make one
-// ready, and it returns only a number, which needs no memory.
+/// Returns the index of a code that neither its own entry nor the first one beside it holds: by a
+/// look at the other two beside it, by its hash, or else by a binary search. `None` if it is not
+/// among the distinct codes. It takes no view, so that a look-up by one entry need not make one
+/// ready, and it returns only a number, which needs no memory.
 #[inline(never)]
 fn find_slowly(
     text: &[u8],
@@ -170,8 +170,8 @@ fn find_slowly(
     }
 }
 
-// Returns the index of a code by a binary search in the order of the codes; `None` if it is not
-// among them. It takes single slices, like `find_slowly`.
+/// Returns the index of a code by a binary search in the order of the codes; `None` if it is not
+/// among them. It takes single slices, like `find_slowly`.
 #[inline(never)]
 fn search(
     text: &[u8],
@@ -201,7 +201,7 @@ fn search(
     None
 }
 
-// Returns the bytes of the code at an index; empty after the last.
+/// Returns the bytes of the code at an index; empty after the last.
 fn text_of<'a>(text: &'a [u8], codes: &[Code], position: usize) -> &'a [u8]
     ensures { AnyCodes text.now codes.now (λ ks. position < length ks → result.now ≡ code_text ks position) }
 {
