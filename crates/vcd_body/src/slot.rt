@@ -5,7 +5,7 @@ ghost use Rattle.vcd_body.specs.Stored.{IsUncounted, IsUnset, held_digit, holdin
 /// How the value of a code is held. Each digit has a state of its own, so that a value of one digit
 /// is only in the slot.
 // In the order of the numbers that encode them, so that none has to be looked up.
-#[derive(Clone, Copy, PartialEq, Eq, Debug)]
+#[derive(Clone, Copy, PartialEq, Eq)]
 pub(crate) enum State {
     /// The code has no value.
     Unset,
@@ -59,7 +59,7 @@ pub struct Share {
 }
 
 /// How a value is held, by its slot and its share.
-#[derive(Clone, Copy, PartialEq, Eq, Debug)]
+#[derive(Clone, Copy, PartialEq, Eq)]
 pub(crate) struct Holding {
     pub(crate) state: State,
     /// The lowest 32 bits of how many digits, or bytes of a text, are held in the share; or the

@@ -226,7 +226,7 @@ pub(crate) fn count_in_slot(slots: &mut [Slot], code: usize, way: usize) -> bool
 }
 
 /// What became of a change that may need only the slot of its code.
-#[derive(Clone, Copy, PartialEq, Eq, Debug)]
+#[derive(Clone, Copy, PartialEq, Eq)]
 pub(crate) enum Stepped {
     /// The slot is not enough, and nothing changed.
     Not,

@@ -25,7 +25,7 @@ pub enum PhraseKind {
 }
 
 /// A keyword where a phrase begins.
-#[derive(Clone, Copy, PartialEq, Eq, Debug)]
+#[derive(Clone, Copy, PartialEq, Eq)]
 pub(crate) enum KeywordUse {
     Comment,
     Begin(Section),

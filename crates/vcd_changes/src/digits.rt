@@ -3,7 +3,7 @@ ghost use Rattle.std.specs.Prelude.{◌≡◌, ◌+◌, ◌-◌, ◌*◌, ◌^�
 ghost use Rattle.vcd_changes.specs.Digits.{digits_of, extend, extension, is_known, last_of, number_where};
 
 /// The last 64 digits of a value, as numbers.
-#[derive(Clone, Copy, PartialEq, Eq, Debug)]
+#[derive(Clone, Copy, PartialEq, Eq)]
 pub(crate) struct Digits {
     /// Which digits are 1.
     pub value: u64,

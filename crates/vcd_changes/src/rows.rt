@@ -20,7 +20,7 @@ use vcd_head::HeadView;
 use vcd_text::{Feed, Source};
 
 /// Why no more rows were filled.
-#[derive(Clone, Copy, PartialEq, Eq, Debug)]
+#[derive(Clone, Copy, PartialEq, Eq)]
 pub(crate) enum Filled {
     /// The body has no further change.
     All,

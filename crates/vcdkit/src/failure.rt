@@ -8,7 +8,7 @@ use vcd_head::HeadFault;
 use vcd_words::Refusal;
 
 /// Why a task does not run, or does not run to its end.
-#[derive(Clone, Copy, PartialEq, Eq, Debug)]
+#[derive(Clone, Copy, PartialEq, Eq)]
 pub(crate) enum Failure {
     /// A fault of an input or of a device, or a name that selects nothing.
     Stopped(Stop),
