@@ -10,11 +10,11 @@ use Rattle.vcd_text.specs.Digits.{spelled_below}
 use Rattle.vcd_view.specs.declared.view.Code.{Code}
 use Rattle.vcd_view.specs.Shown.{HeadShown}
 use Rattle.vcd_view.specs.Views.{Views, IsCode}
-use Rattle.vcd_view.proofs.RowLemmas.{code_at}
+use Rattle.vcd_view.proofs.RowLemmas.{code_at as code_in_view}
 
 -- the view's code at the index of a header's code
 pub code_at : (s : HeadShown) (h : Header) → Views s h → (position : ℕ) (c : IdCode) → slice_get h.codes position ≡ Some c → (code : Code) × (slice_get s.codes position ≡ Some code) × IsCode s.text code c
-code_at s h v position c e = code_at s.text s.codes h.codes position c v.codes e
+code_at s h v position c e = code_in_view s.text s.codes h.codes position c v.codes e
 
 -- a number is what the digits spell, and is below 2^64
 pub time_spelled : (digits : List ℕ) (time : ℕ) → spelled_below digits ≡ Some time → ((is_decimal digits && nat_lt (decimal_value digits) (2 ^ 64)) ≡ true) × (decimal_value digits ≡ time)

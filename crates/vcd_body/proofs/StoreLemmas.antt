@@ -247,16 +247,16 @@ some_in shares n k s h l there =
 module _ (slots : List Slot) (shares : List Share) (n : ℕ) (laid : AreLaidOut slots shares n) where
   -- a share ends where a later one begins, or before
   ends_before : (m j : ℕ) (d : Slot) (g : Share) → slice_get slots (j + 1 + m) ≡ Some d → slice_get shares (j + 1 + m) ≡ Some g → end_at shares n j ≤ g.start
-  ends_before zero j d g at there =
+  ends_before zero j d g at shared =
       let e : j + 1 + 0 ≡ j + 1 = omega arith in
-      let s = ap (start_or n) (ap (slice_get shares) (sym e) ∙ there) in
+      let s = ap (start_or n) (ap (slice_get shares) (sym e) ∙ shared) in
       omega (arith, s)
-  ends_before (suc m) j d g at there =
+  ends_before (suc m) j d g at shared =
       let w = slice_get_within slots (j + 1 + suc m) d at in
       let c = there slots (j + 1) (omega (arith, w)) in
       let l = laid (j + 1) c.0 c.1 in
       let e : j + 1 + suc m ≡ j + 1 + 1 + m = omega arith in
-      let more = ends_before m (j + 1) d g (ap (slice_get slots) (sym e) ∙ at) (ap (slice_get shares) (sym e) ∙ there) in
+      let more = ends_before m (j + 1) d g (ap (slice_get slots) (sym e) ∙ at) (ap (slice_get shares) (sym e) ∙ shared) in
       let s = ap (start_or n) l.there in
       let low = l.fits in
       omega (arith, s, low, more)
