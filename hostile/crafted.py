@@ -119,7 +119,7 @@ def files(program):
 
 PHRASES = [b"#5", b"1!", b"b" + b"0" * 40 + b"1x" + b" \"", b"b1 \"", b"r1.5 &", b"1%",
            b"$dumpvars", b"x!", b"bX1 \"", b"$end", b"#12345678901234567890",
-           b"$comment " + b"y" * 70 + b" $end", b"0!", b"b" + b"10" * 35 + b" \"",
+           b"$comment $end", b"$comment " + b"y" * 70 + b" $end", b"0!", b"b" + b"10" * 35 + b" \"",
            b"#12345678901234567891", b"Z!"]
 
 

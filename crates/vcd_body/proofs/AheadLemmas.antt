@@ -1,5 +1,5 @@
 -- One item more that lies ahead.
-use Rattle.std.proofs.Common.{◌≡◌, ◌≢◌, ℕ, ◌<◌, ◌≤◌, List, [], ◌∷◌, ◌++◌, map, take, drop, Option, None, Some, IfSome, refl, sym, ap, subst, ◌∙◌, arith, length-append}
+use Rattle.std.proofs.Common.{◌≡◌, ◌≢◌, ℕ, ◌<◌, ◌≤◌, List, [], ◌∷◌, ◌++◌, map, take, drop, Option, None, Some, IfSome, refl, sym, ap, subst, ◌∙◌, append-nil, arith, length-append}
 use Rattle.std.specs.Prelude.{slice_get}
 use Rattle.std.proofs.lemmas.List.{append_assoc, map-append}
 use Rattle.std.proofs.lemmas.List.Elements.{filter_map-append}
@@ -25,9 +25,10 @@ use Rattle.vcd_body.specs.declared.item.Regs.{Regs}
 use Rattle.vcd_body.specs.Items.{AreRegsAfter, model_form, regs_after}
 use Rattle.vcd_body.specs.Reads.{GaveItems, Passes}
 use Rattle.vcd_body.specs.Given.{IsItem}
-use Rattle.vcd_body.specs.Ahead.{GaveAhead, GaveLast, HasBits, PassBoth}
+use Rattle.vcd_body.specs.Ahead.{EndsAhead, GaveAhead, GaveLast, HasBits, PassBoth, ReadsOn}
 use Rattle.vcd_body.specs.Binary.{binary_digits}
 use Rattle.vcd_body.specs.declared.bits.Bits.{Bits}
+use Rattle.vcd_body.proofs.AskedLemmas.{ends_are}
 use Rattle.vcd_body.proofs.ReadLemmas.{known_change, known_time}
 
 -- a look ahead that was at one place passes one token more, which is on this line, and is at
@@ -44,9 +45,6 @@ some_tokens : (limit lines : ℕ) (bytes : List ℕ) (n : ℕ) (ts : List Token)
 some_tokens limit lines bytes n [] less p e = absurd (omega arith)
 some_tokens limit lines bytes n (t ∷ ts) less p e = cc
 
-pub some_ahead : (codes : List IdCode) (limit lines : ℕ) (bytes : List ℕ) (n : ℕ) (before items : List BodyItem) (x : BodyItem) (a : GaveAhead codes limit lines bytes n before (items ++ x ∷ [])) → a.tokens ≢ []
-some_ahead codes limit lines bytes n before items x a = let f = a.few in some_tokens limit lines bytes n a.tokens (omega (arith, length-append items (x ∷ []))) a.passed
-
 -- phrases that give one item each
 items_each : (items : List BodyItem) → items_of (map BodyPhrase.Gives items) ≡ items
 items_each [] = refl
@@ -60,22 +58,14 @@ pub found_all : (found : Option Found) {P : Found → Type 0} → ((f : Found) �
 found_all None h = tt
 found_all (Some f) h = h f refl
 
--- phrases of which the last is this one
-split_phrases : {P : Type 0} (ps : List (Placed P)) (qs : List P) (y : P) → phrases_of ps ≡ qs ++ y ∷ [] → (m : List (Placed P)) × (line : ℕ) × (ps ≡ m ++ record { phrase = y; line = line } ∷ []) × (phrases_of m ≡ qs)
-split_phrases [] [] y e = cc
-split_phrases [] (q ∷ qs) y e = cc
-split_phrases (p ∷ []) [] y e = let s : p.phrase ≡ y = cc in ([], p.line, ap (λ (z : _). record { phrase = z; line = p.line } ∷ []) s, refl)
-split_phrases (p ∷ o ∷ ps) [] y e = cc
-split_phrases (p ∷ ps) (q ∷ qs) y e =
-    let s : p.phrase ≡ q = cc in
-    let t : phrases_of ps ≡ qs ++ y ∷ [] = cc in
-    let r = split_phrases ps qs y t in
-    (p ∷ r.0, r.1, ap (λ l. p ∷ l) r.2, cc)
+-- one phrase more
+items_push : (items : List BodyItem) (placed : List (Placed BodyPhrase)) (p : Placed BodyPhrase) → items_of (phrases_of placed) ≡ items → items_of (phrases_of (placed ++ p ∷ [])) ≡ items ++ items_of (p.phrase ∷ [])
+items_push items placed p e = rw (map-append, filter_map-append) (ap (λ (l : List BodyItem). l ++ items_of (p.phrase ∷ [])) e)
 
 module _ (codes : List IdCode) (limit lines : ℕ) (bytes : List ℕ) (before items : List BodyItem) where
   -- the items of the phrases before the feed and of those ahead
-  pub items_so_far : (earlier placed : List (Placed BodyPhrase)) → items_of (phrases_of earlier) ≡ before → phrases_of placed ≡ map BodyPhrase.Gives items → items_of (phrases_of (earlier ++ placed)) ≡ before ++ items
-  items_so_far earlier placed e f = rw (map-append, filter_map-append) (ap (λ (l : List BodyItem). l ++ items_of (phrases_of placed)) e ∙ ap (λ (l : List BodyPhrase). before ++ items_of l) f ∙ ap (λ (l : List BodyItem). before ++ l) (items_each items))
+  pub items_so_far : (earlier placed : List (Placed BodyPhrase)) → items_of (phrases_of earlier) ≡ before → items_of (phrases_of placed) ≡ items → items_of (phrases_of (earlier ++ placed)) ≡ before ++ items
+  items_so_far earlier placed e f = rw (map-append, filter_map-append) (ap (λ (l : List BodyItem). l ++ items_of (phrases_of placed)) e ∙ ap (λ (l : List BodyItem). before ++ l) f)
 
   -- the feed has passed them
   module _ {X : Type 0} {g : Ghosts X} (i : Input) (front : List Token) (n : ℕ) (old new : Feed X g) (first last : Regs) (h : GaveItems codes i front before old first) (a : GaveAhead codes limit lines bytes n before items) (stands : HasGiven i ((front ++ h.given) ++ a.tokens) new) (k : AreRegsAfter (before ++ items) last) where
@@ -85,34 +75,75 @@ module _ (codes : List IdCode) (limit lines : ℕ) (bytes : List ℕ) (before it
       placed = h.placed ++ a.placed;
       stands = subst (λ (l : List Token). HasGiven i l new) (append_assoc front h.given a.tokens) stands;
       so_far = a.so_far h.given h.placed h.items_are h.so_far;
-      items_are = items_so_far h.placed a.placed h.items_are a.item_each;
+      items_are = items_so_far h.placed a.placed h.items_are a.items_are;
       known = k;
     }
 
   -- these tokens are one phrase more, after any phrases with the items so far
-  abbrev GoesOn : List Token → BodyItem → ℕ → Type 0
-  GoesOn ts x line = (given : List Token) (earlier : List (Placed BodyPhrase)) → items_of (phrases_of earlier) ≡ before ++ items → IsSoFar (body_grammar codes) given earlier []
-      → IsSoFar (body_grammar codes) (given ++ ts) (earlier ++ record { phrase = BodyPhrase.Gives x; line = line } ∷ []) []
+  abbrev pub GoesOn : List Token → Placed BodyPhrase → Type 0
+  GoesOn ts p = (given : List Token) (earlier : List (Placed BodyPhrase)) → items_of (phrases_of earlier) ≡ before ++ items → IsSoFar (body_grammar codes) given earlier [] → IsSoFar (body_grammar codes) (given ++ ts) (earlier ++ p ∷ []) []
 
-  grown : (n n' : ℕ) (x : BodyItem) (ts : List Token) (line : ℕ) (g : GaveAhead codes limit lines bytes n before items) → n < n' → Passed limit lines bytes n' (g.tokens ++ ts) → GoesOn ts x line → GaveAhead codes limit lines bytes n' before (items ++ x ∷ [])
+  read_on : (n : ℕ) (ts : List Token) (p : Placed BodyPhrase) (g : GaveAhead codes limit lines bytes n before items) → GoesOn ts p → ReadsOn codes before (g.tokens ++ ts) (g.placed ++ p ∷ [])
+  read_on n ts p g on given earlier e s =
+      subst (λ (l : List (Placed BodyPhrase)). IsSoFar (body_grammar codes) (given ++ (g.tokens ++ ts)) l []) (append_assoc earlier g.placed (p ∷ []))
+      (subst (λ (l : List Token). IsSoFar (body_grammar codes) l (earlier ++ g.placed ++ p ∷ []) []) (append_assoc given g.tokens ts)
+      (on (given ++ g.tokens) (earlier ++ g.placed) (items_so_far earlier g.placed e g.items_are) (g.so_far given earlier e s)))
+
+  grown : (n n' : ℕ) (x : BodyItem) (ts : List Token) (line : ℕ) (g : GaveAhead codes limit lines bytes n before items) → n < n' → Passed limit lines bytes n' (g.tokens ++ ts) → GoesOn ts (record { phrase = BodyPhrase.Gives x; line = line }) → GaveAhead codes limit lines bytes n' before (items ++ x ∷ [])
   grown n n' x ts line g less p on =
       let one : Placed BodyPhrase = record { phrase = BodyPhrase.Gives x; line = line } in
+      let ended : EndsAhead codes limit lines bytes before items x (g.tokens ++ ts) = record {
+        end = n';
+        some = omega (arith, less);
+        first = g.tokens ++ ts;
+        rest = [];
+        tokens_are = sym (append-nil (g.tokens ++ ts));
+        passed = p;
+        placed = g.placed;
+        items_are = g.items_are;
+        line = line;
+        so_far = read_on n ts one g on;
+      } in
       record {
         tokens = g.tokens ++ ts;
         passed = p;
         placed = g.placed ++ one ∷ [];
-        item_each = map-append (λ (q : Placed BodyPhrase). q.phrase) g.placed (one ∷ []) ∙ ap (λ l. l ++ BodyPhrase.Gives x ∷ []) g.item_each ∙ sym (map-append BodyPhrase.Gives items (x ∷ []));
-        so_far = λ given earlier e s.
-            subst (λ (l : List (Placed BodyPhrase)). IsSoFar (body_grammar codes) (given ++ (g.tokens ++ ts)) l []) (append_assoc earlier g.placed (one ∷ []))
-            (subst (λ (l : List Token). IsSoFar (body_grammar codes) l (earlier ++ g.placed ++ one ∷ []) []) (append_assoc given g.tokens ts)
-            (on (given ++ g.tokens) (earlier ++ g.placed) (items_so_far earlier g.placed e g.item_each) (g.so_far given earlier e s)));
+        items_are = items_push items g.placed one g.items_are;
+        so_far = read_on n ts one g on;
+        last = λ front y e.
+            let same = ends_are items front x y e in
+            subst (λ (l : List BodyItem). EndsAhead codes limit lines bytes before l y (g.tokens ++ ts)) same.0 (subst (λ (z : BodyItem). EndsAhead codes limit lines bytes before items z (g.tokens ++ ts)) same.1 ended);
         few = let f = g.few in omega (arith, length-append items (x ∷ []));
       }
 
-  one_on : (t : Token) (x : BodyItem) → ((earlier : List BodyPhrase) → items_of earlier ≡ before ++ items → Passes codes earlier t.bytes x) → GoesOn (t ∷ []) x t.line
+  -- a phrase that gives no item
+  pub passed_over : (n n' : ℕ) (ts : List Token) (p : Placed BodyPhrase) (g : GaveAhead codes limit lines bytes n before items) → n ≤ n' → Passed limit lines bytes n' (g.tokens ++ ts) → items_of (p.phrase ∷ []) ≡ [] → GoesOn ts p → GaveAhead codes limit lines bytes n' before items
+  passed_over n n' ts p g le passed none on = record {
+    tokens = g.tokens ++ ts;
+    passed = passed;
+    placed = g.placed ++ p ∷ [];
+    items_are = items_push items g.placed p g.items_are ∙ ap (λ (l : List BodyItem). items ++ l) none ∙ append-nil items;
+    so_far = read_on n ts p g on;
+    last = λ front x e.
+        let l = g.last front x e in record {
+          end = l.end;
+          some = l.some;
+          first = l.first;
+          rest = l.rest ++ ts;
+          tokens_are = ap (λ (us : List Token). us ++ ts) l.tokens_are ∙ append_assoc l.first l.rest ts;
+          passed = l.passed;
+          placed = l.placed;
+          items_are = l.items_are;
+          line = l.line;
+          so_far = l.so_far;
+        };
+    few = let f = g.few in omega (arith, le);
+  }
+
+  one_on : (t : Token) (x : BodyItem) → ((earlier : List BodyPhrase) → items_of earlier ≡ before ++ items → Passes codes earlier t.bytes x) → GoesOn (t ∷ []) (record { phrase = BodyPhrase.Gives x; line = t.line })
   one_on t x h given earlier e s = let p = h (phrases_of earlier) e in so_far-phrase (body_grammar codes) given earlier [] t (BodyPhrase.Gives x) s p.0 p.1 refl
 
-  two_on : (t u : Token) (x : BodyItem) → ((earlier : List BodyPhrase) → items_of earlier ≡ before ++ items → PassBoth codes earlier t.bytes u.bytes x) → GoesOn (t ∷ u ∷ []) x u.line
+  two_on : (t u : Token) (x : BodyItem) → ((earlier : List BodyPhrase) → items_of earlier ≡ before ++ items → PassBoth codes earlier t.bytes u.bytes x) → GoesOn (t ∷ u ∷ []) (record { phrase = BodyPhrase.Gives x; line = u.line })
   two_on t u x h given earlier e s =
       let p = h (phrases_of earlier) e in
       let first = so_far-token (body_grammar codes) given earlier [] t s p.begins p.open_after in
@@ -191,19 +222,23 @@ module _ (codes : List IdCode) (limit lines : ℕ) (bytes : List ℕ) (before it
 
 -- the feed has passed items of which this is the last
 pub gave_last : {X : Type 0} {g : Ghosts X} (codes : List IdCode) (limit lines : ℕ) (bytes : List ℕ) (before items : List BodyItem) (x : BodyItem) (i : Input) (front : List Token) (n : ℕ) (old new : Feed X g) (first last : Regs) (h : GaveItems codes i front before old first)
-    (a : GaveAhead codes limit lines bytes n before (items ++ x ∷ [])) → HasGiven i ((front ++ h.given) ++ a.tokens) new → HasReadTo i ((front ++ h.given) ++ a.tokens) new → AreRegsAfter (before ++ (items ++ x ∷ [])) last → GaveLast codes i front (before ++ items) x new last
+    (a : GaveAhead codes limit lines bytes n before (items ++ x ∷ [])) → HasGiven i ((front ++ h.given) ++ a.tokens) new → ((end : ℕ) (ts : List Token) → ts ≢ [] → Passed limit lines bytes end ts → HasReadTo i ((front ++ h.given) ++ ts) new) → AreRegsAfter (before ++ (items ++ x ∷ [])) last → GaveLast codes i front (before ++ items) x new last
 unfolding gave_passed
 gave_last codes limit lines bytes before items x i front n old new first last h a stands near k =
-    let s = split_phrases a.placed (map BodyPhrase.Gives items) (BodyPhrase.Gives x) (a.item_each ∙ map-append BodyPhrase.Gives items (x ∷ [])) in
+    let l = a.last items x refl in
+    let one : Placed BodyPhrase = record { phrase = BodyPhrase.Gives x; line = l.line } in
     let all = gave_passed codes limit lines bytes before (items ++ x ∷ []) i front n old new first last h a stands k in
     let same = append_assoc before items (x ∷ []) in
     record {
       gave = record { given = all.given; placed = all.placed; stands = all.stands; so_far = all.so_far; items_are = all.items_are ∙ sym same; known = subst (λ (l : List BodyItem). AreRegsAfter l last) (sym same) all.known };
-      before = h.placed ++ s.0;
-      before_are = items_so_far codes limit lines bytes before items h.placed s.0 h.items_are s.3;
-      line = s.1;
-      last = ap (λ l. h.placed ++ l) s.2 ∙ sym (append_assoc h.placed s.0 (record { phrase = BodyPhrase.Gives x; line = s.1 } ∷ []));
-      near = subst (λ (l : List Token). HasReadTo i l new) (append_assoc front h.given a.tokens) near;
+      first = h.given ++ l.first;
+      rest = l.rest;
+      given_are = ap (λ (ts : List Token). h.given ++ ts) l.tokens_are ∙ sym (append_assoc h.given l.first l.rest);
+      before = h.placed ++ l.placed;
+      before_are = items_so_far codes limit lines bytes before items h.placed l.placed h.items_are l.items_are;
+      line = l.line;
+      so_far = subst (λ (ps : List (Placed BodyPhrase)). IsSoFar (body_grammar codes) (h.given ++ l.first) ps []) (sym (append_assoc h.placed l.placed (one ∷ []))) (l.so_far h.given h.placed h.items_are h.so_far);
+      near = subst (λ (ts : List Token). HasReadTo i ts new) (append_assoc front h.given l.first) (near l.end l.first (some_tokens limit lines bytes l.end l.first l.some l.passed) l.passed);
     }
 
 -- ---- the digits of a vector as a number

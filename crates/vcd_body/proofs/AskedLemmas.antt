@@ -30,21 +30,22 @@ use Rattle.vcd_body.specs.declared.item.Regs.{Regs}
 
 -- ---- lists and their last
 
-not_nil : {A B : Type 0} (xs : List A) (x : A) → xs ++ x ∷ [] ≡ [] → B
+pub not_nil : {A B : Type 0} (xs : List A) (x : A) → xs ++ x ∷ [] ≡ [] → B
 not_nil [] x e = cc
 not_nil (y ∷ xs) x e = cc
 
 tail_is : {A : Type 0} (x y : A) (xs ys : List A) → x ∷ xs ≡ y ∷ ys → (x ≡ y) × (xs ≡ ys)
 tail_is x y xs ys e = (cc, cc)
 
--- lists with one more each have the same front
-front_is : {A : Type 0} (xs ys : List A) (x y : A) → xs ++ x ∷ [] ≡ ys ++ y ∷ [] → xs ≡ ys
-front_is [] [] x y e = refl
-front_is [] (b ∷ ys) x y e = not_nil ys y (sym (tail_is x b [] (ys ++ y ∷ []) e).1)
-front_is (a ∷ xs) [] x y e = not_nil xs x (tail_is a y (xs ++ x ∷ []) [] e).1
-front_is (a ∷ xs) (b ∷ ys) x y e =
+-- lists with one more each have the same front and the same last
+pub ends_are : {A : Type 0} (xs ys : List A) (x y : A) → xs ++ x ∷ [] ≡ ys ++ y ∷ [] → (xs ≡ ys) × (x ≡ y)
+ends_are [] [] x y e = (refl, (tail_is x y [] [] e).0)
+ends_are [] (b ∷ ys) x y e = not_nil ys y (sym (tail_is x b [] (ys ++ y ∷ []) e).1)
+ends_are (a ∷ xs) [] x y e = not_nil xs x (tail_is a y (xs ++ x ∷ []) [] e).1
+ends_are (a ∷ xs) (b ∷ ys) x y e =
     let t = tail_is a b (xs ++ x ∷ []) (ys ++ y ∷ []) e in
-    ap (λ c. c ∷ xs) t.0 ∙ ap (λ l. b ∷ l) (front_is xs ys x y t.1)
+    let more = ends_are xs ys x y t.1 in
+    (ap (λ c. c ∷ xs) t.0 ∙ ap (λ l. b ∷ l) more.0, more.1)
 
 pub split_last : {A : Type 0} (xs : List A) → (xs ≡ []) ⊎ ((front : List A) × (last : A) × (xs ≡ front ++ last ∷ []))
 split_last [] = inl refl
@@ -77,22 +78,27 @@ module _ {X : Type 0} {g : Ghosts X} (codes : List IdCode) (i : Input) (front : 
 
   -- and at an item
   pub asked_to_item : (x : BodyItem) (r : Regs) → GaveLast codes i front items x f r → IsRead
-  asked_to_item x r m = by_tokens (split_last m.gave.given)
+  asked_to_item x r m = by_tokens (split_last m.first)
     where
-      by_tokens : (m.gave.given ≡ []) ⊎ ((asked : List Token) × (last : Token) × (m.gave.given ≡ asked ++ last ∷ [])) → ReadsAsNeeded (limit_of f) (chunk_len_of f) before (supply_of f) i front settled
+      by_tokens : (m.first ≡ []) ⊎ ((asked : List Token) × (last : Token) × (m.first ≡ asked ++ last ∷ [])) → ReadsAsNeeded (limit_of f) (chunk_len_of f) before (supply_of f) i front settled
       by_tokens (inl none) =
-          let nothing = sym (subst (λ ts. IsSoFar (body_grammar codes) ts m.gave.placed []) none m.gave.so_far) ∙ so_far-nothing (body_grammar codes) in
-          not_nil m.before (record { phrase = BodyPhrase.Gives x; line = m.line }) (sym m.last ∙ ap (λ r. r.placed) nothing)
+          let one : Placed BodyPhrase = record { phrase = BodyPhrase.Gives x; line = m.line } in
+          let nothing = sym (subst (λ ts. IsSoFar (body_grammar codes) ts (m.before ++ one ∷ []) []) none m.so_far) ∙ so_far-nothing (body_grammar codes) in
+          not_nil m.before one (ap (λ r. r.placed) nothing)
       by_tokens (inr s) =
+          let one : Placed BodyPhrase = record { phrase = BodyPhrase.Gives x; line = m.line } in
           let asked = s.0 in
           let last = s.1 in
-          let so_far = subst (λ ts. IsSoFar (body_grammar codes) ts m.gave.placed []) s.2 m.gave.so_far in
-          let a = without-last (body_grammar codes) asked last m.gave.placed [] so_far in
+          let so_far = subst (λ ts. IsSoFar (body_grammar codes) ts (m.before ++ one ∷ []) []) s.2 m.so_far in
+          let a = without-last (body_grammar codes) asked last (m.before ++ one ∷ []) [] so_far in
           let p = a.last refl in
-          let earlier = front_is a.earlier m.before p.0 _ (sym p.1 ∙ m.last) in
-          let pre : front ++ m.gave.given ≡ front ++ asked ++ last ∷ [] = ap (λ l. front ++ l) s.2 ∙ sym (append_assoc front asked (last ∷ [])) in
-          ToToken asked last (subst (λ ts. IsPrefixOf ts (stream_of (limit_of f) i).tokens) pre m.gave.stands.given_first)
-          (open_still asked (just codes items asked a.earlier a.begun (earlier-so_far (body_grammar codes) asked m.gave.placed [] a) (ap (λ l. items_of (phrases_of l)) earlier ∙ m.before_are)))
+          let earlier = (ends_are a.earlier m.before p.0 one (sym p.1)).0 in
+          let pre : front ++ m.first ≡ front ++ asked ++ last ∷ [] = ap (λ l. front ++ l) s.2 ∙ sym (append_assoc front asked (last ∷ [])) in
+          let all = m.gave.stands.given_first in
+          let begins : IsPrefixOf (front ++ m.first) (stream_of (limit_of f) i).tokens =
+          (m.rest ++ all.0, all.1 ∙ ap (λ l. (front ++ l) ++ all.0) m.given_are ∙ ap (λ l. l ++ all.0) (sym (append_assoc front m.first m.rest)) ∙ append_assoc (front ++ m.first) m.rest all.0) in
+          ToToken asked last (subst (λ ts. IsPrefixOf ts (stream_of (limit_of f) i).tokens) pre begins)
+          (open_still asked (just codes items asked a.earlier a.begun (earlier-so_far (body_grammar codes) asked (m.before ++ one ∷ []) [] a) (ap (λ l. items_of (phrases_of l)) earlier ∙ m.before_are)))
           (subst (λ ts. Near (chunk_len_of f) (supply_of f).rest (end_of_tokens i.bytes (length ts)) i) pre m.near)
 
 -- ---- a run of one input

@@ -16,6 +16,7 @@ use Rattle.vcd_body.specs.declared.item.Regs.{Regs}
 use Rattle.vcd_body.specs.Items.{AreRegsAfter}
 use Rattle.vcd_body.specs.Reads.{GaveItem, GaveItems}
 use Rattle.vcd_body.specs.Ahead.{GaveAhead, GaveLast}
+use Rattle.vcd_body.proofs.AskedLemmas.{not_nil}
 
 -- nothing was given after the header
 pub gave_nothing : {X : Type 0} {g : Ghosts X} (codes : List IdCode) (i : Input) (front : List Token) (f : Feed X g) (r : Regs) → HasGiven i front f → AreRegsAfter [] r → GaveItems codes i front [] f r
@@ -36,12 +37,23 @@ gave_none_ahead codes limit lines bytes before = record {
   tokens = [];
   passed = refl;
   placed = [];
-  item_each = refl;
+  items_are = refl;
   so_far = λ given earlier e s.
       subst (λ (l : List (Placed BodyPhrase)). IsSoFar (body_grammar codes) (given ++ []) l []) (sym (append-nil earlier)) (subst (λ (l : List Token). IsSoFar (body_grammar codes) l earlier []) (sym (append-nil given)) s);
+  last = λ front x e. not_nil front x (sym e);
   few = omega arith;
 }
 
 -- an item that was given is the last one
 pub last_given : {X : Type 0} {g : Ghosts X} (codes : List IdCode) (i : Input) (front : List Token) (items : List BodyItem) (x : BodyItem) (f : Feed X g) (r : Regs) → GaveItem codes i front items x f r → GaveLast codes i front items x f r
-last_given codes i front items x f r m = record { gave = m.gave; before = m.before; before_are = m.before_are; line = (token_of f).line; last = m.last; near = m.near }
+last_given codes i front items x f r m = record {
+  gave = m.gave;
+  first = m.gave.given;
+  rest = [];
+  given_are = sym (append-nil m.gave.given);
+  before = m.before;
+  before_are = m.before_are;
+  line = (token_of f).line;
+  so_far = subst (λ (ps : List (Placed BodyPhrase)). IsSoFar (body_grammar codes) m.gave.given ps []) m.last m.gave.so_far;
+  near = m.near;
+}

@@ -34,6 +34,7 @@ pub mod LeftOut
 pub mod LineLemmas
 pub mod ScalarLemmas
 pub mod SectionLemmas
+pub mod CommentLemmas
 pub mod MarkLine
 pub mod AskedLemmas
 pub mod Results

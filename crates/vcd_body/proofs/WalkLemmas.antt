@@ -7,8 +7,8 @@ use Rattle.vcd_text.specs.Passed.{Passed}
 use Rattle.vcd_text.specs.declared.ahead.Ahead.{Ahead}
 use Rattle.vcd_text.specs.declared.device.WriteFailed.{WriteFailed}
 use Rattle.vcd_view.specs.declared.view.HeadView.{HeadView}
-use Rattle.vcd_body.specs.Ahead.{LooksOver}
-use Rattle.vcd_body.specs.Walk.{Again, Begins, Further, HasCome, IsSamePlace, Stage, TakesOne, Trail, Walks, stage_at}
+use Rattle.vcd_body.specs.Ahead.{LooksOver, PassesNoItem}
+use Rattle.vcd_body.specs.Walk.{Begins, Further, HasCome, Past, Stage, TakesOne, Trail, Walks, stage_at}
 use Rattle.vcd_body.specs.declared.item.Regs.{Regs}
 
 module _ {V C : Type 0} (takes : HeadView → Stage V C → Stage V C → Result (Unit {0}) WriteFailed → Type 0) (stands : V → C → List ℕ → Regs → Type 0) (over : V → Bool) (v : HeadView) where
@@ -31,25 +31,25 @@ module _ {V C : Type 0} (takes : HeadView → Stage V C → Stage V C → Result
         within = n.within;
       }
 
-  -- another look-ahead at the same offset will do
-  pub come_again : (a b : Stage V C) (there : Ahead) → HasCome takes stands over v a b → IsSamePlace b.ahead there → HasCome takes stands over v a (stage_at there b.regs b.visit b.command b.out)
-  come_again a b there come same =
+  -- no item was passed
+  pub come_past : (a b : Stage V C) (there : Ahead) → HasCome takes stands over v a b → PassesNoItem b.ahead there → HasCome takes stands over v a (stage_at there b.regs b.visit b.command b.out)
+  come_past a b there come none =
       let p = come.further in
-      let q = same.0 in
+      let q = none.further in
       record {
-        trail = Again b _ come.trail there same refl;
-        on = subst (λ (bs : List ℕ). stands b.visit b.command bs b.regs) (sym same.1) come.on;
+        trail = Past b _ come.trail there none refl;
+        on = subst (λ (bs : List ℕ). stands b.visit b.command bs b.regs) (sym none.same.0) come.on;
         failures = come.failures;
-        same = same.1 ∙ come.same;
+        same = none.same.0 ∙ come.same;
         further = omega (arith, p, q);
-        within = rw (same.0, same.1) come.within;
+        within = none.within come.within;
       }
 
   module _ (a b : Stage V C) (first : Trail takes stands over v a b) where
     both : (c : Stage V C) → Trail takes stands over v b c → Trail takes stands over v a c
     both c Begins = first
     both _ (Further m c so_far one on) = Further m c (both m so_far) one on
-    both _ (Again m c so_far there same is) = Again m c (both m so_far) there same is
+    both _ (Past m c so_far there none is) = Past m c (both m so_far) there none is
 
   come_further : (a b c : Stage V C) → HasCome takes stands over v a b → HasCome takes stands over v b c → HasCome takes stands over v a c
   come_further a b c come more =
@@ -96,9 +96,10 @@ module _ {V C : Type 0} (takes : HeadView → Stage V C → Stage V C → Result
     along : (z : Stage V C) → Trail takes stands over v a z → PassesTo z
     along z Begins = (looks, ([], rw (append-nil ts) passed))
     along _ (Further b c so_far one on) = one_more b c (Ok tt) one (along b so_far)
-    along _ (Again b c so_far there same is) =
+    along _ (Past b c so_far there none is) =
         let o = along b so_far in
-        rw is ((same.2 ∙ o.0.0, same.1 ∙ o.0.1), (o.1.0, rw same.0 o.1.1))
+        let n = none.passes limit lines bytes (ts ++ o.1.0) o.0 o.1.1 in
+        rw is ((none.same.1 ∙ o.0.0, none.same.0 ∙ o.0.1), (o.1.0 ++ n.0, subst (Passed limit lines bytes (passed_of there)) (append_assoc ts o.1.0 n.0) n.1))
 
     -- whole tokens were passed
     pub walk_passes : (z : Stage V C) (ended : Result Bool WriteFailed) → Walks takes stands over v a z ended → PassesTo z

@@ -1,5 +1,5 @@
 -- Items that are taken ahead of the feed, and what they leave once it has passed them.
-use Rattle.std.specs.Prelude.{◌≡◌, ℕ, ◌≤◌, drop, slice_get, List, [], ◌∷◌, ◌++◌, length, map, Option, Some, None, IfSome}
+use Rattle.std.specs.Prelude.{◌≡◌, ℕ, ◌<◌, ◌≤◌, drop, slice_get, List, [], ◌∷◌, ◌++◌, length, Option, Some, None, IfSome}
 use Rattle.vcd_model.specs.Input.{Input}
 use Rattle.vcd_model.specs.Tokens.{Token}
 use Rattle.vcd_model.specs.Declarations.{IdCode}
@@ -9,7 +9,7 @@ use Rattle.vcd_model.specs.BodyChecks.{body_fault}
 use Rattle.vcd_model.specs.BodyReading.{body_grammar}
 use Rattle.vcd_model.specs.Reading.{Placed, phrases_of}
 use Rattle.vcd_model.specs.SoFar.{IsSoFar}
-use Rattle.vcd_text.specs.Ahead.{ahead_of, bytes_of, lines_of, longest_of}
+use Rattle.vcd_text.specs.Ahead.{ahead_of, bytes_of, lines_of, longest_of, passed_of}
 use Rattle.vcd_text.specs.Passed.{Passed}
 use Rattle.vcd_text.specs.declared.ahead.Ahead.{Ahead}
 use Rattle.vcd_text.specs.Feed.{HasReadTo, limit_of}
@@ -57,26 +57,58 @@ pub record PassBoth (codes : List IdCode) (earlier : List BodyPhrase) (first sec
 abbrev pub GivesBoth : List IdCode → ChangeForm → List ℕ → List ℕ → Found → Type 0
 GivesBoth codes form first second found = (c : IdCode) × (slice_get codes found.position ≡ Some c) × ((earlier : List BodyPhrase) → PassBoth codes earlier first second (BodyItem.Changes (record { code = c; form = form; text = drop 1 first })))
 
--- The first n bytes ahead are whole phrases, each with one of these items, if the items before them
--- are these. Whatever was given with those, the reading continues with these.
+-- whatever phrases with the items before come first, the reading continues with these tokens, as
+-- these phrases
+abbrev pub ReadsOn : List IdCode → List BodyItem → List Token → List (Placed BodyPhrase) → Type 0
+ReadsOn codes before tokens placed = (given : List Token) (earlier : List (Placed BodyPhrase)) → items_of (phrases_of earlier) ≡ before → IsSoFar (body_grammar codes) given earlier [] → IsSoFar (body_grammar codes) (given ++ tokens) (earlier ++ placed) []
+
+-- After these items one more lies ahead: its phrase ends with the last of the first of these tokens.
+pub record EndsAhead (codes : List IdCode) (limit lines : ℕ) (bytes : List ℕ) (before items : List BodyItem) (x : BodyItem) (tokens : List Token) : Type 0 where
+  pub end : ℕ
+  pub some : 0 < end
+  pub first : List Token
+  pub rest : List Token
+  pub tokens_are : tokens ≡ first ++ rest
+  pub passed : Passed limit lines bytes end first
+  pub placed : List (Placed BodyPhrase)
+  pub items_are : items_of (phrases_of placed) ≡ items
+  pub line : ℕ
+  pub so_far : ReadsOn codes before first (placed ++ record { phrase = BodyPhrase.Gives x; line = line } ∷ [])
+
+-- The first n bytes ahead are whole phrases with these items, if the items before them are these:
+-- each phrase gives an item or is a comment. Whatever was given with those, the reading continues
+-- with these.
 pub record GaveAhead (codes : List IdCode) (limit lines : ℕ) (bytes : List ℕ) (n : ℕ) (before items : List BodyItem) : Type 0 where
   pub tokens : List Token
   pub passed : Passed limit lines bytes n tokens
   pub placed : List (Placed BodyPhrase)
-  pub item_each : phrases_of placed ≡ map BodyPhrase.Gives items
-  pub so_far : (given : List Token) (earlier : List (Placed BodyPhrase)) → items_of (phrases_of earlier) ≡ before → IsSoFar (body_grammar codes) given earlier [] → IsSoFar (body_grammar codes) (given ++ tokens) (earlier ++ placed) []
+  pub items_are : items_of (phrases_of placed) ≡ items
+  pub so_far : ReadsOn codes before tokens placed
+  -- where the last item ends, after which only comments come
+  pub last : (front : List BodyItem) (x : BodyItem) → items ≡ front ++ x ∷ [] → EndsAhead codes limit lines bytes before front x tokens
   -- there are no more of them than bytes
   pub few : length items ≤ n
 
--- After these items one more was given; its phrase ends with the last token given, and at most a
--- chunk was read past that.
+-- No item was passed, from one position ahead to another: comments, or nothing.
+pub record PassesNoItem (a a' : Ahead) : Type 0 where
+  pub gives : (codes : List IdCode) (limit lines : ℕ) (bytes : List ℕ) (before items : List BodyItem) → LooksOver limit bytes a → GaveAhead codes limit lines bytes (passed_of a) before items → GaveAhead codes limit lines bytes (passed_of a') before items
+  pub passes : (limit lines : ℕ) (bytes : List ℕ) (ts : List Token) → LooksOver limit bytes a → Passed limit lines bytes (passed_of a) ts → (more : List Token) × Passed limit lines bytes (passed_of a') (ts ++ more)
+  pub further : passed_of a ≤ passed_of a'
+  pub within : passed_of a ≤ length (bytes_of a) → passed_of a' ≤ length (bytes_of a')
+  pub same : (bytes_of a' ≡ bytes_of a) × (longest_of a' ≡ longest_of a)
+
+-- After these items one more was given; its phrase ends with the last of these first tokens, and at
+-- most a chunk was read past that. Only comments were given after it.
 pub record GaveLast {X : Type 0} {g : Ghosts X} (codes : List IdCode) (i : Input) (front : List Token) (items : List BodyItem) (x : BodyItem) (f : Feed X g) (r : Regs) : Type 0 where
   pub gave : GaveItems codes i front (items ++ x ∷ []) f r
+  pub first : List Token
+  pub rest : List Token
+  pub given_are : gave.given ≡ first ++ rest
   pub before : List (Placed BodyPhrase)
   pub before_are : items_of (phrases_of before) ≡ items
   pub line : ℕ
-  pub last : gave.placed ≡ before ++ record { phrase = BodyPhrase.Gives x; line = line } ∷ []
-  pub near : HasReadTo i (front ++ gave.given) f
+  pub so_far : IsSoFar (body_grammar codes) first (before ++ record { phrase = BodyPhrase.Gives x; line = line } ∷ []) []
+  pub near : HasReadTo i (front ++ first) f
 
 -- Whatever items were given before, those that the next n bytes are were given after them.
 abbrev pub GivesAhead : {X : Type 0} {g : Ghosts X} → ℕ → (old new : Feed X g) → Type 0
@@ -87,3 +119,7 @@ GivesAhead n old new = (codes : List IdCode) (i : Input) (front : List Token) (b
 abbrev pub GivesToLast : {X : Type 0} {g : Ghosts X} → ℕ → (old new : Feed X g) → Type 0
 GivesToLast n old new = (codes : List IdCode) (i : Input) (front : List Token) (before items : List BodyItem) (x : BodyItem) (first last : Regs) → GaveItems codes i front before old first → GaveAhead codes (limit_of old) (lines_of old) (ahead_of old) n before (items ++ x ∷ []) → AreRegsAfter (before ++ (items ++ x ∷ [])) last
     → GaveLast codes i front (before ++ items) x new last
+
+-- Comments were given, and no item.
+abbrev pub GivesNoItem : {X : Type 0} {g : Ghosts X} → (old new : Feed X g) → Type 0
+GivesNoItem old new = (codes : List IdCode) (i : Input) (front : List Token) (items : List BodyItem) (r : Regs) → GaveItems codes i front items old r → GaveItems codes i front items new r

@@ -29,7 +29,7 @@ pub use Rattle.vcd_view.specs.Finds.{IsSized}
 pub use Rattle.vcd_view.specs.Views.{IsViewOf}
 pub use Rattle.vcd_view.specs.declared.view.Code.{Code}
 pub use Rattle.vcd_view.specs.declared.view.HeadView.{HeadView}
-pub use Rattle.vcd_body.specs.Ahead.{GivesAhead, GivesToLast, HasBits, IsSizedItem}
+pub use Rattle.vcd_body.specs.Ahead.{GivesAhead, GivesNoItem, GivesToLast, HasBits, IsSizedItem, PassesNoItem}
 pub use Rattle.vcd_body.specs.Answer.{stop_of_body}
 pub use Rattle.vcd_body.specs.Binary.{binary_digits, bit_of, is_proper}
 pub use Rattle.vcd_body.specs.Calls.{EndsUnread, HasGoodValue, NeedsOneToken, OpensOrRefuses, ReadsCode, ReadsCommand, ReadsComment, ReadsInner, ReadsItem, ReadsTimestamp, ReadsOne, ReadsRest, ReadsToken, RefusesIn, TakesToken}

@@ -1,10 +1,11 @@
 -- How far a walk over the items ahead has come, for any task.
 use Rattle.std.specs.Prelude.{◌≡◌, ℕ, ◌≤◌, Bool, true, false, List, length, Option, MatchOption, Result, Ok, Err, IfOk}
-use Rattle.vcd_text.specs.Ahead.{bytes_of, longest_of, passed_of}
+use Rattle.vcd_text.specs.Ahead.{bytes_of, passed_of}
 use Rattle.vcd_text.specs.Device.{Counts, Device}
 use Rattle.vcd_text.specs.declared.ahead.Ahead.{Ahead}
 use Rattle.vcd_text.specs.declared.device.WriteFailed.{WriteFailed}
 use Rattle.vcd_view.specs.declared.view.HeadView.{HeadView}
+use Rattle.vcd_body.specs.Ahead.{PassesNoItem}
 use Rattle.vcd_body.specs.Taken.{TakesItem}
 use Rattle.vcd_body.specs.declared.ahead.ScannedItem.{ScannedItem}
 use Rattle.vcd_body.specs.declared.item.Regs.{Regs}
@@ -20,10 +21,6 @@ pub record Stage (V C : Type 0) : Type 0 where
 
 abbrev pub stage_at : {V C : Type 0} → Ahead → Regs → V → C → Device → Stage V C
 stage_at a r visit command out = record { ahead = a; regs = r; visit = visit; command = command; out = out }
-
--- a look-ahead at the same position
-abbrev pub IsSamePlace : Ahead → Ahead → Type 0
-IsSamePlace a a' = (passed_of a' ≡ passed_of a) × (bytes_of a' ≡ bytes_of a) × (longest_of a' ≡ longest_of a)
 
 -- a result, without what it gives
 abbrev pub as_done : {A E : Type 0} → Result A E → Result (Unit {0}) E
@@ -58,11 +55,12 @@ module _ {V C : Type 0} (takes : HeadView → Stage V C → Stage V C → Result
   MayTakeTimestamp v s s' result = MatchOption result ((out : Device) → s' out ≡ s out) (λ _. (out : Device) → TakesOne v (s out) (s' out) (Ok tt))
 
   module _ (over : V → Bool) (v : HeadView) where
-    -- items were taken one after the other, and the visit was not over after any of them
+    -- items were taken one after the other, and the visit was not over after any of them; between
+    -- two of them only comments were passed
     pub data Trail (a : Stage V C) : Stage V C → Type 0 where
       Begins : Trail a a
       Further : (b c : Stage V C) (so_far : Trail a b) (one : TakesOne v b c (Ok tt)) (on : over c.visit ≡ false) → Trail a c
-      Again : (b c : Stage V C) (so_far : Trail a b) (there : Ahead) (same : IsSamePlace b.ahead there) (is : c ≡ stage_at there b.regs b.visit b.command b.out) → Trail a c
+      Past : (b c : Stage V C) (so_far : Trail a b) (there : Ahead) (none : PassesNoItem b.ahead there) (is : c ≡ stage_at there b.regs b.visit b.command b.out) → Trail a c
 
     -- how far it has come from where it began; it can continue
     pub record HasCome (a z : Stage V C) : Type 0 where

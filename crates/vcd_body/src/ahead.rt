@@ -1,6 +1,6 @@
 // Items whose tokens are whole ahead in the chunk: most cost no change of the feed.
 ghost use Rattle.std.specs.Prelude.{◌≡◌, ◌⊎◌, ℕ, ◌+◌, ◌-◌, ◌^◌, ◌<◌, ◌≤◌, List, [], drop, length, slice_range, false, true, is_some, None, Some, IfOk, IfSome};
-ghost use Rattle.vcd_body.specs.Names.{Advances, AreBinaryIf, Begins, CallEnd, GivesAhead, GivesToLast, HasTimestamp, HasTime, HoldsItem, IsChangeBy, IsFound, IsFoundScalar, IsPrompt, IsRun, IsScalar, IsSection, LeavesRegs, MayBe, Opens, OpensVector, Passed, Puts, TakesItem, TakesOpened, TakesOpenedAfter, Token, ahead_of, binary_digits, bytes_of, limit_of, lines_of, longest_of, passed_of, seen, source_of};
+ghost use Rattle.vcd_body.specs.Names.{Advances, AreBinaryIf, Begins, CallEnd, GivesAhead, GivesNoItem, GivesToLast, HasTimestamp, HasTime, HoldsItem, IsChangeBy, IsFound, IsFoundScalar, IsPrompt, IsRun, IsScalar, IsSection, LeavesRegs, MayBe, Opens, OpensVector, Passed, PassesNoItem, Puts, TakesItem, TakesOpened, TakesOpenedAfter, Token, ahead_of, binary_digits, bytes_of, limit_of, lines_of, longest_of, passed_of, seen, source_of};
 ghost use Rattle.vcd_body.specs.declared.item.Form.TheVariants as form;
 ghost use Rattle.vcd_body.specs.declared.item.Item.TheVariants as item;
 ghost use Rattle.vcd_body.specs.declared.words.PhraseKind.TheVariants as kind;
@@ -10,7 +10,7 @@ use crate::item::{Form, Item, Regs};
 use crate::phrases::{has_room, real_text, scalar_code, vector_text};
 use crate::words::{
     KeywordUse, PhraseKind, after_first, are_binary_or_known, bits_at, command_of, first_byte_of,
-    is_comment, kind_by, kind_of, rest_of,
+    is_comment, is_end, kind_by, kind_of, rest_of,
 };
 use vcd_text::{Ahead, Feed, Sink, Source, WriteFailed, decimal_at};
 use vcd_view::{Found, HeadView, find_in_own_entry, find_sized};
@@ -56,23 +56,24 @@ impl ScannedItem<'_> {
     }
 }
 
-/// Returns a change of the code that was found, whose digits are not known as a number.
-#[inline(always)]
-fn change_of(
-    found: Found,
-    form: Form,
-    text: &[u8],
+/// Where a change lies in the bytes that are looked over, as in `ScannedItem`.
+#[derive(Clone, Copy)]
+struct Places {
     begin: usize,
     at: usize,
     code_at: usize,
-) -> ScannedItem<'_>
+}
+
+/// Returns a change of the code that was found, whose digits are not known as a number.
+#[inline(always)]
+fn change_of(found: Found, form: Form, text: &[u8], places: Places) -> ScannedItem<'_>
     ensures { result ≡ record {
       item = item.Change found.position form;
       text = text.entry;
       size_or_zero = found.size_or_zero;
-      begin = begin;
-      at = at;
-      code_at = code_at;
+      begin = places.begin;
+      at = places.at;
+      code_at = places.code_at;
       bits = None;
       binary = false;
     } }
@@ -84,9 +85,9 @@ fn change_of(
         },
         text,
         size_or_zero: found.size_or_zero,
-        begin,
-        at,
-        code_at,
+        begin: places.begin,
+        at: places.at,
+        code_at: places.code_at,
         bits: None,
         binary: false,
     }
@@ -236,7 +237,12 @@ pub(crate) fn scalar_ahead<'a>(
     let found = scalar_code(token, view).ok()?;
     let text = first_byte_of(token);
     let at = begin_of(token, ahead);
-    Some(change_of(found, Form::Scalar, text, at, at, at + 1))
+    let places = Places {
+        begin: at,
+        at,
+        code_at: at + 1,
+    };
+    Some(change_of(found, Form::Scalar, text, places))
 }
 
 /// Returns the code after a digit. `None` if a look at one entry does not find it.
@@ -274,7 +280,12 @@ pub(crate) fn short_ahead<'a>(ahead: &mut Ahead<'a>, view: HeadView<'_>) -> Opti
     let text = first_byte_of(token);
     let at = begin_of(token, next);
     *ahead = next;
-    Some(change_of(found, Form::Scalar, text, at, at, at + 1))
+    let places = Places {
+        begin: at,
+        at,
+        code_at: at + 1,
+    };
+    Some(change_of(found, Form::Scalar, text, places))
 }
 
 /// Returns whether two lines of two bytes come next: the start of a run for `short_ahead`.
@@ -393,17 +404,15 @@ pub(crate) fn vector_ahead<'a>(
     let digits = after_first(tokens.token);
     let binary = are_binary_or_known(digits, bits);
     let found = vector_code(tokens.token, tokens.code, view, binary)?;
+    let places = Places {
+        begin: tokens.at,
+        at: tokens.at + 1,
+        code_at: tokens.code_at,
+    };
     Some(ScannedItem {
         bits,
         binary,
-        ..change_of(
-            found,
-            Form::Vector,
-            digits,
-            tokens.at,
-            tokens.at + 1,
-            tokens.code_at,
-        )
+        ..change_of(found, Form::Vector, digits, places)
     })
 }
 
@@ -427,7 +436,12 @@ pub(crate) fn real_ahead<'a>(
     let found = real_code(token, code, view)?;
     let code_at = begin_of(code, *ahead);
     let text = rest_of(token);
-    Some(change_of(found, Form::RealText, text, at, at + 1, code_at))
+    let places = Places {
+        begin: at,
+        at: at + 1,
+        code_at,
+    };
+    Some(change_of(found, Form::RealText, text, places))
 }
 
 /// Returns the time of the timestamp that a token is; `None` if it spells none. `ahead` is after
@@ -504,6 +518,52 @@ pub(crate) fn section_ahead<'a>(
         }
         KeywordUse::Comment | KeywordUse::OfHeader => None,
     }
+}
+
+/// Returns the position after a comment that lies completely ahead, up to its `$end`. `None` if no
+/// comment comes next, or if the look-ahead gives none of its tokens.
+#[inline(always)]
+fn comment_ahead<'a>(ahead: Ahead<'a>) -> Option<Ahead<'a>>
+    ensures passes { IfSome result (λ past. PassesNoItem ahead.entry past) }
+    ensures further { IfSome result (λ past. passed_of ahead.entry < passed_of past) }
+{
+    let mut next = ahead;
+    let token = next.next()?;
+    if !is_comment(token) {
+        return None;
+    }
+    'words: loop {
+        let word = next.next()?;
+        if is_end(word) {
+            return Some(next);
+        }
+    }
+}
+
+/// Returns the position after the comments that come next and lie completely ahead: `ahead` itself
+/// if there are none.
+// Not inlined, and takes a copy, so that the walk keeps its position in registers.
+#[inline(never)]
+pub(crate) fn after_comments<'a>(ahead: Ahead<'a>) -> Ahead<'a>
+    requires { passed_of ahead ≤ length (bytes_of ahead) }
+    ensures { PassesNoItem ahead.entry result }
+{
+    let mut next = ahead;
+    'comments: while let Some(past) = comment_ahead(next) {
+        next = past;
+    }
+    next
+}
+
+/// Passes the comments that come next and lie completely in the chunk. It reads nothing.
+pub(crate) fn pass_comments<S: Source>(feed: &mut Feed<'_, '_, '_, '_, S>)
+    ensures gives { GivesNoItem feed.old feed.new }
+    ensures advances { Advances S.failures feed.old feed.new CallEnd.GoesOn }
+    ensures bounded { seen feed.new < 2 ^ 63 }
+{
+    let past = after_comments(feed.ahead());
+    let bytes = past.passed();
+    pass_items(feed, bytes);
 }
 
 /// Moves the feed past the items that were taken ahead, which have `bytes` bytes. It reads nothing.

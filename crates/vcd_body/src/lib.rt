@@ -5,8 +5,8 @@
 //! of the change that was read last, and `put_change` writes a change as its line.
 //!
 //! Most items are timestamps and changes that lie completely in the chunk. `walk_ahead` takes these
-//! one after the other, and leaves the feed where it is; `pass_items` moves the feed past all of
-//! them. A `Visit` says what is done with each, which timestamps are left, and when the walk is
+//! one after the other, passes the comments between them, and leaves the feed where it is;
+//! `pass_items` moves the feed past all of them. A `Visit` says what is done with each, which timestamps are left, and when the walk is
 //! over. `pass_on` is for a caller that reads on: before a read may wait, a sink passes on what it
 //! keeps back.
 //!
@@ -33,8 +33,8 @@
 //! `GaveLast`, which says how much was read.
 //!
 //! `Walks takes stands over shows begin end ended` is what `walk_ahead` leaves: a trail of items
-//! from where it began (`Trail`), at each of which the visit did what its `takes` says, and how it
-//! ended. Callers turn the trail into a relation of their own.
+//! from where it began (`Trail`), at each of which the visit did what its `takes` says, with only
+//! comments between them, and how it ended. Callers turn the trail into a relation of their own.
 //!
 //! `HasSpelled view bytes from to text item` says by which bytes a change that was taken ahead is
 //! spelled: those that were passed with it, or those from its first byte on (`ScannedItem.begin`).

@@ -2,6 +2,7 @@
 ghost use Rattle.std.specs.Prelude.{◌≡◌, ◌≢◌, ◌-◌, ◌^◌, ◌<◌, ◌≤◌, List, OnOk, IfOk, Some, false};
 ghost use Rattle.vcd_body.specs.Names.{Advances, AreRegsPast, AreRegsWith, Begins, Code, EndsUnread, HoldsItem, IsGoodChange, IsGoodPhrase, ReadsCommand, ReadsItem, ReadsOne, ahead_of, call_end, is_comment, limit_of, seen, source_of, text_of, token_of};
 
+use crate::ahead::pass_comments;
 use crate::fault::BodyFault;
 use crate::item::{Form, Item, Regs};
 use crate::phrases::{read_real, read_timestamp, read_vector, scalar_code, skip_comment};
@@ -123,6 +124,7 @@ pub fn next_item<S: Source>(
         if let Some(item) = read_phrase(feed, view, regs)? {
             return Ok(item);
         }
+        pass_comments(feed);
     }
 }
 

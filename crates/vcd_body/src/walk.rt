@@ -14,9 +14,9 @@ ghost use Rattle.vcd_body.specs.declared.item.Regs.{Regs};
 ghost use Rattle.vcd_body.specs.declared.words.PhraseKind.TheVariants as kind;
 
 use crate::ahead::{
-    Opening, ScannedItem, VectorTokens, line_timestamp, opening_ahead, real_ahead, scalar_ahead,
-    section_ahead, short_ahead, time_ahead, timestamp_ahead, two_short_lines_come, vector_ahead,
-    vector_bits, vector_tokens_ahead,
+    Opening, ScannedItem, VectorTokens, after_comments, line_timestamp, opening_ahead, real_ahead,
+    scalar_ahead, section_ahead, short_ahead, time_ahead, timestamp_ahead, two_short_lines_come,
+    vector_ahead, vector_bits, vector_tokens_ahead,
 };
 use crate::item::Regs;
 use crate::words::PhraseKind;
@@ -175,7 +175,7 @@ impl<'a, V> Walked<'a, V> {
     }
 }
 
-/// Takes a change that was found ahead, and returns that it was no timestamp.
+/// Takes a change that was found ahead, and returns false, since it was a change.
 #[inline(always)]
 fn take_change<C, V: Visit<C>, W: Sink>(
     command: &mut C,
@@ -231,7 +231,7 @@ fn take_timestamp<'a, C, V: Visit<C>>(
 }
 
 /// Takes the begin or the end of a section whose token is that of `opening`, from `ahead` up to
-/// `to`, and returns that it was no change. `None` if the token is neither, if it may not come
+/// `to`, and returns true, since it was no change. `None` if the token is neither, if it may not come
 /// here, or if the visit leaves it; then nothing has changed.
 #[inline(always)]
 fn take_section<'a, C, V: Visit<C>, W: Sink>(
@@ -264,8 +264,8 @@ fn take_section<'a, C, V: Visit<C>, W: Sink>(
     }
 }
 
-/// Takes the change that the tokens of a vector are, which lies at `extent`, and returns that it
-/// was no timestamp. `None` if they are no such change; then nothing has changed.
+/// Takes the change that the tokens of a vector are, which lies at `extent`, and returns false,
+/// since it was a change. `None` if they are no such change; then nothing has changed.
 // The arm for digits of a known number takes 5 % off `merge` of 27,505 codes, and adds 6 % to
 // `check`.
 #[inline(always)]
@@ -297,8 +297,8 @@ fn take_vector<C, V: Visit<C>, W: Sink>(
     }
 }
 
-/// Takes the next item that lies ahead, and returns whether it was a timestamp, or the begin or the
-/// end of a section. `None` if it takes none; then nothing has changed.
+/// Takes the next item that lies ahead, and returns whether it was no change. `None` if it takes
+/// none; then nothing has changed.
 // What begins the item is asked once. Each arm is inlined: otherwise `check` takes nearly three
 // times as many instructions.
 #[inline(always)]
@@ -348,7 +348,7 @@ fn take_next<C, V: Visit<C>, W: Sink>(
 }
 
 /// Takes the next item that lies ahead, if it is a change by `0` or `1` with a code of one byte on
-/// a line of its own, and returns that it was no timestamp. Otherwise `None`, and nothing has
+/// a line of its own, and returns false, since it was a change. Otherwise `None`, and nothing has
 /// changed.
 #[inline(always)]
 fn take_short<C, V: Visit<C>, W: Sink>(
@@ -494,7 +494,8 @@ fn take_first_lines<'a, C, V: Visit<C>, W: Sink>(
 }
 
 /// Takes the items that lie ahead, one after the other, as long as the visit is not over: the first
-/// one in any case. An item that it leaves ends the walk, and so does a failed write.
+/// one in any case. It passes comments, of which the visit learns nothing. An item that it leaves
+/// ends the walk, and so does a failed write.
 // Registers, offset and visit come and go by value, so that the loop keeps them out of memory: in a
 // struct that is kept there they cost `check` of scalars 11 %. In each arm of an item the compiler
 // knows whether it was a change.
@@ -523,16 +524,21 @@ pub fn walk_ahead<'a, C, V: Visit<C>, W: Sink>(
     let mut visit = lines.visit;
     'items: loop {
         let Some(taken) = take_next(command, &mut visit, view, &mut regs, &mut ahead, out) else {
-            return Walked::until(ahead, regs, visit, Ok(false));
+            let past = after_comments(ahead);
+            if past.passed() == ahead.passed() {
+                return Walked::until(ahead, regs, visit, Ok(false));
+            }
+            ahead = past;
+            continue 'items;
         };
-        let was_timestamp = match taken {
-            Ok(was_timestamp) => was_timestamp,
+        let was_no_change = match taken {
+            Ok(was_no_change) => was_no_change,
             Err(failed) => return Walked::until(ahead, regs, visit, Err(failed)),
         };
         if visit.is_over() {
             return Walked::until(ahead, regs, visit, Ok(true));
         }
-        if was_timestamp && two_short_lines_come(ahead) {
+        if was_no_change && two_short_lines_come(ahead) {
             let more = take_lines(command, visit, view, regs, ahead, out);
             if !more.can_go_on() {
                 return more;

@@ -341,8 +341,9 @@ const COMMENT: &[u8] =
 
 // Bodies, the items that are taken ahead, and the next one. A vector that is wider than its code is
 // left to the reader that names the fault, and so are the begin of a section inside another one,
-// the end of none, and a real number without digits.
-const TAKEN: [(&[u8], &str); 5] = [
+// the end of none, and a real number without digits. Comments are passed, except one that does not
+// end in the chunk before its last 64 bytes.
+const TAKEN: [(&[u8], &str); 7] = [
     (
         b"#0\n1!\nb101 \"\n#05 Z! bx \"\n#4\n",
         "#0 0:Scalar:1 1:Vector:101 #5 0:Scalar:Z 1:Vector:x then fault 14 at 11",
@@ -360,6 +361,12 @@ const TAKEN: [(&[u8], &str); 5] = [
             1:RealText:1234567890123456789012345678901234567890123456789012345678901234 \
             then fault 15 at 12",
     ),
+    (
+        b"$comment $end\n#0\n$dumpvars\n1!\n$comment 0! $END #9 $end\nb1 \"\n$end $comment a $end\n\
+            $comment b $end #5\n$comment $end 0!\n",
+        "#0 Vars 0:Scalar:1 1:Vector:1 End #5 0:Scalar:0 then Finish",
+    ),
+    (b"$comment a $end\n$comment b $end\n", "then Finish"),
 ];
 
 #[test]

@@ -3,14 +3,16 @@ use Rattle.std.proofs.Common.{◌≡◌, ◌∙◌, ℕ, Bool, true, false, cond
 use Rattle.vcd_model.specs.Declarations.{IdCode}
 use Rattle.vcd_model.specs.Header.{Header}
 use Rattle.vcd_model.specs.Items.{BodyItem, time_after}
+use Rattle.vcd_model.specs.Tokens.{Token}
 use Rattle.vcd_text.specs.Ahead.{bytes_of, longest_of, passed_of}
 use Rattle.vcd_text.specs.Passed.{Passed}
+use Rattle.vcd_text.specs.declared.ahead.Ahead.{Ahead}
 use Rattle.vcd_text.specs.declared.device.WriteFailed.{WriteFailed}
 use Rattle.vcd_view.specs.Views.{IsViewOf}
 use Rattle.vcd_view.specs.declared.view.HeadView.{HeadView}
-use Rattle.vcd_body.specs.Ahead.{GaveAhead, LooksOver}
+use Rattle.vcd_body.specs.Ahead.{GaveAhead, LooksOver, PassesNoItem}
 use Rattle.vcd_body.specs.Items.{AreRegsAfter}
-use Rattle.vcd_body.specs.Walk.{Again, Begins, Further, Trail, Walks}
+use Rattle.vcd_body.specs.Walk.{Begins, Further, Past, Trail, Walks, stage_at}
 use Rattle.vcd_body.specs.declared.item.Regs.{Regs}
 use Rattle.vcd_body.proofs.CallerLemmas.{gave_none_ahead}
 use Rattle.vcd_changes.specs.Rows.{row_added}
@@ -84,6 +86,34 @@ module _ (v : HeadView) (stands : Collecting → Rows → List ℕ → Regs → 
       adds = adds_row e;
     }
 
+  -- no item was passed, so that all bytes up to there are passed unless the rows are full
+  at_past : (b : RowStage) (there : Ahead) (passes : ℕ → Type 0) → (passes (passed_of b.ahead) → passes (passed_of there)) → passes (passed_at b) → passes (passed_with there b.visit)
+  at_past b there passes on = by_full (is_full b.visit)
+    where
+      by_full : (full : Bool) → passes (cond full b.visit.end (passed_of b.ahead)) → passes (cond full b.visit.end (passed_of there))
+      by_full true p = p
+      by_full false p = on p
+
+  came_past : (b : RowStage) (there : Ahead) → Came v s b → PassesNoItem b.ahead there → Came v s (stage_at there b.regs b.visit b.command b.out)
+  came_past b there came none = record {
+    over = (none.same.1 ∙ came.over.0, none.same.0 ∙ came.over.1);
+    same = record { index = came.same.index; loan = came.same.loan };
+    room = came.room;
+    passed = λ lines.
+        at_past b there (λ n. (ts : List Token) × Passed (longest_of s.ahead) lines (bytes_of s.ahead) n ts)
+        (λ p. let q = none.passes (longest_of s.ahead) lines (bytes_of s.ahead) p.0 came.over p.1 in (p.0 ++ q.0, q.1))
+        (came.passed lines);
+    adds = λ h lines items code views known at.
+        let a = came.adds h lines items code views known at in record {
+          more = a.more;
+          added = a.added;
+          gave = at_past b there (λ n. GaveAhead h.codes (longest_of s.ahead) lines (bytes_of s.ahead) n items a.more) (none.gives h.codes (longest_of s.ahead) lines (bytes_of s.ahead) items a.more came.over) a.gave;
+          known = a.known;
+          rows_are = a.rows_are;
+          filled_are = a.filled_are;
+        };
+  }
+
   module _ (new : passed_of s.ahead ≡ 0) (room : is_full s.visit ≡ false) (most : HasRoom s.visit s.command) where
     begins : Came v s s
     begins =
@@ -105,24 +135,7 @@ module _ (v : HeadView) (stands : Collecting → Rows → List ℕ → Regs → 
     along : (z : RowStage) → Trail TakesRow stands (λ _. false) v s z → Came v s z
     along z Begins = begins
     along _ (Further b c so_far one on) = came_on b c (along b so_far) one.did (is_full b.visit) refl
-    along _ (Again b c so_far there same is) =
-        let so = along b so_far in
-        let here : passed_at b ≡ passed_with there b.visit = ap (λ (k : ℕ). cond (is_full b.visit) b.visit.end k) (sym same.0) in
-        rw is (record {
-          over = (same.2 ∙ so.over.0, same.1 ∙ so.over.1);
-          same = record { index = so.same.index; loan = so.same.loan };
-          room = so.room;
-          passed = λ lines. let p = so.passed lines in (p.0, subst (λ (k : ℕ). Passed (longest_of s.ahead) lines (bytes_of s.ahead) k p.0) here p.1);
-          adds = λ h lines items code views known at.
-              let a = so.adds h lines items code views known at in record {
-                more = a.more;
-                added = a.added;
-                gave = subst (λ (k : ℕ). GaveAhead h.codes (longest_of s.ahead) lines (bytes_of s.ahead) k items a.more) here a.gave;
-                known = a.known;
-                rows_are = a.rows_are;
-                filled_are = a.filled_are;
-              };
-        })
+    along _ (Past b c so_far there none is) = rw is (came_past b there (along b so_far) none)
 
     -- no write fails, and no walk is over
     pub walk_came : (z : RowStage) (ended : Result Bool WriteFailed) → Walks TakesRow stands (λ _. false) v s z ended → Came v s z

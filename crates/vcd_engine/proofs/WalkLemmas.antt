@@ -9,7 +9,8 @@ use Rattle.vcd_text.proofs.Writes.{counts-on}
 use Rattle.vcd_text.specs.declared.ahead.Ahead.{Ahead}
 use Rattle.vcd_text.specs.declared.device.WriteFailed.{WriteFailed}
 use Rattle.vcd_view.specs.declared.view.HeadView.{HeadView}
-use Rattle.vcd_body.specs.Walk.{Again, Begins, Further, Stage, Trail, Walks}
+use Rattle.vcd_body.specs.Ahead.{PassesNoItem}
+use Rattle.vcd_body.specs.Walk.{Begins, Further, Past, Stage, Trail, Walks}
 use Rattle.vcd_body.specs.declared.item.Regs.{Regs}
 use Rattle.vcd_body.proofs.WalkLemmas.{walk_passes}
 use Rattle.vcd_engine.specs.Ahead.{RunsOver}
@@ -42,16 +43,19 @@ walk_begins v a r m out line p within unknown part none = record {
 }
 
 module _ (v : HeadView) (a : Ahead) (r : Regs) (m : TaskState) (begin : Device) (w : Walk) (p : PendingCopy) (out : Device) (m' : TaskState) (walked : HasWalked v a r m begin w p out m') where
-  -- another look-ahead at the same offset will do
-  pub walk_same : (a' : Ahead) → (passed_of a' ≡ passed_of w.ahead) × (bytes_of a' ≡ bytes_of w.ahead) × (longest_of a' ≡ longest_of w.ahead) → HasWalked v a r m begin (walk_at a' w.regs w.line) p out m'
-  walk_same a' same = record {
-    over = (same.2 ∙ walked.over.0, same.1 ∙ walked.over.1);
-    within = rw (same.0, same.1) walked.within;
+  -- no item was passed
+  pub walk_past : (there : Ahead) → PassesNoItem w.ahead there → HasWalked v a r m begin (walk_at there w.regs w.line) p out m'
+  walk_past there none = record {
+    over = (none.same.1 ∙ walked.over.0, none.same.0 ∙ walked.over.1);
+    within = none.within walked.within;
     failures = walked.failures;
     same = walked.same;
-    part = rw same.1 walked.part;
-    line = rw same.1 walked.line;
-    stands = rw same.0 walked.stands;
+    part = rw none.same.0 walked.part;
+    line = rw none.same.0 walked.line;
+    stands = λ h lines before views few s.
+        let all = walked.stands h lines before views few s in
+        let on = all.1 in
+        (all.0, record { gave = none.gives h.codes (longest_of a) lines (bytes_of a) before all.0 walked.over on.gave; known = on.known; last = on.last; keeps = on.keeps; on = on.on }, all.2);
   }
 
   within_all : passed_of w.ahead ≤ length (bytes_of a)
@@ -128,7 +132,7 @@ module _ {L C : Type 0} (line : L → ℕ × ℕ) (is_ready : C → Bool) (task_
     along : (z : Stage (WalkState L) C) → Trail (TakesByTask line task_state) (CanTake line is_ready) (λ _. false) v s z → HasWalked v s.ahead r m begin (walk_of line z) z.visit.pending z.out (task_state z.command)
     along z Begins = walked
     along _ (Further b c so_far one on) = walk_on v s.ahead r m begin _ _ _ _ (along b so_far) _ _ _ _ _ one.did tt refl
-    along _ (Again b c so_far there same is) = rw is (walk_same v s.ahead r m begin _ _ _ _ (along b so_far) there same)
+    along _ (Past b c so_far there none is) = rw is (walk_past v s.ahead r m begin _ _ _ _ (along b so_far) there none)
 
     -- no other item was taken
     pub walk_over : (z : Stage (WalkState L) C) (b : Bool) → On z (Ok b) → HasWalked v s.ahead r m begin (walk_of line z) z.visit.pending z.out (task_state z.command)

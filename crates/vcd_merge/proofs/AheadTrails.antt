@@ -18,7 +18,7 @@ use Rattle.vcd_body.specs.Ahead.{GaveAhead, LooksOver}
 use Rattle.vcd_body.specs.Given.{IsItem}
 use Rattle.vcd_body.specs.Items.{AreRegsAfter, regs_after}
 use Rattle.vcd_body.specs.Taken.{IsSection, TakesItem}
-use Rattle.vcd_body.specs.Walk.{Again, Begins, Further as Goes_further, Trail, Walks}
+use Rattle.vcd_body.specs.Walk.{Begins, Further as Goes_further, Past, Trail, Walks}
 use Rattle.vcd_body.specs.declared.ahead.ScannedItem.{ScannedItem}
 use Rattle.vcd_body.specs.declared.item.Form.{Form}
 use Rattle.vcd_body.specs.declared.item.Item.{Item}
@@ -194,9 +194,17 @@ module _ (v : HeadView) (stands : Merging → Unit {0} → List ℕ → Regs →
         runs = λ scale first lines h behind start views factor first_is few r.
             runs_on scale first h (longest_of s.ahead) lines (bytes_of s.ahead) behind few v views b c (Ok tt) n one.counts so.over (so.same.factor ∙ factor) (so.same.first ∙ first_is) s.visit.before start (so.runs scale first lines h behind start views factor first_is few r) refl (early c before on);
       }
-  along _ (Again b c so_far there same is) =
+  along _ (Past b c so_far there none is) =
       let so = along b so_far in
-      rw is (record { over = (same.2 ∙ so.over.0, same.1 ∙ so.over.1); same = so.same; runs = rw same.0 so.runs })
+      rw is (record {
+        over = (none.same.1 ∙ so.over.0, none.same.0 ∙ so.over.1);
+        same = so.same;
+        runs = λ scale first lines h behind start views factor first_is few r.
+            let run = so.runs scale first lines h behind start views factor first_is few r in
+            let at = run.ends.0 in
+            let gave = none.gives h.codes (longest_of s.ahead) lines (bytes_of s.ahead) behind run.mid.items so.over at.gave in
+            record { mid = run.mid; trail = run.trail; ends = (record { gave = gave; known = at.known; small = at.small; time_is = at.time_is }, run.ends.1, run.ends.2) };
+      })
 
   -- it ends so
   pub walk_runs : (z : MergeStage) (ended : Result Bool WriteFailed) → Walks TakesNext stands is_out v s z ended → Runs z ended

@@ -20,7 +20,8 @@ use Rattle.vcd_body.specs.Ahead.{GaveAhead, GaveLast}
 use Rattle.vcd_body.specs.Items.{AreRegsAfter}
 use Rattle.vcd_body.specs.Reads.{GaveItems}
 use Rattle.vcd_body.specs.declared.item.Regs.{Regs}
-use Rattle.vcd_body.proofs.AheadLemmas.{gave_last, some_ahead}
+use Rattle.vcd_body.proofs.AheadLemmas.{gave_last}
+use Rattle.vcd_body.proofs.CallerLemmas.{gave_none_ahead}
 use Rattle.vcd_merge.specs.MergeAhead.{IsAhead, OneAhead, RunsAhead, StageAhead, TrailAhead, Further, Stands, seat_with}
 use Rattle.vcd_merge.specs.MergeTrail.{AheadTurns, Reaches, Stage, TakesOn, Trail, stage_with}
 use Rattle.vcd_merge.specs.Seat.{AtSeat, GivesOne, Lane, spot_with}
@@ -39,7 +40,7 @@ module _ {X : Type 0} {g : Ghosts X} (scale first : ℕ) (l : Lane) (behind : Li
   -- at first none is taken
   pub lies_first : LiesAhead 0 [] s.regs s.time
   lies_first = record {
-    gave = record { tokens = []; passed = refl; placed = []; item_each = refl; so_far = λ given earlier are so_far. rw (append-nil given, append-nil earlier) so_far; few = omega arith };
+    gave = gave_none_ahead l.header.codes (limit_of f) (lines_of f) (ahead_of f) behind;
     known = subst (λ xs. AreRegsAfter xs s.regs) (sym (append-nil behind)) at.gave.known;
     small = tt;
     time_is = at.time_is ∙ ap (λ n. scale * n) (sym at.gave.known.time_is);
@@ -86,19 +87,20 @@ module _ {X : Type 0} {g : Ghosts X} (scale first : ℕ) (l : Lane) (behind : Li
         let on = pass_stands f.parked.phase (length f.token.now) rest f.chunk.now f.parked l.input given ts n f.fits passed st.at in
         parked-stands rest f.chunk.now f.token.now (length f.token.now) (gone_on f.chunk.now f.parked n) l.input (given ++ ts) refl on (λ some. absurd (omega arith))
 
-    feed_near : (given : List Token) → ts ≢ [] → HasGiven l.input given f → HasReadTo l.input (given ++ ts) feed_at
+    -- at most a chunk was read past the first of them
+    feed_near : (given : List Token) (end : ℕ) (first : List Token) → first ≢ [] → Passed (limit_of f) (lines_of f) (ahead_of f) end first → HasGiven l.input given f → HasReadTo l.input (given ++ first) feed_at
     unfolding feed_at
-    feed_near given some st =
+    feed_near given end first some to st =
         let rest = g.rest f.source.now in
-        let far = pass_far f.parked.phase (length f.token.now) rest f.chunk.now f.parked l.input given ts n f.fits some passed st.at in
-        near-more (length f.chunk.now) rest (looked f.parked) (end_of_tokens l.input.bytes (length (given ++ ts))) l.input far st.read_ahead
+        let far = pass_far f.parked.phase (length f.token.now) rest f.chunk.now f.parked l.input given first end f.fits some to st.at in
+        near-more (length f.chunk.now) rest (looked f.parked) (end_of_tokens l.input.bytes (length (given ++ first))) l.input far st.read_ahead
 
   feed_gave : (n : ℕ) (items : List BodyItem) (x : BodyItem) (r : Regs) (time : ℕ) (a : LiesAhead n (items ++ x ∷ []) r time) → GaveLast l.header.codes l.input l.front (behind ++ items) x (feed_at n a.gave.tokens a.gave.passed) r
   feed_gave n items x r time a =
       let h = out_of scale first l behind s f at in
       let ts = a.gave.tokens in
-      let some = some_ahead l.header.codes (limit_of f) (lines_of f) (ahead_of f) n behind items x a.gave in
-      gave_last l.header.codes (limit_of f) (lines_of f) (ahead_of f) behind items x l.input l.front n f (feed_at n ts a.gave.passed) s.regs r h a.gave (feed_stands n ts a.gave.passed (l.front ++ h.given) h.stands) (feed_near n ts a.gave.passed (l.front ++ h.given) some h.stands) a.known
+      let given = l.front ++ h.given in
+      gave_last l.header.codes (limit_of f) (lines_of f) (ahead_of f) behind items x l.input l.front n f (feed_at n ts a.gave.passed) s.regs r h a.gave (feed_stands n ts a.gave.passed given h.stands) (λ end first some to. feed_near n ts a.gave.passed given end first some to h.stands) a.known
 
   -- ---- a run of them
 

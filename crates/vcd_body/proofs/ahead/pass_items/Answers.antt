@@ -1,7 +1,12 @@
-use Rattle.std.proofs.Common.{◌++◌}
-use Rattle.vcd_text.specs.Feed.{limit_of}
+use Rattle.std.proofs.Common.{◌≡◌, ◌≢◌, ℕ, ◌++◌, List, [], length, sym, subst}
+use Rattle.vcd_model.specs.Tokens.{Token, end_of_tokens}
+use Rattle.vcd_text.specs.Feed.{HasReadTo, chunk_len_of, limit_of, source_of}
 use Rattle.vcd_text.specs.Ahead.{ahead_of, lines_of}
-use Rattle.vcd_body.proofs.AheadLemmas.{gave_passed, gave_last, some_ahead}
+use Rattle.vcd_text.specs.Passed.{Passed}
+use Rattle.vcd_text.specs.Registers.{looked}
+use Rattle.vcd_text.proofs.Known.{near-more}
+use Rattle.vcd_text.proofs.PassedLemmas.{pass_far}
+use Rattle.vcd_body.proofs.AheadLemmas.{gave_passed, gave_last}
 use Rattle.vcd_body.proofs.ahead.pass_items.Goals as goal
 
 pub returns-clause-gives : goal.returns-clause-gives
@@ -12,4 +17,10 @@ returns-clause-gives g c = λ codes i front before items first last h a k.
 pub returns-clause-ends : goal.returns-clause-ends
 returns-clause-ends g c = λ codes i front before items x first last h a k.
     let f = c.args.feed.now in
-    gave_last codes (limit_of f) (lines_of f) (ahead_of f) before items x i front _ f c.pass.new.self first last h a (c.pass.ensures.stands a.tokens a.passed i (front ++ h.given) h.stands) (c.pass.ensures.near a.tokens a.passed (some_ahead codes _ _ _ _ before items x a) i (front ++ h.given) h.stands) k
+    let new = c.pass.new.self in
+    let rest = g.S.Source.rest f.source.now in
+    let given = front ++ h.given in
+    let near : (end : ℕ) (ts : List Token) → ts ≢ [] → Passed (limit_of f) (lines_of f) (ahead_of f) end ts → HasReadTo i (given ++ ts) new = λ end ts some passed.
+        let far = pass_far f.parked.phase (length f.token.now) rest f.chunk.now f.parked i given ts end f.fits some passed h.stands.at in
+        rw (c.pass.ensures.advances.chunk, c.pass.ensures.source) (near-more (length f.chunk.now) rest (looked f.parked) (end_of_tokens i.bytes (length (given ++ ts))) i far h.stands.read_ahead) in
+    gave_last codes (limit_of f) (lines_of f) (ahead_of f) before items x i front _ f new first last h a (c.pass.ensures.stands a.tokens a.passed i given h.stands) near k

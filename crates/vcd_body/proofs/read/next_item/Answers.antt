@@ -26,10 +26,10 @@ returns-in_err-item-clause-advances g c =
 
 pub phrases-preserved : goal.phrases-preserved
 phrases-preserved g c = (
-  advances_on g.S.Source.failures _ _ _ _ c.phrases.invariant.0 c.in_ok-item.ensures.advances,
-  (let so_far = c.phrases.invariant.1 in let more = c.in_ok-item.ensures.advances.on refl in omega arith),
+  advances_on g.S.Source.failures _ _ _ _ (advances_on g.S.Source.failures _ _ _ _ c.phrases.invariant.0 c.in_ok-item.ensures.advances) c.pass_comments.ensures.advances,
+  (let so_far = c.phrases.invariant.1 in let more = c.in_ok-item.ensures.advances.on refl in let past = c.pass_comments.ensures.advances.on refl in omega arith),
   (rw c.in_default.is at c.in_ok-item.ensures.regs) ∙ c.phrases.invariant.2,
-  λ h i front items v s. rw c.in_default.is at c.in_ok-item.ensures.reads h i front items v (c.phrases.invariant.3 h i front items v s),
+  λ h i front items v s. c.pass_comments.ensures.gives h.codes i front items _ (rw c.in_default.is at c.in_ok-item.ensures.reads h i front items v (c.phrases.invariant.3 h i front items v s)),
   λ w.
       let a = still_first c.args.feed.now c.phrases.feed c.phrases.invariant.4 w in
       let none = rw c.in_default.is at (c.in_ok-item.ensures.ahead a.0).0 in

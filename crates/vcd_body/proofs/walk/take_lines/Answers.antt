@@ -1,12 +1,13 @@
 use Rattle.std.proofs.Common.{◌≡◌, ◌∙◌, Ok, ap, false, length, rules, sym, arith}
-use Rattle.vcd_body.proofs.WalkLemmas.{come_again, come_begins, come_on, walks_further}
+use Rattle.vcd_body.proofs.CommentLemmas.{same_place}
+use Rattle.vcd_body.proofs.WalkLemmas.{come_begins, come_on, come_past, walks_further}
 use Rattle.vcd_body.proofs.walk.take_lines.Goals as goal
 
 pub returns-then-is_empty : goal.returns-then-is_empty
 returns-then-is_empty g c = rw c.until.ensures (come_begins _ _ _ _ _ c.requires.stands c.requires.within)
 
 pub lines-init : goal.lines-init
-lines-init g c = record { come = come_again _ _ _ _ _ _ _ (come_begins _ _ _ _ _ c.requires.stands c.requires.within) c.forget.ensures; on = c.requires.on }
+lines-init g c = record { come = come_past _ _ _ _ _ _ _ (come_begins _ _ _ _ _ c.requires.stands c.requires.within) (same_place _ _ c.forget.ensures); on = c.requires.on }
 
 pub returns-then-not-can_go_on : goal.returns-then-not-can_go_on
 returns-then-not-can_go_on g c = walks_further _ _ _ _ _ _ _ _ c.lines.invariant.come c.take_shorts-shorts.ensures

@@ -1,11 +1,17 @@
 use Rattle.std.proofs.Common.{◌≡◌, ◌∙◌, Ok, false, rules, sym}
-use Rattle.vcd_body.proofs.WalkLemmas.{come_on, walks_further}
+use Rattle.vcd_body.specs.Walk.{HasCome, stage_at}
+use Rattle.vcd_body.proofs.WalkLemmas.{come_on, come_past, walks_further}
 use Rattle.vcd_body.proofs.walk.walk_ahead.Goals as goal
 
 pub items-init : goal.items-init
 items-init g c =
     let ended : c.take_first_lines-lines.result.ended ≡ Ok false = search rules in
     record { come = rw ended at c.take_first_lines-lines.ensures }
+
+pub items-preserved-in_default : goal.items-preserved-in_default
+items-preserved-in_default g c =
+    let come : HasCome g.V.Visit.takes g.V.Visit.stands g.V.Visit.over c.args.view (stage_at c.args.ahead c.args.regs c.args.visit c.args.command.now (g.W.Sink.device c.args.out.now)) (stage_at c.take_next.new.ahead c.take_next.new.regs c.take_next.new.visit c.take_next.new.command (g.W.Sink.device c.take_next.new.out)) = rw c.in_default.ensures.next c.items.invariant.come in
+    record { come = come_past _ _ _ _ _ _ _ come c.after_comments-past.ensures }
 
 pub returns-in-Err : goal.returns-in-Err
 returns-in-Err g c = rw c.until-in-Err.ensures (_, c.items.invariant.come, rw c.in-Err.is at c.in-Some.ensures.next)
