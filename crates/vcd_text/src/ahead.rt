@@ -93,7 +93,8 @@ pub struct Ahead<'a> {
 impl<'a> Ahead<'a> {
     ghost use Rattle.vcd_text.specs.Ahead.{IsNearEnd, TakesToken, bytes_of, longest_of, passed_of, start_of};
 
-    /// Returns the look-ahead over these bytes, at their first one.
+    /// Returns the look-ahead over these bytes, at their first one. It gives tokens of at most
+    /// `limit` bytes.
     #[inline(always)]
     pub(crate) fn new(bytes: &'a [u8], limit: usize) -> Ahead<'a>
         ensures bytes { bytes_of result ≡ bytes.now }
@@ -118,8 +119,8 @@ impl<'a> Ahead<'a> {
         self.at
     }
 
-    /// Returns the bytes in which it looks for tokens, so that a caller can look at more of them
-    /// than one token has.
+    /// Returns all bytes in which it looks for tokens, also those that it has passed, so that a
+    /// caller can look at more of them than one token has.
     #[inline(always)]
     pub fn bytes(&self) -> &'a [u8]
         ensures { result.now ≡ bytes_of self.now }
@@ -152,8 +153,10 @@ impl<'a> Ahead<'a> {
     /// Returns the next token, if it begins at the next byte and has two bytes and a line feed
     /// after them.
     ///
-    /// Otherwise `None`; then `next` may return one. It looks only at these three bytes, and
-    /// forgets the white space that it has seen. It is for a run of such tokens.
+    /// Otherwise `None`, also if the token has a byte below the space (32) or the limit is less
+    /// than 2; then nothing has changed, and `next` may return one. It looks only at these three
+    /// bytes. If it returns a token, it forgets the white space that it has seen. It is for a run
+    /// of such tokens.
     #[inline(always)]
     pub fn next_short(&mut self) -> Option<&'a [u8]>
         ensures takes { IfSome result (λ token. TakesToken self.old self.new token.now) }
@@ -170,9 +173,10 @@ impl<'a> Ahead<'a> {
     /// Returns the next token, if it begins at the next byte and has at most 15 bytes and a line
     /// feed after them.
     ///
-    /// Otherwise `None`, also if fewer than 16 bytes are left, if the token has a control byte, or
-    /// if it is longer than the limit; then `next` may return one. It looks at 16 bytes in one
-    /// step, and forgets the white space that it has seen. It is for a run of lines.
+    /// Otherwise `None`, also if fewer than 16 bytes are left, if the token has a byte below the
+    /// space (32), or if it is longer than the limit; then nothing has changed, and `next` may
+    /// return one. It looks at 16 bytes in one step. If it returns a token, it forgets the white
+    /// space that it has seen. It is for a run of lines.
     #[inline(always)]
     pub fn next_in_16(&mut self) -> Option<&'a [u8]>
         ensures takes { IfSome result (λ token. TakesToken self.old self.new token.now) }
@@ -243,8 +247,9 @@ impl<'a> Ahead<'a> {
         };
     }
 
-    /// Returns the token at an offset, before which all bytes are white, and passes it. `None` if
-    /// it is longer than the limit.
+    /// Returns the token from `start` up to the first byte of `white`, and passes the token and
+    /// that byte. All bytes before `start` that were not passed are white. `None` if the token is
+    /// longer than the limit; then nothing has changed.
     #[inline(always)]
     fn take(&mut self, start: usize, white: White) -> Option<&'a [u8]>
         requires order { start ≤ white.next }
@@ -276,8 +281,8 @@ impl<'a> Ahead<'a> {
     }
 }
 
-/// Returns whether the next three bytes are two bytes above the space (32) and a line feed. It is
-/// false if fewer than three bytes are left.
+/// Returns whether the three bytes from `at` on are two bytes above the space (32) and a line feed.
+/// It is false if fewer than three bytes are left.
 #[inline(always)]
 fn is_two_byte_line(bytes: &[u8], at: usize) -> bool
     requires { at ≤ length bytes.now }
@@ -325,10 +330,10 @@ fn white_end(bytes: &[u8], at: usize) -> usize
     past_white(bytes, at)
 }
 
-/// Returns the white space that is known ahead, or if there is none the next.
+/// Returns `known` if it has a white byte, otherwise the white space that comes next.
 ///
-/// `None` if none is known and no complete 64 bytes from `known.next` on have any. The last bytes,
-/// fewer than 64, may have some.
+/// `None` if `known` has none and no complete 64 bytes from `known.next` on have any. The last
+/// bytes, fewer than 64, may have some.
 // Most tokens end at a white byte that is already known. Then no bytes are looked at.
 #[inline(always)]
 fn white_ahead(bytes: &[u8], known: White) -> Option<White>
@@ -353,8 +358,8 @@ fn white_ahead(bytes: &[u8], known: White) -> Option<White>
     Some(white)
 }
 
-/// Returns the white space that comes next, found in steps of 64 bytes: no bits if fewer bytes are
-/// left before any.
+/// Returns the white space that comes next from offset `from` on, found in steps of 64 bytes. It
+/// has no bits if no complete 64 bytes have any; the last bytes, fewer than 64, may have some.
 #[inline(never)]
 fn look_ahead(bytes: &[u8], from: usize) -> White
     requires { from ≤ length bytes.now }

@@ -29,8 +29,8 @@ fn few_digits(bytes: &[u8], to: usize, n: usize) -> Option<u64>
     Some(u64::from(worth.strict_reduce_sum()))
 }
 
-/// Returns the number that the bytes from one offset up to another spell. `None` if `decimal_of`
-/// returns `None` for them.
+/// Returns the number that the bytes from `from` on and before `to` spell, as `decimal_of` does.
+/// `None` if there is no byte, if one is not a digit, or if the number is 2^64 or more.
 // At most 16 digits are read in one or two steps of eight bytes. Digit by digit, the times of a
 // dump of Icarus Verilog take 25 of 104 instructions for each item of its `check`. For more than
 // eight digits no step begins before the first digit, because a turn of a merge begins at its time.

@@ -21,7 +21,8 @@ pub struct Offset {
     pub answer: u64,
 }
 
-/// Returns the number of what every later call answers.
+/// Returns the number of what every later call answers: 0 while that is open, 1 for the end, and
+/// for a halt 1 more than the number of its fault.
 fn answer_number(phase: Phase) -> u64
     ensures { result ≡ answer_number phase }
 {
@@ -32,7 +33,8 @@ fn answer_number(phase: Phase) -> u64
     }
 }
 
-/// Returns what every later call answers, by its number. `None` if no answer has this number.
+/// Returns what every later call answers, by its number (see `Offset`). `None` if the number is not
+/// 0, 1, 2, 22 or 32.
 fn phase_at(answer: u64) -> Option<Phase>
     ensures { result ≡ phase_at answer }
 {
@@ -62,7 +64,8 @@ pub(crate) fn offset_of(parked: Parked) -> Offset
 }
 
 /// Returns the registers of a feed that has come to this offset, with nothing in its chunk. `None`
-/// if no feed comes to it.
+/// if the offset is 2^63 bytes or more, has more line feeds than bytes, or has an answer that does
+/// not exist.
 pub(crate) fn registers_at(offset: Offset) -> Option<Parked>
     ensures registers { MatchOption result ⊤ (λ p. p ≡ registers_at offset) }
     ensures counted { MatchOption result ⊤

@@ -29,7 +29,8 @@ pub(crate) enum Filled {
 // How many bytes of an input may be looked at.
 const INPUT_LIMIT: u64 = (1 << 63) - 1;
 
-/// Moves past white space, if no token has begun.
+/// Moves past the white space that comes next in the chunk, if no token has begun. Otherwise
+/// nothing changes.
 #[inline(always)]
 pub(crate) fn skip(chunk: &[u8], parked: &mut Parked)
     requires { MayGoOn (length chunk.now) parked.old }
@@ -47,8 +48,11 @@ pub(crate) fn skip(chunk: &[u8], parked: &mut Parked)
     parked.line = parked.line_feeds + 1;
 }
 
-/// Copies bytes of the chunk to the token window, up to the end of the token, and returns whether
-/// the chunk had that end.
+/// Copies bytes of the chunk to the token window, up to the end of the token.
+///
+/// Returns `Whole` if the chunk had that end, and moves past the white byte there. Returns `Part`
+/// if the bytes that may be looked at end first, and `TooLong` if the token has more bytes than its
+/// window; then nothing is copied.
 #[inline(always)]
 pub(crate) fn collect(chunk: &[u8], token: &mut [u8], parked: &mut Parked) -> Collected
     requires registers { MayGoOn (length chunk.now) parked.old }
@@ -78,7 +82,8 @@ pub(crate) fn collect(chunk: &[u8], token: &mut [u8], parked: &mut Parked) -> Co
     Collected::Whole
 }
 
-/// Steps past the byte of white space at which a token ends.
+/// Moves past the byte of white space at `end` in the chunk, at which a token ends, and counts it
+/// if it is a line feed.
 #[inline(always)]
 fn step_past(chunk: &[u8], end: usize, parked: &mut Parked)
     requires within { end < length chunk.now }
@@ -91,7 +96,7 @@ fn step_past(chunk: &[u8], end: usize, parked: &mut Parked)
     parked.at = end + 1;
 }
 
-/// Returns how many bytes come before the first white byte.
+/// Returns how many bytes come before the first white byte; all of them if none is white.
 // A short token takes one look at 16 bytes, which is less than one at 64 (`white_64`).
 #[inline(always)]
 fn token_len(bytes: &[u8]) -> usize
@@ -111,7 +116,8 @@ fn token_len(bytes: &[u8]) -> usize
     run_len(bytes)
 }
 
-/// Copies `n` bytes of the chunk to the token window, after its first `size` bytes.
+/// Copies `n` bytes of the chunk from `at` on to the token window, after its first `size` bytes.
+/// The bytes of the window after these may change too.
 // A short token is one copy of 16 bytes, if both slices have 16: a copy of an unknown length is a
 // call.
 #[inline(always)]
@@ -127,7 +133,8 @@ fn append(token: &mut [u8], size: usize, chunk: &[u8], at: usize, n: usize)
     }
 }
 
-/// Reads the next bytes of the source into the chunk, and returns what the read gave.
+/// Reads the next bytes of the source into the chunk, and returns what the read gave. The registers
+/// change only if it gave bytes.
 pub(crate) fn fill<S: Source>(source: &mut S, chunk: &mut [u8], parked: &mut Parked) -> Filled
     requires failures { S.failures source.old < 2 ^ 64 - 1 }
     requires some { 0 < length chunk.old }
@@ -157,7 +164,8 @@ pub(crate) fn fill<S: Source>(source: &mut S, chunk: &mut [u8], parked: &mut Par
     Filled::More
 }
 
-/// Halts the feed, and returns the halt.
+/// Halts the feed for good, and returns `halt`. The line of this answer is 1 plus the line feeds
+/// that were looked at; for `TokenTooLong` the line does not change.
 pub(crate) fn halted(parked: &mut Parked, halt: Halt) -> Halt
     requires line_feeds { parked.old.line_feeds < 2 ^ 63 }
     ensures result { result ≡ halt }

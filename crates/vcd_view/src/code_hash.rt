@@ -29,7 +29,8 @@ impl CodeSeed {
         }
     }
 
-    /// Returns the state after a word: the upper half of a product of 128 bits.
+    /// Returns the state after a word: the upper half of `(state ^ word) * factor + more` in 128
+    /// bits.
     #[inline(always)]
     pub fn mixed(self, state: u64, word: u64) -> u64
         ensures { result ≡ mixed self state word }
@@ -40,8 +41,8 @@ impl CodeSeed {
         (product >> 64) as u64
     }
 
-    /// Returns the state after these bytes: each eight of them count as one word, and the rest as
-    /// one more.
+    /// Returns the state after these bytes: each eight of them count as one word, and the rest, if
+    /// there is any, as one more.
     #[inline(always)]
     pub fn hashed(self, state: u64, bytes: &[u8]) -> u64
         ensures { result ≡ hashed self state bytes.now }

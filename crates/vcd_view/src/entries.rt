@@ -34,7 +34,8 @@ pub fn entry_for(number: usize, entries: usize) -> usize
     number & entries.wrapping_sub(1)
 }
 
-/// Returns the number whose digits in base 99 are the bytes of a code, the first one lowest.
+/// Returns the number whose digits in base 99 are the bytes of a code, each less 32, the first one
+/// lowest. The number wraps at 2^64.
 #[inline(always)]
 pub fn code_number(code: &[u8]) -> usize
     ensures { result ≡ number_in code.now }
@@ -51,7 +52,7 @@ pub fn code_number(code: &[u8]) -> usize
     }
 }
 
-/// Returns the number with one more digit below its lowest.
+/// Returns the number with one more digit below its lowest: `byte` less 32. It wraps at 2^64.
 #[inline(always)]
 fn above(number: usize, byte: u8) -> usize
     ensures { result ≡ above number byte }
@@ -61,7 +62,7 @@ fn above(number: usize, byte: u8) -> usize
         .wrapping_add(usize::from(byte).wrapping_sub(32))
 }
 
-/// Returns the number of a code of any length.
+/// Returns the number of a code of any length, as `code_number` does.
 fn number_of(code: &[u8]) -> usize
     ensures { result ≡ number_in code.now }
 {
@@ -107,7 +108,7 @@ pub fn long_key(hash: u64) -> u64
 }
 
 /// Returns the index of a code, if one of the last two entries beside its own or one to which its
-/// hash leads is that of the code; else `None`, and the code may be there all the same.
+/// hash leads is that of the code. Otherwise `None`; then the code may still be among the codes.
 // For codes of 8 bytes or more, and codes crafted to share entries: `check` of 100,000 takes 1.5 to
 // 2.6 times as long as for ordinary codes, and with only the binary search 8 to 13 times.
 pub(crate) fn index_by_hash(
@@ -137,9 +138,9 @@ pub(crate) fn index_by_hash(
     }
 }
 
-/// Returns the index that one of the last two entries beside a code's own gives, if one of them has
-/// this key; otherwise `None`. A code's own entry and the three beside it have 64 bytes, so a look
-/// at them reads at most one cache line more.
+/// Returns the index that one of the last two entries beside the one at `own` gives, if one of them
+/// has this key; otherwise `None`. A code's own entry and the three beside it have 64 bytes, so a
+/// look at them reads at most one cache line more.
 fn index_beside(entries: &[Entry], own: usize, key: u64) -> Option<usize>
     ensures { IfSome result (λ position. HasEntry entries.now key position) }
 {
@@ -152,8 +153,8 @@ fn index_beside(entries: &[Entry], own: usize, key: u64) -> Option<usize>
     None
 }
 
-/// Returns the index that an entry with this key gives, if the hash leads to that entry; otherwise
-/// `None`.
+/// Returns the index that an entry with this key gives, if the hash leads to that entry in at most
+/// `MAX_LOOKS` looks and to no empty one before it; otherwise `None`.
 fn index_of_key(entries: &[Entry], hash: u64, key: u64) -> Option<usize>
     ensures { IfSome result (λ position. HasEntry entries.now key position) }
 {
@@ -192,8 +193,8 @@ fn index_of_long(
     }
 }
 
-/// Returns the size of the code: how many digits a change of it may have. It is 0 if any number is
-/// allowed, or if the size does not fit into 32 bits.
+/// Returns the size of the code: how many digits a change of it may have. It is 0 if its variables
+/// are events, or if the size does not fit into 32 bits.
 pub fn size_or_zero_of(code: Code) -> u32
     ensures { result ≡ size_or_zero_of code }
 {

@@ -29,7 +29,7 @@ pub fn key_of(code: &[u8]) -> u64
     }
 }
 
-/// Returns the key of these bytes with one more byte before them.
+/// Returns the key of the bytes of `key` with `byte` before them.
 #[inline(always)]
 fn prepended(key: u64, byte: u8) -> u64
     requires { key < 2 ^ 56 }

@@ -22,7 +22,7 @@ pub enum Keyword {
     End,
 }
 
-/// Returns whether the token is this word.
+/// Returns whether the token has exactly the bytes of `word`.
 #[inline(always)]
 pub fn is(token: &[u8], word: &[u8]) -> bool
     ensures { result ≡ bytes_eq word.now token.now }
@@ -65,8 +65,8 @@ pub fn keyword_of(token: &[u8]) -> Option<Keyword>
     }
 }
 
-/// Passes the next token and returns it, unless it is `$end`. `None` also if `Ahead::next` gives no
-/// token; then nothing has changed.
+/// Returns the next token and passes it. `None` if it is `$end`, or if `Ahead::next` returns
+/// `None`; then nothing has changed.
 #[inline(always)]
 fn word_ahead<'a>(ahead: &mut Ahead<'a>) -> Option<&'a [u8]>
     ensures takes { IfSome result (λ token. TakesToken ahead.old ahead.new token.now) }
@@ -82,7 +82,8 @@ fn word_ahead<'a>(ahead: &mut Ahead<'a>) -> Option<&'a [u8]>
     Some(token)
 }
 
-/// Returns how many bytes the words ahead have.
+/// Returns how many bytes the words ahead have, with the white space before each and one white byte
+/// after the last. The words end at the first `$end`, or where `Ahead::next` returns `None`.
 fn words_len(ahead: Ahead<'_>) -> usize
     requires { passed_of ahead ≡ 0 }
     ensures { PassesWordsTo ahead.entry result }
@@ -92,8 +93,8 @@ fn words_len(ahead: Ahead<'_>) -> usize
     next.passed()
 }
 
-/// Passes the words that come next and that `Ahead::next` gives, up to the first `$end`. It reads
-/// nothing. After it `token` may be empty.
+/// Passes the words that come next and that `Ahead::next` gives, up to the first `$end`, which it
+/// does not pass. It reads nothing. After it `token` may be empty.
 pub fn pass_words<S: Source>(feed: &mut Feed<'_, '_, '_, '_, S>)
     ensures passes { PassesWords feed.old feed.new }
     ensures advances { Advances S.failures feed.old feed.new CallEnd.GoesOn }

@@ -65,7 +65,7 @@ pub fn find_counted(view: HeadView<'_>, code: &[u8], probes: &mut Probes) -> Opt
 }
 
 /// Returns the index of a code among the distinct codes, with its size, and counts the comparisons
-/// of codes.
+/// of codes; `None` if it is not among them.
 #[inline(always)]
 fn find_sized_counted(view: HeadView<'_>, code: &[u8], probes: &mut Probes) -> Option<Found>
     ensures found { (h : Header) → IsViewOf view.entry h

@@ -36,8 +36,8 @@ impl Probes {
         }
     }
 
-    /// Returns how two codes compare by their bytes, and counts it. The first bytes that differ
-    /// decide, and a code comes before those that it begins.
+    /// Returns how `code` compares with `other` by their bytes, and counts the comparison. The
+    /// first bytes that differ decide, and a code comes before those that it begins.
     pub fn probe(&mut self, code: &[u8], other: &[u8]) -> Ordering
         ensures order { result ≡ slice_cmp nat_cmp code.now other.now }
         ensures counted { self.new.count ≡ self.old.count + 1 }

@@ -4,7 +4,8 @@ ghost use Rattle.vcd_view.specs.Names.{FitsEachInput, Header, IsViewOf, room, ro
 
 use crate::view::{HeadView, Need};
 
-/// Returns the room that an engine over this header needs.
+/// Returns the room that an engine over this header needs. If the values need 2^64 bytes or more,
+/// `values` is 2^64 - 1.
 pub fn need(view: HeadView<'_>) -> Need
     ensures lengths { (result.slots ≡ length view.entry.codes.now)
         × (result.marks ≡ length view.entry.rows.now) }

@@ -112,7 +112,7 @@ impl<'a> HeadView<'a> {
         code_in(self.codes, position)
     }
 
-    /// Returns `len` bytes of the text from an offset on; none if it has fewer.
+    /// Returns `len` bytes of the text from offset `start` on; empty if the text has fewer.
     #[inline(always)]
     pub fn text_at(self, start: usize, len: usize) -> &'a [u8]
         ensures { result.now ≡ text_in self.entry.text.now start len }
@@ -120,8 +120,8 @@ impl<'a> HeadView<'a> {
         text_in(self.text, start, len)
     }
 
-    /// Returns the row of the scope that encloses the declaration of a row; for an `$upscope` of
-    /// the one that it closes. `None` if no scope does, and after the last row.
+    /// Returns the index of the row of the scope that encloses the declaration of a row; for an
+    /// `$upscope` of the one that it closes. `None` if no scope does, and after the last row.
     #[inline(always)]
     pub fn scope_of(self, row: usize) -> Option<usize>
         ensures earlier { IfSome result (λ scope. scope < row) }
@@ -131,7 +131,8 @@ impl<'a> HeadView<'a> {
         (scope < row).then_some(scope)
     }
 
-    /// Returns the type of the scope or the variable of a row; empty for an `$upscope`.
+    /// Returns the type of the scope or the variable of a row; empty for an `$upscope` and after
+    /// the last row.
     #[inline(always)]
     pub fn type_of(self, row: usize) -> &'a [u8]
         ensures { AnyDeclared self.entry row (λ _ d. result.now ≡ type_of d) }
@@ -143,7 +144,7 @@ impl<'a> HeadView<'a> {
     }
 
     /// Returns the name of the scope or the variable of a row: the first token of its reference. It
-    /// is empty for an `$upscope`.
+    /// is empty for an `$upscope` and after the last row.
     #[inline(always)]
     pub fn name_of(self, row: usize) -> &'a [u8]
         ensures { AnyDeclared self.entry row (λ _ d. result.now ≡ name_of d) }
@@ -158,7 +159,7 @@ impl<'a> HeadView<'a> {
     }
 
     /// Returns the whole reference of the scope or the variable of a row: its tokens with a space
-    /// between. It is empty for an `$upscope`.
+    /// between. It is empty for an `$upscope` and after the last row.
     #[inline(always)]
     pub fn reference_of(self, row: usize) -> &'a [u8]
         ensures { AnyDeclared self.entry row (λ _ d. result.now ≡ reference_of d) }
@@ -213,7 +214,7 @@ pub fn code_in(codes: &[Code], position: usize) -> Option<Code>
     codes.get(position).copied()
 }
 
-/// Returns `len` bytes of a text from an offset on; none if it has fewer.
+/// Returns `len` bytes of a text from offset `start` on; empty if the text has fewer.
 #[inline(always)]
 pub fn text_in(text: &[u8], start: usize, len: usize) -> &[u8]
     ensures { result.now ≡ text_in text.now start len }
