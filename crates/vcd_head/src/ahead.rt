@@ -14,7 +14,8 @@ use std::alloc::Global;
 use vcd_text::{Ahead, Feed, Source};
 use vcd_view::Kind;
 
-/// Returns the next token and passes it. `None` if it does not lie completely in the chunk.
+/// Returns the next token and passes it. `None` if the feed itself has to read it: it may not lie
+/// completely in the chunk, or it is too long.
 #[inline(always)]
 pub(crate) fn token_ahead<'a>(ahead: &mut Ahead<'a>) -> Option<&'a [u8]>
     ensures one { IfSome result (λ token. GivesToken ahead.old ahead.new token.now) }
@@ -48,8 +49,9 @@ fn reference_ahead<'a>(ahead: &mut Ahead<'a>) -> Option<Reference<'a>>
     })
 }
 
-/// Returns the variable whose phrase comes next, if the phrase lies completely in the chunk and its
-/// reference has at most two tokens.
+/// Returns the variable whose phrase comes next, and passes the phrase. `None` if the next phrase
+/// is no correct one of a variable, has a reference of more than two tokens, or has a token that
+/// the feed itself has to read. Then some of its tokens may have been passed.
 #[inline(always)]
 fn variable_ahead<'a>(ahead: &mut Ahead<'a>) -> Option<VariablePhrase<'a>>
     ensures gives { Gives IsVariable ahead.old ahead.new result }
@@ -78,8 +80,9 @@ fn variable_ahead<'a>(ahead: &mut Ahead<'a>) -> Option<VariablePhrase<'a>>
     })
 }
 
-/// Declares a variable ahead, and returns whether it may come here. If not, `read_variable` finds
-/// the fault.
+/// Declares a variable whose phrase lies ahead, and returns whether it may come here. If not, the
+/// draft does not change, and `read_variable` finds the fault. At most `most` declarations are
+/// allowed. Fails only with `OutOfMemory`.
 fn take_variable(
     alloc: Global,
     most: u64,
@@ -95,7 +98,9 @@ fn take_variable(
     declare(alloc, draft, variable)
 }
 
-/// Opens a scope ahead, and returns whether it may come here. If not, `read_scope` finds the fault.
+/// Opens a scope whose phrase lies ahead, and returns whether it may come here. If not, the
+/// draft does not change, and `read_scope` finds the fault. At most `most` declarations are
+/// allowed. Fails only with `OutOfMemory`.
 #[inline(always)]
 fn take_scope(most: u64, draft: &mut Draft, scope: ScopePhrase<'_>) -> Result<bool, HeadFault>
     ensures takes { TakesNext most (λ more. IsScope more scope.entry) draft.old draft.new result }
@@ -108,8 +113,9 @@ fn take_scope(most: u64, draft: &mut Draft, scope: ScopePhrase<'_>) -> Result<bo
     Ok(true)
 }
 
-/// Closes a scope by a phrase ahead, and returns whether it may come here. If not, `read_upscope`
-/// finds the fault.
+/// Closes a scope by a phrase that lies ahead, and returns whether it may come here. If not, the
+/// draft does not change, and `read_upscope` finds the fault. At most `most` declarations are
+/// allowed. Fails only with `OutOfMemory`.
 #[inline(always)]
 fn take_upscope(most: u64, draft: &mut Draft) -> Result<bool, HeadFault>
     ensures takes { TakesNext most IsUpscope draft.old draft.new result }
@@ -123,7 +129,9 @@ fn take_upscope(most: u64, draft: &mut Draft) -> Result<bool, HeadFault>
 }
 
 /// Takes the next phrase, if it lies completely in the chunk and declares a variable or a scope, or
-/// closes a scope. Returns whether it did.
+/// closes a scope. Returns true if the draft took it. If it may not come here, the result is false,
+/// but the phrase was passed. At most `most` declarations are allowed. Fails only with
+/// `OutOfMemory`.
 #[inline(always)]
 fn declare_next(
     alloc: Global,
@@ -155,8 +163,9 @@ fn declare_next(
     Ok(false)
 }
 
-/// Declares the variables and scopes that come next and lie completely in the chunk, and returns
-/// how many bytes were passed.
+/// Takes the phrases that come next, as long as they declare variables or scopes, or close scopes,
+/// lie completely in the chunk, and may come here. Returns how many bytes were passed for these. At
+/// most `most` declarations are allowed. Fails only with `OutOfMemory`.
 fn declare_ahead(
     alloc: Global,
     ahead: Ahead<'_>,
@@ -178,7 +187,8 @@ fn declare_ahead(
 }
 
 /// Reads the variables and scopes that come next, after a phrase, and lie completely in the chunk.
-/// The feed then shows no token.
+/// It stops before one that may not come here. The feed then shows no token. At most `most`
+/// declarations are allowed. Fails only with `OutOfMemory`.
 pub(crate) fn read_ahead<S: Source>(
     alloc: Global,
     feed: &mut Feed<'_, '_, '_, '_, S>,

@@ -14,7 +14,8 @@ pub(crate) enum CodeKey {
 }
 
 impl CodeKey {
-    /// Returns the key of the code with these bytes. A short one takes no memory.
+    /// Returns the key of the code with these bytes. A code of at most 7 bytes takes no memory.
+    /// Fails if there is no memory for a longer one.
     #[inline(always)]
     pub(crate) fn of(alloc: Global, bytes: &[u8]) -> Result<CodeKey, AllocError>
         ensures { IfOk result (λ key. shape_of key ≡ shape_in bytes.now) }

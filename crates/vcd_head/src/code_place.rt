@@ -10,8 +10,10 @@ use crate::rows::token_len;
 use std::alloc::Global;
 use vcd_view::{Code, code_in, key_of};
 
-/// Returns the index of the code of a variable. A new code is added at the end of the text. `None`
-/// if the code was declared with another size or kind.
+/// Returns the index of the code of a variable, which has this size, and is an event if `event` is
+/// true. A new code is added to `known`, and its bytes at the end of `text`. `None` if the code was
+/// declared with another size, or if only one of the two is an event. Fails only for a new code,
+/// with `OutOfMemory`.
 #[inline(always)]
 pub(crate) fn enter_code(
     alloc: Global,
@@ -42,7 +44,7 @@ pub(crate) fn enter_code(
 }
 
 /// Enters the key of the code with these bytes, if it is new. Returns the index of the code, and
-/// whether it is new.
+/// whether it is new. Fails only for a new code, with `OutOfMemory`.
 #[inline(always)]
 fn enter_key(alloc: Global, known: &mut Codes, bytes: &[u8]) -> Result<(usize, bool), HeadFault>
     ensures enters { Rises known.old.rising.items
@@ -91,7 +93,8 @@ fn enter_in_set(alloc: Global, known: &mut Codes, bytes: &[u8]) -> Result<(usize
     Ok((position, new))
 }
 
-/// Appends the bytes of a code to the text, and the code to the others.
+/// Appends the bytes of a code to `text`, and the code to `list`: one of this size, and of an event
+/// if `event` is true. Fails only with `OutOfMemory`.
 #[inline(always)]
 fn add(
     text: &mut Vec<u8>,

@@ -21,7 +21,7 @@ pub(crate) struct Codes {
 }
 
 impl Codes {
-    /// Returns an empty set of codes.
+    /// Returns an empty set of codes, which are hashed with `seed`.
     pub(crate) fn new(alloc: Global, seed: CodeSeed) -> Self
         ensures { HasNone result }
     {
@@ -32,8 +32,9 @@ impl Codes {
         }
     }
 
-    /// Returns whether a variable of this size, an event or none, may have the code with these
-    /// bytes.
+    /// Returns whether a variable of this size, which is an event if `event` is true, may have the
+    /// code with these bytes: if the code is new, or was declared with the same size and the same
+    /// `event`.
     pub(crate) fn allow(&self, alloc: Global, bytes: &[u8], size: usize, event: bool) -> bool
         ensures { Allows self.now bytes.now size event result }
     {
@@ -71,7 +72,8 @@ impl Codes {
     }
 }
 
-/// Returns whether a code was declared with this size, and as an event or as none.
+/// Returns whether a code was declared with this size, and as an event if `event` is true, but as
+/// none if it is false.
 #[inline(always)]
 pub(crate) fn is_declared_as(code: Code, size: usize, event: bool) -> bool
     ensures { result ≡ is_of code size event }

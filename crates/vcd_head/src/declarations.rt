@@ -109,7 +109,8 @@ pub(crate) fn declare(
     Ok(true)
 }
 
-/// Appends the tokens of a reference to the text, with a space between, and returns their length.
+/// Appends the tokens of a reference to the text, with a space between, and returns how many bytes
+/// it appended. Fails only with `OutOfMemory`.
 #[inline(always)]
 fn add_reference(text: &mut Vec<u8>, reference: Reference<'_>) -> Result<usize, HeadFault>
     ensures text { IfOk result (λ _. text.new.items ≡ text.old.items ++ whole reference.entry) }
@@ -150,7 +151,8 @@ pub(crate) fn open_scope(draft: &mut Draft, scope: ScopePhrase<'_>) -> Result<()
     Ok(())
 }
 
-/// Closes the innermost open scope. `check_start` has found before that there is one.
+/// Closes the innermost open scope. `check_start` has found before that there is one. Fails only
+/// with `OutOfMemory`.
 #[inline(always)]
 pub(crate) fn close_scope(draft: &mut Draft) -> Result<(), HeadFault>
     ensures closes { IfOk result (λ _. TakesPhrase Kind.Up Declaration.Up draft.old draft.new) }

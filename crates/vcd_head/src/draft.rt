@@ -20,7 +20,7 @@ pub(crate) struct Draft {
 }
 
 impl Draft {
-    /// Returns a draft of which nothing was read.
+    /// Returns a draft of which nothing was read. Its codes are hashed with `seed`.
     pub(crate) fn new(alloc: Global, seed: CodeSeed) -> Self
         ensures { IsNew result }
     {

@@ -67,8 +67,8 @@ impl Enclosing {
     }
 }
 
-/// Walks outwards from a row by at most `most` scopes, and keeps the last ones in `rows`. Returns
-/// how many it passed.
+/// Walks outwards from a row by at most `most` scopes, and returns how many it passed. It keeps the
+/// last 128 in `rows`, each at its number, counted outwards from 0, modulo 128.
 fn walk(view: HeadView<'_>, row: usize, most: usize, rows: &mut [usize; SCOPES_HELD]) -> usize
     ensures walks { AnyRow view.entry row (λ h. Walks h row most rows.new result) }
     ensures within { result ≤ most }

@@ -17,7 +17,8 @@ const EMPTY: Entry = Entry {
 };
 
 /// Returns the entries of these codes, whose bytes lie in the text: a power of two of them, at most
-/// three for each code. Fewer suffice if the codes are in the order of their numbers.
+/// three for each code, or none if there is no code. Fewer suffice if the codes are in the order of
+/// their numbers, as `in_order` says. Codes are hashed with `seed`.
 pub(crate) fn entries_of(
     alloc: Global,
     text: &[u8],
@@ -37,8 +38,8 @@ pub(crate) fn entries_of(
     Ok(entries)
 }
 
-/// Returns the greatest number of a code, that of the last one, if the codes are in the order of
-/// their numbers; otherwise 2^64 - 1.
+/// Returns the number of the last code if `in_order` is true: the codes are then in the order of
+/// their numbers, and this one is the greatest. Otherwise, or if there is no code, 2^64 - 1.
 fn greatest_of(text: &[u8], codes: &[Code], in_order: bool) -> usize
     ensures { in_order ≡ false → result ≡ 2 ^ 64 - 1 }
 {
@@ -65,7 +66,8 @@ fn count_for(codes: usize, greatest: usize) -> usize
     }
 }
 
-/// Writes the entry of each code.
+/// Writes the entry of each code. The bytes of the codes lie in the text. A code for which `enter`
+/// finds no free entry gets none.
 fn fill(entries: &mut [Entry], text: &[u8], codes: &[Code], seed: CodeSeed)
     ensures right { KeepsRight text.now codes.now entries.old entries.new }
     ensures len { length entries.new ≡ length entries.old }
@@ -98,8 +100,8 @@ fn enter(entries: &mut [Entry], position: usize, code: Code, bytes: &[u8], seed:
     }
 }
 
-/// Returns the index of the first free entry among a code's own one and the three beside it. `None`
-/// if all four are taken.
+/// Returns the index of the first free entry among a code's own one, at `own`, and the three beside
+/// it. `None` if each of the four is taken or out of range.
 #[inline(always)]
 fn free_near(entries: &[Entry], own: usize) -> Option<usize>
     ensures { IfSome result (λ at. at < length entries.now) }
@@ -158,7 +160,7 @@ fn entry_with(position: usize, code: Code, key: u64) -> Entry
     }
 }
 
-/// Writes the entry at `at`, if that is in range.
+/// Writes the entry at `at`. If that is out of range, nothing changes.
 #[inline(always)]
 fn put(entries: &mut [Entry], at: usize, entry: Entry)
     ensures { entries.new ≡ set entries.old at entry }

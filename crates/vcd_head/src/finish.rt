@@ -10,7 +10,7 @@ use crate::head::Head;
 use crate::index::index_of;
 use std::alloc::Global;
 
-/// Returns the head of a draft that holds all phrases of a header.
+/// Returns the head of a draft that holds all phrases of a header. Fails only with `OutOfMemory`.
 pub(crate) fn finish(alloc: Global, draft: Draft) -> Result<Head, HeadFault>
     ensures head { (most : ℕ) (ps : List HeaderPhrase) → IsDraftOf most draft ps
         → IfOk result (λ head. Views (shown head) (header_of ps)) }

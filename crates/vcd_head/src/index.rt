@@ -33,8 +33,9 @@ pub(crate) fn index_of(alloc: Global, text: &[u8], codes: &[Code]) -> Result<Vec
     }
 }
 
-/// Returns the indexes of short codes in the order of their bytes. `None` if some are long. It
-/// sorts ranks, and then reduces them to the indexes in the same memory.
+/// Returns the indexes of short codes in the order of their bytes. `None` if a code has more than 4
+/// bytes, or if there are more than 16,777,216 codes. It sorts ranks, and then reduces them to the
+/// indexes in the same memory.
 fn index_by_ranks(
     alloc: Global,
     text: &[u8],
@@ -52,8 +53,8 @@ fn index_by_ranks(
     Ok(Some(index))
 }
 
-/// Returns the ranks of the codes, in their order of declaration. `None` if a rank does not hold
-/// all bytes of each code, and its index.
+/// Returns the ranks of the codes, in their order of declaration. `None` if some code does not fit
+/// into a rank: if it has more than 4 bytes, or if its index is 16,777,216 or more.
 fn ranks_of(alloc: Global, text: &[u8], codes: &[Code]) -> Result<Option<Vec<usize>>, AllocError>
     ensures { IfOk result (λ some. IfSome some (λ ranks. AreRanks text.now codes.now ranks.items)) }
 {
@@ -83,7 +84,7 @@ fn rank_of(bytes: &[u8], position: usize) -> usize
     (front as usize * 8 + bytes.len()) * PLACES + position
 }
 
-/// Reduces each rank to its index.
+/// Reduces each rank to the index of its code.
 fn ranks_to_indexes(ranks: &mut [usize])
     ensures { ranks.new ≡ map place_in_rank ranks.old }
 {
@@ -113,7 +114,7 @@ fn prefixes_of(alloc: Global, text: &[u8], codes: &[Code]) -> Result<Vec<Prefix>
     Ok(prefixes)
 }
 
-/// Returns the indexes of the prefixes.
+/// Returns the index of the code of each prefix, in the order of the prefixes.
 fn places_of(alloc: Global, prefixes: &[Prefix]) -> Result<Vec<usize>, AllocError>
     ensures { IfOk result (λ positions. positions.items ≡ map (λ f. f.position) prefixes.now) }
 {
@@ -139,7 +140,7 @@ fn order_of(text: &[u8], codes: &[Code], a: Prefix, b: Prefix) -> Ordering
     }
 }
 
-/// Returns the bytes of the code at an index.
+/// Returns the bytes of the code at an index, or none if there is no such code.
 fn bytes_at<'a>(text: &'a [u8], codes: &[Code], position: usize) -> &'a [u8]
     ensures { result.now ≡ bytes_at text.now codes.now position }
 {

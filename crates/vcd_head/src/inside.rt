@@ -61,8 +61,8 @@ impl<'o> Open<'o> {
     }
 
     /// Takes the next row. Returns whether it is a variable that some name selects, or any variable
-    /// if there are no names. It also notes which names select it, besides those that matched
-    /// before.
+    /// if there are no names. It also sets the flags in `matched` of the names that select it, and
+    /// leaves the other flags as they are.
     #[inline(always)]
     pub(crate) fn take(
         &mut self,
@@ -94,7 +94,8 @@ impl<'o> Open<'o> {
         }
     }
 
-    /// Returns whether some name selects the variable of a row, and notes which ones do.
+    /// Returns whether some name selects the variable of a row, and sets the flags in `matched` of
+    /// those that do.
     #[inline(always)]
     fn selects(
         &mut self,
@@ -112,7 +113,8 @@ impl<'o> Open<'o> {
         self.compare(view, row, group, matched)
     }
 
-    /// Enters the scopes around a row that were not entered yet.
+    /// Enters the scopes around a row that were not entered yet, and sets the flags in `matched` of
+    /// the names that select all of such a scope.
     fn enter_around(
         &mut self,
         view: HeadView<'_>,
@@ -129,7 +131,8 @@ impl<'o> Open<'o> {
         }
     }
 
-    /// Enters the scope of a row, if it is in the innermost one that was entered.
+    /// Enters the scope of a row, if it is in the innermost one that was entered, and sets the
+    /// flags in `matched` of the names that select all of it. Otherwise nothing changes.
     fn enter(
         &mut self,
         view: HeadView<'_>,
@@ -162,8 +165,8 @@ impl<'o> Open<'o> {
         }
     }
 
-    /// Returns whether some name selects the variable of a row, whose scopes were entered, and
-    /// notes which ones do.
+    /// Returns whether some name selects the variable of a row, whose scopes were entered, and sets
+    /// the flags in `matched` of those that do.
     #[inline(always)]
     fn compare(
         &self,
@@ -196,8 +199,8 @@ impl<'o> Open<'o> {
     }
 }
 
-/// Returns whether some name selects the variable of a row, by a look at each name, and notes which
-/// ones do.
+/// Returns whether some name selects the variable of a row, by a look at each name, and sets the
+/// flags in `matched` of those that do.
 fn compare_each(
     view: HeadView<'_>,
     row: usize,

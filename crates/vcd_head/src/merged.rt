@@ -70,7 +70,7 @@ fn put_openings<W: Sink>(
 }
 
 /// Writes the line of an `$upscope` at which these scopes are open, if the line of the scope that
-/// it closes is written.
+/// it closes is written. Otherwise it writes nothing.
 fn put_closing<W: Sink>(scopes: OpenScopes, w: &mut W) -> Result<(), WriteFailed>
     requires failures { (W.device w.old).failures < 2 ^ 64 - 1 }
     ensures { PutsTo W.device w.old w.new (closing scopes.pending scopes.written) result }
@@ -95,7 +95,7 @@ fn put_closings<W: Sink>(count: usize, w: &mut W) -> Result<(), WriteFailed>
 
 /// Writes what is due at a row of an input, at which these scopes are open: the line of a variable,
 /// with a new code, after the lines of the scopes in which it is the first; or the line of an
-/// `$upscope`. The codes are numbered from `first` on.
+/// `$upscope`. At the row of a scope nothing is due. The codes are numbered from `first` on.
 fn put_input_row<W: Sink>(
     view: HeadView<'_>,
     row: usize,
@@ -161,7 +161,8 @@ fn put_input_head<W: Sink>(
     put(w, b"$upscope $end\n")
 }
 
-/// Writes the heads of all inputs.
+/// Writes what the head of a merged dump has of each input, in order. The codes are numbered from 0
+/// on, those of an input after those of the inputs before it.
 fn put_input_heads<W: Sink>(heads: &[Head], w: &mut W) -> Result<(), WriteFailed>
     requires heads { length heads.now ≤ 64 }
     requires failures { (W.device w.old).failures < 2 ^ 64 - 1 }

@@ -72,8 +72,8 @@ pub fn ticks(view: HeadView<'_>, moment: Moment, up: bool) -> Result<u64, TickFa
     unit_ticks(moment.number, unit, scale.exponent, up).ok_or(TickFault::OutOfRange)
 }
 
-/// Returns `number` units in ticks, if they are fewer than 2^64. `unit` and `tick` are powers of
-/// ten in seconds.
+/// Returns `number` units in ticks, rounded up if `up` is true, otherwise down. `None` if they are
+/// 2^64 or more. `unit` and `tick` are powers of ten in seconds.
 fn unit_ticks(number: u64, unit: i8, tick: i8, up: bool) -> Option<u64>
     ensures { SomeIff result (ticks number unit tick up < 2 ^ 64) (ticks number unit tick up) }
 {
@@ -91,14 +91,14 @@ fn unit_ticks(number: u64, unit: i8, tick: i8, up: bool) -> Option<u64>
 /// The power of ten in seconds of a femtosecond.
 const FEMTOSECOND: i8 = -15;
 
-/// Returns the power of ten in femtoseconds of this one in seconds.
+/// Returns the power of ten in femtoseconds of `exponent`, one in seconds: how far it is from -15.
 fn power_of(exponent: i8) -> u8
     ensures { result ≡ nat_abs (exponent +ℤ pos 15) }
 {
     exponent.abs_diff(FEMTOSECOND)
 }
 
-/// Returns a number times a power of ten, if that is below 2^64.
+/// Returns a number times 10^`power`. `None` if that is 2^64 or more.
 fn multiplied(number: u64, power: u8) -> Option<u64>
     ensures { SomeIff result (number * 10 ^ power < 2 ^ 64) (number * 10 ^ power) }
 {
@@ -108,7 +108,7 @@ fn multiplied(number: u64, power: u8) -> Option<u64>
     number.checked_mul(10u64.checked_pow(u32::from(power))?)
 }
 
-/// Returns a number divided by a power of ten, rounded down.
+/// Returns a number divided by 10^`power`, rounded down.
 fn divided(number: u64, power: u8) -> u64
     ensures { result ≡ number / 10 ^ power }
 {
@@ -118,7 +118,7 @@ fn divided(number: u64, power: u8) -> u64
     }
 }
 
-/// Returns a number divided by a power of ten, rounded up.
+/// Returns a number divided by 10^`power`, rounded up.
 fn divided_up(number: u64, power: u8) -> u64
     ensures { result ≡ div_ceil number (10 ^ power) }
 {

@@ -33,7 +33,8 @@ pub(crate) struct NameRun {
 impl<'n> Group<'n> {
     ghost use Rattle.vcd_head.specs.Names.{AreRising, FlagsSome, GoesOnWith, IsRun, IsRunOn, Narrows, RunsOn, names_of};
 
-    /// Returns the group of these names, at most 16,384, which are in this order.
+    /// Returns the group of these names, at most 16,384. `order` has their indexes in the order of
+    /// their bytes, as `put_names` writes them.
     pub(crate) fn new(names: &'n [String], order: &'n [u16; GROUP_NAMES]) -> Self
         requires few { length names.now ≤ 16384 }
         requires order { IsOrder (map string_bytes names.now) order.now }
@@ -56,7 +57,8 @@ impl<'n> Group<'n> {
         }
     }
 
-    /// Returns the index of the name that is at this index of the order.
+    /// Returns the index of the name that is at this index of the order, or 0 if the order does not
+    /// have this index.
     #[inline(always)]
     fn index_at(&self, at: usize) -> usize
         ensures position { result ≡ get_or self.now.order.now at 0 }
@@ -83,8 +85,9 @@ impl<'n> Group<'n> {
         }
     }
 
-    /// Returns the first index of the order between two whose next byte, plus 1, is at least
-    /// `least`; the last index if there is none.
+    /// Returns the first index of the order, from `first` on and before `end`, at which `next_at`,
+    /// after `passed` bytes, is at least `least`; `end` if there is none. Between these two
+    /// `next_at` must not decrease.
     #[inline(always)]
     fn first_from(&self, first: usize, end: usize, passed: usize, least: usize) -> usize
         ensures range { first ≤ end → (first ≤ result) × (result ≤ end) }
@@ -104,8 +107,8 @@ impl<'n> Group<'n> {
         low
     }
 
-    /// Flags the names of a run that end with the bytes passed so far, and returns whether there
-    /// are some.
+    /// Flags the names of a run that have no more bytes than those passed so far, and returns
+    /// whether there are some.
     #[inline(always)]
     fn note(&self, run: NameRun, matched: &mut [bool; GROUP_NAMES]) -> bool
         ensures { FlagsSome self.now matched.old matched.new run
@@ -126,8 +129,8 @@ impl<'n> Group<'n> {
         true
     }
 
-    /// Flags the names of a run that end with the bytes passed so far, if the next byte is a dot,
-    /// and returns whether there are some.
+    /// Flags the names of a run that have no more bytes than those passed so far, if `byte`, the
+    /// next one of the path, is a dot. Returns whether there are some; false for any other byte.
     #[inline(always)]
     fn note_at(&self, run: NameRun, byte: u8, matched: &mut [bool; GROUP_NAMES]) -> bool
         ensures { FlagsSome self.now matched.old matched.new run
@@ -140,8 +143,8 @@ impl<'n> Group<'n> {
         }
     }
 
-    /// Returns the names of a run that continue with this byte. `whole` says whether some name
-    /// selects all paths that continue after the front.
+    /// Returns the names of a run that continue with this byte: an empty run if none does. `whole`
+    /// says whether some name selects all paths that continue after the front.
     #[inline(always)]
     fn with_byte(&self, run: NameRun, byte: u8, whole: bool) -> NameRun
         ensures narrows { run.first ≤ run.end → AreRising self.now run.passed run.first run.end
@@ -251,8 +254,8 @@ impl<'n> Group<'n> {
         self.step(named, b'.', matched)
     }
 
-    /// Flags the names that select a variable whose own name is this, and returns whether there are
-    /// some.
+    /// Flags the names that select a variable whose own name is `own`, and returns whether there
+    /// are some. `run` is the run inside the scopes around the variable.
     pub(crate) fn selects(
         &self,
         run: NameRun,
@@ -268,7 +271,8 @@ impl<'n> Group<'n> {
     }
 }
 
-/// Writes the indexes of the names, in the order of their bytes, over zeros.
+/// Writes the indexes of the names, in the order of their bytes, to the first elements of `order`.
+/// It has only zeros before, and the rest of it stays so.
 pub(crate) fn put_names(order: &mut [u16; GROUP_NAMES], names: &[String])
     requires few { length names.now ≤ 16384 }
     requires zeros { (i : ℕ) → get_or order.old i 0 ≡ 0 }
@@ -290,7 +294,7 @@ fn put_order(positions: &mut [u16], names: &[String])
     sort(positions, names);
 }
 
-/// Writes 0, 1, 2, .. to the indexes.
+/// Writes 0, 1, 2, .. over the elements: to each its own index.
 fn number(positions: &mut [u16])
     requires { length positions.old ≤ 16384 }
     ensures len { length positions.new ≡ length positions.old }
@@ -301,7 +305,7 @@ fn number(positions: &mut [u16])
     }
 }
 
-/// Sorts indexes of names by their bytes.
+/// Sorts indexes of names by the bytes of the names.
 fn sort(positions: &mut [u16], names: &[String])
     ensures permutation { IsPermutation positions.old positions.new }
     ensures sorted { IsSortedBy (comes_before (map string_bytes names.now)) positions.new }
@@ -328,7 +332,7 @@ fn name_at(names: &[String], position: usize) -> &[u8]
     }
 }
 
-/// Returns the bytes after the first `passed`.
+/// Returns the bytes after the first `passed`, or none if there are fewer.
 #[inline(always)]
 fn bytes_after(bytes: &[u8], passed: usize) -> &[u8]
     ensures { result.now ≡ drop passed bytes.now }
@@ -336,7 +340,7 @@ fn bytes_after(bytes: &[u8], passed: usize) -> &[u8]
     bytes.get(passed..).unwrap_or(&[])
 }
 
-/// Returns with how many bytes all three texts begin.
+/// Returns how many bytes are the same at the beginning of all three texts.
 #[inline(always)]
 fn shared(first: &[u8], last: &[u8], bytes: &[u8]) -> usize
     ensures within { result ≤ length bytes.now }

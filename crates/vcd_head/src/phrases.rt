@@ -14,8 +14,9 @@ use std::alloc::Global;
 use vcd_text::{Feed, Source};
 use vcd_view::{Keyword, keyword_of};
 
-/// Reads the rest of a command that the standard does not have. Fails if the token begins no
-/// phrase.
+/// Reads the rest of a command that the standard does not have, up to its `$end`. Fails with
+/// `OutOfPlace` if the feed's token could begin a timestamp or a value change, and with
+/// `UnknownCommand` if it is no command. The draft stays as it is.
 fn read_other<S: Source>(
     feed: &mut Feed<'_, '_, '_, '_, S>,
     draft: &mut Draft,
@@ -33,7 +34,8 @@ fn read_other<S: Source>(
     skip_to_end(feed)
 }
 
-/// Reads the end of the header, after its keyword.
+/// Reads the `$end` after `$enddefinitions`. Fails with `OutOfPlace` if another token comes next.
+/// The draft stays as it is.
 fn read_end<S: Source>(
     feed: &mut Feed<'_, '_, '_, '_, S>,
     draft: &mut Draft,
@@ -58,7 +60,8 @@ fn goes_on(keyword: Option<Keyword>) -> bool
     }
 }
 
-/// Reads a phrase, and returns whether more may follow. The feed need not show the token before it.
+/// Reads a phrase, and returns whether more may follow: true for all but `$enddefinitions`. At most
+/// `most` declarations are allowed. The feed need not show the token before the phrase.
 pub(crate) fn read_phrase<S: Source>(
     alloc: Global,
     feed: &mut Feed<'_, '_, '_, '_, S>,
@@ -76,7 +79,8 @@ pub(crate) fn read_phrase<S: Source>(
     Ok(goes_on(keyword))
 }
 
-/// Reads the rest of a phrase that begins with this keyword, or with none.
+/// Reads the rest of a phrase that begins with this keyword, or with none. Fails with `OutOfPlace`
+/// if the keyword is `$end` or belongs into the body. At most `most` declarations are allowed.
 fn read_rest<S: Source>(
     alloc: Global,
     feed: &mut Feed<'_, '_, '_, '_, S>,

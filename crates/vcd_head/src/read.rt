@@ -60,7 +60,8 @@ pub fn read_head_with_hasher<S: Source, B: BuildHasher>(
     finish(alloc, draft)
 }
 
-/// Reads the phrases of a header, up to the one that ends it.
+/// Reads the phrases of a header, up to the one that ends it. At most `most` declarations are
+/// allowed.
 fn read_phrases<S: Source>(
     alloc: Global,
     feed: &mut Feed<'_, '_, '_, '_, S>,

@@ -28,7 +28,7 @@ pub(crate) fn token_len(len: usize) -> Result<u32, HeadFault>
 }
 
 /// Returns the number of a row or of a code in 32 bits. The number of each declaration that is
-/// allowed fits.
+/// allowed fits. One that does not fit becomes 2^32 - 1.
 #[inline(always)]
 fn in_32_bits(number: usize) -> u32
     ensures { number < 2 ^ 32 → result ≡ number }

@@ -10,7 +10,8 @@ use std::alloc::Global;
 use vcd_text::{Feed, Source};
 use vcd_view::Kind;
 
-/// Reads a scope: type, name and `$end`.
+/// Reads a scope: type, name and `$end`. Fails with `BadScope` if other tokens come next, and as
+/// `check_start` does if no scope may come here.
 pub(crate) fn read_scope<S: Source>(
     alloc: Global,
     feed: &mut Feed<'_, '_, '_, '_, S>,
@@ -39,7 +40,8 @@ pub(crate) fn read_scope<S: Source>(
     Ok(())
 }
 
-/// Reads the end of a scope: `$end`.
+/// Reads the end of a scope: `$end`. Fails with `BadScope` if another token comes next, and as
+/// `check_start` does if no `$upscope` may come here.
 pub(crate) fn read_upscope<S: Source>(
     feed: &mut Feed<'_, '_, '_, '_, S>,
     most: u64,

@@ -27,7 +27,9 @@ pub(crate) fn is_or_goes_on(text: &[u8], name: &[u8]) -> bool
     }
 }
 
-/// Returns what a name says of a path that begins with this component and a dot.
+/// Returns what a name says of a path that begins with this component and a dot: `Selected` if it
+/// selects every such path, the `Rest` of the name if it begins with the component and the dot too,
+/// and otherwise `Differs`.
 pub(crate) fn after_component<'n>(name: &'n [u8], component: &[u8]) -> Match<'n>
     ensures rest { GoesOnAfter result name.now (length component.now + 1) }
     ensures selects { (text : List ℕ)
@@ -74,9 +76,9 @@ fn mark(view: HeadView<'_>, row: usize, marks: &mut [u8])
     }
 }
 
-/// Sets the marks of a row and of the scopes around it, and returns the scope around the row,
-/// counted from 1. `marked`, counted from 1 too, is a scope that is already marked with those
-/// around it.
+/// Sets the marks of a row and of the scopes around it, and returns the row of the scope around it,
+/// counted from 1, or 0 if there is none. `marked`, counted in the same way, is a scope that is
+/// already marked with those around it.
 fn mark_row(view: HeadView<'_>, row: usize, marked: usize, marks: &mut [u8]) -> usize
     requires { row < length marks.old }
     ensures marks { AnyRow view.entry row (λ h. AllMarked (scopes_at h.declarations marked) marks.old
@@ -105,7 +107,7 @@ fn parent_of(view: HeadView<'_>, row: usize) -> usize
     }
 }
 
-/// Sets the marks of all variables and of the scopes around them.
+/// Sets the marks of all variables and of the scopes around them. The other marks stay as they are.
 // It needs no names in order, and so not their 88 KB of stack.
 fn mark_all(view: HeadView<'_>, marks: &mut [u8])
     requires { length marks.old ≡ length view.rows.now }
@@ -122,7 +124,7 @@ fn mark_all(view: HeadView<'_>, marks: &mut [u8])
     }
 }
 
-/// Returns whether a row declares a variable.
+/// Returns whether a row declares a variable: false for others, and after the last row.
 fn is_variable(view: HeadView<'_>, row: usize) -> bool
     ensures { AnyDeclared view.entry row (λ _ d. result ≡ is_variable d) }
 {
@@ -137,7 +139,7 @@ fn is_variable(view: HeadView<'_>, row: usize) -> bool
 }
 
 /// Sets the marks of the variables that some name selects and of the scopes around them. Returns
-/// the index of the first name that selects nothing.
+/// the index of the first name that selects nothing; `None` if each name selects some variable.
 fn mark_selected(view: HeadView<'_>, names: &[String], marks: &mut [u8]) -> Option<usize>
     requires len { length marks.old ≡ length view.rows.now }
     requires few { length names.now ≤ 16384 }
@@ -164,7 +166,7 @@ fn mark_selected(view: HeadView<'_>, names: &[String], marks: &mut [u8]) -> Opti
     first_false(&matched, names.len())
 }
 
-/// Returns the index of the first of `count` flags that is not set.
+/// Returns the index of the first of `count` flags that is not set; `None` if all of these are set.
 fn first_false(flags: &[bool], count: usize) -> Option<usize>
     requires { count ≤ length flags.now }
     ensures { IsFirstFalse flags.now count result }
@@ -178,8 +180,8 @@ fn first_false(flags: &[bool], count: usize) -> Option<usize>
 }
 
 /// Marks the variables that the names select (all if there are no names) and the scopes around
-/// them: their marks are 1, and all others 0. Fails with the index of the first name that selects
-/// nothing; then the marks may be anything.
+/// them: their marks are 1, and all others 0. `marks` has one byte for each row. Fails with the
+/// index of the first name that selects nothing; then the marks may be anything.
 pub fn select(view: HeadView<'_>, names: &[String], marks: &mut [u8]) -> Result<(), usize>
     requires marks { length marks.old ≡ length view.rows.now }
     ensures marks { (h : Header) → IsViewOf view.entry h

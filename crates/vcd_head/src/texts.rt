@@ -22,7 +22,8 @@ pub(crate) fn skip_to_end<S: Source>(feed: &mut Feed<'_, '_, '_, '_, S>) -> Resu
     }
 }
 
-/// Appends the tokens before the first `$end` to the text, a space before each.
+/// Appends the tokens before the first `$end` to the text, a space before each. Fails if there is
+/// no `$end`, or no memory.
 pub(crate) fn append_to_end<S: Source>(
     feed: &mut Feed<'_, '_, '_, '_, S>,
     text: &mut Vec<u8>,
@@ -65,7 +66,8 @@ fn append_ahead(ahead: Ahead<'_>, text: &mut Vec<u8>) -> Result<usize, HeadFault
     }
 }
 
-/// Returns the tokens before the first `$end`, with a space between.
+/// Returns the tokens before the first `$end`, with a space between: no bytes if there are none.
+/// Fails if there is no `$end`, or no memory.
 pub(crate) fn text_to_end<S: Source>(
     alloc: Global,
     feed: &mut Feed<'_, '_, '_, '_, S>,

@@ -7,7 +7,8 @@ use crate::words;
 use std::alloc::Global;
 use vcd_text::{Feed, Halt, Next, Source};
 
-/// Reads the next token. Fails if there is none. The feed need not show the token before it.
+/// Reads the next token. Fails if the input has ended, or if the feed halts: the token or the input
+/// is too long, or the source failed. The feed need not show the token before it.
 #[inline(always)]
 pub(crate) fn next_token<S: Source>(feed: &mut Feed<'_, '_, '_, '_, S>) -> Result<(), HeadFault>
     requires { S.failures (source_of feed.old) < 2 ^ 64 - 1 }

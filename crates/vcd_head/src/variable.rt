@@ -13,7 +13,8 @@ use std::alloc::Global;
 use vcd_text::{Feed, Source};
 use vcd_view::Kind;
 
-/// Reads the size of a variable, in bits.
+/// Reads the size of a variable, in bits. Fails with `BadVariable` if the next token is not the
+/// digits of a number from 1 to 16,777,215.
 fn read_size<S: Source>(feed: &mut Feed<'_, '_, '_, '_, S>) -> Result<usize, HeadFault>
     requires { S.failures (source_of feed.old) < 2 ^ 64 - 1 }
     ensures reads { ReadsSize feed.old feed.new result }
@@ -26,7 +27,9 @@ fn read_size<S: Source>(feed: &mut Feed<'_, '_, '_, '_, S>) -> Result<usize, Hea
     }
 }
 
-/// Reads the code of a variable of this size, which is an event or none.
+/// Reads the code of a variable of this size, which is an event if `event` is true. Fails with
+/// `BadVariable` if the next token is no code, and with `CodeDiffers` if the code was declared with
+/// another size, or if only one of its variables is an event.
 fn read_code<S: Source>(
     alloc: Global,
     feed: &mut Feed<'_, '_, '_, '_, S>,
@@ -59,8 +62,9 @@ struct VariableStart {
     code: Vec<u8>,
 }
 
-/// Reads the type, the size and the code of a variable. Fails if the code does not agree with the
-/// known codes.
+/// Reads the type, the size and the code of a variable. Fails with `BadVariable` if other tokens
+/// come next, and with `CodeDiffers` if the code was declared with another size, or if only one of
+/// its variables is an event.
 fn read_variable_start<S: Source>(
     alloc: Global,
     feed: &mut Feed<'_, '_, '_, '_, S>,
@@ -79,7 +83,9 @@ fn read_variable_start<S: Source>(
     Ok(VariableStart { word, size, code })
 }
 
-/// Reads a variable: type, size, code, one or more tokens of reference, and `$end`.
+/// Reads a variable: type, size, code, one or more tokens of reference, and `$end`. Fails with
+/// `BadVariable` if other tokens come next, with `CodeDiffers` as `read_variable_start` does, and
+/// with `TooMany` if `most` declarations were read before.
 pub(crate) fn read_variable<S: Source>(
     alloc: Global,
     feed: &mut Feed<'_, '_, '_, '_, S>,

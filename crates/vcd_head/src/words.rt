@@ -12,7 +12,7 @@ pub(crate) fn is_end(token: &[u8]) -> bool
     matches!(token, [b'$', b'e', b'n', b'd'])
 }
 
-/// Returns whether the token is the keyword of a variable.
+/// Returns whether the token is `$var`.
 #[inline(always)]
 pub(crate) fn is_var(token: &[u8]) -> bool
     ensures { result ≡ bytes_eq (codes "$var") token.now }
@@ -20,7 +20,7 @@ pub(crate) fn is_var(token: &[u8]) -> bool
     matches!(token, [b'$', b'v', b'a', b'r'])
 }
 
-/// Returns whether the type is that of an event.
+/// Returns whether the type is `event`.
 #[inline(always)]
 pub(crate) fn is_event(word: &[u8]) -> bool
     ensures { result ≡ bytes_eq (codes "event") word.now }
@@ -127,7 +127,8 @@ fn raised(unit: &[u8], power: i8) -> Option<i8>
     }
 }
 
-/// Returns the size that the digits spell, 1 to 16,777,215.
+/// Returns the size that the digits of the token spell. `None` if it has another byte or none, or
+/// spells a number that is not from 1 to 16,777,215.
 #[inline(always)]
 pub(crate) fn size_of(token: &[u8]) -> Option<usize>
     ensures { result ≡ size_in token.now }

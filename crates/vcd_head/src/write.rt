@@ -76,7 +76,8 @@ fn text_of_scale(scale: Option<Scale>) -> &'static [u8]
     }
 }
 
-/// Returns whether the declaration of a row is marked.
+/// Returns whether the declaration of a row is marked: whether its mark is 1. It is not if there is
+/// no mark for the row.
 fn has_mark(marks: &[u8], row: usize) -> bool
     ensures { result ≡ is_marked marks.now row }
 {
@@ -98,7 +99,8 @@ pub(crate) fn put_scope<W: Sink>(
     put_texts(w, &[b"$scope ", type_text, b" ", name, b" $end\n"])
 }
 
-/// Writes the line of the variable of a row, with this code.
+/// Writes the line of the variable of a row, with this code instead of its own. If there is no such
+/// row, it writes nothing.
 pub(crate) fn put_variable<W: Sink>(
     view: HeadView<'_>,
     row: usize,
@@ -122,7 +124,8 @@ pub(crate) fn put_variable<W: Sink>(
     put_texts(w, &[b" ", code, b" ", reference, b" $end\n"])
 }
 
-/// Writes the line that closes the scope of a row, if the scope is marked.
+/// Writes the line that closes a scope, whose row is `scope`, if the scope is marked. Otherwise it
+/// writes nothing.
 fn put_up<W: Sink>(marks: &[u8], scope: usize, w: &mut W) -> Result<(), WriteFailed>
     requires failures { (W.device w.old).failures < 2 ^ 64 - 1 }
     ensures { PutsTo W.device w.old w.new (up_lines_at (is_marked marks.now) (scope ∷ [])) result }
@@ -134,7 +137,8 @@ fn put_up<W: Sink>(marks: &[u8], scope: usize, w: &mut W) -> Result<(), WriteFai
 }
 
 /// Writes the line of the declaration of a row: a scope or a variable if it is marked, an
-/// `$upscope` if the scope that it closes is marked. A variable has its own code.
+/// `$upscope` if the scope that it closes is marked. Otherwise it writes nothing. A variable has
+/// its own code.
 fn put_row<W: Sink>(
     view: HeadView<'_>,
     marks: &[u8],
@@ -161,7 +165,8 @@ fn put_row<W: Sink>(
     }
 }
 
-/// Writes the lines of the rows, in order.
+/// Writes the lines of the marked scopes and variables, and each `$upscope` that closes a marked
+/// scope, in the order of the rows.
 fn put_rows<W: Sink>(view: HeadView<'_>, marks: &[u8], w: &mut W) -> Result<(), WriteFailed>
     requires failures { (W.device w.old).failures < 2 ^ 64 - 1 }
     ensures { PutsWhere W.device w.old w.new result (λ takes. AnyHeader view.entry (λ h.
@@ -212,7 +217,8 @@ fn put_declarations<W: Sink>(view: HeadView<'_>, marks: &[u8], w: &mut W) -> Res
 
 /// Writes the header of the marked declarations: date, version and time scale if there are some,
 /// the marked scopes and variables in order, an `$upscope` for each marked scope, and
-/// `$enddefinitions`. If a write fails, a prefix was written.
+/// `$enddefinitions`. A declaration is marked if the byte of its row in `marks` is 1. If a write
+/// fails, a prefix was written.
 pub fn put_head<W: Sink>(view: HeadView<'_>, marks: &[u8], w: &mut W) -> Result<(), WriteFailed>
     requires failures { (W.device w.old).failures < 2 ^ 64 - 1 }
     ensures takes { TakesHeader view.entry (W.device w.old) (W.device w.new)
