@@ -26,7 +26,8 @@ fn last_of(digits: &[u8]) -> &[u8]
     &digits[digits.len().saturating_sub(64)..]
 }
 
-/// Returns whether a value with these digits is extended on the left by a 0 or 1.
+/// Returns whether a value with these digits is extended on the left by a 0 or 1; true if it has no
+/// digits.
 fn extends_known(digits: &[u8]) -> bool
     ensures { result ≡ is_known (extension digits.now) }
 {
@@ -36,7 +37,8 @@ fn extends_known(digits: &[u8]) -> bool
     }
 }
 
-/// Returns 64 bits, each 1 if these digits are extended on the left by a 0 or 1.
+/// Returns a bit for each of 64 digits, which are these digits extended on the left: 1 if the digit
+/// was added there and is 0 or 1. The bits of these digits themselves are 0.
 fn known_before(digits: &[u8]) -> u64
     requires { length digits.now ≤ 64 }
     ensures { result ≡ cond (is_known (extension digits.now)) (2 ^ 64 - 2 ^ length digits.now) 0 }
@@ -48,7 +50,7 @@ fn known_before(digits: &[u8]) -> u64
     }
 }
 
-/// Returns a number with one more binary digit, on the right.
+/// Returns a number with one more binary digit, on the right: 1 if `digit` is true, otherwise 0.
 fn with_digit(number: u64, digit: bool) -> u64
     requires { number < 2 ^ 63 }
     ensures { result ≡ 2 * number + cond digit 1 0 }

@@ -56,7 +56,8 @@ pub const FULL: u8 = 4;
 /// The status if no call can have left this `Place`.
 pub const BAD_PLACE: u8 = 5;
 
-/// Returns the status of a reading that has met no fault.
+/// Returns the status of a reading that has met no fault: `FULL` if the rows are full, otherwise
+/// `DONE`.
 fn status_of(filled: Filled) -> u8
     ensures { result ≡ status_of filled }
 {
@@ -66,8 +67,10 @@ fn status_of(filled: Filled) -> u8
     }
 }
 
-/// Fills the rows with the next changes of the code at `index` among the header's, notes them in
-/// the reading, and returns the status. The feed has this token limit.
+/// Fills the rows with the next changes of the code at `index` among the header's, notes in the
+/// reading how many there are, and returns the status: `DONE` or `FULL`, with the place where the
+/// next call continues, or `FAULT`, with the fault. The feed has this token limit, and `regs` are
+/// the registers where it is.
 fn read_on(
     limit: usize,
     feed: &mut Feed<'_, '_, '_, '_, Bytes<'_>>,
@@ -114,7 +117,8 @@ fn after(dump: &[u8], n: u64) -> &[u8]
     &dump[n as usize..]
 }
 
-/// Notes the fault of a header in the reading, with no rows, and returns the status.
+/// Notes the fault of a header and its line in the reading, with no rows, and returns `FAULT`. If
+/// memory ran out, returns `NO_MEMORY`, and notes only that there are no rows.
 fn refused(fault: HeadFault, line: u64, reading: &mut Reading) -> u8
     ensures refused { Refused fault line reading.new result }
     ensures place { reading.new.place ≡ reading.old.place }
@@ -128,8 +132,9 @@ fn refused(fault: HeadFault, line: u64, reading: &mut Reading) -> u8
     FAULT
 }
 
-/// Reads the header of a dump with this token limit, fills the rows from the reading's `Place` on,
-/// and returns the status. Fails if memory runs out.
+/// Reads the header of a dump with this token limit, fills the rows with the changes of `code` from
+/// the reading's `Place` on, and returns the status, as `changes` does. Fails if there is no memory
+/// for the windows.
 fn read_changes<B: BuildHasher>(
     alloc: Global,
     limit: usize,
@@ -172,8 +177,8 @@ fn read_changes<B: BuildHasher>(
     }
 }
 
-/// Fills the rows from the reading's `Place` on with this token limit, and returns the status, as
-/// `changes` does.
+/// Fills the rows with the changes of `code` from the reading's `Place` on with this token limit,
+/// and returns the status, as `changes` does.
 fn read_under<B: BuildHasher>(
     alloc: Global,
     limit: usize,
@@ -196,8 +201,9 @@ fn read_under<B: BuildHasher>(
     }
 }
 
-/// Returns whether a call with the lower limit finds what it finds with `LIMIT`: it met no token
-/// that is too long. A feed that was halted may have met one.
+/// Returns whether a call with the lower limit, which left this status and reading, found what a
+/// call with `LIMIT` finds: it met no token that is too long. False also if the feed was halted,
+/// since it may have met one.
 fn is_enough(status: u8, reading: Reading) -> bool
     ensures { result ≡ true → IsEnough reading status }
 {

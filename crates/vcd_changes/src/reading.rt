@@ -36,7 +36,7 @@ pub struct Reading {
     pub line: u64,
 }
 
-/// Returns the number of the section that is open.
+/// Returns the number of the section that is open, as `Place` has it; 0 if none is.
 fn section_number(section: Option<Section>) -> u64
     ensures { result ≡ section_number section }
 {

@@ -27,7 +27,7 @@ struct Rows<'r> {
 }
 
 impl<'r> Rows<'r> {
-    /// Returns these rows.
+    /// Returns these rows, as a walk takes them.
     #[inline(always)]
     fn new(rows: &'r mut [ChangeRow]) -> Rows<'r>
         ensures loan { result.rows.ghost_name ≡ rows.entry.ghost_name }
@@ -147,8 +147,9 @@ impl<'r> Visit<Rows<'r>> for Collecting {
     }
 }
 
-/// Takes the items that lie completely in the chunk, and fills the rows with the changes of the
-/// code, until they are full.
+/// Takes the items that lie completely in the chunk, fills the rows with the changes of the code,
+/// until they are full, and returns how far it came. `collecting` has the numbers before these
+/// items.
 // Not inlined, so that the loop has all registers.
 #[inline(never)]
 fn walk_rows<'a>(
@@ -170,7 +171,8 @@ fn walk_rows<'a>(
 }
 
 /// Returns how many rows are filled once the items that are whole in the feed's chunk are taken:
-/// those after the first `count` get the changes of the code at `index`, until all are full.
+/// those after the first `count` get the changes of the code at `index`, until all are full. If all
+/// are full already, no item is taken.
 pub(crate) fn take_ahead<S: Source>(
     feed: &mut Feed<'_, '_, '_, '_, S>,
     view: HeadView<'_>,

@@ -2,7 +2,7 @@
 ghost use Rattle.std.specs.Prelude.{◌≡◌, ℕ, ◌<◌, ◌==◌, ◌||◌, false, length};
 ghost use Rattle.vcd_engine.specs.Names.{is_chosen};
 
-/// Chooses none of the codes.
+/// Sets all flags to 0, so that no code is chosen.
 pub(crate) fn choose_none(flags: &mut [u8])
     ensures codes { length flags.new ≡ length flags.old }
     ensures chosen { (code : ℕ) → is_chosen flags.new code ≡ false }
@@ -10,7 +10,7 @@ pub(crate) fn choose_none(flags: &mut [u8])
     flags.fill(0);
 }
 
-/// Chooses the code at index `code`.
+/// Chooses the code at index `code`. The flags of all other codes stay as they are.
 pub(crate) fn choose(flags: &mut [u8], code: usize)
     requires { code < length flags.old }
     ensures codes { length flags.new ≡ length flags.old }

@@ -8,8 +8,8 @@ use vcd_body::{Done, Stop};
 use vcd_text::{Feed, Sink, Source};
 use vcd_view::HeadView;
 
-/// Reads the body after the header that is shown, and writes the seven lines of its report. Fails
-/// at the first fault of the body, at a failed read, and at a failed write.
+/// Reads the body after the header that is shown, writes the seven lines of its report, and returns
+/// `Done::Whole`. Fails at the first fault of the body, at a failed read, and at a failed write.
 pub fn check<S: Source, W: Sink>(
     view: HeadView<'_>,
     feed: &mut Feed<'_, '_, '_, '_, S>,
@@ -28,9 +28,9 @@ pub fn check<S: Source, W: Sink>(
     run_task(Task::Check, view, feed, room, out)
 }
 
-/// Writes the header of the variables that the names select and of the scopes around them. Then
-/// reads the body after the header that is shown, and writes its sections and the changes of these
-/// variables, each after the line of its time.
+/// Writes the header of the variables that the names select (all if there are no names) and of the
+/// scopes around them. Then reads the body after the header that is shown, writes its sections and
+/// the changes of these variables, each after the line of its time, and returns `Done::Whole`.
 ///
 /// A name that selects nothing is refused before anything is read or written. Fails at the first
 /// fault of the body, at a failed read, and at a failed write.
@@ -49,8 +49,9 @@ pub fn pick<S: Source, W: Sink>(
     run_task(Task::Pick(names), view, feed, room, out)
 }
 
-/// Reads the body after the header that is shown, and then writes a row for each variable that the
-/// names select: its path, and how often its value changes, rises and falls.
+/// Reads the body after the header that is shown, and then writes a line for each variable that the
+/// names select (all if there are no names): its path, and how often its value changes, rises and
+/// falls. Returns `Done::Whole`.
 ///
 /// A name that selects nothing is refused before anything is read. Fails at the first fault of the
 /// body, at a failed read, and at a failed write. At a fault nothing is written.
@@ -71,8 +72,9 @@ pub fn edges<S: Source, W: Sink>(
 
 /// Writes the header of all variables; from the first timestamp of at least `from` on, a section
 /// with the values just before `from`; and the items from then up to `to`, each after the line of
-/// its time. Times are in ticks. A timestamp above `to` ends the run. Fails at the first fault of
-/// the body, at a failed read, and at a failed write.
+/// its time. Times are in ticks, and `from` is at most `to`. A timestamp above `to` ends the run:
+/// then the call returns `Done::Early`, otherwise `Done::Whole`. Fails at the first fault of the
+/// body, at a failed read, and at a failed write.
 pub fn cut<S: Source, W: Sink>(
     view: HeadView<'_>,
     feed: &mut Feed<'_, '_, '_, '_, S>,
@@ -90,9 +92,10 @@ pub fn cut<S: Source, W: Sink>(
     run_task(Task::Cut { from, to }, view, feed, room, out)
 }
 
-/// Writes, for each of the times, the lines of the variables that the names select: the time, the
-/// path and the value, in full. There is at least one time, in ticks, and each is above the one
-/// before it. A timestamp above the last of them ends the run.
+/// Writes, for each of the times, the lines of the variables that the names select (all if there
+/// are no names): the time, the path and the value, in full. There is at least one time, in ticks,
+/// and each is above the one before it. A timestamp above the last of them ends the run: then the
+/// call returns `Done::Early`, otherwise `Done::Whole`.
 ///
 /// A name that selects nothing is refused before anything is read or written. Fails at the first
 /// fault of the body, at a failed read, and at a failed write.

@@ -21,7 +21,7 @@ pub struct Engine<'v, 'n, 'r> {
     going: bool,
 }
 
-/// Returns whether this is the end of the body.
+/// Returns whether an item is the end of the body.
 #[inline(always)]
 fn is_finish(item: Item) -> bool
     ensures { MatchBool result (item ≡ Finish) (item ≢ Finish) }
@@ -103,9 +103,9 @@ impl<'v, 'n, 'r> Engine<'v, 'n, 'r> {
         self.going
     }
 
-    /// Takes the next item from the feed, and writes what is due with it or at the end of the body.
-    /// `view` is the engine's, from the caller, so that a loop over steps does not load it again.
-    /// Fails as `step` does.
+    /// Takes the next item from the feed, writes what is due with it or at the end of the body, and
+    /// returns `Again` if the run goes on, otherwise what ended it. `view` is the engine's, from
+    /// the caller, so that a loop over steps does not load it again. Fails as `step` does.
     #[inline(always)]
     fn step_with_view<S: Source, W: Sink>(
         &mut self,
@@ -146,7 +146,8 @@ impl<'v, 'n, 'r> Engine<'v, 'n, 'r> {
     }
 
     /// Takes the items that are whole in the feed's chunk, and writes what is due with each. The
-    /// feed moves past them in one call, and nothing is read. Fails if a write does.
+    /// feed moves past them in one call, and nothing is read. Fails if a write does, which ends the
+    /// run.
     #[inline(never)]
     fn walk_ahead<S: Source, W: Sink>(
         &mut self,
@@ -183,8 +184,8 @@ impl<'v, 'n, 'r> Engine<'v, 'n, 'r> {
         }
     }
 
-    /// Takes the next item, as `step_with_view` does. It may wait for a read, so by then `out`
-    /// keeps nothing back.
+    /// Takes the next item, and returns and fails as `step_with_view` does. It may wait for a read,
+    /// so by then `out` keeps nothing back.
     #[inline(always)]
     fn read_on<S: Source, W: Sink>(
         &mut self,
@@ -203,7 +204,8 @@ impl<'v, 'n, 'r> Engine<'v, 'n, 'r> {
     }
 
     /// Takes the items that lie completely in the chunk, and then the next one, which may need a
-    /// read: before that `out` passes on all that it keeps back.
+    /// read: before that `out` passes on all that it keeps back. Returns what `step` does. Fails at
+    /// a fault of the body, at a failed read, and at a failed write.
     #[inline(always)]
     fn advance<S: Source, W: Sink>(
         &mut self,
@@ -243,7 +245,8 @@ impl<'v, 'n, 'r> Engine<'v, 'n, 'r> {
     }
 
     /// Runs the items that are left, writes what is due with each and at the end, and returns what
-    /// ended the run: the end of the body, or an item. Fails if a step does.
+    /// ended the run: the end of the body, or a timestamp. Fails at a fault of the body, at a
+    /// failed read, and at a failed write.
     fn run_to_end<S: Source, W: Sink>(
         &mut self,
         feed: &mut Feed<'_, '_, '_, '_, S>,
@@ -269,8 +272,8 @@ impl<'v, 'n, 'r> Engine<'v, 'n, 'r> {
     }
 }
 
-/// Takes the next item, and writes what is due with it, or at the end of the body. After any answer
-/// but `Again` the run is over.
+/// Takes the next item, and writes what is due with it, or at the end of the body. Returns `Again`
+/// if the run goes on, otherwise what ended it. After any answer but `Again` the run is over.
 ///
 /// # Errors
 ///
@@ -289,8 +292,8 @@ pub fn step<S: Source, W: Sink>(
     engine.step_with_view(engine.view, feed, out)
 }
 
-/// Runs a task over the body after the header that is shown, to its end. The task's times are in
-/// order.
+/// Runs a task over the body after the header that is shown, to its end, and returns what ended it:
+/// the end of the body, or a timestamp. The task's times are in order.
 ///
 /// # Errors
 ///

@@ -26,8 +26,9 @@ fn begin_line(section: Section) -> &'static [u8]
     }
 }
 
-/// Writes the line of an item that has this text; a timestamp has no line here. Fails if a write
-/// does.
+/// Writes the line of an item. Writes nothing for a timestamp, for the end of the body, and for a
+/// change whose index has no code. `text` is a change's text, and any bytes for other items. Fails
+/// if a write does.
 #[inline(always)]
 fn put_item<W: Sink>(
     view: HeadView<'_>,
@@ -54,8 +55,8 @@ fn put_item<W: Sink>(
     }
 }
 
-/// Returns whether an item may be kept: the begin or end of a section, or a change, unless it is an
-/// event inside a section. `regs` are the registers after the item.
+/// Returns whether an item may be written: it is the begin or end of a section, or a change, but
+/// not an event inside a section. `regs` are the registers after the item.
 #[inline(always)]
 pub(crate) fn may_keep(view: HeadView<'_>, regs: Regs, item: Item) -> bool
     ensures { result ≡ may_be_kept view.entry regs item }
@@ -68,7 +69,7 @@ pub(crate) fn may_keep(view: HeadView<'_>, regs: Regs, item: Item) -> bool
 }
 
 impl ItemText {
-    /// Returns the state before all items.
+    /// Returns the state before all items: no line of a time was written.
     pub(crate) fn new() -> ItemText
         ensures { HasWritten [] [] result }
     {
@@ -84,7 +85,8 @@ impl ItemText {
         }
     }
 
-    /// Writes the line of `time`, if it is due, and the line of an item. Fails if a write does.
+    /// Writes the line of `time`, unless that was the last such line, and then the line of an item.
+    /// `text` is a change's text, and any bytes for other items. Fails if a write does.
     #[inline(always)]
     fn put<W: Sink>(
         &mut self,
@@ -105,8 +107,9 @@ impl ItemText {
         put_item(view, item, text, out)
     }
 
-    /// Adds the line of `time`, if it is due, and the line of an item, after the pending text. If
-    /// the chunk has such a line, the line becomes pending; otherwise it is written. Fails if a
+    /// Adds the line of `time`, unless that was the last such line, and the line of an item, after
+    /// the pending text. If the chunk has such a line, the line becomes pending; otherwise it is
+    /// written. `line` says where the chunk has the line of `time`, if that is known. Fails if a
     /// write does.
     #[inline(always)]
     pub(crate) fn put_spanned<W: Sink>(
@@ -136,8 +139,8 @@ impl ItemText {
         pending.append_line(item.bytes, item.from, item.to, n, out)
     }
 
-    /// Adds the line of `time`, unless it was the last such line, after the pending text. Fails if
-    /// a write does.
+    /// Adds the line of `time`, unless that was the last such line, after the pending text. `line`
+    /// says where it is in `bytes`, those of the chunk, if that is known. Fails if a write does.
     #[inline(always)]
     fn add_time<W: Sink>(
         &mut self,
@@ -161,7 +164,8 @@ impl ItemText {
         pending.append_time(time, bytes, line.from, line.to, out)
     }
 
-    /// Writes the line of the last timestamp, if there is one and it is due. Fails if a write does.
+    /// Writes the line of the time `last`, that of the last timestamp. Writes nothing if it is
+    /// `None`, or if that line was written last. Fails if a write does.
     pub(crate) fn close<W: Sink>(&self, last: Option<u64>, out: &mut W) -> Result<(), WriteFailed>
         requires { (W.device out.old).failures < 2 ^ 64 - 1 }
         ensures takes { (before : List ℕ) (kept : List Entry) → HasWritten before kept self.now

@@ -16,7 +16,8 @@ fn put_word<W: Sink>(out: &mut W, word: &[u8]) -> Result<(), WriteFailed>
     put(out, word)
 }
 
-/// Writes the line of a variable: path, type, size and code.
+/// Writes the line of the variable in a row: its path, type, size and code. Writes nothing if there
+/// is no such row. Fails if a write does.
 fn put_variable<W: Sink>(view: HeadView<'_>, row: usize, out: &mut W) -> Result<(), WriteFailed>
     requires failures { (W.device out.old).failures < 2 ^ 64 - 1 }
     ensures { PutsWhere W.device out.old out.new result (λ takes.
@@ -39,7 +40,8 @@ fn put_variable<W: Sink>(view: HeadView<'_>, row: usize, out: &mut W) -> Result<
 }
 
 /// Writes a line for each variable, in order of declaration: its path, type, size in bits and code.
-/// It does not read the body of the dump. Fails with `Stop::Write` if a write failed.
+/// Returns `Done::Whole`. It does not read the body of the dump. Fails with `Stop::Write` if a
+/// write failed.
 pub fn list<W: Sink>(view: HeadView<'_>, out: &mut W) -> Result<Done, Stop>
     requires failures { (W.device out.old).failures < 2 ^ 64 - 1 }
     requires bound { IsWithinEachBound view no_room }

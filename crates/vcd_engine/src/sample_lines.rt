@@ -8,8 +8,8 @@ use vcd_head::put_path;
 use vcd_text::{Sink, WriteFailed, put, put_number};
 use vcd_view::HeadView;
 
-/// Writes the line of the variable in a row: `time`, its path and its value. An event has none. No
-/// item so far is later than `time`. Fails if a write does.
+/// Writes the line of the variable in a row: `time`, its path and its value. Writes nothing for an
+/// event, and if there is no such row. No item so far is later than `time`. Fails if a write does.
 fn put_line<W: Sink>(
     table: &Table<'_>,
     view: HeadView<'_>,
@@ -61,7 +61,9 @@ fn put_lines<W: Sink>(
     Ok(())
 }
 
-/// Writes the lines of these times. No item so far is later than any. Fails if a write does.
+/// Writes for each of these times a line for each row whose flag in `marks` is 1. Any other flag
+/// says how many rows to skip. No item so far is later than any of the times. Fails if a write
+/// does.
 pub(crate) fn put_samples<W: Sink>(
     table: &Table<'_>,
     view: HeadView<'_>,

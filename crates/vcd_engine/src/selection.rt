@@ -14,7 +14,8 @@ pub(crate) fn is_marked(marks: &[u8], row: usize) -> bool
     marks.get(row).copied().unwrap_or(0) == 1
 }
 
-/// Chooses the codes of the variables whose flag in `marks` is set.
+/// Chooses the codes of the variables whose flag in `marks` is set. The flags of all other codes
+/// stay as they are.
 fn choose_marked(view: HeadView<'_>, marks: &[u8], flags: &mut [u8])
     requires codes { length view.codes.now ≤ length flags.old }
     ensures codes { length flags.new ≡ length flags.old }

@@ -8,9 +8,10 @@ use vcd_head::put_path;
 use vcd_text::{Sink, WriteFailed, put, put_number};
 use vcd_view::{HeadView, Kind};
 
-/// Sets the value of a code that is no event by the text of a change, and counts a change, rise or
-/// fall if it differs from the value before. `size` is the size of the code, in bits; `bits` is the
-/// text as a number, if that is known.
+/// Sets the value of the code at index `code`, which is no event, by the text of a change. If it
+/// differs from the value before, counts a change, and also a rise or fall if it is one; otherwise
+/// counts nothing. `size` is the size of the code, in bits; `bits` is the text as a number, if that
+/// is known.
 #[inline(always)]
 pub(crate) fn take_value(
     table: &mut Table<'_>,
@@ -34,7 +35,8 @@ pub(crate) fn take_value(
     }
 }
 
-/// Counts a trigger of an event, unless it is inside a section.
+/// Counts a change of the event at index `code`. If `inside` says that a section is open, it counts
+/// nothing.
 #[inline(always)]
 pub(crate) fn count_trigger(table: &mut Table<'_>, code: usize, inside: bool)
     ensures takes { (view : HeadView) (h : Header) (items : List BodyItem) (c : IdCode) (d : Change)
@@ -48,7 +50,7 @@ pub(crate) fn count_trigger(table: &mut Table<'_>, code: usize, inside: bool)
     }
 }
 
-/// Writes a space and a number.
+/// Writes a space and a number. Fails if a write does.
 fn put_counter<W: Sink>(number: u64, out: &mut W) -> Result<(), WriteFailed>
     requires { (W.device out.old).failures < 2 ^ 64 - 1 }
     ensures { Puts (W.device out.old) (W.device out.new) (32 ∷ decimal number) result }
@@ -57,7 +59,8 @@ fn put_counter<W: Sink>(number: u64, out: &mut W) -> Result<(), WriteFailed>
     put_number(out, number)
 }
 
-/// Writes the line of a variable: its path, and how often its value changes, rises and falls.
+/// Writes the line of the variable in a row: its path, and how often its value changes, rises and
+/// falls. Writes nothing if there is no such row. Fails if a write does.
 fn put_row<W: Sink>(
     table: &Table<'_>,
     view: HeadView<'_>,

@@ -105,7 +105,9 @@ impl<'n, 'r> TaskState<'n, 'r> {
         }
     }
 
-    /// Takes the items that lie completely in the chunk, and writes what is due with each.
+    /// Takes the items that lie completely in the chunk from `ahead` on, writes what is due with
+    /// each, and returns how far it came, and whether a write failed. `regs` are the registers
+    /// before these items.
     // A loop for each task, so that no loop asks for the task at each item.
     pub(crate) fn take_ahead<W: Sink>(
         &mut self,
@@ -136,7 +138,8 @@ impl<'n, 'r> TaskState<'n, 'r> {
         }
     }
 
-    /// Writes what is due at the end of a body without fault. `regs` are the registers there.
+    /// Writes what is due at the end of a body without fault. `regs` are the registers there. Fails
+    /// if a write does.
     pub(crate) fn close<W: Sink>(
         &self,
         view: HeadView<'_>,

@@ -4,8 +4,8 @@ ghost use Rattle.vcd_engine.specs.Names.{AreHeld, BodyItem, HasBits, HasGoodText
 
 use vcd_body::{Bits, Item, Table, Value};
 
-/// Sets the value that an item gives, if it is a change. `bits` is its text as a number, if that is
-/// known.
+/// Sets the value of a code by the text of its change. Any other item changes nothing. `bits` is
+/// the text as a number, if that is known.
 #[inline(always)]
 pub(crate) fn set_item(table: &mut Table<'_>, item: Item, text: &[u8], bits: Option<Bits>)
     requires bits { HasBits item text.now bits }

@@ -16,8 +16,8 @@ fn factor_of(view: HeadView<'_>, least: i8) -> u64
     10u64.checked_pow(u32::from(power)).unwrap_or(u64::MAX)
 }
 
-/// Sets the factor, the time and the first number of each seat, and that it has not finished. Feeds
-/// and registers do not change.
+/// Sets the factor of each seat, the number of its first code, its time to 0, and that it has not
+/// finished. Feeds and registers do not change.
 pub(crate) fn set_seats(heads: &[Head], seats: &mut [Seat])
     requires many { length heads.now ≤ 64 }
     requires heads { length heads.now ≡ length seats.old }

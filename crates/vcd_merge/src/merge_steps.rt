@@ -29,7 +29,8 @@ fn greatest_time(seats: &[Seat]) -> Option<u64>
 }
 
 /// Takes the turn of an input, as `resume_turn` does, over its seat, its source and its parts of
-/// the windows. Nothing of other inputs changes. Fails if `take_item` does.
+/// the windows. Nothing of other inputs changes. `written` is the time whose line was written last.
+/// Fails at a fault of the input, at a failed read of it, and at a failed write.
 #[inline(always)]
 fn run_turn<S: Source, W: Sink>(
     heads: &[Head],
@@ -124,8 +125,8 @@ impl<'h, 's> Merge<'h, 's> {
     }
 }
 
-/// Writes what is due at the end of all inputs: the line of the greatest time, unless it was
-/// written last. Fails if a write does.
+/// Writes what is due at the end of all inputs: the line of the greatest time, unless there is none
+/// or `written` says that it was written last. Fails if a write does.
 fn close<W: Sink>(seats: &[Seat], written: Option<u64>, out: &mut W) -> Result<(), WriteFailed>
     requires { (W.device out.old).failures < 2 ^ 64 - 1 }
     ensures takes { (hs : List Header) (ds : List Dump) → AreMarked hs ds seats.now
@@ -139,8 +140,10 @@ fn close<W: Sink>(seats: &[Seat], written: Option<u64>, out: &mut W) -> Result<(
     }
 }
 
-/// Takes the next turn, and puts its input back into the order. After the last turn it writes what
-/// is due at the end. Fails if `take_item` or a write does.
+/// Takes the next turn, and puts its input back into the order. Returns `Again` if some input has
+/// not finished, otherwise `Ended`. After the last turn it writes what is due at the end. `written`
+/// is the time whose line was written last. Fails at a fault of the input whose turn it is, at a
+/// failed read of it, and at a failed write.
 #[inline(always)]
 fn run_next<S: Source, W: Sink>(
     heads: &[Head],
@@ -175,8 +178,8 @@ fn run_next<S: Source, W: Sink>(
     Ok(More::Ended(Done::Whole))
 }
 
-/// Takes the next turn of a merge, as `run_next` does. After any answer except `Again` the merge is
-/// over.
+/// Takes the next turn of a merge, and returns and fails as `run_next` does. After any answer
+/// except `Again` the merge is over.
 #[inline(always)]
 fn run_step<S: Source, W: Sink>(
     merge: &mut Merge<'_, '_>,
@@ -212,8 +215,8 @@ fn run_step<S: Source, W: Sink>(
     answer
 }
 
-/// Returns the order of these inputs. Each turn ends at `until` at the latest. The seats do not
-/// change.
+/// Returns the order of the inputs that have not finished. Each turn ends at `until` at the latest.
+/// The seats do not change.
 // They come as a `&mut`, since a proof learns nothing of what a shared borrow of a field reads.
 fn order_of(seats: &mut [Seat], until: u64) -> TurnOrder
     requires { length seats.old ≤ 64 }
@@ -227,7 +230,8 @@ fn order_of(seats: &mut [Seat], until: u64) -> TurnOrder
 /// Takes the next item of the input whose turn it is, and writes what is due with it, or at the end
 /// of all inputs. At the end of one input while others have items, nothing is written, and the
 /// input counts as finished. Before a read `out` passes on what it keeps back; if that fails,
-/// nothing is read. After any answer except `Again` the merge is over.
+/// nothing is read. Returns `Again` if some input has not finished. After any other answer the
+/// merge is over.
 ///
 /// # Errors
 ///
@@ -277,7 +281,8 @@ pub fn merge_step<S: Source, W: Sink>(
 }
 
 impl<'h, 's> Merge<'h, 's> {
-    /// Takes all steps that are left, to the end of the merge. Fails if a step does.
+    /// Takes all steps that are left, to the end of the merge, and returns how it ended. Fails as
+    /// `merge_step` does.
     pub fn finish<S: Source, W: Sink>(
         &mut self,
         sources: &mut [S],

@@ -16,7 +16,8 @@ use vcd_head::Head;
 use vcd_text::{Feed, Sink, Source, WriteFailed};
 use vcd_view::{Code, HeadView, code_in};
 
-/// Returns whether a merge drops a change: an event inside a section.
+/// Returns whether a merge drops a change: it is of an event (`event`), and inside a section
+/// (`inside`).
 #[inline(always)]
 fn is_left_out(event: bool, inside: bool) -> bool
     ensures { result ≡ (event && inside) }
@@ -24,7 +25,8 @@ fn is_left_out(event: bool, inside: bool) -> bool
     event && inside
 }
 
-/// Writes the line of `time`, unless it was written last. Fails if a write does.
+/// Writes the line of `time`, unless it was written last, and notes it in `written`. Fails if a
+/// write does.
 #[inline(always)]
 fn put_due_time<W: Sink>(
     time: u64,
@@ -43,8 +45,10 @@ fn put_due_time<W: Sink>(
     Ok(())
 }
 
-/// Writes a change of the code at index `code`, under its new code, after the line of its time. An
-/// event inside a section is dropped. Fails if a write does.
+/// Writes a change of the code at index `code`, under its new code, after the line of its time,
+/// unless `written` says that this was written last. Writes nothing for an event if `inside` says
+/// that a section is open, and for an index without a code. `first` is the number of the input's
+/// first code in the merged dump. Fails if a write does.
 // Not inlined, and takes no struct, since it is rare.
 #[cold]
 #[inline(never)]
@@ -182,8 +186,8 @@ impl Visit<()> for Merging {
 }
 
 /// Takes the items of an input that are whole in its feed's chunk, while its time is below
-/// `before`, and returns whether the time has reached it. The feed moves past them in one call.
-/// Fails if a write does.
+/// `before`, and returns whether the time has reached `before`. The feed moves past these items in
+/// one call. `written` is the time whose line was written last. Fails if a write does.
 #[inline(never)]
 fn take_ahead<S: Source, W: Sink>(
     head: &Head,
@@ -242,8 +246,10 @@ fn time_too_large(input: usize, line: u64) -> Stop
     }
 }
 
-/// Takes the next item of an input from its feed, and writes what is due with it. It may wait for a
-/// read, so by then `out` keeps nothing back. The caller parks the feed.
+/// Takes the next item of the input at index `input` from its feed, and writes what is due with it.
+/// At the end of the body it notes in the seat that the input has finished. It may wait for a read,
+/// so by then `out` keeps nothing back. The caller parks the feed. `written` is the time whose line
+/// was written last.
 ///
 /// # Errors
 ///
@@ -298,8 +304,9 @@ fn take_item<S: Source, W: Sink>(
 }
 
 /// Takes the items of a turn from its input's feed: one, and those after it while the input's time
-/// is below the turn's end. Before a read `out` passes on what it keeps back. Fails if `take_item`
-/// does.
+/// is below the turn's end. Before a read `out` passes on what it keeps back. `written` is the time
+/// whose line was written last. Fails at a fault of the input, at a failed read, and at a failed
+/// write.
 // So most items cost no look at the seats and no new feed.
 #[inline(always)]
 fn take_turn<S: Source, W: Sink>(
@@ -338,7 +345,8 @@ fn take_turn<S: Source, W: Sink>(
 }
 
 /// Takes the turn of an input over its own source and its parts of the windows: resumes its feed,
-/// takes the items of the turn, and parks the feed. Fails if `take_item` does.
+/// takes the items of the turn, and parks the feed. `written` is the time whose line was written
+/// last. Fails at a fault of the input, at a failed read, and at a failed write.
 #[inline(always)]
 pub(crate) fn resume_turn<S: Source, W: Sink>(
     head: &Head,

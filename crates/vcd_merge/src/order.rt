@@ -59,8 +59,8 @@ pub(crate) struct TurnOrder {
 impl TurnOrder {
     ghost use Rattle.std.specs.Prelude.{◌≤◌};
 
-    /// Returns the index at which to insert an input. Those from there on come before it, and those
-    /// below do not.
+    /// Returns the index at which to insert an input. The inputs from there on come before it, and
+    /// those below do not.
     #[inline(always)]
     fn index_for(&self, input: usize, seats: &[Seat]) -> usize
         requires input { input < length seats.now }

@@ -30,7 +30,8 @@ impl Check {
         }
     }
 
-    /// Writes the seven lines of the report. `regs` are the registers after all items.
+    /// Writes the seven lines of the report. `regs` are the registers after all items. Fails if a
+    /// write does.
     pub(crate) fn close<W: Sink>(
         &self,
         view: HeadView<'_>,

@@ -26,7 +26,7 @@ pub(crate) struct Cut<'r> {
 }
 
 /// Writes the start section of a cut: the line of `from`, and in `$dumpvars` the value of each code
-/// that has one and is no event.
+/// that has one and is no event. Fails if a write does.
 #[inline(never)]
 fn put_section<W: Sink>(
     table: &Table<'_>,
@@ -117,7 +117,8 @@ impl<'r> Cut<'r> {
     }
 
     /// Takes a timestamp, and returns whether it is above `to`, which ends the run. Writes the
-    /// start section if its time has come, and at the end of the run the line of `to`.
+    /// start section if it is not written yet and `time` is at least `from`, and at the end of the
+    /// run the line of `to`, unless that was written last. Fails if a write does.
     fn take_time<W: Sink>(
         &mut self,
         view: HeadView<'_>,
@@ -138,9 +139,10 @@ impl<'r> Cut<'r> {
         Ok(true)
     }
 
-    /// Takes an item that the feed gave, and returns whether it ended the run. Until the start
-    /// section is written it sets the value that the item gives; from then on it writes the item if
-    /// it is kept. `regs` are the registers after the item.
+    /// Takes an item that the feed gave, and returns whether it ended the run: a timestamp above
+    /// `to` does. Until the start section is written it sets the value that the item gives; from
+    /// then on it writes the item if `may_keep` allows it. `text` is a change's text, and any bytes
+    /// for other items; `regs` are the registers after the item. Fails if a write does.
     #[inline(never)]
     pub(crate) fn take<W: Sink>(
         &mut self,
@@ -166,7 +168,9 @@ impl<'r> Cut<'r> {
         take_given::<NoLine, _, _>(self, view, regs, item, text, out)
     }
 
-    /// Writes the start section if it is not written yet, otherwise the line of the last timestamp.
+    /// Writes the start section if it is not written yet, otherwise the line of the last timestamp,
+    /// unless there is none or that line was written last. `regs` are the registers after all
+    /// items. Fails if a write does.
     pub(crate) fn close<W: Sink>(
         &self,
         view: HeadView<'_>,

@@ -56,8 +56,8 @@ impl<'n, 'r> Pick<'n, 'r> {
         })
     }
 
-    /// Returns whether an item is written: one that may be kept, if it is of a chosen code or of
-    /// none. `regs` are the registers after the item.
+    /// Returns whether an item is written: it is the begin or end of a section, or a change of a
+    /// chosen code, but not an event inside a section. `regs` are the registers after the item.
     #[inline(always)]
     fn keeps(&self, view: HeadView<'_>, regs: Regs, item: Item) -> bool
         ensures { result ≡ is_kept self.now.flags.now view.entry regs item }
@@ -69,7 +69,8 @@ impl<'n, 'r> Pick<'n, 'r> {
         chosen && may_keep(view, regs, item)
     }
 
-    /// Writes the line of the last timestamp, unless it is written already.
+    /// Writes the line of the last timestamp, unless there is none or that line was written last.
+    /// `regs` are the registers after all items. Fails if a write does.
     pub(crate) fn close<W: Sink>(&self, regs: Regs, out: &mut W) -> Result<(), WriteFailed>
         requires { (W.device out.old).failures < 2 ^ 64 - 1 }
         ensures takes { (h : Header) (items : List BodyItem) → AreRegsAfter items regs

@@ -72,7 +72,7 @@ impl<'n, 'r> Sample<'n, 'r> {
     }
 
     /// Takes a timestamp, and returns whether it is above all times, which ends the run. Writes the
-    /// lines of the times below it that are not written yet.
+    /// lines of the times below it that are not written yet. Fails if a write does.
     fn take_time<W: Sink>(
         &mut self,
         view: HeadView<'_>,
@@ -91,9 +91,10 @@ impl<'n, 'r> Sample<'n, 'r> {
         Ok(rest.is_empty())
     }
 
-    /// Takes an item that the feed gave, and returns whether it ended the run. Sets the value of a
-    /// change; at a timestamp writes the lines of the times below it. `regs` are the registers
-    /// after the item.
+    /// Takes an item that the feed gave, and returns whether it ended the run: a timestamp above
+    /// all times does. Sets the value that a change gives; at a timestamp writes the lines of the
+    /// times below it. `text` is a change's text, and any bytes for other items; `regs` are the
+    /// registers after the item. Fails if a write does.
     #[inline(always)]
     pub(crate) fn take<W: Sink>(
         &mut self,
@@ -116,7 +117,7 @@ impl<'n, 'r> Sample<'n, 'r> {
         take_given::<NoLine, _, _>(self, view, regs, item, text, out)
     }
 
-    /// Writes the lines of the times that are not written yet.
+    /// Writes the lines of the times that are not written yet. Fails if a write does.
     pub(crate) fn close<W: Sink>(&self, view: HeadView<'_>, out: &mut W) -> Result<(), WriteFailed>
         requires { (W.device out.old).failures < 2 ^ 64 - 1 }
         ensures takes { ClosesOver view.entry (AreSampled self.now)

@@ -30,7 +30,8 @@ pub(crate) struct WalkEnd {
 }
 
 impl WalkEnd {
-    /// Returns the end of a walk at this position, with the result of its writes.
+    /// Returns the end of a walk: the bytes that are passed at `ahead`, the registers there, and
+    /// the result of its writes.
     #[inline(always)]
     fn until(ahead: Ahead<'_>, regs: Regs, written: Result<(), WriteFailed>) -> WalkEnd
         ensures passed { result.passed ≡ passed_of ahead.entry }
@@ -235,7 +236,8 @@ impl<L: LineMemory, C: AheadTask<L>> Visit<C> for WalkState<L> {
 }
 
 /// Takes the items that lie completely in the chunk from `ahead` on, writes what is due with them,
-/// piece by piece, and returns how far it came.
+/// piece by piece, and returns how far it came, and whether a write failed. `regs` are the
+/// registers before these items.
 // The loop of each task is a function of its own, so that it has all registers.
 #[inline(never)]
 pub(crate) fn take_each<L: LineMemory, C: AheadTask<L>, W: Sink>(
@@ -264,7 +266,8 @@ pub(crate) fn take_each<L: LineMemory, C: AheadTask<L>, W: Sink>(
 }
 
 /// Takes an item that the feed gave, and writes what is due with it. Returns false: the item does
-/// not end the run. `regs` are the registers after it. Fails if a write does.
+/// not end the run. `text` is a change's text, and any bytes for other items; `regs` are the
+/// registers after the item. Fails if a write does.
 // The item has no bytes in the chunk, so nothing of it stays pending: `pending` need no flush.
 #[inline(always)]
 pub(crate) fn take_given<L: LineMemory, C: AheadTask<L>, W: Sink>(
