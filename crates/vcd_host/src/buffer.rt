@@ -93,7 +93,7 @@ pub(crate) fn copy_eight(to: &mut [u8], position: usize, from: [u8; 8])
 /// Copies the byte `first`, the first n bytes of `from` and the eight of `end`, one after another,
 /// into `to` from `position` on. n is at most 64, `from` has at least 64 bytes, and `to` has room
 /// for 73. The bytes after these in `to` may be anything.
-// What is from `from` is always one copy of 64 bytes: a copy of an unknown length is a call.
+// The copy of `from` always has 64 bytes: a copy of an unknown length is a call.
 #[inline(always)]
 pub(crate) fn copy_parts(
     to: &mut [u8],

@@ -21,8 +21,8 @@ pub struct Buffered<D: Write + Drop> {
     failures: u64,
 }
 
-/// Writes the first of these bytes to the device, and returns how many: at least 1. Fails if the
-/// device returns an error or takes nothing. `bytes` is not empty.
+/// Writes some of these bytes to the device, from the first one on, and returns how many: at least
+/// 1. Fails if the device returns an error or takes nothing. `bytes` is not empty.
 fn write_some<D: Write>(bytes: &[u8], device: &mut D) -> Result<usize, WriteFailed>
     requires { 0 < length bytes.now }
     ensures bound { WritesAtMost result bytes.now }
@@ -103,9 +103,9 @@ impl<D: Write + Drop> Buffered<D> {
         Ok(())
     }
 
-    /// Takes the first of these bytes, and returns how many. Bytes that would fill an empty buffer
-    /// are written to the device, after what is in the buffer; others are all put into the buffer.
-    /// Fails if a write fails.
+    /// Takes some of these bytes, from the first one on, and returns how many. Bytes that would
+    /// fill an empty buffer are written to the device, after what is in the buffer. Otherwise all
+    /// of them are put into the buffer. Fails if a write fails.
     fn take_long(&mut self, from: &[u8]) -> Result<usize, WriteFailed>
         ensures bound { WritesAtMost result from.now }
         ensures takes { 0 < length from.now → IfOk result (λ n. 0 < n) }
@@ -124,8 +124,8 @@ impl<D: Write + Drop> Buffered<D> {
         Ok(from.len())
     }
 
-    /// Takes the first of these bytes, which fill the buffer or have no room in it, and returns how
-    /// many. Returns 0 if a write failed, and counts that failure.
+    /// Takes bytes that fill the buffer or have no room in it, from the first one on, and returns
+    /// how many. Returns 0 if a write failed, and counts that failure.
     // Not inlined, since most writes fit.
     #[cold]
     #[inline(never)]

@@ -29,7 +29,7 @@ pub trait Host {
         ensures fresh { IfOk result (λ input. Self.Input.failures input ≡ 0) };
 
     /// Returns how many bytes the reads of an input give at most. `None` if the host does not know
-    /// it, as the provided function.
+    /// it; the provided function never does.
     fn max_bytes_of(_input: &Self::Input) -> Option<usize>
         ensures { IfSome (Self.Input.rest _input.now)
             (λ text. IfSome result (λ most. length text ≤ most)) }

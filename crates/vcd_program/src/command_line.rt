@@ -127,7 +127,8 @@ fn run_words<H: Host, W: Sink, E: Sink, B: BuildHasher>(
 /// Runs what the words ask for, of which the first is the program's name, flushes the output, and
 /// returns the exit status. That is the status of the definitions for the words and the inputs; or
 /// 3 if an input cannot be opened, if memory runs out, or if a read or a write fails; or 0 for help
-/// and the version.
+/// and the version. The output goes to `out`, and messages go to `err`. Identifier codes are hashed
+/// with numbers that the hasher gives.
 pub fn run_program<H: Host, W: Output, E: Sink, B: BuildHasher>(
     alloc: Global,
     words: &[String],

@@ -34,8 +34,8 @@ impl<R: Read> Measured<R> {
         }
     }
 
-    /// Returns a number of bytes that all reads do not exceed; `None` if there is no limit, or one
-    /// that is no `usize`.
+    /// Returns a number of bytes that reads do not exceed. `None` if there is no limit, or if it
+    /// does not fit into a `usize`.
     fn max_bytes(&self) -> Option<usize>
         ensures { GivesAtMost (measured_left R.remaining self.now) result }
     {

@@ -78,7 +78,7 @@ fn is_of_negative(text: &str) -> bool {
     }
 }
 
-/// Returns the text to write for words that give no matches but this error: the text of `clap`,
+/// Returns the text to write if the parse of the words ends with this error: the text of `clap`,
 /// with hints that fit here.
 pub fn answer_text(alloc: Global, error: &Error) -> Result<String, AllocError> {
     let text = instead_of(alloc, error.to_string(alloc)?)?;

@@ -163,7 +163,7 @@ pub fn command_of<'a>(alloc: Global) -> Result<Command<'a>, AllocError>
     add(program, merge(alloc))
 }
 
-/// Returns the exit status of a parse that gave no matches but this error: 0 for help and the
+/// Returns the exit status if the parse of the words ends with this error: 0 for help and the
 /// version, 3 if memory ran out, otherwise 2.
 pub fn parse_status(error: &Error) -> u8
     ensures { result ≡ parse_status_of (kind_of error.now) }

@@ -35,8 +35,9 @@ pub enum Want {
 
 impl Want {
     /// Converts the times of a sample to ticks of the header that `view` shows, in place. Anything
-    /// else stays as it is. Fails with the reason if a time has no ticks, or if the times do not
-    /// increase in ticks; then the times may be anything.
+    /// else stays as it is. Fails with the reason if a time has a unit without a time scale, or
+    /// 2^64 ticks or more, or if the times do not increase in ticks; then the times may be
+    /// anything.
     pub fn write_ticks(&mut self, view: HeadView<'_>) -> Result<(), Refusal>
         requires { is_asked self.old ≡ true }
         ensures same { KeepsRequest view.entry (model_want self.old) (model_want self.new) result }
@@ -142,7 +143,7 @@ fn limit_in(word: &str) -> Option<usize>
 }
 
 /// Returns the token limit that this word asks for, or the default if there is no word. Fails if
-/// `limit_in` finds no limit in the word.
+/// the word is not 1 to 20 digits, or if the number is below 64 or above 16,777,216.
 fn limit_of<'a>(word: Option<&'a str>) -> Result<usize, UseFault<'a>>
     ensures limit { IfOk result (λ limit. limit_of (text_of word.entry) ≡ Ok limit) }
     ensures range { IfOk result (λ limit. (64 ≤ limit) × (limit ≤ 16777216)) }

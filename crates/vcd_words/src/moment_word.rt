@@ -40,7 +40,7 @@ pub(crate) fn moment_of(word: &str) -> Option<Moment>
     Moment::from_parts(number_of(digits)?, unit)
 }
 
-/// Returns the time that a word is. Fails with `BadTime` if `moment_of` finds no time in it.
+/// Returns the time that a word is. Fails with `BadTime` if `moment_of` returns `None`.
 pub(crate) fn time_of<'a>(word: &'a str) -> Result<Moment, UseFault<'a>>
     ensures time { IfOk result (λ moment. time_of word.entry.now ≡ Ok (asked moment)) }
     ensures fault { IfErr result (λ fault. IsFaultIn fault (time_of word.entry.now)) }
@@ -144,8 +144,8 @@ fn units_in(alloc: Global, at: &str) -> Result<Vec<Option<i8>>, AllocError>
         .collect(alloc)
 }
 
-/// Returns a sample of these names, or of all variables without names, at the times between the
-/// commas of `at`. Fails with the first fault of these times (`check_times`), or if memory runs
+/// Returns a sample of these names at the times between the commas of `at`; of all variables if
+/// `names` is `None`. Fails with the first fault of the times (`check_times`), or if memory runs
 /// out. Memory is taken once it is known that a sample may have these times.
 pub(crate) fn sample_of<'a>(
     alloc: Global,

@@ -41,7 +41,7 @@ fn write_ticks(numbers: &mut [u64], units: &[Option<i8>], view: HeadView<'_>) ->
 
 /// Writes the times of a sample, with these numbers and units, in ticks of the header that `view`
 /// shows over their numbers, each rounded down, and sets all units to `None`. Changes nothing if no
-/// time has a unit. Fails with the reason if a time has no ticks, or if the times do not increase
+/// time has a unit. Fails with the reason as `write_ticks` does, and if the times do not increase
 /// in ticks; then the times may be anything.
 pub(crate) fn write_times(
     numbers: &mut Vec<u64>,

@@ -106,7 +106,7 @@ fn copied(alloc: Global, names: &[&str]) -> Result<Vec<String>, AllocError>
     Ok(copies)
 }
 
-/// Returns a copy of these names; an empty one if `names` is `None`.
+/// Returns a copy of these names; no names if `names` is `None`.
 pub(crate) fn copied_some(alloc: Global, names: Option<&[&str]>) -> Result<Vec<String>, AllocError>
     ensures { IfOk result (λ copies. map string_bytes copies.items ≡ some_names names.entry) }
 {

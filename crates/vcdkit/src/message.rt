@@ -8,7 +8,7 @@ use vcd_body::Stop;
 use vcd_text::{Sink, WriteFailed, put, put_number, text_of};
 use vcd_words::{Refusal, UseFault};
 
-/// Writes `vcdkit: TEXT`.
+/// Writes `vcdkit: TEXT` as a line. Fails at the first write that fails.
 fn put_line<E: Sink>(err: &mut E, text: &str) -> Result<(), WriteFailed>
     requires { (E.device err.old).failures < 2 ^ 64 - 1 }
     ensures { Puts (E.device err.old) (E.device err.new) (program_line text.now) result }
@@ -18,7 +18,7 @@ fn put_line<E: Sink>(err: &mut E, text: &str) -> Result<(), WriteFailed>
     put(err, b"\n")
 }
 
-/// Writes `vcdkit: ` and both texts, as one line.
+/// Writes `vcdkit: ` and both texts as one line. Fails at the first write that fails.
 fn put_both<E: Sink>(err: &mut E, first: &str, second: &str) -> Result<(), WriteFailed>
     requires { (E.device err.old).failures < 2 ^ 64 - 1 }
     ensures { PutsTo E.device err.old err.new (program_line (first.now ++ second.now)) result }
@@ -29,7 +29,8 @@ fn put_both<E: Sink>(err: &mut E, first: &str, second: &str) -> Result<(), Write
     put(err, b"\n")
 }
 
-/// Writes `vcdkit: NAME:LINE: TEXT`, of a fault in the input of that name.
+/// Writes `vcdkit: NAME:LINE: TEXT`, about a fault in the input of that name. Fails at the first
+/// write that fails.
 fn put_fault<E: Sink>(err: &mut E, name: &str, line: u64, text: &str) -> Result<(), WriteFailed>
     requires { (E.device err.old).failures < 2 ^ 64 - 1 }
     ensures { Puts (E.device err.old) (E.device err.new)

@@ -10,7 +10,8 @@ use vcd_view::{HeadView, Need};
 use vcd_words::{Refusal, Want};
 
 /// Returns the cut between these times, in ticks of the header that `view` shows: the first rounded
-/// up, the last down. Fails if a time has no ticks, or if the first is above the last in ticks.
+/// up, the last down. Fails if a time has a unit without a time scale, or 2^64 ticks or more, or if
+/// the first is above the last in ticks.
 fn cut_of<'w>(from: Moment, to: Moment, view: HeadView<'_>) -> Result<Task<'w>, Refusal>
     requires { is_asked (Want.Cut from to) ≡ true }
     ensures request { (h : Header) → IsViewOf view.entry h
