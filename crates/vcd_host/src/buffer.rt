@@ -30,7 +30,7 @@ pub(crate) struct Buffer {
     ghost failed: { failed_at ≤ len + 1 },
 }
 
-/// Copies bytes over as many others.
+/// Copies all of `from` to `to`, which has the same length.
 // Short copies have arms of their own: without them `merge` of scalars takes 5 % more.
 #[inline(always)]
 pub(crate) fn copy(from: &[u8], to: &mut [u8])
@@ -90,8 +90,10 @@ pub(crate) fn copy_eight(to: &mut [u8], position: usize, from: [u8; 8])
     to[position..position + 8].copy_from_slice(&as_word(from));
 }
 
-/// Copies a byte, the first n bytes of `from` and the eight of `end` to an offset.
-// The front is always one copy of 64 bytes: a copy of an unknown length is a call.
+/// Copies the byte `first`, the first n bytes of `from` and the eight of `end`, one after another,
+/// into `to` from `position` on. n is at most 64, `from` has at least 64 bytes, and `to` has room
+/// for 73. The bytes after these in `to` may be anything.
+// The copy of `from` always has 64 bytes: a copy of an unknown length is a call.
 #[inline(always)]
 pub(crate) fn copy_parts(
     to: &mut [u8],
@@ -136,7 +138,7 @@ impl Buffer {
         &self.bytes[..self.len]
     }
 
-    /// Appends bytes, for which there is room.
+    /// Appends all of these bytes, for which there has to be room.
     #[inline(always)]
     pub(crate) fn push(&mut self, from: &[u8])
         requires { self.old.len + length from.now ≤ 8192 }
@@ -148,7 +150,7 @@ impl Buffer {
         self.len = end;
     }
 
-    /// Appends the first n of these bytes, by one copy of all of them.
+    /// Appends the first n of these bytes, by one copy of all of them. There has to be room for 8.
     #[inline(always)]
     pub(crate) fn push_few(&mut self, bytes: [u8; 8], n: usize)
         requires few { n ≤ 8 }
@@ -160,8 +162,9 @@ impl Buffer {
         self.len += n;
     }
 
-    /// Returns whether the first n of these bytes may be pushed by `push_front` and `push_parts`:
-    /// they are few, and there is room for as many bytes as those copy.
+    /// Returns whether `push_front` and `push_parts` may push the first n of these bytes: n is at
+    /// most 64, there are at least 64 of these bytes, and there is room for the 73 that
+    /// `push_parts` may copy.
     #[inline(always)]
     pub(crate) fn has_room(&self, from: &[u8], n: usize) -> bool
         ensures few { result ≡ true → n ≤ 64 }
@@ -171,7 +174,8 @@ impl Buffer {
         n <= SHORT && from.len() >= SHORT && self.len <= ROOM - PARTS
     }
 
-    /// Appends the first n bytes of these, by one copy of 64.
+    /// Appends the first n of these bytes, by one copy of 64. n is at most 64, and there has to be
+    /// room for 64.
     #[inline(always)]
     pub(crate) fn push_front(&mut self, from: &[u8], n: usize)
         requires few { n ≤ 64 }
@@ -184,8 +188,8 @@ impl Buffer {
         self.len += n;
     }
 
-    /// Appends a byte, the first n bytes of `from` and the first m of `end`, by copies of known
-    /// lengths.
+    /// Appends the byte `first`, the first n bytes of `from` and the first m of `end`, by copies of
+    /// known lengths. n is at most 64, m at most 8, and there has to be room for 73.
     #[inline(always)]
     pub(crate) fn push_parts(&mut self, first: u8, from: &[u8], n: usize, end: [u8; 8], m: usize)
         requires few { n ≤ 64 }
@@ -209,7 +213,7 @@ impl Buffer {
         self.failed_at = self.len + 1;
     }
 
-    /// Removes the first n bytes, which were written.
+    /// Removes the first n bytes, which were written, and forgets that a write failed before.
     pub(crate) fn remove_front(&mut self, n: usize)
         requires { n ≤ self.old.len }
         ensures kept { kept self.new ≡ drop n (kept self.old) }

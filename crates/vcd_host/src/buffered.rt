@@ -21,7 +21,8 @@ pub struct Buffered<D: Write + Drop> {
     failures: u64,
 }
 
-/// Writes bytes from the front of `bytes`, which is not empty, and returns how many.
+/// Writes some of these bytes to the device, from the first one on, and returns how many: at least
+/// 1. Fails if the device returns an error or takes nothing. `bytes` is not empty.
 fn write_some<D: Write>(bytes: &[u8], device: &mut D) -> Result<usize, WriteFailed>
     requires { 0 < length bytes.now }
     ensures bound { WritesAtMost result bytes.now }
@@ -35,7 +36,8 @@ fn write_some<D: Write>(bytes: &[u8], device: &mut D) -> Result<usize, WriteFail
     }
 }
 
-/// Writes bytes, and returns how many were written: all, or those before a write failed.
+/// Writes these bytes to the device, and returns how many it took: all, or those before a write
+/// failed.
 fn write_out<D: Write>(bytes: &[u8], device: &mut D) -> usize
     ensures bound { result ≤ length bytes.now }
     ensures bytes { Appends (D.contents device.old) (D.contents device.new)
@@ -70,7 +72,8 @@ impl<D: Write + Drop> Buffered<D> {
         })
     }
 
-    /// Writes what is in the buffer to the device. If a write fails, the rest stays.
+    /// Writes what is in the buffer to the device. Fails if a write fails; then the rest stays in
+    /// the buffer. The failure is not counted here.
     fn write_kept(&mut self) -> Result<(), WriteFailed>
         ensures empty { OnOk result (kept self.new.buffer ≡ []) }
         ensures room { OnOk result (self.new.buffer.len ≡ 0) }
@@ -87,6 +90,7 @@ impl<D: Write + Drop> Buffered<D> {
     }
 
     /// Makes room for n bytes: writes what is in the buffer, if the buffer has no room for them.
+    /// Fails if that write fails.
     fn make_room(&mut self, n: usize) -> Result<(), WriteFailed>
         requires { n ≤ 8192 }
         ensures room { OnOk result (self.new.buffer.len + n ≤ 8192) }
@@ -99,8 +103,9 @@ impl<D: Write + Drop> Buffered<D> {
         Ok(())
     }
 
-    /// Takes bytes from the front, and returns how many. Bytes that would fill an empty buffer are
-    /// written to the device, after what is in the buffer.
+    /// Takes some of these bytes, from the first one on, and returns how many. Bytes that would
+    /// fill an empty buffer are written to the device, after what is in the buffer. Otherwise all
+    /// of them are put into the buffer. Fails if a write fails.
     fn take_long(&mut self, from: &[u8]) -> Result<usize, WriteFailed>
         ensures bound { WritesAtMost result from.now }
         ensures takes { 0 < length from.now → IfOk result (λ n. 0 < n) }
@@ -119,8 +124,8 @@ impl<D: Write + Drop> Buffered<D> {
         Ok(from.len())
     }
 
-    /// Takes bytes that fill the buffer or have no room in it, and returns how many: none if the
-    /// write failed.
+    /// Takes bytes that fill the buffer or have no room in it, from the first one on, and returns
+    /// how many. Returns 0 if a write failed, and counts that failure.
     // Not inlined, since most writes fit.
     #[cold]
     #[inline(never)]

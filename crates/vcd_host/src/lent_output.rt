@@ -28,7 +28,7 @@ impl<'a> LentOutput<'a> {
     ghost use Rattle.vcd_host.specs.Fills.{Fills};
     ghost use Rattle.vcd_host.specs.LentOutput.{held, written};
 
-    /// Returns an output that fills these bytes, from the first one on. None is filled yet.
+    /// Returns an output that fills these bytes, from the first one on. No byte is filled yet.
     pub fn new(bytes: &'a mut [u8]) -> LentOutput<'a>
         ensures loan { result.bytes.ghost_name ≡ bytes.entry.ghost_name }
         ensures empty { written result ≡ [] }
@@ -41,8 +41,8 @@ impl<'a> LentOutput<'a> {
         }
     }
 
-    /// Returns how many bytes were written, if fewer than 2^63 found no room. Those for which there
-    /// was room are at the front of the bytes that were lent.
+    /// Returns how many bytes were written, also those that found no room. `None` if 2^63 or more
+    /// found no room. Those for which there was room are the first of the bytes that were lent.
     pub fn len(&self) -> Option<u64>
         ensures { IfSome result (λ n. Fills self.now.bytes.now n (written self.now)) }
     {
@@ -52,8 +52,9 @@ impl<'a> LentOutput<'a> {
         Some(self.used as u64 + self.over)
     }
 
-    /// Takes bytes that fill the room or more, and returns how many: those from the front for which
-    /// there is room, or all of them if there is no room at all.
+    /// Takes bytes that fill the room or more, and returns how many: the first ones, for which
+    /// there is room. If there is no room at all, it counts and drops all of them, and returns how
+    /// many they are.
     #[cold]
     #[inline(never)]
     fn write_over(&mut self, from: &[u8]) -> usize

@@ -8,7 +8,7 @@ use std::alloc::{AllocError, Global};
 /// What standard input is called.
 const INPUT: &str = "(stdin)";
 
-/// Returns what an input is called in a message.
+/// Returns what an input is called in a message: its name, or `(stdin)` if `name` is `None`.
 pub fn called<'a>(name: Option<&'a str>) -> &'a str
     ensures { result.now ≡ called (text_of name.entry) }
 {
@@ -26,7 +26,8 @@ pub struct Opened<I: Drop> {
 }
 
 impl<I: Drop> Opened<I> {
-    /// Adds an input that was opened under this name; `None` is standard input.
+    /// Adds an input that was opened under this name; `None` is standard input. Fails if memory
+    /// runs out; then no reader is added.
     fn push(&mut self, alloc: Global, name: Option<&str>, reader: I) -> Result<(), AllocError>
         ensures readers { OnOk result (self.new.readers.items
             ≡ self.old.readers.items ++ reader ∷ []) }
@@ -55,7 +56,8 @@ impl<'a> From<AllocError> for OpenStop<'a> {
     }
 }
 
-/// Opens the input of this name, and adds it.
+/// Opens the input of this name, or standard input if `name` is `None`, and adds it. Fails if it
+/// cannot be opened, or if memory runs out; then no reader is added.
 fn open_next<'a, H: Host>(
     alloc: Global,
     name: Option<&'a str>,
@@ -75,7 +77,8 @@ fn open_next<'a, H: Host>(
     }
 }
 
-/// Opens the inputs of these names in order, up to the first that cannot be opened.
+/// Opens the inputs of these names in order, and returns them; `None` is standard input. Fails at
+/// the first that cannot be opened, or if memory runs out.
 pub fn open_inputs<'a, H: Host>(
     alloc: Global,
     asked: &[Option<&'a str>],
@@ -98,7 +101,8 @@ pub fn open_inputs<'a, H: Host>(
     Ok(opened)
 }
 
-/// Returns how many bytes any of these inputs gives at most, if the host knows it of all.
+/// Returns how many bytes each of these inputs gives at most. `None` if the host does not know it
+/// of all.
 pub fn max_bytes_of_all<H: Host>(inputs: &[H::Input]) -> Option<usize>
     ensures { IfSome result (λ most.
         All (λ r. IfSome (H.Input.rest r) (λ text. length text ≤ most)) inputs.now) }

@@ -53,7 +53,8 @@ fn run_job<H: Host, W: Sink, E: Sink, B: BuildHasher>(
 }
 
 /// Runs the job that the matches ask for over the inputs that they name, and returns the exit
-/// status. It does not flush `out`.
+/// status. If they ask for no job, it opens no input, and writes only a line to `err`. It does not
+/// flush `out`.
 fn run_matches<H: Host, W: Sink, E: Sink, B: BuildHasher>(
     alloc: Global,
     matches: &ArgMatches<'_>,
@@ -74,7 +75,8 @@ fn run_matches<H: Host, W: Sink, E: Sink, B: BuildHasher>(
 }
 
 /// Writes what a parse answered that gave no matches, and returns the exit status. Help and the
-/// version go to the output, all else to the error stream.
+/// version go to the output, all else to the error stream. The status is 0 if help or the version
+/// was written, 3 if memory runs out or the output cannot be written, otherwise 2.
 fn answer<W: Sink, E: Sink>(alloc: Global, error: &Error, out: &mut W, err: &mut E) -> u8
     requires sinks { MayFailOnce W.Sink E.Sink out.old err.old }
     ensures answers { Answers (kind_of error.now)
@@ -98,7 +100,8 @@ fn answer<W: Sink, E: Sink>(alloc: Global, error: &Error, out: &mut W, err: &mut
     status
 }
 
-/// Parses the words, and does what they ask for. It does not flush `out`.
+/// Parses the words, does what they ask for, and returns the exit status. The first word is the
+/// program's name. It does not flush `out`.
 fn run_words<H: Host, W: Sink, E: Sink, B: BuildHasher>(
     alloc: Global,
     words: &[String],
@@ -124,7 +127,8 @@ fn run_words<H: Host, W: Sink, E: Sink, B: BuildHasher>(
 /// Runs what the words ask for, of which the first is the program's name, flushes the output, and
 /// returns the exit status. That is the status of the definitions for the words and the inputs; or
 /// 3 if an input cannot be opened, if memory runs out, or if a read or a write fails; or 0 for help
-/// and the version.
+/// and the version. The output goes to `out`, and messages go to `err`. Identifier codes are hashed
+/// with numbers that the hasher gives.
 pub fn run_program<H: Host, W: Output, E: Sink, B: BuildHasher>(
     alloc: Global,
     words: &[String],

@@ -34,7 +34,8 @@ impl<R: Read> Measured<R> {
         }
     }
 
-    /// Returns a number of bytes that reads do not exceed; `None` if none is known.
+    /// Returns a number of bytes that reads do not exceed. `None` if there is no limit, or if it
+    /// does not fit into a `usize`.
     fn max_bytes(&self) -> Option<usize>
         ensures { GivesAtMost (measured_left R.remaining self.now) result }
     {
@@ -61,8 +62,8 @@ impl<R: Read> Read for Measured<R> {
 const MAX_SHORT_FILE: u64 = 1_048_576;
 
 /// Returns the length of a short file. `None` if this is no regular file, if it is longer than
-/// `MAX_SHORT_FILE`, or if its length is unknown. A file of length 0 may give bytes: the machine
-/// makes the bytes of some files while they are read.
+/// `MAX_SHORT_FILE`, or if its length is 0 or unknown. A file of length 0 may give bytes: the
+/// machine makes the bytes of some files while they are read.
 fn short_len(about: io::Result<Metadata>) -> Option<u64> {
     let about = about.ok()?;
     let len = about.len();
@@ -174,7 +175,8 @@ struct MachineHost<'r, M> {
 }
 
 impl<M: Machine> MachineHost<'_, M> {
-    /// Returns an input that was opened.
+    /// Returns this stream as an input of which no read failed yet. If the machine gave no random
+    /// numbers, each read of the input fails.
     fn input(&self, stream: Stream<M::File, M::Input>) -> Watch<Stream<M::File, M::Input>>
         ensures device { result.device ≡ read_as self.now.is_seeded stream }
         ensures failures { failed_calls result ≡ 0 }
@@ -214,7 +216,8 @@ impl<M: Machine> Host for MachineHost<'_, M> {
     }
 }
 
-/// Returns the arguments, the program's name first. Fails if one of them is not UTF-8.
+/// Returns the arguments, the program's name first. Fails if one of them is not UTF-8, or if memory
+/// runs out.
 fn words_of<R: Env + AllocGlobal>(rt: &R) -> Result<Vec<String>, UseFault<'static>> {
     let words = env::args(rt).map_err(|error| match error.kind() {
         ErrorKind::OutOfMemory => UseFault::OutOfMemory,
@@ -224,7 +227,8 @@ fn words_of<R: Env + AllocGlobal>(rt: &R) -> Result<Vec<String>, UseFault<'stati
 }
 
 /// Runs the program with these arguments over the inputs of this machine, and returns the exit
-/// status, as `run_program` does. If the machine gave no random numbers, no input can be read.
+/// status, as `run_program` does. If `is_seeded` is false, the machine gave no random numbers, and
+/// no input can be read.
 fn run_over<M: Machine, W: Output, E: Sink, B: BuildHasher>(
     alloc: Global,
     machine: &M,
@@ -245,7 +249,8 @@ fn run_over<M: Machine, W: Output, E: Sink, B: BuildHasher>(
 }
 
 /// Runs the program with these arguments over the files and the streams of the process, and returns
-/// the exit status. Messages go to `err`.
+/// the exit status. Messages go to `err`. If `is_seeded` is false, the machine gave no random
+/// numbers, and no input can be read.
 fn run_words<E: Sink, B: BuildHasher>(
     rt: &HostRuntime,
     words: &[String],
@@ -284,8 +289,9 @@ pub fn run_words_on_machine<E: Sink>(rt: &HostRuntime, words: &[String], err: &m
 /// The highest descriptor of a standard stream.
 const MAX_STANDARD: i32 = 2;
 
-/// Opens a folder on the first standard stream that is closed, and returns it; `None` if all are
-/// open. Reads and writes of a folder fail, as they do on a closed stream.
+/// Opens a folder on the first standard stream that is closed, and returns it. `None` if all are
+/// open, or if the folder cannot be opened. Reads and writes of a folder fail, as they do on a
+/// closed stream.
 fn stand_in(rt: &HostRuntime) -> Option<File> {
     let folder = File::open(rt, "/").ok()?;
     if folder.as_raw_fd() <= MAX_STANDARD {

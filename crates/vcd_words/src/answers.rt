@@ -50,7 +50,7 @@ const SCRIPTS: [&str; 13] = [
     "x",
 ];
 
-/// Returns the text, with what misleads replaced.
+/// Returns the text of `clap`, in which each text of `INSTEAD` that misleads is replaced.
 fn instead_of(alloc: Global, mut text: String) -> Result<String, AllocError> {
     for (said, instead) in &INSTEAD {
         text = text.replace(alloc, *said, *instead)?;
@@ -58,7 +58,8 @@ fn instead_of(alloc: Global, mut text: String) -> Result<String, AllocError> {
     Ok(text)
 }
 
-/// Returns the text with the name of a script, if an unknown command is the end of such a name.
+/// Returns the text of `clap`, with a hint at a script if the unknown command in the text is the
+/// name of that script without `vcdkit-`. Otherwise it returns the text as it is.
 fn with_script(alloc: Global, mut text: String) -> Result<String, AllocError> {
     for script in &SCRIPTS {
         let said = format!(in alloc; "subcommand '{script}'\n")?;
@@ -68,7 +69,8 @@ fn with_script(alloc: Global, mut text: String) -> Result<String, AllocError> {
     Ok(text)
 }
 
-/// Returns whether the text is about a negative number, which `clap` takes for options.
+/// Returns whether the text of `clap` is about a word that begins with `-` and a digit, such as a
+/// negative number. `clap` takes such a word for an option.
 fn is_of_negative(text: &str) -> bool {
     match text.strip_prefix("error: unexpected argument '-") {
         Some(word) => matches!(word.as_bytes(), [b'0'..=b'9', ..]),
@@ -76,7 +78,8 @@ fn is_of_negative(text: &str) -> bool {
     }
 }
 
-/// Returns the text for words that give no matches.
+/// Returns the text to write if the parse of the words ends with this error: the text of `clap`,
+/// with hints that fit here.
 pub fn answer_text(alloc: Global, error: &Error) -> Result<String, AllocError> {
     let text = instead_of(alloc, error.to_string(alloc)?)?;
     if is_of_negative(text.as_str()) {

@@ -28,7 +28,7 @@ fn new_command<'a>(alloc: Global, name: &'a str, help: Help<'a>) -> Command<'a>
         .after_help(help.after)
 }
 
-/// Returns a command over one input, with its options.
+/// Returns a command over one input, with its options `-i` and `--token-limit`.
 fn one_input<'a>(alloc: Global, name: &'a str, help: Help<'a>) -> Result<Command<'a>, AllocError>
     ensures { IfOk result (λ command. IsWhole command (one_input_app name.entry.now)) }
 {
@@ -52,9 +52,9 @@ fn with_file<'a>(alloc: Global, name: &'a str, help: Help<'a>) -> Result<Command
     one_input(alloc, name, help)?.arg(file)
 }
 
-/// Returns a command over one input, with its options and names of variables. If the names are
-/// required, the parse fails without them. A word without an option is a name here, so the file
-/// comes after `-i`.
+/// Returns a command over one input, with its options and names of variables. If `required` is
+/// true, the parse fails without names. A word without an option is a name here, so the file comes
+/// after `-i`.
 fn named<'a>(
     alloc: Global,
     name: &'a str,
@@ -71,7 +71,7 @@ fn named<'a>(
     one_input(alloc, name, help)?.arg(names)
 }
 
-/// Returns an option for times.
+/// Returns the option `--NAME` of this name, for times. Its help calls the value `value_name`.
 fn time<'a>(alloc: Global, name: &'a str, value_name: &'a str, help: &'a str) -> Arg<'a>
     ensures { IsLocal result (time_rule name.entry.now) }
 {
@@ -133,7 +133,8 @@ fn merge<'a>(alloc: Global) -> Result<Command<'a>, AllocError>
         .arg(files)
 }
 
-/// Returns the program with one more command, if that could be made.
+/// Returns the program with this command added. Fails if memory ran out for the command, or runs
+/// out here.
 fn add<'a>(
     program: Command<'a>,
     command: Result<Command<'a>, AllocError>,
@@ -162,7 +163,8 @@ pub fn command_of<'a>(alloc: Global) -> Result<Command<'a>, AllocError>
     add(program, merge(alloc))
 }
 
-/// Returns the exit status of a parse that gave no matches.
+/// Returns the exit status if the parse of the words ends with this error: 0 for help and the
+/// version, 3 if memory ran out, otherwise 2.
 pub fn parse_status(error: &Error) -> u8
     ensures { result ≡ parse_status_of (kind_of error.now) }
 {

@@ -34,8 +34,10 @@ pub enum Want {
 }
 
 impl Want {
-    /// Converts the times of a sample to ticks of the header that is shown, in place. Fails with
-    /// the reason if they are refused; then the times may be anything.
+    /// Converts the times of a sample to ticks of the header that `view` shows, in place. Anything
+    /// else stays as it is. Fails with the reason if a time has a unit without a time scale, or
+    /// 2^64 ticks or more, or if the times do not increase in ticks; then the times may be
+    /// anything.
     pub fn write_ticks(&mut self, view: HeadView<'_>) -> Result<(), Refusal>
         requires { is_asked self.old ≡ true }
         ensures same { KeepsRequest view.entry (model_want self.old) (model_want self.new) result }
@@ -55,7 +57,7 @@ impl Want {
         }
     }
 
-    /// Returns whether it is a merge. Only a merge may have several inputs.
+    /// Returns whether this is a merge. Only a merge may have several inputs.
     pub fn is_merge(&self) -> bool
         ensures { result ≡ is_merge self.now }
     {
@@ -128,7 +130,8 @@ const MAX_LIMIT: u64 = 16_777_216;
 /// How much is read in one call, in bytes.
 const CHUNK: usize = 65_536;
 
-/// Returns the token limit that a word is; `None` if it is none.
+/// Returns the token limit that a word spells. `None` if the word is not 1 to 20 digits, or if the
+/// number is below 64 or above 16,777,216.
 fn limit_in(word: &str) -> Option<usize>
     ensures { result ≡ cond (is_limit word.now) (Some (decimal_value word.now)) None }
 {
@@ -139,7 +142,8 @@ fn limit_in(word: &str) -> Option<usize>
     Some(limit as usize)
 }
 
-/// Returns the token limit that this word asks for, or the default if there is no word.
+/// Returns the token limit that this word asks for, or the default if there is no word. Fails if
+/// the word is not 1 to 20 digits, or if the number is below 64 or above 16,777,216.
 fn limit_of<'a>(word: Option<&'a str>) -> Result<usize, UseFault<'a>>
     ensures limit { IfOk result (λ limit. limit_of (text_of word.entry) ≡ Ok limit) }
     ensures range { IfOk result (λ limit. (64 ≤ limit) × (limit ≤ 16777216)) }

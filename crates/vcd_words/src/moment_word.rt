@@ -12,7 +12,8 @@ use vcd_text::decimal_of;
 /// How many digits a number may have.
 const MAX_DIGITS: usize = 20;
 
-/// Returns the number that 1 to 20 digits are; `None` if it is 2^64 or more.
+/// Returns the number that these bytes spell. `None` if they are not 1 to 20 digits, or if the
+/// number is 2^64 or more.
 pub(crate) fn number_of(digits: &[u8]) -> Option<u64>
     ensures { result ≡ cond (is_number digits.now) (Some (decimal_value digits.now)) None }
 {
@@ -29,8 +30,8 @@ fn digits_before(word: &[u8]) -> usize
     word.iter().take_while(|byte| byte.is_ascii_digit()).count()
 }
 
-/// Returns the time that a word is: 1 to 20 digits with a value below 2^64, and then nothing or a
-/// unit, in lower case. `None` if it is no time.
+/// Returns the time that a word is: 1 to 20 digits with a value below 2^64, and then nothing or one
+/// of the units `s`, `ms`, `us`, `ns`, `ps` and `fs`. `None` if the word is anything else.
 pub(crate) fn moment_of(word: &str) -> Option<Moment>
     ensures { option_map asked result ≡ moment_of word.now }
 {
@@ -39,7 +40,7 @@ pub(crate) fn moment_of(word: &str) -> Option<Moment>
     Moment::from_parts(number_of(digits)?, unit)
 }
 
-/// Returns the time that a word is. Fails if it is no time.
+/// Returns the time that a word is. Fails with `BadTime` if `moment_of` returns `None`.
 pub(crate) fn time_of<'a>(word: &'a str) -> Result<Moment, UseFault<'a>>
     ensures time { IfOk result (λ moment. time_of word.entry.now ≡ Ok (asked moment)) }
     ensures fault { IfErr result (λ fault. IsFaultIn fault (time_of word.entry.now)) }
@@ -47,9 +48,9 @@ pub(crate) fn time_of<'a>(word: &'a str) -> Result<Moment, UseFault<'a>>
     moment_of(word).ok_or(UseFault::BadTime(word))
 }
 
-/// Returns a cut between the times that these words are, or the first fault of them. Without units
-/// the first time may not be above the second. With a unit that is checked once the time scale is
-/// known.
+/// Returns a cut between the times that these words are. Fails at the first word that is no time,
+/// and if neither time has a unit and `from` is above `to`. With a unit that is checked once the
+/// time scale is known.
 pub(crate) fn cut_of<'a>(from: &'a str, to: &'a str) -> Result<Want, UseFault<'a>>
     ensures want { IfOk result (λ want. cut_in from.entry.now to.entry.now ≡ Ok (model_want want)) }
     ensures asked { IfOk result (λ want. is_asked want ≡ true) }
@@ -86,7 +87,7 @@ impl TimesOrder {
         }
     }
 
-    /// Returns the order of these times and one more.
+    /// Returns the order of these times with `time` after them.
     fn with(self, time: Moment) -> TimesOrder
         ensures { (times : List ModelMoment) → IsOrderOf times self
             → IsOrderOf (times ++ asked time ∷ []) result }
@@ -99,8 +100,9 @@ impl TimesOrder {
     }
 }
 
-/// Fails if the words between the commas are not the times of a sample, which increase if none has
-/// a unit. It takes no memory.
+/// Checks that the words between the commas of `at` may be the times of a sample. Fails at the
+/// first word that is no time, and if no time has a unit and the numbers do not increase. It takes
+/// no memory.
 fn check_times<'a>(at: &'a str) -> Result<(), UseFault<'a>>
     ensures times { OnOk result ((names : List (List ℕ)) → (times : List ModelMoment)
         × (times_of (parts at.entry.now) ≡ Ok times)
@@ -118,7 +120,8 @@ fn check_times<'a>(at: &'a str) -> Result<(), UseFault<'a>>
     Ok(())
 }
 
-/// Returns the numbers of the times between commas; words that are no times are left out.
+/// Returns the numbers of the times between the commas of `at`. Words that are no times are left
+/// out.
 fn numbers_in(alloc: Global, at: &str) -> Result<Vec<u64>, AllocError>
     ensures { IfOk result (λ numbers. numbers.items
         ≡ map (λ (m : ModelMoment). m.number) (filter_map moment_of (parts at.now))) }
@@ -129,7 +132,8 @@ fn numbers_in(alloc: Global, at: &str) -> Result<Vec<u64>, AllocError>
         .collect(alloc)
 }
 
-/// Returns the units of the times between commas; words that are no times are left out.
+/// Returns the units of the times between the commas of `at`: `None` for a time without a unit.
+/// Words that are no times are left out.
 fn units_in(alloc: Global, at: &str) -> Result<Vec<Option<i8>>, AllocError>
     ensures { IfOk result (λ units. units.items
         ≡ map (λ (m : ModelMoment). m.unit) (filter_map moment_of (parts at.now))) }
@@ -140,8 +144,9 @@ fn units_in(alloc: Global, at: &str) -> Result<Vec<Option<i8>>, AllocError>
         .collect(alloc)
 }
 
-/// Returns a sample of these names at the times between the commas, or the first fault of these
-/// words. Memory is taken once it is known that a sample may have these times.
+/// Returns a sample of these names at the times between the commas of `at`; of all variables if
+/// `names` is `None`. Fails with the first fault of the times (`check_times`), or if memory runs
+/// out. Memory is taken once it is known that a sample may have these times.
 pub(crate) fn sample_of<'a>(
     alloc: Global,
     at: &'a str,

@@ -20,8 +20,9 @@ fn do_rise(times: &[u64]) -> bool
     times.is_sorted_by(|first, second| first < second)
 }
 
-/// Writes times with these units in ticks of the header that is shown over their numbers, each
-/// rounded down. Fails with the reason at the first time that has no ticks.
+/// Writes times in ticks of the header that `view` shows over their numbers, each rounded down.
+/// `units` has the unit of each number. Fails with the reason at the first time that has a unit
+/// without a time scale, or 2^64 ticks or more; then only the numbers before it are written.
 fn write_ticks(numbers: &mut [u64], units: &[Option<i8>], view: HeadView<'_>) -> Result<(), Refusal>
     requires { length units.now ≡ length numbers.old }
     ensures { (h : Header) → IsViewOf view.entry h → MatchResult result
@@ -38,9 +39,10 @@ fn write_ticks(numbers: &mut [u64], units: &[Option<i8>], view: HeadView<'_>) ->
     Ok(())
 }
 
-/// Writes the times of a sample, with these numbers and units, in ticks of the header that is shown
-/// over their numbers, each rounded down, and removes the units. Fails with the reason if they are
-/// refused; then the times may be anything.
+/// Writes the times of a sample, with these numbers and units, in ticks of the header that `view`
+/// shows over their numbers, each rounded down, and sets all units to `None`. Changes nothing if no
+/// time has a unit. Fails with the reason as `write_ticks` does, and if the times do not increase
+/// in ticks; then the times may be anything.
 pub(crate) fn write_times(
     numbers: &mut Vec<u64>,
     units: &mut Vec<Option<i8>>,

@@ -22,7 +22,8 @@ pub enum Words<'m, 'a> {
     Merge(&'m [&'a str]),
 }
 
-/// Returns the first word after an option of the command that was used.
+/// Returns the first word of the argument `id` of the command that was used. `None` if no command
+/// was used, or if the argument has no word.
 fn word_of<'a>(matches: &ArgMatches<'a>, id: &str) -> Option<&'a str>
     ensures { option_map (λ word. word.now) result ≡ word_after matches.now id.now }
 {
@@ -30,21 +31,22 @@ fn word_of<'a>(matches: &ArgMatches<'a>, id: &str) -> Option<&'a str>
     options.get_str(id)
 }
 
-/// Returns the input file that the matches of the command name; `None` for standard input.
+/// Returns the word for the input file that the matches of the command name. `None` if they name no
+/// file, which means standard input; the word `-` means it too.
 pub fn input_of<'a>(matches: &ArgMatches<'a>) -> Option<&'a str>
     ensures { option_map (λ name. name.now) result ≡ input_asked matches.now }
 {
     word_of(matches, "input")
 }
 
-/// Returns the word after `--token-limit`.
+/// Returns the word after `--token-limit`; `None` if there is none.
 pub(crate) fn limit_word<'a>(matches: &ArgMatches<'a>) -> Option<&'a str>
     ensures { option_map (λ word. word.now) result ≡ word_after matches.now (codes "token-limit") }
 {
     word_of(matches, "token-limit")
 }
 
-/// Returns the words of an argument of the command that was used; `None` if there are none.
+/// Returns the words of the argument `id` of the command that was used; `None` if there are none.
 fn words_of<'m, 'a>(matches: &'m ArgMatches<'a>, id: &str) -> Option<&'m [&'a str]>
     ensures { texts_of result ≡ some_of (values_after matches.now id.now) }
 {
@@ -67,7 +69,8 @@ pub fn files_of<'m, 'a>(matches: &'m ArgMatches<'a>) -> Option<&'m [&'a str]>
     words_of(matches, "files")
 }
 
-/// Returns the command of this name with its words; `None` if something that it needs is missing.
+/// Returns the command of this name with its words. `None` if no command has this name, or if
+/// names, times or files that it needs are missing.
 fn words_named<'m, 'a>(name: &str, matches: &'m ArgMatches<'a>) -> Option<Words<'m, 'a>>
     ensures { option_map words_command result ≡ complete (command_named name.now matches.now) }
 {
@@ -83,7 +86,8 @@ fn words_named<'m, 'a>(name: &str, matches: &'m ArgMatches<'a>) -> Option<Words<
     }
 }
 
-/// Returns the command that was used with its words; `None` if something that it needs is missing.
+/// Returns the command that was used with its words. `None` if no command was used, or if names,
+/// times or files that it needs are missing.
 pub(crate) fn words_in<'m, 'a>(matches: &'m ArgMatches<'a>) -> Option<Words<'m, 'a>>
     ensures { option_map words_command result ≡ complete (command_used matches.now) }
 {
@@ -102,7 +106,7 @@ fn copied(alloc: Global, names: &[&str]) -> Result<Vec<String>, AllocError>
     Ok(copies)
 }
 
-/// Returns a copy of names, if there are some.
+/// Returns a copy of these names; no names if `names` is `None`.
 pub(crate) fn copied_some(alloc: Global, names: Option<&[&str]>) -> Result<Vec<String>, AllocError>
     ensures { IfOk result (λ copies. map string_bytes copies.items ≡ some_names names.entry) }
 {
@@ -112,22 +116,22 @@ pub(crate) fn copied_some(alloc: Global, names: Option<&[&str]>) -> Result<Vec<S
     }
 }
 
-/// Returns whether the file of this name is standard input.
+/// Returns whether this word for a file means standard input, which only `-` does.
 pub fn is_standard_input(file: &str) -> bool
     ensures { result ≡ is_standard_input file.now }
 {
     file == "-"
 }
 
-/// Returns how many of these files are standard input.
+/// Returns how many of these words for files mean standard input.
 fn count_standard_inputs(files: &[&str]) -> usize
     ensures { result ≡ count_by is_standard_input (map (λ file. file.now) files.now) }
 {
     files.iter().filter(|file| is_standard_input(file)).count()
 }
 
-/// Returns a merge of these files. Fails if they are too many, or if more than one is standard
-/// input.
+/// Returns a merge of these files. Fails if there are more than 64, or if more than one of them is
+/// standard input.
 fn merge_of<'a>(files: &[&str]) -> Result<Want, UseFault<'a>>
     ensures { GivesWant (want_of (merge_command files.now)) result }
 {
@@ -140,7 +144,8 @@ fn merge_of<'a>(files: &[&str]) -> Result<Want, UseFault<'a>>
     Ok(Want::Merge)
 }
 
-/// Returns what these words ask for, or the first fault of them. Their names are copied.
+/// Returns what these words ask for, with copies of their names. Fails with the first fault of the
+/// words, or if memory runs out.
 pub fn want_of<'a>(alloc: Global, words: Words<'_, 'a>) -> Result<Want, UseFault<'a>>
     ensures { GivesWant (want_of (words_command words.entry)) result }
 {

@@ -19,8 +19,8 @@ pub(crate) enum Failure {
 }
 
 impl Failure {
-    /// Returns the fault of a header, whose input has this index among all, and whose feed is at
-    /// this line.
+    /// Returns this fault of a header as a failure. `input` is the index of its input among all,
+    /// and `line` is the line that its feed is at, which only a fault of the dump has.
     pub(crate) fn of_head(fault: HeadFault, input: usize, line: u64) -> Failure
         ensures { result ≡ head_failure fault input line }
     {
@@ -35,7 +35,8 @@ impl Failure {
         }
     }
 
-    /// Returns the stop of a task, whose only input has this index among all.
+    /// Returns this stop of a task as a failure, with the index of the task's only input among all.
+    /// A failed write and a name that selects nothing stay as they are.
     pub(crate) fn of_stop(stop: Stop, input: usize) -> Failure
         ensures { result ≡ stop_failure stop input }
     {

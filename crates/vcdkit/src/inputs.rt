@@ -24,7 +24,8 @@ pub(crate) struct WindowMemory {
     pub values: Vec<u8>,
 }
 
-/// Returns the windows of this many inputs, with the job's limits.
+/// Returns the memory for the windows of this many inputs, at most 64, with the lengths that the
+/// job gives.
 pub(crate) fn windows_for(
     alloc: Global,
     job: &Job,
@@ -54,7 +55,8 @@ pub(crate) struct Reading<'h, B> {
     ghost within: { most ≤ 16777216 },
 }
 
-/// Reads the header of the input at this index among all, of whose feed nothing was given.
+/// Reads the header of the input at this index among all, and returns its head. The feed has given
+/// nothing yet. Fails at a fault of the header, if a read fails, or if memory runs out.
 pub(crate) fn open_input<S: Source, B: BuildHasher>(
     reading: &Reading<'_, B>,
     input: usize,
@@ -86,7 +88,7 @@ pub(crate) struct BegunInput {
 }
 
 /// Reads the header of the input at this index among all, over its own reader and its parts of the
-/// windows, and parks its feed.
+/// windows, parks its feed, and returns both. Fails as `open_input` does.
 fn begin<S: Source, B: BuildHasher>(
     reading: &Reading<'_, B>,
     input: usize,
@@ -110,8 +112,8 @@ fn begin<S: Source, B: BuildHasher>(
     Ok(BegunInput { head, seat })
 }
 
-/// Reads the header of the input at this index among the readers, and parks its feed. It uses only
-/// the parts of the windows at that index.
+/// Reads the header of the input at this index among the readers, parks its feed, and returns both.
+/// It uses only the parts of the windows at that index. Fails as `open_input` does.
 fn begin_at<S: Source, B: BuildHasher>(
     reading: &Reading<'_, B>,
     input: usize,
@@ -151,7 +153,7 @@ pub(crate) struct Inputs {
 }
 
 impl Inputs {
-    /// Adds an input.
+    /// Adds an input after the others.
     fn push(&mut self, begun: BegunInput) -> Result<(), AllocError>
         ensures { IfOk result (λ _. AddsBegun begun self.old self.new) }
     {
@@ -161,7 +163,8 @@ impl Inputs {
     }
 }
 
-/// Reads the headers of all inputs in order, up to the first that has a fault.
+/// Reads the headers of all inputs in order, parks their feeds, and returns them. Fails at the
+/// first input for which `open_input` fails, or if memory runs out.
 pub(crate) fn open_inputs<S: Source, B: BuildHasher>(
     alloc: Global,
     readers: &mut [S],

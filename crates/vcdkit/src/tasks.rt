@@ -9,8 +9,9 @@ use vcd_head::{Moment, ticks};
 use vcd_view::{HeadView, Need};
 use vcd_words::{Refusal, Want};
 
-/// Returns the cut between these times, in ticks of the header that is shown: the first rounded up,
-/// the last down.
+/// Returns the cut between these times, in ticks of the header that `view` shows: the first rounded
+/// up, the last down. Fails if a time has a unit without a time scale, or 2^64 ticks or more, or if
+/// the first is above the last in ticks.
 fn cut_of<'w>(from: Moment, to: Moment, view: HeadView<'_>) -> Result<Task<'w>, Refusal>
     requires { is_asked (Want.Cut from to) ≡ true }
     ensures request { (h : Header) → IsViewOf view.entry h
@@ -25,9 +26,9 @@ fn cut_of<'w>(from: Moment, to: Moment, view: HeadView<'_>) -> Result<Task<'w>, 
     Ok(Task::Cut { from, to })
 }
 
-/// Returns the task that is wanted, with the times of a cut in ticks of the header that is shown.
-/// `None` for a list, which reads no body, and for a merge, which reads several. Fails if a time of
-/// a cut has no ticks, or if they are out of order.
+/// Returns the task that is wanted, with the times of a cut in ticks of the header that `view`
+/// shows. `None` for a list, which reads no body, and for a merge, which reads several. Fails if a
+/// time of a cut has no ticks, or if they are out of order.
 ///
 /// Words may ask for what is wanted (`is_asked`), and `write_ticks` has already converted the times
 /// of a sample.
@@ -52,7 +53,7 @@ pub(crate) fn task_of<'w>(want: &'w Want, view: HeadView<'_>) -> Result<Option<T
     }
 }
 
-/// Returns the room that a task works in over the header that is shown: none if there is no task.
+/// Returns how much room a task needs over the header that `view` shows: none if `task` is `None`.
 pub(crate) fn need_of(task: Option<Task<'_>>, view: HeadView<'_>) -> Need
     ensures room { AnyRoom result (IsEnough task.entry view.entry) }
     ensures bound { KeepsBound view.entry result }

@@ -15,7 +15,8 @@ use vcd_text::{Feed, Sink, Source};
 use vcd_view::HeadView;
 use vcd_words::{Job, Want};
 
-/// Returns how a run ended, from the answer of its task over the input at this index.
+/// Returns how a run ended, from the answer of its task over the input at this index among all. A
+/// stop becomes a failure.
 fn ended(answer: Result<Done, Stop>, input: usize) -> Result<Done, Failure>
     ensures { result ≡ end_of answer input }
 {
@@ -25,7 +26,7 @@ fn ended(answer: Result<Done, Stop>, input: usize) -> Result<Done, Failure>
     }
 }
 
-/// Returns how a run ended, from the answer of its merge.
+/// Returns how a run ended, from the answer of its merge. A stop becomes a failure.
 fn merged(answer: Result<Done, Stop>) -> Result<Done, Failure>
     ensures { result ≡ merge_end answer }
 {
@@ -35,8 +36,9 @@ fn merged(answer: Result<Done, Stop>) -> Result<Done, Failure>
     }
 }
 
-/// Runs the task over the body after the header that is shown, in this room, or writes the list if
-/// there is no task. It gets no allocator, so it takes no memory.
+/// Runs the task over the body after the header that `view` shows, in this room, or writes the list
+/// if `task` is `None`. Fails with the stop of the task or of the list. It gets no allocator, so it
+/// takes no memory.
 fn run_in<S: Source, W: Sink>(
     task: Option<Task<'_>>,
     view: HeadView<'_>,
@@ -65,8 +67,9 @@ fn run_in<S: Source, W: Sink>(
     }
 }
 
-/// Runs what is wanted after the header: takes the room for it, and then calls `run_in`, which
-/// takes no more memory.
+/// Runs what is wanted after the header that `view` shows: takes the room for it, and then calls
+/// `run_in`, which takes no more memory. Fails if the times are refused, if memory runs out, or if
+/// `run_in` fails.
 fn run_want<S: Source, W: Sink>(
     alloc: Global,
     want: &mut Want,
@@ -102,6 +105,7 @@ fn run_want<S: Source, W: Sink>(
 }
 
 /// Runs a job over one input: takes its windows, reads its header, and then runs what is wanted.
+/// Fails if memory runs out, or if `open_input` or `run_want` fails.
 fn run_input<S: Source, W: Sink, B: BuildHasher>(
     alloc: Global,
     job: &mut Job,
@@ -134,8 +138,8 @@ fn run_input<S: Source, W: Sink, B: BuildHasher>(
     run_want(alloc, &mut job.task, head.view(), &mut feed, out)
 }
 
-/// Runs a merge over several inputs: takes their windows, reads their headers in order, and then
-/// merges.
+/// Runs a merge over these inputs: takes their windows, reads their headers in order, and then
+/// merges. Fails if memory runs out, or if `open_inputs` or the merge fails.
 fn run_merge<S: Source, W: Sink, B: BuildHasher>(
     alloc: Global,
     job: &Job,
@@ -160,7 +164,8 @@ fn run_merge<S: Source, W: Sink, B: BuildHasher>(
     merged(merge(&inputs.heads, readers, &mut windows, &mut inputs.seats, out))
 }
 
-/// Runs a job over its readers: over all of them for a merge, otherwise over the only one.
+/// Runs a job over its readers: over all of them for a merge, otherwise over the only one. Fails as
+/// `run_merge` or `run_input` does.
 fn run_readers<S: Source, W: Sink, B: BuildHasher>(
     alloc: Global,
     job: &mut Job,
@@ -232,8 +237,8 @@ pub fn run_with_hasher<S: Source, W: Sink, E: Sink, B: BuildHasher>(
 /// How long a window is at least after it was shortened.
 const SHORTEST: usize = 64;
 
-/// Returns the same job with windows that are no longer than the longest input, if that length is
-/// known.
+/// Returns the same job with windows of at most `longest` bytes, or 64 if `longest` is less. If it
+/// is `None`, the job stays as it is.
 fn narrowed(job: Job, longest: Option<usize>) -> Job
     ensures { Narrows longest job result }
 {
@@ -248,9 +253,10 @@ fn narrowed(job: Job, longest: Option<usize>) -> Job
     }
 }
 
-/// Runs a job over the readers, as `run_with_hasher` does. If it is known how many bytes each of
-/// them gives at most, the windows are no longer than that. What is written is the same, and a call
-/// over small inputs takes and clears less memory.
+/// Runs a job over the readers, as `run_with_hasher` does, and returns the exit status. `longest`
+/// is how many bytes each of them gives at most, if that is known. The windows are then no longer
+/// than that, or than 64 bytes if it is less. What is written is the same, and a call over small
+/// inputs takes and clears less memory.
 pub fn run_within<S: Source, W: Sink, E: Sink, B: BuildHasher>(
     alloc: Global,
     job: Job,

@@ -75,7 +75,7 @@ pub extern "C" fn vcdkit_run(
 
 /// Finds the changes of the variables with this identifier code, from the `Place` of the reading
 /// on, at most as many as there are rows, and returns the status, as `changes` of `vcd_changes`
-/// does.
+/// does. Identifier codes are hashed with `seed`, as in `vcdkit_run`.
 #[unsafe(no_mangle)]
 pub extern "C" fn vcdkit_changes(
     alloc: Global,

@@ -23,7 +23,7 @@ impl From<AllocError> for Refused {
     }
 }
 
-/// Adds an argument.
+/// Appends a copy of `word` to `all`. Fails if memory runs out.
 fn push(alloc: Global, word: &str, all: &mut Vec<String>) -> Result<(), AllocError>
     ensures { OnOk result (map string_bytes all.new.items
         ≡ map string_bytes all.old.items ++ word.now ∷ []) }
@@ -31,7 +31,8 @@ fn push(alloc: Global, word: &str, all: &mut Vec<String>) -> Result<(), AllocErr
     Ok(all.push(String::from_str(alloc, word)?)?)
 }
 
-/// Returns the program's name and these arguments.
+/// Returns the program's name with these arguments after it. Fails if one of them is not UTF-8, or
+/// if memory runs out.
 pub(crate) fn words_of(alloc: Global, words: &[Lent<'_>]) -> Result<Vec<String>, Refused>
     ensures words { IfOk result (λ all. map string_bytes all.items
         ≡ codes "vcdkit" ∷ map bytes_of words.now) }
