@@ -83,9 +83,9 @@ module _ (a b c : Ahead) (token : List ℕ) (begun : OpensComment a b) (takes : 
     gives = λ codes limit lines bytes before items over.
         let here : GaveAhead codes (longest_of a) lines (bytes_of a) (passed_of a) before items → GaveAhead codes (longest_of a) lines (bytes_of a) (passed_of c) before items =
         λ g.
-            let o = passes_one lines g.tokens g.passed in
-            passed_over codes (longest_of a) lines (bytes_of a) before items (passed_of a) (passed_of c) ((keyword o.0 ∷ o.1) ++ one lines ∷ []) (record { phrase = BodyPhrase.Comment (texts_of o.1); line = (one lines).line }) g (omega (arith, less)) o.3 refl
-            (comment_reads codes (longest_of a) lines (bytes_of a) before items o.0 o.1 (one lines) o.2 end) in
+        let o = passes_one lines g.tokens g.passed in
+        passed_over codes (longest_of a) lines (bytes_of a) before items (passed_of a) (passed_of c) ((keyword o.0 ∷ o.1) ++ one lines ∷ []) (record { phrase = BodyPhrase.Comment (texts_of o.1); line = (one lines).line }) g (omega (arith, less)) o.3 refl
+        (comment_reads codes (longest_of a) lines (bytes_of a) before items o.0 o.1 (one lines) o.2 end) in
         subst (λ (bs : List ℕ). GaveAhead codes limit lines bs (passed_of a) before items → GaveAhead codes limit lines bs (passed_of c) before items) over.1
         (subst (λ (k : ℕ). GaveAhead codes k lines (bytes_of a) (passed_of a) before items → GaveAhead codes k lines (bytes_of a) (passed_of c) before items) over.0 here);
     passes = λ limit lines bytes ts over.

@@ -21,6 +21,6 @@ returns-clause-ends g c = λ codes i front before items x first last h a k.
     let rest = g.S.Source.rest f.source.now in
     let given = front ++ h.given in
     let near : (end : ℕ) (ts : List Token) → ts ≢ [] → Passed (limit_of f) (lines_of f) (ahead_of f) end ts → HasReadTo i (given ++ ts) new = λ end ts some passed.
-        let far = pass_far f.parked.phase (length f.token.now) rest f.chunk.now f.parked i given ts end f.fits some passed h.stands.at in
-        rw (c.pass.ensures.advances.chunk, c.pass.ensures.source) (near-more (length f.chunk.now) rest (looked f.parked) (end_of_tokens i.bytes (length (given ++ ts))) i far h.stands.read_ahead) in
+    let far = pass_far f.parked.phase (length f.token.now) rest f.chunk.now f.parked i given ts end f.fits some passed h.stands.at in
+    rw (c.pass.ensures.advances.chunk, c.pass.ensures.source) (near-more (length f.chunk.now) rest (looked f.parked) (end_of_tokens i.bytes (length (given ++ ts))) i far h.stands.read_ahead) in
     gave_last codes (limit_of f) (lines_of f) (ahead_of f) before items x i front _ f new first last h a (c.pass.ensures.stands a.tokens a.passed i given h.stands) near k
