@@ -231,8 +231,8 @@ fn take_timestamp<'a, C, V: Visit<C>>(
 }
 
 /// Takes the begin or the end of a section whose token is that of `opening`, from `ahead` up to
-/// `to`, and returns true, since it was no change. `None` if the token is neither, if it may not come
-/// here, or if the visit leaves it; then nothing has changed.
+/// `to`, and returns true, since it was no change. `None` if the token is neither, if it may not
+/// come here, or if the visit leaves it; then nothing has changed.
 #[inline(always)]
 fn take_section<'a, C, V: Visit<C>, W: Sink>(
     command: &mut C,
@@ -264,8 +264,9 @@ fn take_section<'a, C, V: Visit<C>, W: Sink>(
     }
 }
 
-/// Takes the change that the tokens of a vector are, which lies at `extent`, and returns false,
-/// since it was a change. `None` if they are no such change; then nothing has changed.
+/// Takes the change that the tokens of a vector spell, which lies at `extent`, and returns false,
+/// since it was a change. `None` if the header has no such code, or if the digits are bad or too
+/// many for it; then nothing has changed.
 // The arm for digits of a known number takes 5 % off `merge` of 27,505 codes, and adds 6 % to
 // `check`.
 #[inline(always)]
@@ -297,8 +298,9 @@ fn take_vector<C, V: Visit<C>, W: Sink>(
     }
 }
 
-/// Takes the next item that lies ahead, and returns whether it was no change. `None` if it takes
-/// none; then nothing has changed.
+/// Takes the next item that lies ahead. Returns false if it was a change, and true if it was a
+/// timestamp, or the begin or the end of a section. `None` if the item does not lie completely in
+/// the chunk, if it is bad, or if the visit leaves it; then nothing has changed.
 // What begins the item is asked once. Each arm is inlined: otherwise `check` takes nearly three
 // times as many instructions.
 #[inline(always)]
@@ -493,9 +495,10 @@ fn take_first_lines<'a, C, V: Visit<C>, W: Sink>(
     Walked::until(ahead, regs, visit, Ok(false))
 }
 
-/// Takes the items that lie ahead, one after the other, as long as the visit is not over: the first
-/// one in any case. It passes comments, of which the visit learns nothing. An item that it leaves
-/// ends the walk, and so does a failed write.
+/// Takes the items that lie ahead, one after the other, and returns how the walk ended. It passes
+/// comments, and the visit gets none of them. The walk ends if the visit is over, if a write fails,
+/// or at an item that the visit leaves, that is bad, or that does not lie completely in the chunk.
+/// The first item is tried even if the visit is over.
 // Registers, offset and visit come and go by value, so that the loop keeps them out of memory: in a
 // struct that is kept there they cost `check` of scalars 11 %. In each arm of an item the compiler
 // knows whether it was a change.
