@@ -6,9 +6,9 @@
 //!
 //! Most items are timestamps and changes that lie completely in the chunk. `walk_ahead` takes these
 //! one after the other, passes the comments between them, and leaves the feed where it is;
-//! `pass_items` moves the feed past all of them. A `Visit` says what is done with each, which timestamps are left, and when the walk is
-//! over. `pass_on` is for a caller that reads on: before a read may wait, a sink passes on what it
-//! keeps back.
+//! `pass_items` moves the feed past all of them. A `Visit` says what is done with each, which
+//! timestamps are left, and when the walk is over. `pass_on` is for a caller that reads on: before
+//! a read may wait, a sink passes on what it keeps back.
 //!
 //! The bytes of such a change are often the line that `put_change` would write, except its last
 //! byte and digits that the line does not need (`left_out` counts these). Then they may be copied
