@@ -37,7 +37,8 @@ pub enum Stop {
 }
 
 impl Stop {
-    /// Returns how a run stops at a fault of the body of the input at an index.
+    /// Returns how a run stops at this fault, which is in line `line` of the body of the input at
+    /// the index `input`: with `Stop::Read` if a read failed, otherwise with `Stop::Dump`.
     pub fn of_body(fault: BodyFault, input: usize, line: u64) -> Stop
         ensures { result ≡ stop_of_body fault input line }
     {

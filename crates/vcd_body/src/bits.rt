@@ -17,8 +17,8 @@ pub struct Bits {
 }
 
 impl Bits {
-    /// Returns the last `len` binary digits of a number. `None` unless `len` is 1 to 32 and the
-    /// number has no more digits.
+    /// Returns the `len` binary digits that write a number, with zeros on the left if it has fewer.
+    /// `None` if `len` is 0 or above 32, or if the number has more digits.
     #[inline(always)]
     #[tactic(auto, using(crate::proofs::NumberLemmas::small_number, crate::proofs::NumberLemmas::small_rest))]
     pub fn new(len: usize, number: usize) -> Option<Bits>
@@ -53,7 +53,8 @@ pub(crate) fn count_in(holding: Holding) -> usize
     (holding.upper as usize).min(32)
 }
 
-/// Returns the number that the binary digits of a slot in `State::Bits` write.
+/// Returns the number that the binary digits of a slot in `State::Bits` write. In any other state
+/// the result says nothing.
 #[inline(always)]
 fn number_in(holding: Holding) -> usize
     ensures { result ≡ number_in (len_of holding) }
@@ -61,8 +62,8 @@ fn number_in(holding: Holding) -> usize
     holding.lower as usize
 }
 
-/// Returns whether at least one binary digit is held, and the number has no more digits than are
-/// held: it is below 2 to the power of their count.
+/// Returns whether a slot in `State::Bits` holds at least one binary digit, and its number has no
+/// more digits than it holds: it is below 2 to the power of their count.
 #[inline(always)]
 pub(crate) fn is_proper(holding: Holding) -> bool
     ensures { result ≡ is_proper (len_of holding) }
@@ -71,7 +72,8 @@ pub(crate) fn is_proper(holding: Holding) -> bool
     count > 0 && number_in(holding) >> count == 0
 }
 
-/// Returns the digit at an index of those that a slot holds. `None` after the last.
+/// Returns the digit at an index of those that a slot in `State::Bits` holds, from the left, as
+/// `b'0'` or `b'1'`. `None` after the last.
 #[inline(always)]
 pub(crate) fn binary_digit(holding: Holding, index: usize) -> Option<u8>
     ensures { result ≡ slice_get (held_bits holding) index }
@@ -85,7 +87,8 @@ pub(crate) fn binary_digit(holding: Holding, index: usize) -> Option<u8>
     Some(b'0' + digit as u8)
 }
 
-/// Returns the last digit of those that a slot holds.
+/// Returns the last digit of those that a slot in `State::Bits` holds. There has to be one, so the
+/// result is never `None`.
 #[inline(always)]
 pub(crate) fn last_binary(holding: Holding) -> Option<u8>
     requires { 1 ≤ count_in (len_of holding) }
@@ -94,7 +97,8 @@ pub(crate) fn last_binary(holding: Holding) -> Option<u8>
     binary_digit(holding, count_in(holding) - 1)
 }
 
-/// Returns the digit at an index.
+/// Returns the digit at an index of `bits`, from the left, as `b'0'` or `b'1'`. The index has to be
+/// below their count.
 #[inline(always)]
 fn digit_of_bits(bits: Bits, index: usize) -> u8
     requires { index < bits.len }
@@ -105,7 +109,8 @@ fn digit_of_bits(bits: Bits, index: usize) -> u8
     b'0' + digit as u8
 }
 
-/// Writes all digits, a byte each, the highest first.
+/// Writes all digits of `bits` into `to`, a byte each, the highest first. `to` has to have as many
+/// bytes as there are digits.
 pub(crate) fn put_digits(bits: Bits, to: &mut [u8])
     requires { length to.old ≡ bits.len }
     ensures { to.new ≡ binary_digits bits.len bits.number }

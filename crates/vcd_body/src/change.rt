@@ -22,8 +22,8 @@ pub(crate) fn extended_by(digit: u8) -> u8
     extension_of(digit.to_ascii_lowercase())
 }
 
-/// Returns how many bytes on the left equal the first one, or a smaller number: it looks at 32 at a
-/// time.
+/// Returns how many bytes on the left equal the first one, which counts too; one fewer if all bytes
+/// are equal. There have to be at least 32. It looks at 32 at a time.
 fn same_as_first(bytes: &[u8]) -> usize
     requires { 32 ≤ length bytes.now }
     ensures few { result < length bytes.now }
@@ -42,9 +42,9 @@ fn same_as_first(bytes: &[u8]) -> usize
     last + clear_bits(others_32(bytes, last, first), 32)
 }
 
-/// Returns digits that extend to the same value, without some of the first ones. Of 32 or more
-/// digits it leaves out those that are the same as the first, except the last of these, unless the
-/// first is `1`.
+/// Returns the end of `digits` that extends to the same value, without some of the first ones. If
+/// there are at least 32 digits and the first is not `1`, it leaves out those on the left that
+/// equal the first, except one or two of them. Otherwise it returns all.
 // Without it `pick` of all of a dump of Verilator's takes 2.8 times as many instructions.
 fn without_same(digits: &[u8]) -> &[u8]
     requires { 0 < length digits.now }
@@ -59,7 +59,8 @@ fn without_same(digits: &[u8]) -> &[u8]
     &digits[same_as_first(digits).saturating_sub(1)..]
 }
 
-/// Returns the shortest digits that extend to the same value.
+/// Returns `digits` without those on the left that the value does not need: the shortest digits
+/// that extend to the same value.
 pub(crate) fn shortest(digits: &[u8]) -> &[u8]
     requires { 0 < length digits.now }
     ensures { (size : ℕ) → str_to_ascii_lowercase result.now ≡ short (extended digits.now size) }
@@ -74,9 +75,9 @@ pub(crate) fn shortest(digits: &[u8]) -> &[u8]
     rest
 }
 
-/// Returns whether some byte may be a capital letter: these have bit 5 clear, and digits of a value
-/// in lower case have it set. With two comparisons of each digit instead, `merge` of wide vectors
-/// takes 7 % more.
+/// Returns whether some byte may be a capital letter: true if one of them has bit 5 clear. Capital
+/// letters have it clear, and the digits of a value in lower case have it set.
+// With two comparisons of each digit instead, `merge` of wide vectors takes 7 % more.
 pub(crate) fn may_have_capital(bytes: &[u8]) -> bool
     ensures { result ≡ false → str_to_ascii_lowercase bytes.now ≡ bytes.now }
 {
@@ -87,7 +88,7 @@ pub(crate) fn may_have_capital(bytes: &[u8]) -> bool
     all == 0
 }
 
-/// Copies `bytes`, in lower case, to the front of `to`.
+/// Copies `bytes`, in lower case, to the first bytes of `to`, which has to be at least as long.
 fn lower_into(to: &mut [u8], bytes: &[u8])
     requires { length bytes.now ≤ length to.old }
     ensures { take (length bytes.now) to.new ≡ str_to_ascii_lowercase bytes.now }
@@ -126,7 +127,7 @@ fn put_lower<W: Sink>(w: &mut W, bytes: &[u8]) -> Result<(), WriteFailed>
     put(w, bytes)
 }
 
-/// Writes a byte, a code and a line feed.
+/// Writes the byte `first`, the code `id` and a line feed.
 #[inline(never)]
 pub(crate) fn put_end<W: Sink>(w: &mut W, first: u8, id: &[u8]) -> Result<(), WriteFailed>
     requires { (W.device w.old).failures < 2 ^ 64 - 1 }
@@ -137,7 +138,8 @@ pub(crate) fn put_end<W: Sink>(w: &mut W, first: u8, id: &[u8]) -> Result<(), Wr
     put(w, b"\n")
 }
 
-/// Writes the line of a code of one bit: all of `digits` in lower case, then `id`.
+/// Writes the line of a change of a code of one bit: all of `digits` in lower case, then the code
+/// `id` and a line feed.
 #[cold]
 #[inline(never)]
 fn put_all<W: Sink>(w: &mut W, digits: &[u8], id: &[u8]) -> Result<(), WriteFailed>
@@ -150,7 +152,7 @@ fn put_all<W: Sink>(w: &mut W, digits: &[u8], id: &[u8]) -> Result<(), WriteFail
     put(w, b"\n")
 }
 
-/// Writes the line of a change of a real number: `r`, the text, a blank and the code.
+/// Writes the line of a change of a real number: `r`, the text, a blank and the code `id`.
 #[inline(never)]
 pub(crate) fn put_real<W: Sink>(w: &mut W, text: &[u8], id: &[u8]) -> Result<(), WriteFailed>
     requires { (W.device w.old).failures < 2 ^ 64 - 1 }
@@ -161,7 +163,7 @@ pub(crate) fn put_real<W: Sink>(w: &mut W, text: &[u8], id: &[u8]) -> Result<(),
     put_end(w, b' ', id)
 }
 
-/// Writes a `b` and the shortest digits of the same value.
+/// Writes a `b` and the shortest digits of the same value as `digits`, in lower case.
 #[inline(always)]
 pub(crate) fn put_shortest<W: Sink>(w: &mut W, digits: &[u8]) -> Result<(), WriteFailed>
     requires failures { (W.device w.old).failures < 2 ^ 64 - 1 }
@@ -173,8 +175,9 @@ pub(crate) fn put_shortest<W: Sink>(w: &mut W, digits: &[u8]) -> Result<(), Writ
     put_lower(w, shortest(digits))
 }
 
-/// Writes the line of a change that is rare: of an event, of a real number, or of digits after `b`
-/// for a code of one bit. If a write fails, a prefix was written.
+/// Writes the line of a change that is rare, under the code `id`: of an event, as `1` whatever the
+/// text is, of a real number, or of digits after `b` for a code of one bit. If a write fails, a
+/// prefix was written.
 pub(crate) fn put_rare<W: Sink>(
     event: bool,
     form: Form,

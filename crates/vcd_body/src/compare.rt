@@ -8,7 +8,8 @@ use crate::item::Form;
 use crate::packed::holds_packed;
 use crate::slot::{HeldValue, State, digit_of_state};
 
-/// Returns the digit by which a text is extended.
+/// Returns the digit, in lower case, by which a text of digits is extended on the left: `0` if the
+/// text is empty.
 fn extension_of_text(text: &[u8]) -> u8
     ensures { result ≡ extension (str_to_ascii_lowercase text.now) }
 {
@@ -18,7 +19,8 @@ fn extension_of_text(text: &[u8]) -> u8
     }
 }
 
-/// Returns the digit at an index of a text that is extended to a size; 0 if there is none.
+/// Returns the digit at an index of a text that is extended to `size` digits, from the left and in
+/// lower case. It is the number 0 after the last.
 #[inline(always)]
 fn text_digit(text: &[u8], size: usize, index: usize) -> u8
     ensures { result ≡ get_or (extend (str_to_ascii_lowercase text.now) size) index 0 }
@@ -33,8 +35,8 @@ fn text_digit(text: &[u8], size: usize, index: usize) -> u8
     }
 }
 
-/// Returns the digit at an index of the held digits, which are extended to a size; 0 if there is
-/// none.
+/// Returns the digit at an index of the held digits, which are extended to `size` digits, from the
+/// left. It is the number 0 after the last.
 #[inline(always)]
 fn shown_digit(held: HeldValue<'_>, size: usize, index: usize) -> u8
     requires digits { HasDigits held }
@@ -83,8 +85,8 @@ fn are_same(held: HeldValue<'_>, text: &[u8], size: usize) -> bool
     true
 }
 
-/// Returns whether a text gives a code of this size other digits than several that are held, or is
-/// itself of several. It takes as long as these digits and the text are, whatever the size is.
+/// Returns whether a text gives a code of this size other digits than the held ones. It is for
+/// several digits, held or in the text, and takes as long as these are, whatever the size is.
 #[inline(never)]
 fn several_differ(held: HeldValue<'_>, size: usize, text: &[u8]) -> bool
     requires digits { HasDigits held }

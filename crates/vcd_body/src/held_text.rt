@@ -34,7 +34,8 @@ fn digit_or(held: HeldValue<'_>, index: usize) -> u8
     digit_held(held, index).unwrap_or(0)
 }
 
-/// Copies the digits from an index on to `to`.
+/// Copies the held digits from the index `from` on to `to`, as many as it has bytes. There have to
+/// be at least that many.
 fn fill(held: HeldValue<'_>, from: usize, to: &mut [u8])
     requires { from + length to.old ≤ length (digits_of held) }
     ensures { to.new ≡ take (length to.old) (drop from (digits_of held.entry)) }
@@ -44,7 +45,7 @@ fn fill(held: HeldValue<'_>, from: usize, to: &mut [u8])
     }
 }
 
-/// Writes the digits that are held, from an index on.
+/// Writes the digits that are held, from the index `from` on; nothing if it is after the last.
 fn put_from<W: Sink>(held: HeldValue<'_>, from: usize, w: &mut W) -> Result<(), WriteFailed>
     requires failures { (W.device w.old).failures < 2 ^ 64 - 1 }
     ensures { Puts (W.device w.old) (W.device w.new) (drop from (digits_of held.entry)) result }
@@ -61,7 +62,8 @@ fn put_from<W: Sink>(held: HeldValue<'_>, from: usize, w: &mut W) -> Result<(), 
     Ok(())
 }
 
-/// Returns the index at which the shortest digits begin that extend to the same value.
+/// Returns the index of the held digit at which the shortest digits of the same value begin. At
+/// least one digit has to be held.
 fn first_needed(held: HeldValue<'_>) -> usize
     requires some { 0 < length (digits_of held) }
     ensures { (size : ℕ) → drop result (digits_of held.entry)
@@ -78,7 +80,7 @@ fn first_needed(held: HeldValue<'_>) -> usize
     from
 }
 
-/// Writes all digits that are held, and the code, as a line.
+/// Writes all digits that are held, and the code `id` right after them, as a line.
 fn put_all_held<W: Sink>(held: HeldValue<'_>, id: &[u8], w: &mut W) -> Result<(), WriteFailed>
     requires failures { (W.device w.old).failures < 2 ^ 64 - 1 }
     ensures { PutsTo W.device w.old w.new (digits_of held.entry ++ (id.now ++ 10 ∷ [])) result }
@@ -88,7 +90,8 @@ fn put_all_held<W: Sink>(held: HeldValue<'_>, id: &[u8], w: &mut W) -> Result<()
     put(w, b"\n")
 }
 
-/// Writes the shortest digits after `b`, and the code, as a line.
+/// Writes the line of the digits that are held: `b`, the shortest digits of the same value, a blank
+/// and the code. At least one digit has to be held.
 fn put_short_held<W: Sink>(held: HeldValue<'_>, id: &[u8], w: &mut W) -> Result<(), WriteFailed>
     requires failures { (W.device w.old).failures < 2 ^ 64 - 1 }
     requires some { 0 < length (digits_of held) }
@@ -100,7 +103,7 @@ fn put_short_held<W: Sink>(held: HeldValue<'_>, id: &[u8], w: &mut W) -> Result<
     put_end(w, b' ', id)
 }
 
-/// Writes the line that gives a code of this size its value; nothing if it has none.
+/// Writes the line that gives the code `id`, of this size, its value; nothing if it has none.
 pub(crate) fn put_value_line<W: Sink>(
     held: HeldValue<'_>,
     size: usize,
@@ -122,7 +125,8 @@ pub(crate) fn put_value_line<W: Sink>(
     }
 }
 
-/// Writes the digits that are held, extended to a size.
+/// Writes the digits that are held, extended on the left to `size` digits. If more are held, it
+/// writes these. At least one has to be held.
 fn put_extended<W: Sink>(held: HeldValue<'_>, size: usize, w: &mut W) -> Result<(), WriteFailed>
     requires failures { (W.device w.old).failures < 2 ^ 64 - 1 }
     requires some { 0 < length (digits_of held) }
@@ -133,7 +137,7 @@ fn put_extended<W: Sink>(held: HeldValue<'_>, size: usize, w: &mut W) -> Result<
     put_from(held, 0, w)
 }
 
-/// Writes the text of a real number in full.
+/// Writes a real number in full: `r` and its text.
 fn put_real_text<W: Sink>(text: &[u8], w: &mut W) -> Result<(), WriteFailed>
     requires { (W.device w.old).failures < 2 ^ 64 - 1 }
     ensures { Puts (W.device w.old) (W.device w.new) (114 ∷ text.now) result }
@@ -142,7 +146,7 @@ fn put_real_text<W: Sink>(text: &[u8], w: &mut W) -> Result<(), WriteFailed>
     put(w, text)
 }
 
-/// Writes the value at a size in full, `-` if there is none.
+/// Writes the value in full, with its digits extended to `size`; `-` if there is none.
 pub(crate) fn put_value<W: Sink>(
     held: HeldValue<'_>,
     size: usize,

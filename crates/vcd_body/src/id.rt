@@ -15,8 +15,9 @@ pub enum Id<'a> {
     Number(u64),
 }
 
-/// Writes a change of a code of this size, or of an event, as its line. An event is written as `1`,
-/// whatever its text is. If a write fails, a prefix was written.
+/// Writes a change of a code of this size, or of an event, as its line under `id`. An event is
+/// written as `1`, whatever its text is. For any other code a text of digits must not be empty. If
+/// a write fails, a prefix was written.
 #[inline(never)]
 pub fn put_change<W: Sink>(
     size: usize,

@@ -79,7 +79,8 @@ impl Regs {
         self.accept_timestamp_here(time)
     }
 
-    /// Takes a timestamp as `accept_timestamp` does, by a call of it if `call` is true.
+    /// Takes a timestamp as `accept_timestamp` does: by a call of it if `call` is true, otherwise
+    /// inlined.
     #[inline(always)]
     pub(crate) fn accept_timestamp_by(&mut self, time: u64, call: bool) -> Result<(), BodyFault>
         ensures may { MatchResult result (λ _. AcceptsTimestamp self.old time) (RefusesTimestamp self.old time) }

@@ -9,7 +9,7 @@ use crate::renamed::put_code_line;
 use vcd_text::{Sink, WriteFailed, put};
 use vcd_view::NewCode;
 
-/// Writes a byte, the identifier code and a line feed.
+/// Writes the byte `first`, the identifier code `id` and a line feed.
 #[inline(always)]
 fn put_end_under<W: Sink>(first: u8, id: Id<'_>, w: &mut W) -> Result<(), WriteFailed>
     requires { (W.device w.old).failures < 2 ^ 64 - 1 }
@@ -21,7 +21,8 @@ fn put_end_under<W: Sink>(first: u8, id: Id<'_>, w: &mut W) -> Result<(), WriteF
     }
 }
 
-/// Writes a change of digits after `b`: the shortest digits of the same value.
+/// Writes the line of a change of digits: `b`, the shortest digits of the same value, a blank and
+/// the code `id`.
 #[inline(never)]
 fn put_shortened<W: Sink>(digits: &[u8], id: Id<'_>, w: &mut W) -> Result<(), WriteFailed>
     requires failures { (W.device w.old).failures < 2 ^ 64 - 1 }
@@ -33,8 +34,8 @@ fn put_shortened<W: Sink>(digits: &[u8], id: Id<'_>, w: &mut W) -> Result<(), Wr
     put_end_under(b' ', id, w)
 }
 
-/// Writes the line of a rare change: of an event, of a real number, or of digits after `b` for a
-/// code of one bit. If a write fails, a prefix was written.
+/// Writes the line of a rare change under `id`: of an event, as `1` whatever the text is, of a real
+/// number, or of digits after `b` for a code of one bit. If a write fails, a prefix was written.
 #[inline(never)]
 fn put_other<W: Sink>(
     event: bool,
@@ -71,8 +72,8 @@ fn is_vector(size: usize, event: bool, form: Form) -> bool
     (size != 1) & !event & (form != Form::RealText)
 }
 
-/// Writes a change of a code of this size, or of an event, as its line. If a write fails, a prefix
-/// was written.
+/// Writes a change of a code of this size, or of an event, as its line under `id`. An event is
+/// written as `1`, whatever its text is. If a write fails, a prefix was written.
 #[inline(always)]
 pub(crate) fn put_line<W: Sink>(
     size: usize,

@@ -11,7 +11,7 @@ use crate::put_line::{is_bit, put_line};
 use vcd_text::{Sink, WriteFailed, put, put_few, put_parts};
 use vcd_view::NewCode;
 
-/// Returns the first byte of the code with this number.
+/// Returns the first byte of the new code with this number.
 #[inline(always)]
 fn digit_of(number: u64) -> u8
     ensures { result ≡ 33 + number % 94 }
@@ -19,15 +19,15 @@ fn digit_of(number: u64) -> u8
     (number % 94) as u8 + 33
 }
 
-/// The end of a line: a number whose first bytes are written.
+/// The end of a line: the first `len` of these bytes are written.
 #[derive(Clone, Copy)]
 struct End {
     bytes: [u8; 8],
     len: usize,
 }
 
-/// Returns a byte, the code of a number below 830,584, which has up to three bytes, and a line
-/// feed. `None` for a greater number.
+/// Returns the byte `first`, the new code of a number below 830,584, which has up to three bytes,
+/// and a line feed. `None` for any other number.
 // Eight bytes in a number, so that `write_few` copies them without a length.
 #[inline(always)]
 fn short_end(first: u8, number: u64) -> Option<End>
@@ -63,7 +63,7 @@ fn short_end(first: u8, number: u64) -> Option<End>
     None
 }
 
-/// Writes a byte, the code of any number, and a line feed.
+/// Writes the byte `first`, the new code of any number, and a line feed.
 #[cold]
 #[inline(never)]
 fn put_any_code<W: Sink>(first: u8, number: u64, w: &mut W) -> Result<(), WriteFailed>
@@ -73,8 +73,8 @@ fn put_any_code<W: Sink>(first: u8, number: u64, w: &mut W) -> Result<(), WriteF
     put_end(w, first, NewCode::of(number).text())
 }
 
-/// Writes a byte, the code of a number and a line feed. A code of up to three bytes, as most are,
-/// takes one write.
+/// Writes the byte `first`, the new code of a number, and a line feed. A code of up to three bytes,
+/// as most are, takes one write.
 #[inline(always)]
 pub(crate) fn put_code_line<W: Sink>(first: u8, number: u64, w: &mut W) -> Result<(), WriteFailed>
     requires { (W.device w.old).failures < 2 ^ 64 - 1 }
@@ -105,7 +105,7 @@ pub fn put_renamed<W: Sink>(
 }
 
 /// Writes the bytes from `from` up to `end`, without `left_out` bytes after the first one, then a
-/// blank, the code of a number and a line feed, in several writes. It is for long codes.
+/// blank, the new code of a number and a line feed, in several writes. It is for long codes.
 #[cold]
 #[inline(never)]
 fn put_copied_slowly<W: Sink>(
@@ -128,7 +128,7 @@ fn put_copied_slowly<W: Sink>(
 }
 
 /// Writes the bytes from `from` up to `end`, without `left_out` bytes after the first one, then a
-/// blank, the code of a number and a line feed. The bytes after `end` may be read too.
+/// blank, the new code of a number and a line feed. The bytes after `end` may be read too.
 // Mostly one write. With three writes, `merge` of Verilator's takes 46 % more.
 #[inline(never)]
 fn put_copied<W: Sink>(
@@ -179,9 +179,10 @@ fn put_renamed_text<W: Sink>(
     put_renamed(size, false, form, text, number, w)
 }
 
-/// Writes a change that was taken ahead under the new code of this number. The bytes from `from` up
-/// to `to` spell it. Those before its code are copied if its line begins with them.
-/// If a write fails, a prefix was written.
+/// Writes a change that was taken ahead, which is no event's, as its line under the new code of
+/// this number. The bytes from `from` up to `to` spell it. Those before its code are copied, except
+/// digits that its line does not need, if it is known that its line begins with the rest. Otherwise
+/// it is written from its text. If a write fails, a prefix was written.
 // Digits are copied and not looked at one by one: without this `merge` of Verilator's takes 12 %
 // more.
 #[inline(always)]

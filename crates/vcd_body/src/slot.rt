@@ -181,7 +181,8 @@ pub(crate) fn number_of_flipped(digit: u8) -> u8
     number_of_bit(b'0' + b'1' - digit)
 }
 
-/// Returns the number that encodes the state of 0 for that of 1, and of 1 for that of 0.
+/// Returns the number that encodes the state of 0 for that of 1, and of 1 for that of 0. For any
+/// other number the result says nothing.
 #[inline(always)]
 pub(crate) fn flipped(tag: u8) -> u8
     ensures { (one : Bool) → tag ≡ number_of (cond one State.Zero State.One)
@@ -191,7 +192,7 @@ pub(crate) fn flipped(tag: u8) -> u8
     tag ^ 3
 }
 
-/// Returns the state that a number encodes.
+/// Returns the state that a number encodes: `State::Bits` for each number from 7 on.
 #[inline(always)]
 pub(crate) fn state_in(tag: u8) -> State
     ensures { result ≡ state_in tag }
@@ -225,8 +226,8 @@ pub(crate) fn holding_of(slot: Slot, share: Share) -> Holding
     }
 }
 
-/// Returns the number of the state that holds a digit. Most are 0 or 1; between these it takes no
-/// branch.
+/// Returns the number of the state that holds a digit: that of z for a byte other than `0`, `1`,
+/// `x` and `X`. Most are 0 or 1; between these it takes no branch.
 #[inline(always)]
 pub(crate) fn number_of_digit(digit: u8) -> u8
     ensures { one_digit (state_in result) ≡ Some (held_digit digit) }
@@ -237,7 +238,8 @@ pub(crate) fn number_of_digit(digit: u8) -> u8
     number_of_other(digit)
 }
 
-/// Returns the number of the state that holds a digit other than 0 and 1.
+/// Returns the number of the state that holds a digit other than 0 and 1: that of x for `x` and
+/// `X`, and that of z for any other byte.
 #[cold]
 #[inline(never)]
 fn number_of_other(digit: u8) -> u8
@@ -251,7 +253,8 @@ fn number_of_other(digit: u8) -> u8
     }
 }
 
-/// Returns the digit of a state that holds one.
+/// Returns the digit of a state that holds one digit, in lower case. `None` for `Unset`, `Packed`,
+/// `Bits` and `Real`.
 #[inline(always)]
 pub(crate) fn digit_of_state(state: State) -> Option<u8>
     ensures { result ≡ one_digit state }

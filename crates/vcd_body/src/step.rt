@@ -15,7 +15,7 @@ pub struct Step {
     pub falls: bool,
 }
 
-/// Returns whether a last digit was `from`, and is now `to`.
+/// Returns whether a last digit was `from`, and is now `to`: false if there was none, or is none.
 #[inline(always)]
 fn is_edge(from: u8, to: u8, before: Option<u8>, after: Option<u8>) -> bool
     ensures { result ≡ goes_from from to before after }
@@ -26,7 +26,8 @@ fn is_edge(from: u8, to: u8, before: Option<u8>, after: Option<u8>) -> bool
     }
 }
 
-/// Returns the last digit of a text of digits, in lower case; `None` for the text of a real number.
+/// Returns the last digit of a text of digits, in lower case; `None` for the text of a real number,
+/// and for an empty text.
 #[inline(always)]
 fn last_of(form: Form, text: &[u8]) -> Option<u8>
     ensures { 0 < length text.now → (size : ℕ)
@@ -38,8 +39,8 @@ fn last_of(form: Form, text: &[u8]) -> Option<u8>
     }
 }
 
-/// Returns the step to the value of a text from one with the last digit `before`. `differs` says
-/// whether the two values differ.
+/// Returns the step to the value of a text from one with the last digit `before`, which is `None`
+/// if that value has no digits. `differs` says whether the two values differ.
 #[inline(always)]
 pub(crate) fn step_to_text(differs: bool, before: Option<u8>, form: Form, text: &[u8]) -> Step
     ensures differs { result.differs ≡ differs }

@@ -26,7 +26,8 @@ fn used_by(holding: Holding) -> usize
     }
 }
 
-/// Returns whether what is held has a digit. It has none only in a table that is not laid out.
+/// Returns false if the state says that digits are held and there are none, or if a binary number
+/// has more digits than are held. Otherwise returns true, as always in a table that is laid out.
 #[inline(always)]
 fn holds_some(holding: Holding) -> bool
     ensures yes { result ≡ true → 1 ≤ some_by holding.state (len_of holding) }
@@ -62,8 +63,8 @@ impl<'a> Table<'a> {
     }
 }
 
-/// Sets the value of a code to the one digit of the state that has this number. It neither reads
-/// nor changes the code's share.
+/// Sets the value of the code at an index to the one digit of the state with the number `tag`.
+/// Nothing changes if there is no such code. It neither reads nor changes the code's share.
 #[inline(always)]
 pub(crate) fn set_tag(slots: &mut [Slot], code: usize, tag: u8)
     ensures changes { (d : ℕ) → one_digit (state_in tag) ≡ Some d
@@ -75,8 +76,8 @@ pub(crate) fn set_tag(slots: &mut [Slot], code: usize, tag: u8)
     }
 }
 
-/// Holds a text in a share: digits four to a byte, the text of a real number as it is. Returns the
-/// state that says so.
+/// Holds a text in a share, which has to have the bytes for it: digits four to a byte, the text of
+/// a real number as it is. Returns the state that says so.
 #[inline(always)]
 fn hold(bytes: &mut [u8], form: Form, text: &[u8]) -> State
     requires room { text_bytes form (length text.now) ≤ length bytes.old }
@@ -94,7 +95,7 @@ fn hold(bytes: &mut [u8], form: Form, text: &[u8]) -> State
     }
 }
 
-/// Copies bytes to the front.
+/// Copies the bytes `from` to the first bytes of `to`, which has to be at least as long.
 fn copy_front(to: &mut [u8], from: &[u8])
     requires { length from.now ≤ length to.old }
     ensures { take (length from.now) to.new ≡ from.now }
@@ -113,8 +114,8 @@ fn hold_text(slot: &mut Slot, share: &mut Share, state: State, len: usize)
     share.upper = (len / UPPER) as u32;
 }
 
-/// Returns how many bytes of a share a text takes: one for each byte of a real number, one for four
-/// digits.
+/// Returns how many bytes of a share a text of `len` bytes takes: one for each byte of a real
+/// number, one for up to four digits.
 #[inline(always)]
 fn text_bytes(form: Form, len: usize) -> usize
     ensures { result ≡ text_bytes form len }
@@ -139,8 +140,9 @@ impl<'a> Table<'a> {
         }
     }
 
-    /// Sets the value of the code at an index to a text, if this fits the code's share, which ends
-    /// at `end`.
+    /// Sets the value of the code at an index to a text. The code has to exist, and its share ends
+    /// at `end`. Nothing changes if the text is empty or does not fit the share, or if this does
+    /// not lie within the values.
     #[inline(always)]
     pub(crate) fn set_text_in(&mut self, code: usize, end: usize, form: Form, text: &[u8])
         requires several { form ≢ Form.RealText → length text.now ≢ 1 }
@@ -175,8 +177,9 @@ impl<'a> Table<'a> {
         }
     }
 
-    /// Adds `more` to the first counter of the code at an index, and to the others if the tests
-    /// hold, in its share. A full counter stays as it is.
+    /// Adds `more` to the first counter of the code at an index, in its share, to the second if
+    /// `rises` is true, and to the third if `falls` is true. A full counter stays as it is. Nothing
+    /// changes if there is no such code.
     // It takes the whole table, since it is called once in 256 steps: with the shares, `edges`
     // takes 2 to 5 % more.
     #[cold]
@@ -192,8 +195,8 @@ impl<'a> Table<'a> {
     }
 }
 
-/// Sets the value of a code to binary digits. It writes the slot without a look at it, and leaves
-/// the share as it is.
+/// Sets the value of the code at an index to binary digits. Nothing changes if there is no such
+/// code. It writes the slot without a look at it, and leaves the share as it is.
 #[inline(always)]
 pub(crate) fn set_bits(slots: &mut [Slot], code: usize, bits: Bits)
     ensures changes { ChangesSlot code (with_number bits.len bits.number) slots.old slots.new }
@@ -207,9 +210,10 @@ pub(crate) fn set_bits(slots: &mut [Slot], code: usize, bits: Bits)
     }
 }
 
-/// Counts a step of the value of a code in its slot: a fall if `way` is 0, a rise if it is 2, any
-/// other if it is 1. Returns whether the slot had room for it. If not, the caller has 256 steps to
-/// count in the share.
+/// Counts a step of the value of the code at an index in its slot: a fall if `way` is 0, a rise if
+/// it is 2, any other if it is 1. Returns false if the counter of these steps was full: then it
+/// begins again at 0, and the caller has 256 steps to count in the share. Returns false too, and
+/// nothing changes, if there is no such code. Otherwise returns true.
 #[inline(always)]
 pub(crate) fn count_in_slot(slots: &mut [Slot], code: usize, way: usize) -> bool
     requires { way < 3 }
@@ -237,8 +241,9 @@ pub(crate) enum Stepped {
     Uncounted { rises: bool, falls: bool },
 }
 
-/// Sets the value of a code to the digit 0 or 1 over such a digit, and counts the step. Most
-/// changes are of this kind, and change only one slot.
+/// Sets the value of the code at an index to the digit 0 or 1 over such a digit, and counts the
+/// step if it is another one. Most changes are of this kind, and change only one slot. Returns
+/// `Stepped::Not`, and nothing changes, if there is no such code, or if one of both is no 0 or 1.
 // A digit is a state of the slot, so no byte of values is touched: held as a number of one digit,
 // `edges` of scalars takes some 10 % more.
 #[inline(always)]
@@ -271,8 +276,9 @@ pub(crate) fn flip_at(slots: &mut [Slot], code: usize, digit: u8) -> Stepped
     }
 }
 
-/// Sets the value of a code from one binary number to another, and counts the step. Nothing changes
-/// if the slot holds no such number, or one of both has more than `size` digits.
+/// Sets the value of the code at an index from one binary number to another, and counts the step if
+/// they differ. Returns `Stepped::Not`, and nothing changes, if there is no such code, if its slot
+/// holds no such number, or if one of both has more than `size` digits.
 #[inline(always)]
 pub(crate) fn step_at(slots: &mut [Slot], code: usize, size: usize, bits: Bits) -> Stepped
     ensures counted { result ≡ Stepped.Counted → StepsTo code size bits slots.old slots.new }
@@ -308,8 +314,8 @@ fn share_of(size: usize) -> usize
     size.div_ceil(4).max(LEAST_SHARE)
 }
 
-/// Gives each code its share of the values, one after the other, and unsets all. If the values have
-/// no room for all shares, the last ones are cut. Returns where the last share ends.
+/// Gives each code its share of `values` bytes, one after the other, and unsets all. If there are
+/// too few bytes for all shares, the last ones are cut. Returns where the last share ends.
 pub(crate) fn lay_out(
     codes: &[Code],
     slots: &mut [Slot],

@@ -55,9 +55,9 @@ impl<'a> Table<'a> {
     }
 
     /// Sets the value of the code at an index by the text of a change: digits, or that of a real
-    /// number, as `change_text` gives it. If the text is empty or has no room, the old value stays.
-    /// The time grows with the length of the text. A single digit changes only the slot of its
-    /// code.
+    /// number, as `change_text` gives it. Nothing changes if there is no such code, or if the text
+    /// is empty or does not fit the code's share. The time grows with the length of the text. A
+    /// single digit changes only the slot of its code.
     #[inline(always)]
     pub fn set(&mut self, code: usize, form: Form, text: &[u8])
         ensures sets { SetsCode code (with_text form text.now) self.old self.new }
@@ -66,9 +66,9 @@ impl<'a> Table<'a> {
         self.set_value(code, Value::of_text(form, text));
     }
 
-    /// Sets the value of the code at an index. A text that is empty or has no room changes nothing;
-    /// binary digits need no room. It takes as long as the text is. One digit, and binary digits,
-    /// change only the code's slot.
+    /// Sets the value of the code at an index. Nothing changes if there is no such code, or if the
+    /// text is empty or does not fit the code's share; binary digits always fit. It takes as long
+    /// as the text is. One digit, and binary digits, change only the code's slot.
     #[inline(always)]
     pub fn set_value(&mut self, code: usize, value: Value<'_>)
         ensures sets { SetsCode code (with_value value.entry) self.old self.new }
@@ -92,8 +92,10 @@ impl<'a> Table<'a> {
     }
 
     /// Sets the value of the code at an index as `set_value` does, and counts its step at this size
-    /// as `count` does, if it differs. A text that is empty changes nothing. A digit 0 or 1 over
-    /// one of them, and binary digits over others, change only the code's slot.
+    /// as `count` does, if it differs. Nothing changes if there is no such code, or if the text is
+    /// empty. If the text does not fit the code's share, its step is counted, but the old value
+    /// stays. A digit 0 or 1 over one of them, and binary digits over others, change only the
+    /// code's slot.
     // In one call: `edges` would else ask three times whether the code exists, some 20 % more of
     // scalars.
     #[inline(always)]
@@ -111,7 +113,7 @@ impl<'a> Table<'a> {
 
     /// Sets the value of the code at an index to these digits. If it differs from the value before,
     /// both taken at `size` bits, the first counter grows, and that of rises or falls by the last
-    /// digit. An empty text changes nothing.
+    /// digit. Nothing changes if there is no such code, or if the text is empty.
     #[inline(always)]
     fn follow_digits(&mut self, code: usize, size: usize, text: &[u8])
         ensures { SetsCode code (with_change size Form.Vector text.now) self.old self.new }
@@ -130,7 +132,8 @@ impl<'a> Table<'a> {
         }
     }
 
-    /// Sets the value of the code at an index to binary digits, and counts its step if it differs.
+    /// Sets the value of the code at an index to binary digits, and counts its step if it differs
+    /// at `size` bits. Nothing changes if there is no such code.
     #[inline(always)]
     fn follow_bits(&mut self, code: usize, size: usize, bits: Bits)
         ensures { SetsCode code (with_number_change size bits.len bits.number) self.old self.new }
@@ -143,7 +146,8 @@ impl<'a> Table<'a> {
     }
 
     /// Sets the value of the code at an index by the text of a change, and counts its step if it
-    /// differs, whatever the value was.
+    /// differs at `size` bits, whatever the value was. Nothing changes if there is no such code, or
+    /// if the text is empty.
     #[inline(never)]
     fn follow_any(&mut self, code: usize, size: usize, form: Form, text: &[u8])
         ensures { SetsCode code (with_change size form text.now) self.old self.new }
@@ -158,8 +162,8 @@ impl<'a> Table<'a> {
         }
     }
 
-    /// Sets the value of the code at an index to binary digits, and counts its step if it differs,
-    /// whatever the value was.
+    /// Sets the value of the code at an index to binary digits, and counts its step if it differs
+    /// at `size` bits, whatever the value was. Nothing changes if there is no such code.
     #[inline(never)]
     fn follow_any_bits(&mut self, code: usize, size: usize, bits: Bits)
         ensures { SetsCode code (with_number_change size bits.len bits.number) self.old self.new }
@@ -174,8 +178,8 @@ impl<'a> Table<'a> {
         }
     }
 
-    /// Returns the step from the value of the code at an index to that of a text. If there is no
-    /// value, it does not differ.
+    /// Returns the step from the value of the code at an index to that of a text, both taken at
+    /// `size` bits. If there is no value, it does not differ.
     #[inline(always)]
     fn step_to(&self, code: usize, size: usize, form: Form, text: &[u8]) -> Step
         ensures { IsLaidOut self.now → 0 < length text.now
@@ -209,8 +213,9 @@ impl<'a> Table<'a> {
         }
     }
 
-    /// Returns the digit at an index of the value of a code, extended to the code's size, from the
-    /// left and in lower case. `None` if the value has no digits, or fewer.
+    /// Returns the digit at `index` of the value of a code, extended to the code's size, from the
+    /// left and in lower case. `None` after the last, if the value has no digits, or if there is no
+    /// such code.
     #[inline]
     pub fn digit(&self, view: HeadView<'_>, code: usize, index: usize) -> Option<u8>
         ensures { IsLaidOut self.now
@@ -232,7 +237,7 @@ impl<'a> Table<'a> {
         }
     }
 
-    /// Returns the three counters of the code at an index.
+    /// Returns the three counters of the code at an index; each is 0 if there is no such code.
     #[inline]
     pub fn tally(&self, code: usize) -> [u64; 3]
         ensures { result ≡ counts_at self.now code }
@@ -245,7 +250,7 @@ impl<'a> Table<'a> {
     }
 
     /// Adds one to the counter `which`, 0 to 2, of the code at an index. A full counter stays as it
-    /// is.
+    /// is. Nothing changes if there is no such code, or if `which` is above 2.
     #[inline(always)]
     pub fn bump(&mut self, code: usize, which: usize)
         ensures keeps { KeepsTable self.old self.new }
@@ -260,8 +265,8 @@ impl<'a> Table<'a> {
     }
 
     /// Counts a step of the value of the code at an index: adds one to the first counter, to the
-    /// second if it rises, and to the third if it falls. A full one stays. Most steps change only
-    /// the slot.
+    /// second if it rises, and to the third if it falls. A full one stays. Nothing changes if there
+    /// is no such code. Most steps change only the slot.
     #[inline(always)]
     pub fn count(&mut self, code: usize, rises: bool, falls: bool)
         ensures keeps { KeepsTable self.old self.new }
@@ -277,7 +282,7 @@ impl<'a> Table<'a> {
         }
     }
 
-    /// Chooses the code at an index.
+    /// Chooses the code at an index. Nothing changes if there is no such code.
     #[inline]
     pub fn choose(&mut self, code: usize)
         ensures keeps { KeepsTable self.old self.new }
@@ -288,7 +293,8 @@ impl<'a> Table<'a> {
         }
     }
 
-    /// Returns whether the code at an index is chosen. It takes the same time for every table.
+    /// Returns whether the code at an index is chosen; false if there is no such code. It takes the
+    /// same time for every table.
     #[inline]
     pub fn chosen(&self, code: usize) -> bool
         ensures { result ≡ is_chosen self.now code }

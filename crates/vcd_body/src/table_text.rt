@@ -8,7 +8,7 @@ use vcd_text::{Sink, WriteFailed, put};
 use vcd_view::HeadView;
 
 /// Writes the line of a change that gives the code at an index its value, with the shortest digits;
-/// nothing if it has no value. If a write fails, a prefix was written.
+/// nothing if it has no value, or if there is no such code. If a write fails, a prefix was written.
 pub fn put_short<W: Sink>(
     view: HeadView<'_>,
     table: &Table<'_>,
@@ -31,7 +31,8 @@ pub fn put_short<W: Sink>(
 }
 
 /// Writes the value of the code at an index in full: all its digits, or `r` and the text of a real
-/// number; `-` if it has no value. If a write fails, a prefix was written.
+/// number; `-` if it has no value, or if there is no such code. If a write fails, a prefix was
+/// written.
 pub fn put_full<W: Sink>(
     view: HeadView<'_>,
     table: &Table<'_>,

@@ -26,7 +26,7 @@ pub(crate) fn next_token<S: Source>(feed: &mut Feed<'_, '_, '_, '_, S>) -> Resul
     }
 }
 
-/// Reads the next token of a phrase that has begun. Fails if there is none.
+/// Reads the next token of a phrase that has begun. Fails if there is none, or if the feed halts.
 #[inline(always)]
 pub(crate) fn next_inner<S: Source>(feed: &mut Feed<'_, '_, '_, '_, S>) -> Result<(), BodyFault>
     requires { S.failures (source_of feed.old) < 2 ^ 64 - 1 }

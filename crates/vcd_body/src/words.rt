@@ -34,7 +34,7 @@ pub(crate) enum KeywordUse {
     OfHeader,
 }
 
-/// Returns what the token begins.
+/// Returns what kind of phrase the token begins; `PhraseKind::Other` if it is empty.
 #[inline(always)]
 pub(crate) fn kind_of(token: &[u8]) -> PhraseKind
     ensures { Begins token.now result }
@@ -45,7 +45,7 @@ pub(crate) fn kind_of(token: &[u8]) -> PhraseKind
     }
 }
 
-/// Returns what a token with this first byte begins.
+/// Returns what kind of phrase a token with this first byte begins.
 // The most frequent first bytes come first: in another order `check` of 27,505 codes takes 6 %
 // more.
 #[inline(always)]
@@ -67,7 +67,7 @@ pub(crate) fn kind_by(byte: u8) -> PhraseKind
     }
 }
 
-/// Returns the bytes after the first one.
+/// Returns the bytes after the first one, which has to be there.
 #[inline(always)]
 pub(crate) fn after_first(token: &[u8]) -> &[u8]
     requires { 0 < length token.now }
@@ -76,7 +76,7 @@ pub(crate) fn after_first(token: &[u8]) -> &[u8]
     &token[1..]
 }
 
-/// Returns the bytes after the first one, or none if there is no first one.
+/// Returns the bytes after the first one; no bytes if there is no first one.
 #[inline(always)]
 pub(crate) fn rest_of(token: &[u8]) -> &[u8]
     ensures { result.now ≡ drop 1 token.now }
@@ -87,7 +87,7 @@ pub(crate) fn rest_of(token: &[u8]) -> &[u8]
     }
 }
 
-/// Returns only the first byte, or none if there is none.
+/// Returns only the first byte of a token, as a slice; no bytes if the token is empty.
 pub(crate) fn first_byte_of(token: &[u8]) -> &[u8]
     ensures { result.now ≡ take 1 token.now }
 {
@@ -138,7 +138,7 @@ pub(crate) fn command_of(token: &[u8]) -> Option<KeywordUse>
     Some(use_of(keyword_of(token)?))
 }
 
-/// Returns whether the byte is a digit of a value.
+/// Returns whether the byte is a digit of a value: one of `0`, `1`, `x`, `X`, `z` and `Z`.
 #[tactic(auto, unfolding(vcd_model::specs::BodyPhrases::is_value_digit))]
 #[inline(always)]
 fn is_value_digit(byte: u8) -> bool
@@ -147,7 +147,8 @@ fn is_value_digit(byte: u8) -> bool
     byte == b'0' || byte == b'1' || byte == b'x' || byte == b'X' || byte == b'z' || byte == b'Z'
 }
 
-/// Returns a mask whose bit k is set if byte `at + k`, of 32 bytes, is not this one.
+/// Returns a mask whose bit k is set if byte `at + k`, of 32 bytes, is not `byte`. All 32 have to
+/// be there.
 #[inline(always)]
 pub(crate) fn others_32(bytes: &[u8], at: usize, byte: u8) -> u64
     requires { at + 32 ≤ length bytes.now }
@@ -158,7 +159,8 @@ pub(crate) fn others_32(bytes: &[u8], at: usize, byte: u8) -> u64
     v.simd_ne(u8x32::splat(byte)).to_bitmask()
 }
 
-/// Returns a mask whose bit k is set if byte `at + k`, of 64 bytes, is not this one.
+/// Returns a mask whose bit k is set if byte `at + k`, of 64 bytes, is not `byte`. All 64 have to
+/// be there.
 #[inline(always)]
 pub(crate) fn others_64(bytes: &[u8], at: usize, byte: u8) -> u64
     requires { at + 64 ≤ length bytes.now }
@@ -169,8 +171,8 @@ pub(crate) fn others_64(bytes: &[u8], at: usize, byte: u8) -> u64
     v.simd_ne(u8x64::splat(byte)).to_bitmask()
 }
 
-/// Returns how many of the lowest n bits of a mask are clear before the first set one. The result
-/// is below n.
+/// Returns how many of the lowest n bits of a mask are clear before the first set one; n - 1 if all
+/// are clear. n has to be 1 to 64.
 #[inline(always)]
 pub(crate) fn clear_bits(mask: u64, n: usize) -> usize
     requires some { 1 ≤ n }
@@ -185,7 +187,8 @@ pub(crate) fn clear_bits(mask: u64, n: usize) -> usize
     (mask.trailing_zeros() as usize).min(n - 1)
 }
 
-/// Returns a mask whose bit k is set if byte `at + k` is neither `0` nor `1`.
+/// Returns a mask whose bit k is set if byte `at + k`, of 32 bytes, is neither `0` nor `1`. All 32
+/// have to be there.
 #[inline(always)]
 fn nonbinary_32(bytes: &[u8], at: usize) -> u64
     requires { at + 32 ≤ length bytes.now }
@@ -196,7 +199,8 @@ fn nonbinary_32(bytes: &[u8], at: usize) -> u64
     v.simd_ne(u8x32::splat(b'0')).to_bitmask()
 }
 
-/// Returns a mask whose bit k is set if byte `at + k` is none of `x`, `X`, `z` and `Z`.
+/// Returns a mask whose bit k is set if byte `at + k`, of 32 bytes, is none of `x`, `X`, `z` and
+/// `Z`. All 32 have to be there.
 #[inline(always)]
 fn known_32(bytes: &[u8], at: usize) -> u64
     requires { at + 32 ≤ length bytes.now }
@@ -206,7 +210,7 @@ fn known_32(bytes: &[u8], at: usize) -> u64
     v.simd_ne(u8x32::splat(b'X')).to_bitmask()
 }
 
-/// Returns whether the 32 bytes from an offset on are digits of a value.
+/// Returns whether the 32 bytes from `at` on, which have to be there, are digits of a value.
 #[inline(always)]
 fn are_digits_32(bytes: &[u8], at: usize) -> bool
     requires { at + 32 ≤ length bytes.now }
@@ -215,7 +219,8 @@ fn are_digits_32(bytes: &[u8], at: usize) -> bool
     nonbinary_32(bytes, at) & known_32(bytes, at) == 0
 }
 
-/// Returns whether n bytes from an offset on are only `0` and `1`. The 32 bytes there are read.
+/// Returns whether the n bytes from `at` on, at most 32, are only `0` and `1`. The 32 bytes there
+/// are read.
 #[inline(always)]
 fn are_binary_at(bytes: &[u8], at: usize, n: usize) -> bool
     requires room { at + 32 ≤ length bytes.now }
@@ -286,7 +291,7 @@ pub(crate) fn are_all_digits(digits: &[u8]) -> bool
     are_many_digits(digits) || digits.iter().all(|digit| is_value_digit(*digit))
 }
 
-/// Returns true only if the digits are only `0` and `1`. If their number is known they are, and
+/// Returns true only if the digits are only `0` and `1`. If `bits` has their number they are, and
 /// none is looked at.
 #[inline(always)]
 pub(crate) fn are_binary_or_known(digits: &[u8], bits: Option<Bits>) -> bool
@@ -296,8 +301,8 @@ pub(crate) fn are_binary_or_known(digits: &[u8], bits: Option<Bits>) -> bool
     bits.is_some() || are_binary(digits)
 }
 
-/// Returns whether these are one or more digits of a value. If they are known to be only `0` and
-/// `1`, none is looked at.
+/// Returns whether these are one or more digits of a value. `binary` says that they are known to be
+/// only `0` and `1`: then none is looked at.
 #[inline(always)]
 pub(crate) fn are_digits_or_binary(digits: &[u8], binary: bool) -> bool
     requires { AreBinaryIf binary digits.now }
@@ -309,8 +314,8 @@ pub(crate) fn are_digits_or_binary(digits: &[u8], binary: bool) -> bool
     binary || are_all_digits(digits)
 }
 
-/// Returns a mask whose bit 31 - k is set if byte `at + k` is `1`: the last byte gives the lowest
-/// bit.
+/// Returns a mask whose bit 31 - k is set if byte `at + k` is `1`: the last of the 32 bytes from
+/// `at` on gives the lowest bit. All 32 have to be there.
 #[inline(always)]
 fn ones_32(bytes: &[u8], at: usize) -> u64
     requires { at + 32 ≤ length bytes.now }
@@ -321,7 +326,8 @@ fn ones_32(bytes: &[u8], at: usize) -> u64
     v.simd_eq(u8x32::splat(b'1')).to_bitmask()
 }
 
-/// Returns the number of n binary digits from an offset on. The 32 bytes there are read.
+/// Returns the number that n binary digits write, at most 32, which begin at `at`. The 32 bytes
+/// there are read.
 #[inline(always)]
 fn number_at(bytes: &[u8], at: usize, n: usize) -> usize
     requires room { at + 32 ≤ length bytes.now }
