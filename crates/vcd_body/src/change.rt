@@ -152,7 +152,7 @@ fn put_all<W: Sink>(w: &mut W, digits: &[u8], id: &[u8]) -> Result<(), WriteFail
     put(w, b"\n")
 }
 
-/// Writes the line of a change of a real number: `r`, the text, a blank and the code.
+/// Writes the line of a change of a real number: `r`, the text, a blank and the code `id`.
 #[inline(never)]
 pub(crate) fn put_real<W: Sink>(w: &mut W, text: &[u8], id: &[u8]) -> Result<(), WriteFailed>
     requires { (W.device w.old).failures < 2 ^ 64 - 1 }

@@ -62,8 +62,8 @@ fn put_from<W: Sink>(held: HeldValue<'_>, from: usize, w: &mut W) -> Result<(), 
     Ok(())
 }
 
-/// Returns the index of the held digit from which on they are the shortest digits of the same
-/// value. At least one has to be held.
+/// Returns the index of the held digit at which the shortest digits of the same value begin. At
+/// least one digit has to be held.
 fn first_needed(held: HeldValue<'_>) -> usize
     requires some { 0 < length (digits_of held) }
     ensures { (size : ℕ) → drop result (digits_of held.entry)
@@ -80,7 +80,7 @@ fn first_needed(held: HeldValue<'_>) -> usize
     from
 }
 
-/// Writes all digits that are held, and the code, as a line.
+/// Writes all digits that are held, and the code `id` right after them, as a line.
 fn put_all_held<W: Sink>(held: HeldValue<'_>, id: &[u8], w: &mut W) -> Result<(), WriteFailed>
     requires failures { (W.device w.old).failures < 2 ^ 64 - 1 }
     ensures { PutsTo W.device w.old w.new (digits_of held.entry ++ (id.now ++ 10 ∷ [])) result }

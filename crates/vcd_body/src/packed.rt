@@ -32,7 +32,7 @@ fn codes_16(bytes: &[u8], at: usize) -> u8x16
     at_most_2 + is_x.select(u8x16::splat(1), u8x16::splat(0))
 }
 
-/// Returns true if 16 packed bytes differ from 16 others at one place or more.
+/// Returns whether 16 bytes differ from 16 others: true if they do at one place or more.
 #[inline(always)]
 fn codes_differ(first: u8x16, second: u8x16) -> bool
     ensures other { result ≡ true → first ≢ second }

@@ -55,8 +55,8 @@ impl<'a> Table<'a> {
     }
 
     /// Sets the value of the code at an index by the text of a change: digits, or that of a real
-    /// number, as `change_text` gives it. If the text is empty or has no room, the old value stays.
-    /// If there is no such code, nothing changes. The time grows with the length of the text. A
+    /// number, as `change_text` gives it. Nothing changes if there is no such code, or if the text
+    /// is empty or does not fit the code's share. The time grows with the length of the text. A
     /// single digit changes only the slot of its code.
     #[inline(always)]
     pub fn set(&mut self, code: usize, form: Form, text: &[u8])
@@ -67,8 +67,8 @@ impl<'a> Table<'a> {
     }
 
     /// Sets the value of the code at an index. Nothing changes if there is no such code, or if the
-    /// text is empty or has no room; binary digits need no room. It takes as long as the text is.
-    /// One digit, and binary digits, change only the code's slot.
+    /// text is empty or does not fit the code's share; binary digits always fit. It takes as long
+    /// as the text is. One digit, and binary digits, change only the code's slot.
     #[inline(always)]
     pub fn set_value(&mut self, code: usize, value: Value<'_>)
         ensures sets { SetsCode code (with_value value.entry) self.old self.new }
@@ -93,7 +93,8 @@ impl<'a> Table<'a> {
 
     /// Sets the value of the code at an index as `set_value` does, and counts its step at this size
     /// as `count` does, if it differs. Nothing changes if there is no such code, or if the text is
-    /// empty. A digit 0 or 1 over one of them, and binary digits over others, change only the
+    /// empty. If the text does not fit the code's share, its step is counted, but the old value
+    /// stays. A digit 0 or 1 over one of them, and binary digits over others, change only the
     /// code's slot.
     // In one call: `edges` would else ask three times whether the code exists, some 20 % more of
     // scalars.
