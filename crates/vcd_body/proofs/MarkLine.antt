@@ -8,9 +8,8 @@ use Rattle.std.proofs.lemmas.Fmt.{decimal-digits_value}
 use Rattle.std.proofs.lemmas.Str.Parse.{IsNumeralModel, numerals_by_weight}
 use Rattle.vcd_model.specs.Bytes.{decimal_value, is_decimal}
 use Rattle.vcd_model.specs.ItemText.{time_line}
-use Rattle.vcd_text.proofs.AheadLemmas.{slice_range-append}
 use Rattle.vcd_text.proofs.Places.{length-slice_range}
-use Rattle.vcd_body.specs.Spelled.{HasTimestamp}
+use Rattle.vcd_body.specs.Spelled.{HasTimestamp, line_without}
 use Rattle.vcd_body.proofs.LineLemmas.{one_byte}
 use Rattle.vcd_body.proofs.WordLemmas.{byte_there}
 
@@ -28,35 +27,28 @@ digits_written ds time all value small lead =
     let k = some_digits ds all in
     sym (decimal-digits_value own ds k.0 k.1 lead (subst (λ n. n < 2 ^ 64) (sym value) small)) ∙ ap decimal value
 
--- a mark without white bytes before it, with no zero that leads, and with a line feed after it
-pub mark_line : (bytes : List ℕ) (from to time : ℕ) → HasTimestamp bytes from to (from + 1) time → slice_index bytes from ≡ 35 → slice_index bytes (to - 1) ≡ 10 → (slice_index bytes (from + 1) ≡ 48 → to ≡ from + 3) → slice_range bytes from to ≡ time_line time
-mark_line bytes from to time m first last lead =
-    let within = m.within in
+-- a number sign, digits of which no zero leads, and a line feed for the byte after them
+pub mark_line : (bytes : List ℕ) (from at to time : ℕ) → HasTimestamp bytes from to at time → slice_index bytes (at - 1) ≡ 35 → (slice_index bytes at ≡ 48 → to ≡ at + 2) → line_without bytes (at - 1) to 0 ≡ time_line time
+mark_line bytes from at to time m first lead =
+    let after = m.after in
     let before = m.before in
-    let ds : List ℕ = slice_range bytes (from + 1) (to - 1) in
-    let long : length ds ≡ to - 1 - (from + 1) = length-slice_range bytes (from + 1) (to - 1) (omega arith) in
+    let within = m.within in
+    let ds : List ℕ = slice_range bytes at (to - 1) in
+    let long : length ds ≡ to - 1 - at = length-slice_range bytes at (to - 1) (omega arith) in
     let some = (some_digits ds m.digits).1 in
-    let none : from + 1 + 0 ≡ from + 1 = omega arith in
-    let stop : to - 1 ≡ from + 1 + length ds = omega arith in
-    let begins : get_or ds 0 0 ≡ slice_index bytes (from + 1) = byte_there ds bytes (from + 1) (length ds) 0 some (ap (slice_range bytes (from + 1)) stop) ∙ ap (slice_index bytes) none in
-    let is : ds ≡ decimal time = digits_written ds time m.digits m.value m.fits (λ z. let three = lead (sym begins ∙ z) in omega arith) in
-    let n = to - 1 - (from + 1) in
-    let end : from + 1 + n ≡ to - 1 = omega arith in
-    let whole : to - 1 + 1 ≡ to = omega arith in
-    let front : slice_range bytes from (from + 1) ≡ 35 ∷ [] = one_byte bytes from (omega arith) ∙ ap (λ b. b ∷ []) first in
-    let back : slice_range bytes (to - 1) to ≡ 10 ∷ [] = ap (slice_range bytes (to - 1)) (sym whole) ∙ one_byte bytes (to - 1) (omega arith) ∙ ap (λ b. b ∷ []) last in
-    let middle : slice_range bytes from (to - 1) ≡ 35 ∷ ds = ap (slice_range bytes from) (sym end) ∙ sym (slice_range-append bytes from (from + 1) n (omega arith)) ∙ ap₂ (λ (a b : List ℕ). a ++ b) front (ap (slice_range bytes (from + 1)) end) in
-    ap (slice_range bytes from) (sym whole) ∙ sym (slice_range-append bytes from (to - 1) 1 (omega arith)) ∙ ap₂ (λ (a b : List ℕ). a ++ b) (middle ∙ ap (λ l. 35 ∷ l) is) (ap (slice_range bytes (to - 1)) whole ∙ back)
+    let none : at + 0 ≡ at = omega arith in
+    let stop : to - 1 ≡ at + length ds = omega arith in
+    let begins : get_or ds 0 0 ≡ slice_index bytes at = byte_there ds bytes at (length ds) 0 some (ap (slice_range bytes at) stop) ∙ ap (slice_index bytes) none in
+    let is : ds ≡ decimal time = digits_written ds time m.digits m.value m.fits (λ z. let two = lead (sym begins ∙ z) in omega arith) in
+    let next : at - 1 + 1 + 0 ≡ at = omega arith in
+    let front : slice_range bytes (at - 1) (at - 1 + 1) ≡ 35 ∷ [] = one_byte bytes (at - 1) (omega arith) ∙ ap (λ b. b ∷ []) first in
+    ap₂ (λ (a b : List ℕ). (a ++ b) ++ 10 ∷ []) front (ap (λ n. slice_range bytes n (to - 1)) next ∙ is)
 
 lead_of : (a b n : ℕ) → (not (a == 48) || (b == n)) ≡ true → a ≡ 48 → b ≡ n
 lead_of a b n e is = eqb-true b n (subst (λ (v : ℕ). (not (v == 48) || (b == n)) ≡ true) is e)
 
 -- the same by what is looked at
-pub mark_line_there : (bytes : List ℕ) (from to at time : ℕ) → ((((at == from + 1) && (slice_index bytes from == 35)) && (slice_index bytes (to - 1) == 10)) && (not (slice_index bytes at == 48) || (to == at + 2))) ≡ true → HasTimestamp bytes from to at time → slice_range bytes from to ≡ time_line time
-mark_line_there bytes from to at time e m =
-    let p = and_parts (((at == from + 1) && (slice_index bytes from == 35)) && (slice_index bytes (to - 1) == 10)) (not (slice_index bytes at == 48) || (to == at + 2)) e in
-    let q = and_parts ((at == from + 1) && (slice_index bytes from == 35)) (slice_index bytes (to - 1) == 10) p.0 in
-    let r = and_parts (at == from + 1) (slice_index bytes from == 35) q.0 in
-    let next = eqb-true at (from + 1) r.0 in
-    mark_line bytes from to time (subst (λ a. HasTimestamp bytes from to a time) next m) (eqb-true (slice_index bytes from) 35 r.1) (eqb-true (slice_index bytes (to - 1)) 10 q.1)
-    (λ z. let two = lead_of (slice_index bytes at) to (at + 2) p.1 (ap (slice_index bytes) next ∙ z) in omega (arith, next))
+pub mark_line_there : (bytes : List ℕ) (from at to time : ℕ) → ((slice_index bytes (at - 1) == 35) && (not (slice_index bytes at == 48) || (to == at + 2))) ≡ true → HasTimestamp bytes from to at time → line_without bytes (at - 1) to 0 ≡ time_line time
+mark_line_there bytes from at to time e m =
+    let p = and_parts (slice_index bytes (at - 1) == 35) (not (slice_index bytes at == 48) || (to == at + 2)) e in
+    mark_line bytes from at to time m (eqb-true (slice_index bytes (at - 1)) 35 p.0) (lead_of (slice_index bytes at) to (at + 2) p.1)

@@ -223,17 +223,14 @@ pub(crate) fn left_out_of_front(
     left_out_of_text(scanned, form, scanned.size_or_zero, bytes, from, to)
 }
 
-/// Returns whether the bytes of a timestamp that was taken ahead are the line of its time: `#`, the
-/// digits without leading zeros, and a line feed. The timestamp has the bytes from `from` up to
-/// `to`, and its digits begin at `at`.
+/// Returns whether these bytes have the line of a timestamp that was taken ahead, but for the line
+/// feed: `#`, and the digits without leading zeros. The digits begin at `at`, and end one byte
+/// before `to`.
 #[inline(always)]
-pub fn is_timestamp_line(bytes: &[u8], from: usize, to: usize, at: usize) -> bool
-    requires { (time : ℕ) × HasTimestamp bytes.now from to at time }
-    ensures { result ≡ true → (time : ℕ) → HasTimestamp bytes.now from to at time
-        → slice_range bytes.now from to ≡ time_line time }
+pub fn is_timestamp_line(bytes: &[u8], at: usize, to: usize) -> bool
+    requires { (from time : ℕ) × HasTimestamp bytes.now from to at time }
+    ensures { result ≡ true → (from time : ℕ) → HasTimestamp bytes.now from to at time
+        → line_without bytes.now (at - 1) to 0 ≡ time_line time }
 {
-    (at == from + 1)
-        & (bytes[from] == b'#')
-        & (bytes[to - 1] == b'\n')
-        & ((bytes[at] != b'0') | (to == at + 2))
+    (bytes[at - 1] == b'#') & ((bytes[at] != b'0') | (to == at + 2))
 }

@@ -1,5 +1,5 @@
 -- What is written and what is pending, where text is due.
-use Rattle.std.proofs.Common.{◌≡◌, ℕ, ◌+◌, ◌-◌, ◌≤◌, length, refl, List, [], ◌∷◌, ◌++◌, slice_range, Result, Ok, Err, sym, ap, subst, ◌∙◌, append-nil, append_assoc, arith, take, drop, IfOk}
+use Rattle.std.proofs.Common.{◌≡◌, ℕ, ◌+◌, ◌-◌, ◌≤◌, length, refl, List, [], ◌∷◌, ◌++◌, slice_range, Result, Ok, Err, sym, ap, ap₂, subst, ◌∙◌, append-nil, append_assoc, arith, take, drop}
 use Rattle.std.proofs.lemmas.List.{take-take}
 use Rattle.std.specs.Prelude.{slice_index}
 use Rattle.vcd_text.specs.Device.{Device, Puts, Writes, WritesSome}
@@ -40,6 +40,16 @@ line_there bytes from to k few within last =
     let end : slice_range bytes (to - 1) (to - 1 + 1) ≡ 10 ∷ [] = one_byte bytes (to - 1) (omega arith) ∙ ap (λ b. b ∷ []) last in
     let both : rest ++ 10 ∷ [] ≡ slice_range bytes (from + 1 + k) to = ap (λ l. rest ++ l) (sym end) ∙ slice_range-append bytes (from + 1 + k) (to - 1) 1 (omega arith) ∙ ap (slice_range bytes (from + 1 + k)) all in
     ap (λ l. first ++ l) (sym both) ∙ sym (append_assoc first rest (10 ∷ []))
+
+-- two bytes and a line feed
+pub two_bytes_line : (bytes : List ℕ) (from to n : ℕ) → n ≡ 0 → to ≡ from + 3 → to ≤ length bytes → slice_index bytes from ∷ slice_index bytes (from + 1) ∷ 10 ∷ [] ≡ line_without bytes from to n
+two_bytes_line bytes from to n none three within =
+    let next : from + 1 + n ≡ from + 1 = omega (arith, none) in
+    let last : to - 1 ≡ from + 1 + 1 = omega (arith, three) in
+    let first = one_byte bytes from (omega (arith, three, within)) in
+    let second = one_byte bytes (from + 1) (omega (arith, three, within)) in
+    let rest : slice_range bytes (from + 1 + n) (to - 1) ≡ slice_index bytes (from + 1) ∷ [] = ap₂ (λ a b. slice_range bytes a b) next last ∙ second in
+    sym (ap₂ (λ (a b : List ℕ). (a ++ b) ++ 10 ∷ []) first rest)
 
 -- of which nothing is left
 pub none_between : (bytes : List ℕ) (from to : ℕ) → to ≤ from → slice_range bytes from to ≡ []

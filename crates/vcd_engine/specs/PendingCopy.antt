@@ -1,5 +1,5 @@
 -- Text that is due, and of which the last piece is not yet written.
-use Rattle.std.specs.Prelude.{◌≡◌, ◌≢◌, ℕ, ◌<◌, ◌≤◌, List, ◌++◌, length, slice_range, Result, Ok, Err, IfOk}
+use Rattle.std.specs.Prelude.{◌≡◌, ◌≢◌, ℕ, ◌+◌, ◌<◌, ◌≤◌, List, ◌++◌, length, slice_range, Result, Ok, Err, IfOk}
 use Rattle.vcd_model.specs.ItemText.{time_line}
 use Rattle.vcd_text.specs.Ahead.{bytes_of, passed_of}
 use Rattle.vcd_text.specs.Device.{Counts, Device, Writes, WritesSome}
@@ -8,7 +8,7 @@ use Rattle.vcd_view.specs.declared.view.HeadView.{HeadView}
 use Rattle.vcd_body.specs.Given.{HasGoodText}
 use Rattle.vcd_body.specs.Ahead.{HasBits, IsSizedItem}
 use Rattle.vcd_body.specs.Changes.{AreBinaryIf}
-use Rattle.vcd_body.specs.Spelled.{HasSpelled}
+use Rattle.vcd_body.specs.Spelled.{HasSpelled, line_without}
 use Rattle.vcd_engine.specs.Cut.{IsNoTimestamp}
 use Rattle.vcd_engine.specs.declared.pending.SpannedItem.{SpannedItem}
 use Rattle.vcd_engine.specs.declared.pending.PendingCopy.{PendingCopy}
@@ -29,9 +29,10 @@ pub record LiesUpTo (a : Ahead) (l : SpannedItem) : Type 0 where
   pub from : l.from ≡ l.scanned.begin
   pub to : l.to ≡ passed_of a
 
--- from one offset of these bytes up to another is the line of this time, or nothing is known of it
+-- from one offset of these bytes up to the last one before another, and a line feed, is the line of
+-- this time, or nothing is known of it
 abbrev pub IsLine : List ℕ → ℕ × ℕ → ℕ → Type 0
-IsLine bytes line time = line.0 < line.1 → (line.1 ≤ length bytes) × (slice_range bytes line.0 line.1 ≡ time_line time)
+IsLine bytes line time = line.0 < line.1 → (line.0 + 2 ≤ line.1) × (line.1 ≤ length bytes) × (line_without bytes line.0 line.1 0 ≡ time_line time)
 
 -- the last piece is a part of these bytes
 abbrev pub IsPart : List ℕ → PendingCopy → Type 0

@@ -4,7 +4,7 @@ ghost use Rattle.std.specs.Prelude.{◌≡◌, ℕ, ◌+◌, ◌-◌, ◌^◌, �
 ghost use Rattle.vcd_engine.specs.Names.{BodyItem, bytes_without, HasGoodText, Header, HeadView, pending_in, IsSpanned, IsItem, IsLine, IsNoTimestamp, IsPart, IsViewOf, item_line, LiesUpTo, line_without, Puts, PutsBehind, time_line};
 
 use vcd_body::{Extent, Item, ScannedItem, left_out, put_time};
-use vcd_text::{Sink, WriteFailed, put_front, put_parts};
+use vcd_text::{Sink, WriteFailed, put_few, put_front, put_parts};
 
 /// An item that is no timestamp, with its span: an item in the chunk begins at `from`, and was
 /// passed up to `to`. An item that the feed gave has an empty span, and no size (`size_or_zero` is
@@ -219,12 +219,17 @@ impl PendingCopy {
             return self.append_parts(bytes, from, to, n, out);
         }
         self.flush(bytes, out)?;
+        // With CR LF, this is each change of a scalar that has a code of one byte.
+        if n == 0 && to == from + 3 {
+            let line = [bytes[from], bytes[from + 1], b'\n', 0, 0, 0, 0, 0];
+            return put_few(out, line, 3);
+        }
         put_line(bytes, from, last, n, out)
     }
 
-    /// Adds the line of a time, which is due next. The bytes from `from` up to `to` are that line,
-    /// and become pending; or there are none, and the line is written after the pending text. Fails
-    /// if a write does.
+    /// Adds the line of a time, which is due next. The bytes from `from` up to the last one before
+    /// `to`, and a line feed, are that line; or there are none, and the line is written after the
+    /// pending text. Fails if a write does.
     #[inline(always)]
     pub(crate) fn append_time<W: Sink>(
         &mut self,
@@ -241,7 +246,7 @@ impl PendingCopy {
             (W.device out.old) (W.device out.new) (time_line time) result }
     {
         if from < to {
-            return self.append(bytes, from, to, out);
+            return self.append_line(bytes, from, to, 0, out);
         }
         self.flush(bytes, out)?;
         put_time(time, out)

@@ -1,8 +1,9 @@
 use Rattle.std.proofs.Common.{◌≡◌, Err, rules, subst}
+use Rattle.vcd_text.specs.Device.{Puts}
 use Rattle.vcd_text.proofs.Writes.{counts-on, some-first}
 use Rattle.vcd_body.proofs.Results.{if_ok}
 use Rattle.vcd_engine.specs.PendingCopy.{PutsBehind}
-use Rattle.vcd_engine.proofs.PieceLemmas.{line_there, put_on}
+use Rattle.vcd_engine.proofs.PieceLemmas.{line_there, put_on, two_bytes_line}
 use Rattle.vcd_engine.proofs.pending.PendingCopy.append_line.Goals as goal
 
 pub returns-then-bytes-last-eq10 : goal.returns-then-bytes-last-eq10
@@ -15,6 +16,16 @@ pub returns-in_err-flush : goal.returns-in_err-flush
 returns-in_err-flush g c =
     let e : c.from_residual.result ≡ Err c.in_err-flush.field-0.0 = search rules in
     rw e (record { puts = some-first (g.W.Sink.device _) (g.W.Sink.device _) _ _ c.in_err-flush.ensures.puts; counts = c.in_err-flush.ensures.puts.1; part = tt })
+
+pub returns-then-to-from : goal.returns-then-to-from
+returns-then-to-from g c =
+    let line = two_bytes_line c.args.bytes.now c.args.from c.args.to c.args.n c.if-n-eq0.true c.if-to-from.true c.requires.within.1 in
+    let put = subst (λ l. Puts (g.W.Sink.device c.flush.new.out) (g.W.Sink.device c.put_few.new.w) l c.put_few.result) line c.put_few.ensures in
+    record {
+      puts = put_on _ _ _ (g.W.Sink.device _) (g.W.Sink.device _) (g.W.Sink.device _) c.put_few.result c.in_ok-flush.ensures.puts c.in_ok-flush.ensures.pending.0 put;
+      counts = counts-on (g.W.Sink.device c.args.out.now) (g.W.Sink.device c.flush.new.out) (g.W.Sink.device c.put_few.new.w) c.put_few.result c.in_ok-flush.ensures.puts.1 put.1;
+      part = if_ok c.put_few.result _ c.in_ok-flush.ensures.pending.1;
+    }
 
 pub returns : goal.returns
 returns g c = record {

@@ -5,7 +5,7 @@ use Rattle.vcd_body.specs.Given.{IsItem}
 use Rattle.vcd_body.specs.Items.{regs_after}
 use Rattle.vcd_body.specs.Spelled.{HasTimestamp, HasSpelled}
 use Rattle.vcd_body.specs.declared.item.Item.{Item}
-use Rattle.vcd_engine.specs.PendingCopy.{IsLine, IsPart}
+use Rattle.vcd_engine.specs.PendingCopy.{IsPart}
 use Rattle.vcd_engine.proofs.NextLemmas.{more_quietly}
 use Rattle.vcd_engine.proofs.PieceLemmas.{next_line_is}
 use Rattle.vcd_engine.proofs.task_state.walk.WalkStateVisit.take_timestamp.Goals as goal
@@ -13,19 +13,19 @@ use Rattle.vcd_engine.proofs.task_state.walk.WalkStateVisit.take_timestamp.Goals
 pub after_timestamp-self-requires : goal.after_timestamp-self-requires
 after_timestamp-self-requires g c =
     let n = c.requires.item in
-    (c.args.time, rw (c.passed-from.ensures.passed, c.passed.ensures.passed, c.bytes.ensures, n.same.0) (subst (λ (i : Item). HasSpelled c.args._view (bytes_of c.args.extent.from) (passed_of c.args.extent.from) (passed_of c.args.extent.to) c.args.timestamp.at c.args.timestamp.code_at c.args.timestamp.text.now i) c.requires.time n.spelled))
+    (passed_of c.args.extent.from, c.args.time, rw (c.passed-to.ensures.passed, c.bytes.ensures, n.same.0) (subst (λ (i : Item). HasSpelled c.args._view (bytes_of c.args.extent.from) (passed_of c.args.extent.from) (passed_of c.args.extent.to) c.args.timestamp.at c.args.timestamp.code_at c.args.timestamp.text.now i) c.requires.time n.spelled))
 
 pub returns-clause-takes : goal.returns-clause-takes
 returns-clause-takes g c = λ out.
     let n = c.requires.item in
     let timestamp = c.args.timestamp in
     let r = c.args._regs in
-    let marked : HasTimestamp c.bytes.result.now c.passed-from.result c.passed.result timestamp.at c.args.time = rw (c.passed-from.ensures.passed, c.passed.ensures.passed, c.bytes.ensures, n.same.0) (subst (λ (i : Item). HasSpelled c.args._view (bytes_of c.args.extent.from) (passed_of c.args.extent.from) (passed_of c.args.extent.to) timestamp.at timestamp.code_at timestamp.text.now i) c.requires.time n.spelled) in
+    let marked : HasTimestamp c.bytes.result.now (passed_of c.args.extent.from) c.passed-to.result timestamp.at c.args.time = rw (c.passed-to.ensures.passed, c.bytes.ensures, n.same.0) (subst (λ (i : Item). HasSpelled c.args._view (bytes_of c.args.extent.from) (passed_of c.args.extent.from) (passed_of c.args.extent.to) timestamp.at timestamp.code_at timestamp.text.now i) c.requires.time n.spelled) in
     record {
       scanned = timestamp;
       item = n;
       regs = refl;
-      line = next_line_is _ _ _ _ _ _ c.bytes.ensures refl (sym (ap (λ (i : Item). (regs_after r i).time) c.requires.time)) (c.after_timestamp-self.ensures c.args.time marked);
+      line = next_line_is _ _ _ _ _ _ c.bytes.ensures refl (sym (ap (λ (i : Item). (regs_after r i).time) c.requires.time)) (c.after_timestamp-self.ensures _ c.args.time marked);
       one = λ h items x views known is few keeps.
           let e : x ≡ BodyItem.Time c.args.time = subst (λ (i : Item). IsItem h.codes timestamp.text.now i x) c.requires.time is in
           rw e (more_quietly _ _ _ h items _ _ out (c.note_time.ensures.takes h items few keeps));
@@ -39,9 +39,9 @@ returns-clause-stands g c =
     let n = c.requires.item in
     let timestamp = c.args.timestamp in
     let r = c.args._regs in
-    let marked : HasTimestamp c.bytes.result.now c.passed-from.result c.passed.result timestamp.at c.args.time = rw (c.passed-from.ensures.passed, c.passed.ensures.passed, c.bytes.ensures, n.same.0) (subst (λ (i : Item). HasSpelled c.args._view (bytes_of c.args.extent.from) (passed_of c.args.extent.from) (passed_of c.args.extent.to) timestamp.at timestamp.code_at timestamp.text.now i) c.requires.time n.spelled) in
+    let marked : HasTimestamp c.bytes.result.now (passed_of c.args.extent.from) c.passed-to.result timestamp.at c.args.time = rw (c.passed-to.ensures.passed, c.bytes.ensures, n.same.0) (subst (λ (i : Item). HasSpelled c.args._view (bytes_of c.args.extent.from) (passed_of c.args.extent.from) (passed_of c.args.extent.to) timestamp.at timestamp.code_at timestamp.text.now i) c.requires.time n.spelled) in
     record {
       ready = c.note_time.ensures.ready;
       part = subst (λ (bs : List ℕ). IsPart bs c.args.self.now.pending) (sym n.same.0) c.requires.stands.part;
-      line = next_line_is _ _ _ _ _ _ c.bytes.ensures refl (sym (ap (λ (i : Item). (regs_after r i).time) c.requires.time)) (c.after_timestamp-self.ensures c.args.time marked);
+      line = next_line_is _ _ _ _ _ _ c.bytes.ensures refl (sym (ap (λ (i : Item). (regs_after r i).time) c.requires.time)) (c.after_timestamp-self.ensures _ c.args.time marked);
     }
