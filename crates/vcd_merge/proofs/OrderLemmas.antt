@@ -147,7 +147,6 @@ not_in seats n out j k (inr l) w e = w.other (e ∙ l)
 
 -- where the seat at an index is known, so is whether an input waits
 module _ (seats : List Seat) (k : ℕ) (x : Seat) (here : slice_get seats k ≡ Some x) where
-
   -- it goes in among the others
   pub put_in : (n out m : ℕ) (xs : List ℕ) (len : ℕ) → x.finished ≡ false → k < m → ((j : ℕ) → j < n → j < m) → ((j : ℕ) → j < m → j ≢ k → (j < n) × (j ≢ out)) → AreInOrder (λ j. Waits seats n out j ⊎ (j ≡ k)) (time_of seats) xs len → IsOrder seats m m xs len
   put_in n out m xs len going within to back o = said_so (λ j. Waits seats n out j ⊎ (j ≡ k)) (Waits seats m m) (time_of seats) (time_of seats) xs len now old (λ j i. refl) o

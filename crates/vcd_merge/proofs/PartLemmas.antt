@@ -23,7 +23,6 @@ part_before len j place h = part_ends len place j h
 
 -- the written part, and the others
 module _ (len n place : ℕ) (xs ys : List ℕ) (all : n * len ≡ length xs) (within : place < n) (same : length ys ≡ len) where
-
   pub part_put : part len place (put_mid (place * len) (place * len + len - place * len) xs ys) ≡ ys
   part_put =
       let e = part_ends len n place within in
