@@ -2,8 +2,8 @@
 #     a sample. An idle processor proves vcd_changes too, which `make library` needs
 # make CPU=x86-64-v3    the same for newer processors, whose instructions the program may use. On a
 #     processor without them, it says so and ends
-# make test    the gate: every proof that did not pass before on this machine, the must-fail edits,
-#     the tests, and the program as two compilers build it
+# make test    the gate: all proofs, the must-fail edits, the tests, and the program as two compilers
+#     build it: about an hour
 # make hostile runs the program while memory, reads and writes fail, with closed streams, and on
 #     dumps that are truncated, crafted or random: some minutes
 # make docs-check runs the commands on the pages with ./vcdkit, and compares what they print with
