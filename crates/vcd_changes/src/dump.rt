@@ -67,10 +67,12 @@ fn status_of(filled: Filled) -> u8
     }
 }
 
-/// Fills the rows with the next changes of the code at `index` among the header's, notes in the
-/// reading how many there are, and returns the status: `DONE` or `FULL`, with the place where the
-/// next call continues, or `FAULT`, with the fault. The feed has this token limit, and `regs` are
-/// the registers where it is.
+/// Fills the rows with the next changes of the code at `index` among the header's, and returns the
+/// status. Sets `reading.count` to the number of rows that are filled, also if there is a fault.
+///
+/// With `DONE` and `FULL`, `reading.place` is where the next call continues. With `FAULT`, the
+/// reading has the fault and its line, and `place` stays as it was. `limit` is the token limit of
+/// the feed, and `regs` are the registers where the feed is.
 fn read_on(
     limit: usize,
     feed: &mut Feed<'_, '_, '_, '_, Bytes<'_>>,

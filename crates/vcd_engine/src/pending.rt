@@ -196,9 +196,11 @@ impl PendingCopy {
         self.append(bytes, from + 1 + n, to, out)
     }
 
-    /// Adds the bytes from `from` up to the last one before `to`, without the `n` after the first,
-    /// and a line feed. If the last byte is one, they become pending; otherwise they are written by
-    /// one write. Fails if a write does.
+    /// Adds a line, which is due next: the bytes from `from` up to `to - 1`, without the `n` after
+    /// the first one, and a line feed in place of the byte at `to - 1`.
+    ///
+    /// If that byte is a line feed already, the bytes are added as `append_parts` adds them.
+    /// Otherwise the pending text is written, and then the line. Fails if a write does.
     #[inline(always)]
     pub(crate) fn append_line<W: Sink>(
         &mut self,

@@ -113,8 +113,10 @@ impl<'o> Open<'o> {
         self.compare(view, row, group, matched)
     }
 
-    /// Enters the scopes around a row that were not entered yet, and sets the flags in `matched` of
-    /// the names that select all of such a scope.
+    /// Enters the scopes around the variable of `row` that were not entered yet, from the outermost
+    /// inwards: keeps in `self`, for each, the names that continue inside it. Sets the flags in
+    /// `matched` of the names that select all of a scope that it enters, and leaves the others as
+    /// they are. `row` is the row that `take` was given.
     fn enter_around(
         &mut self,
         view: HeadView<'_>,

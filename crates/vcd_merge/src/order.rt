@@ -171,7 +171,11 @@ impl TurnOrder {
         end_before(seats, input, self.inputs[count - 1] as usize)
     }
 
-    /// Takes out the next input, and returns its turn. `None` if all inputs have finished.
+    /// Takes out the input with the smallest time, at equal times the one with the smallest index,
+    /// and returns its turn. `None` if no input waits, so that all have finished.
+    ///
+    /// After the turn, pass its input to `put` before the next call. Until then, no time of another
+    /// seat may change.
     #[inline(always)]
     pub(crate) fn take_next(&mut self, seats: &[Seat]) -> Option<Turn>
         requires { AllWait seats.now self.old.inputs self.old.len }

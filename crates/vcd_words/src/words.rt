@@ -46,7 +46,8 @@ pub(crate) fn limit_word<'a>(matches: &ArgMatches<'a>) -> Option<&'a str>
     word_of(matches, "token-limit")
 }
 
-/// Returns the words of the argument `id` of the command that was used; `None` if there are none.
+/// Returns the words of the argument `id` of the command that was used. `matches` are those of the
+/// whole command line. `None` if no command was used, or if the argument has no word.
 fn words_of<'m, 'a>(matches: &'m ArgMatches<'a>, id: &str) -> Option<&'m [&'a str]>
     ensures { texts_of result ≡ some_of (values_after matches.now id.now) }
 {
