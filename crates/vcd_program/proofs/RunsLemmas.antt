@@ -1,16 +1,16 @@
 -- What a program leaves, from what its calls do.
-use Rattle.std.proofs.Common.{◌≡◌, ◌≤◌, ◌⊎◌, ℕ, Bool, true, false, List, [], length, map, refl, sym, subst, ap, ◌∙◌, inl, inr, codes}
+use Rattle.std.proofs.Common.{◌≡◌, ◌≤◌, ◌+◌, ◌⊎◌, ℕ, Bool, true, false, List, [], length, map, refl, sym, subst, ap, ◌∙◌, inl, inr, arith, codes, cond, ◌==◌}
 use Rattle.std.specs.Prelude.{Option, Some, Result, Ok, Err}
 use Rattle.clap.specs.Words.{Text, is_simple_and_free}
 use Rattle.clap.specs.declared.error.kind.ErrorKind.{ErrorKind}
 use Rattle.clap.specs.declared.error.kind.ErrorKind.TheVariants as kind
 use Rattle.vcd_model.specs.Input.{Input}
 use Rattle.vcd_model.specs.Job.{Want, outcome}
-use Rattle.vcd_model.specs.Outcome.{Outcome, fault_text, program_line}
+use Rattle.vcd_model.specs.Outcome.{Outcome, clean_outcome, fault_text, program_line}
 use Rattle.vcd_model.specs.Words as model
 use Rattle.vcd_model.specs.Words.{Job, Words, command_outcome, job_of}
 use Rattle.std.specs.Io.KnownBytes.{Keeps}
-use Rattle.vcd_text.specs.Device.{Device, Supply, Writes, supply}
+use Rattle.vcd_text.specs.Device.{Device, Puts, Supply, Writes, WritesSome, supply}
 use Rattle.vcd_text.proofs.Writes.{appends-none}
 use Rattle.vcd_words.specs.Job.{is_merge, model_want, names_asked}
 use Rattle.vcd_words.specs.Words.{IsFaultOf, parse_status_of, program_app}
@@ -20,22 +20,39 @@ use Rattle.vcd_words.specs.declared.job.Want.TheVariants as asked
 use Rattle.vcd_words.specs.declared.job.Want as job
 use Rattle.vcdkit.specs.Message.{Shows, unopened_outcome, use_outcome}
 use Rattle.vcdkit.specs.Run.{HasRun, IsOutcome}
-use Rattle.vcdkit.specs.Run.IsOutcome.{Whole}
+use Rattle.vcdkit.specs.Run.IsOutcome.{Whole, Part}
 use Rattle.vcd_host.specs.Opens.{Opens, OpensSome, OpensUpTo, StopsAmong, called, text_of}
-use Rattle.vcd_program.specs.Runs.{EndsSo, Finishes, Leaves, Runs, names_wanted}
+use Rattle.vcd_program.specs.Runs.{Answers, EndsSo, Finishes, Leaves, Runs, names_wanted}
 use Rattle.vcd_host.specs.declared.host.OpenFault.{OpenFault}
 use Rattle.vcd_host.specs.declared.opened.OpenStop.{OpenStop}
 use Rattle.vcd_host.specs.declared.opened.OpenStop.TheVariants as stop
 use Rattle.std.specs.Borrow.{Bor}
 use Rattle.std.proofs.lemmas.List.{length-map}
 use Rattle.vcd_host.proofs.AskedLemmas.{wants_merge}
-use Rattle.vcdkit.proofs.MessageLemmas.{puts-shows}
 
 -- ---- devices
 
 -- nothing is written
 pub writes-none : (d : Device) → Writes d d []
 writes-none d = (appends-none d.held, refl)
+
+-- nothing is shown
+pub shows-none : (d : Device) → Shows d d []
+shows-none d = inl (writes-none d)
+
+-- a line on the error stream counts one failure at most
+pub shown_once : (old new : Device) (line : List ℕ) → Shows old new line → new.failures ≤ old.failures + 1
+shown_once old new line (inl all) = let same = all.1 in omega (arith, same)
+shown_once old new line (inr some) = by_flag new.last_failed some.1
+  where
+    by_flag : (b : Bool) → cond b new.failures 0 ≡ old.failures + 1 → new.failures ≤ old.failures + 1
+    by_flag true is = omega (arith, is)
+    by_flag false is = absurd (omega (arith, is))
+
+-- what was put is shown, whatever the result
+pub put-shows : {A E : Type 0} (old new : Device) (line : List ℕ) (r : Result A E) → Puts old new line r → Shows old new line
+put-shows old new line (Ok v) puts = inl puts
+put-shows old new line (Err e) puts = inr puts
 
 -- ---- what is wanted
 
@@ -151,6 +168,29 @@ statuses kind.DisplayVersion = inl refl
 statuses kind.Io = inr (inl refl)
 statuses kind.Format = inr (inl refl)
 statuses kind.OutOfMemory = inr (inr refl)
+
+-- where it is neither 3 nor 2 it is 0
+pub status-zero : (why : ErrorKind) (n : ℕ) → n ≡ parse_status_of why → (n ≡ 3 → ⊥) → (n ≡ 2 → ⊥) → parse_status_of why ≡ 0
+status-zero why n e no3 no2 = elim (statuses why) [ inl zero ↦ zero | inr more ↦ elim more [ inl two ↦ absurd (no2 (e ∙ two)) | inr three ↦ absurd (no3 (e ∙ three)) ] ]
+
+abbrev answer-of : ℕ → Text → Outcome
+answer-of n text = cond (n == 0) (clean_outcome text) (record { output = []; message = text; status = n })
+
+answered : (why : ErrorKind) (n : ℕ) (text : Text) (out out' err err' : Device) (status : ℕ) → parse_status_of why ≡ n → (3 ≡ n → ⊥) → IsOutcome (answer-of n text) out out' err err' status → Answers why out out' err err' status
+answered why n text out out' err err' status e no3 left =
+    inl ((λ memory. no3 (ap parse_status_of (sym memory) ∙ e)), text, subst (λ m. IsOutcome (answer-of m text) out out' err err' status) (sym e) left)
+
+-- the text was put on the error stream
+pub answer-shown : (why : ErrorKind) (text : Text) (out err err' : Device) → parse_status_of why ≡ 2 → Shows err err' text → Answers why out out err err' 2
+answer-shown why text out err err' e shown = answered why 2 text out out err err' 2 e (λ bad. absurd (omega (arith, bad))) (Whole (writes-none out) shown refl)
+
+-- it was written on the output
+pub answer-written : (why : ErrorKind) (text : Text) (out out' err : Device) → parse_status_of why ≡ 0 → Writes out out' text → Answers why out out' err err 0
+answer-written why text out out' err e written = answered why 0 text out out' err err 0 e (λ bad. absurd (omega (arith, bad))) (Whole written (shows-none err) refl)
+
+-- a write of it failed
+pub answer-failed : (why : ErrorKind) (text : Text) (out out' err err' : Device) → parse_status_of why ≡ 0 → WritesSome out out' text → Shows err err' (program_line (codes "write failed")) → Answers why out out' err err' 3
+answer-failed why text out out' err err' e written shown = answered why 0 text out out' err err' 3 e (λ bad. absurd (omega (arith, bad))) (Part written shown refl)
 
 -- ---- a job
 

@@ -1,8 +1,6 @@
 use Rattle.std.proofs.Common.{inr}
-use Rattle.vcd_program.proofs.RunsLemmas.{memory-shown, writes-none}
+use Rattle.vcd_program.proofs.RunsLemmas.{memory-shown, put-shows, shown_once, writes-none}
 use Rattle.vcd_program.proofs.command_line.answer.Goals as goal
-use Rattle.vcdkit.proofs.RunLemmas.{shown_once}
-use Rattle.vcdkit.proofs.MessageLemmas.{puts-shows}
 
 pub returns-then-status-eq3-clause-answers : goal.returns-then-status-eq3-clause-answers
 returns-then-status-eq3-clause-answers g c = inr (writes-none (g.W.Sink.device _), memory-shown (g.E.Sink.device _) (g.E.Sink.device _) c.use_fault.ensures.line, c.use_fault.ensures.status)
@@ -17,7 +15,7 @@ pub returns-in_default-clause-failures : goal.returns-in_default-clause-failures
 returns-in_default-clause-failures g c = shown_once (g.E.Sink.device c.args.err.now) (g.E.Sink.device c.use_fault-in_default.new.err) _ c.use_fault-in_default.ensures.line
 
 pub returns-then-status-eq2-clause-failures : goal.returns-then-status-eq2-clause-failures
-returns-then-status-eq2-clause-failures g c = shown_once (g.E.Sink.device c.args.err.now) (g.E.Sink.device c.put.new.w) _ (puts-shows (g.E.Sink.device _) (g.E.Sink.device _) _ c.put.result c.put.ensures)
+returns-then-status-eq2-clause-failures g c = shown_once (g.E.Sink.device c.args.err.now) (g.E.Sink.device c.put.new.w) _ (put-shows (g.E.Sink.device _) (g.E.Sink.device _) _ c.put.result c.put.ensures)
 
 pub returns-then-is_err-clause-failures : goal.returns-then-is_err-clause-failures
 returns-then-is_err-clause-failures g c = shown_once (g.E.Sink.device c.args.err.now) (g.E.Sink.device c.write_fault.new.err) _ c.write_fault.ensures.line

@@ -7,9 +7,8 @@ use Rattle.vcd_host.specs.Opens.{called, text_of, Opens}
 use Rattle.vcd_host.specs.declared.opened.OpenStop.TheVariants as stop
 use Rattle.vcd_host.proofs.AskedLemmas.{asked-is}
 use Rattle.vcd_host.proofs.OpensLemmas.{opens-many}
-use Rattle.vcd_program.proofs.RunsLemmas.{memory-shown, memory-stopped, merge-same, names-many, names-same, no-memory, ran, stopped}
+use Rattle.vcd_program.proofs.RunsLemmas.{memory-shown, memory-stopped, merge-same, names-many, names-same, no-memory, ran, shown_once, stopped}
 use Rattle.vcd_program.proofs.command_line.run_job.Goals as goal
-use Rattle.vcdkit.proofs.RunLemmas.{shown_once}
 
 pub returns-in_default-clause-runs : goal.returns-in_default-clause-runs
 returns-in_default-clause-runs g c =

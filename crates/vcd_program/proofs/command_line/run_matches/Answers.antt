@@ -1,8 +1,7 @@
 use Rattle.vcd_words.specs.Words.{words_used}
 use Rattle.vcd_host.specs.Asked.{inputs_asked}
-use Rattle.vcd_program.proofs.RunsLemmas.{refused}
+use Rattle.vcd_program.proofs.RunsLemmas.{refused, shown_once}
 use Rattle.vcd_program.proofs.command_line.run_matches.Goals as goal
-use Rattle.vcdkit.proofs.RunLemmas.{shown_once}
 
 pub returns-in-Err-clause-runs : goal.returns-in-Err-clause-runs
 returns-in-Err-clause-runs g c =
