@@ -495,15 +495,15 @@ fn take_first_lines<'a, C, V: Visit<C>, W: Sink>(
     Walked::until(ahead, regs, visit, Ok(false))
 }
 
-/// Takes the items that lie ahead, one after the other, and returns how the walk ended. It passes
-/// comments, and the visit gets none of them. The walk ends if the visit is over, if a write fails,
-/// or at an item that the visit leaves, that is bad, or that does not lie completely in the chunk.
-/// The first item is tried even if the visit is over.
-// Registers, offset and visit come and go by value, so that the loop keeps them out of memory: in a
-// struct that is kept there they cost `check` of scalars 11 %. In each arm of an item the compiler
-// knows whether it was a change.
+/// Takes the items that lie ahead, one after the other, up to the next comment, and returns how the
+/// walk ended. It also ends if the visit is over, if a write fails, or at an item that the visit
+/// leaves, that is bad, or that does not lie completely in the chunk. The first item is tried even
+/// if the visit is over.
+// In each arm of an item the compiler knows whether it was a change. At its end, the walk forgets
+// the white space that it has seen: otherwise this is saved before each item, and `check` of 27,505
+// codes takes 5 % more.
 #[inline(always)]
-pub fn walk_ahead<'a, C, V: Visit<C>, W: Sink>(
+fn walk_items<'a, C, V: Visit<C>, W: Sink>(
     command: &mut C,
     visit: V,
     view: HeadView<'_>,
@@ -527,12 +527,8 @@ pub fn walk_ahead<'a, C, V: Visit<C>, W: Sink>(
     let mut visit = lines.visit;
     'items: loop {
         let Some(taken) = take_next(command, &mut visit, view, &mut regs, &mut ahead, out) else {
-            let past = after_comments(ahead);
-            if past.passed() == ahead.passed() {
-                return Walked::until(ahead, regs, visit, Ok(false));
-            }
-            ahead = past;
-            continue 'items;
+            ahead.forget();
+            return Walked::until(ahead, regs, visit, Ok(false));
         };
         let was_no_change = match taken {
             Ok(was_no_change) => was_no_change,
@@ -550,5 +546,42 @@ pub fn walk_ahead<'a, C, V: Visit<C>, W: Sink>(
             regs = more.regs;
             visit = more.visit;
         }
+    }
+}
+
+/// Takes the items that lie ahead, one after the other, and returns how the walk ended. It passes
+/// comments, and the visit gets none of them. The walk ends if the visit is over, if a write fails,
+/// or at an item that the visit leaves, that is bad, or that does not lie completely in the chunk.
+/// The first item is tried even if the visit is over.
+// Registers, offset and visit come and go by value, so that the loop over items keeps them out of
+// memory: in a struct that is kept there they cost `check` of scalars 11 %.
+#[inline(always)]
+pub fn walk_ahead<'a, C, V: Visit<C>, W: Sink>(
+    command: &mut C,
+    mut visit: V,
+    view: HeadView<'_>,
+    mut regs: Regs,
+    mut ahead: Ahead<'a>,
+    out: &mut W,
+) -> Walked<'a, V>
+    requires failures { (W.device out.old).failures < 2 ^ 64 - 1 }
+    requires stands { V.stands visit command.old (bytes_of ahead) regs }
+    requires within { passed_of ahead ≤ length (bytes_of ahead) }
+    ensures { Walks V.takes V.stands V.over view.entry
+        (stage_at ahead.entry regs visit command.old (W.device out.old))
+        (stage_at result.ahead result.regs result.visit command.new (W.device out.new)) result.ended }
+{
+    'comments: loop {
+        let items = walk_items(command, visit, view, regs, ahead, out);
+        if !items.can_go_on() {
+            return items;
+        }
+        let past = after_comments(items.ahead);
+        if past.passed() == items.ahead.passed() {
+            return items;
+        }
+        ahead = past;
+        regs = items.regs;
+        visit = items.visit;
     }
 }

@@ -1,34 +1,18 @@
-use Rattle.std.proofs.Common.{◌≡◌, ◌∙◌, Ok, false, rules, sym}
-use Rattle.vcd_body.specs.Walk.{HasCome, stage_at}
-use Rattle.vcd_body.proofs.WalkLemmas.{come_on, come_past, walks_further}
+use Rattle.std.proofs.Common.{◌≡◌, Ok, false, rules}
+use Rattle.vcd_body.proofs.WalkLemmas.{come_begins, come_past, walks_further}
 use Rattle.vcd_body.proofs.walk.walk_ahead.Goals as goal
 
-pub items-init : goal.items-init
-items-init g c =
-    let ended : c.take_first_lines-lines.result.ended ≡ Ok false = search rules in
-    record { come = rw ended at c.take_first_lines-lines.ensures }
+pub comments-init : goal.comments-init
+comments-init g c = record { come = come_begins _ _ _ _ _ c.requires.stands c.requires.within }
 
-pub items-preserved-in_default : goal.items-preserved-in_default
-items-preserved-in_default g c =
-    let come : HasCome g.V.Visit.takes g.V.Visit.stands g.V.Visit.over c.args.view (stage_at c.args.ahead c.args.regs c.args.visit c.args.command.now (g.W.Sink.device c.args.out.now)) (stage_at c.take_next.new.ahead c.take_next.new.regs c.take_next.new.visit c.take_next.new.command (g.W.Sink.device c.take_next.new.out)) = rw c.in_default.ensures.next c.items.invariant.come in
+pub comments-preserved : goal.comments-preserved
+comments-preserved g c =
+    let ended : c.walk_items-items.result.ended ≡ Ok false = search rules in
+    let come = walks_further _ _ _ _ _ _ _ (Ok false) c.comments.invariant.come (rw ended at c.walk_items-items.ensures) in
     record { come = come_past _ _ _ _ _ _ _ come c.after_comments-past.ensures }
 
-pub returns-in-Err : goal.returns-in-Err
-returns-in-Err g c = rw c.until-in-Err.ensures (_, c.items.invariant.come, rw c.in-Err.is at c.in-Some.ensures.next)
+pub returns-then-not-can_go_on : goal.returns-then-not-can_go_on
+returns-then-not-can_go_on g c = walks_further _ _ _ _ _ _ _ _ c.comments.invariant.come c.walk_items-items.ensures
 
-pub returns-then-is_over : goal.returns-then-is_over
-returns-then-is_over g c = rw c.until-then-is_over.ensures (_, c.items.invariant.come, (rw c.in-Ok.is at c.in-Some.ensures.next), sym c.is_over.ensures ∙ c.if-is_over.true)
-
-pub items-preserved : goal.items-preserved
-items-preserved g c = record { come = come_on _ _ _ _ _ _ _ c.items.invariant.come (rw c.in-Ok.is at c.in-Some.ensures.next) (sym c.is_over.ensures ∙ c.if-is_over.false) }
-
-pub returns-then-not-can_go_on-2 : goal.returns-then-not-can_go_on-2
-returns-then-not-can_go_on-2 g c =
-    let w = come_on _ _ _ _ _ _ _ c.items.invariant.come (rw c.in-Ok.is at c.in-Some.ensures.next) (sym c.is_over.ensures ∙ c.if-is_over.false) in
-    walks_further _ _ _ _ _ _ _ _ w c.take_lines-more.ensures
-
-pub items-preserved-then-two_short_lines_come : goal.items-preserved-then-two_short_lines_come
-items-preserved-then-two_short_lines_come g c =
-    let w = come_on _ _ _ _ _ _ _ c.items.invariant.come (rw c.in-Ok.is at c.in-Some.ensures.next) (sym c.is_over.ensures ∙ c.if-is_over.false) in
-    let ended : c.take_lines-more.result.ended ≡ Ok false = search rules in
-    record { come = walks_further _ _ _ _ _ _ _ (Ok false) w (rw ended at c.take_lines-more.ensures) }
+pub returns-then-passed : goal.returns-then-passed
+returns-then-passed g c = walks_further _ _ _ _ _ _ _ _ c.comments.invariant.come c.walk_items-items.ensures

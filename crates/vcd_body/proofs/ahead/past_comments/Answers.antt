@@ -1,6 +1,6 @@
 use Rattle.std.proofs.Common.{refl}
 use Rattle.vcd_body.proofs.CommentLemmas.{passes_both, same_place}
-use Rattle.vcd_body.proofs.ahead.after_comments.Goals as goal
+use Rattle.vcd_body.proofs.ahead.past_comments.Goals as goal
 
 pub comments-init : goal.comments-init
 comments-init c = same_place c.args.ahead c.args.ahead (refl, refl, refl)
