@@ -15,7 +15,7 @@ pub(crate) struct White {
 }
 
 impl White {
-    /// Returns white space of which nothing is known yet.
+    /// Returns the state in which no byte of a chunk was looked at yet, so no white byte is known.
     #[inline(always)]
     pub(crate) fn unknown() -> Self
         ensures { (chunk : List ℕ) (at stop : ℕ) → BitsAreWhite chunk at stop result }
@@ -23,7 +23,8 @@ impl White {
         White { bits: 0, next: 0 }
     }
 
-    /// Returns whether the next white byte is that at `at`.
+    /// Returns whether the first white byte that was seen and not yet passed is the one at offset
+    /// `at` of the chunk.
     #[inline(always)]
     fn begins_at(self, at: usize) -> bool
         requires some { self.bits ≢ 0 }
@@ -37,7 +38,8 @@ impl White {
         self.next + lowest(self.bits) - 64 == at
     }
 
-    /// Returns the white space from the byte at `start` on.
+    /// Returns the same knowledge without the bytes before offset `start` of the chunk. If no byte
+    /// from `start` on was looked at, no white byte is known, and `next` is `start`.
     #[inline(always)]
     fn not_before(self, start: usize) -> White
         requires near { self.next ≤ start + 64 }
@@ -60,7 +62,8 @@ impl White {
         }
     }
 
-    /// Returns white space of which only the byte before this offset is known.
+    /// Returns the state in which only one white byte is known: the one just before offset `next`
+    /// of the chunk.
     #[inline(always)]
     fn before(next: usize) -> Self
         ensures next { result.next ≡ next }
@@ -93,7 +96,7 @@ pub struct Ahead<'a> {
 impl<'a> Ahead<'a> {
     ghost use Rattle.vcd_text.specs.Ahead.{IsNearEnd, TakesToken, bytes_of, longest_of, passed_of, start_of};
 
-    /// Returns the look-ahead over these bytes, at their first one. It gives tokens of at most
+    /// Returns a look-ahead that begins at the first of these bytes. It gives no token of more than
     /// `limit` bytes.
     #[inline(always)]
     pub(crate) fn new(bytes: &'a [u8], limit: usize) -> Ahead<'a>
@@ -109,8 +112,8 @@ impl<'a> Ahead<'a> {
         }
     }
 
-    /// Returns how many bytes were passed, for `Feed::pass`: up to the last token that was given,
-    /// and one white byte after it.
+    /// Returns how many bytes were passed: all up to the end of the last token that was given, and
+    /// one white byte after it. `Feed::pass` takes this number.
     #[inline(always)]
     pub fn passed(&self) -> usize
         ensures passed { result ≡ passed_of self.now }
@@ -119,8 +122,8 @@ impl<'a> Ahead<'a> {
         self.at
     }
 
-    /// Returns all bytes in which it looks for tokens, also those that it has passed, so that a
-    /// caller can look at more of them than one token has.
+    /// Returns all bytes that this look-ahead was made over, also those that it has passed, so that
+    /// a caller can look at more than one token.
     #[inline(always)]
     pub fn bytes(&self) -> &'a [u8]
         ensures { result.now ≡ bytes_of self.now }
@@ -229,8 +232,8 @@ impl<'a> Ahead<'a> {
         self.limit >= 2 && is_two_byte_line(self.bytes, self.at)
     }
 
-    /// Forgets the white space that it has seen, before a loop over `next_short` and `next_in_16`,
-    /// which does not need it.
+    /// Forgets which white bytes were seen ahead. It passes no byte. Call it before a loop over
+    /// `next_short` and `next_in_16`, which do not need that knowledge.
     #[inline(always)]
     pub fn forget(&mut self)
         ensures { (passed_of self.new ≡ passed_of self.old) × (bytes_of self.new ≡ bytes_of self.old)
@@ -247,9 +250,9 @@ impl<'a> Ahead<'a> {
         };
     }
 
-    /// Returns the token from `start` up to the first byte of `white`, and passes the token and
-    /// that byte. All bytes before `start` that were not passed are white. `None` if the token is
-    /// longer than the limit; then nothing has changed.
+    /// Returns the token from offset `start` up to the first byte that `white` knows, and passes
+    /// the token and that byte. All bytes before `start` that were not passed are white. `None` if
+    /// the token is longer than the limit; then nothing has changed.
     #[inline(always)]
     fn take(&mut self, start: usize, white: White) -> Option<&'a [u8]>
         requires order { start ≤ white.next }
@@ -330,9 +333,10 @@ fn white_end(bytes: &[u8], at: usize) -> usize
     past_white(bytes, at)
 }
 
-/// Returns `known` if it has a white byte, otherwise the white space that comes next.
+/// Returns `known` if it knows a white byte, otherwise the white bytes that come next from offset
+/// `known.next` on.
 ///
-/// `None` if `known` has none and no complete 64 bytes from `known.next` on have any. The last
+/// `None` if `known` knows none and no complete 64 bytes from `known.next` on have any. The last
 /// bytes, fewer than 64, may have some.
 // Most tokens end at a white byte that is already known. Then no bytes are looked at.
 #[inline(always)]
@@ -358,8 +362,9 @@ fn white_ahead(bytes: &[u8], known: White) -> Option<White>
     Some(white)
 }
 
-/// Returns the white space that comes next from offset `from` on, found in steps of 64 bytes. It
-/// has no bits if no complete 64 bytes have any; the last bytes, fewer than 64, may have some.
+/// Returns the white bytes of the first 64 bytes that have any, in steps of 64 from offset `from`
+/// on. Its `bits` are 0 if no complete 64 bytes have any; the last bytes, fewer than 64, may have
+/// some.
 #[inline(never)]
 fn look_ahead(bytes: &[u8], from: usize) -> White
     requires { from ≤ length bytes.now }

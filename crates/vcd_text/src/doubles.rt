@@ -6,9 +6,9 @@ ghost use Rattle.vcd_text.specs.Calls.{Fits, parked_answer, parked_seen};
 use crate::registers::Parked;
 use std::io;
 
-/// Returns a parked feed that counts this many bytes as looked at, without a line feed, and shows
-/// no token of them. A feed that continues from it reaches the last byte that an input may have,
-/// without a reader of that many bytes.
+/// Returns a parked feed that counts this many bytes as read, without a line feed, and shows no
+/// token. With it a test reaches the greatest length that an input may have, without a reader of
+/// that many bytes.
 pub fn parked_after(bytes: u64) -> Parked
     requires { bytes < 2 ^ 63 }
     ensures seen { parked_seen result ≡ bytes }

@@ -12,8 +12,8 @@ const KEPT: [u8; 16] = [
     0, 0, 0, 0, 0, 0, 0, 0, 255, 255, 255, 255, 255, 255, 255, 255,
 ];
 
-/// Returns the number that the `n` bytes before `to` spell, by a look at the eight bytes before
-/// `to`. `None` if one of the `n` is no digit.
+/// Returns the number that the `n` decimal digits before offset `to` spell, by a look at the eight
+/// bytes before `to`; `n` is at most 8. `None` if one of the `n` bytes is no digit.
 #[inline(always)]
 fn few_digits(bytes: &[u8], to: usize, n: usize) -> Option<u64>
     requires within { (8 ≤ to) × (to ≤ length bytes.now) }
@@ -29,8 +29,8 @@ fn few_digits(bytes: &[u8], to: usize, n: usize) -> Option<u64>
     Some(u64::from(worth.strict_reduce_sum()))
 }
 
-/// Returns the number that the bytes from `from` on and before `to` spell, as `decimal_of` does.
-/// `None` if there is no byte, if one is not a digit, or if the number is 2^64 or more.
+/// Returns the number that the decimal digits from offset `from` to `to` (exclusive) spell. `None`
+/// if there is no byte, if one is not a digit, or if the number is 2^64 or more.
 // At most 16 digits are read in one or two steps of eight bytes. Digit by digit, the times of a
 // dump of Icarus Verilog take 25 of 104 instructions for each item of its `check`. For more than
 // eight digits no step begins before the first digit, because a turn of a merge begins at its time.

@@ -21,8 +21,8 @@ pub struct Offset {
     pub answer: u64,
 }
 
-/// Returns the number of what every later call answers: 0 while that is open, 1 for the end, and
-/// for a halt 1 more than the number of its fault.
+/// Returns the number that `Offset::answer` has for this phase: 0 if more may come, 1 at the end,
+/// and after a halt 1 more than the number of its fault.
 fn answer_number(phase: Phase) -> u64
     ensures { result ≡ answer_number phase }
 {
@@ -33,8 +33,8 @@ fn answer_number(phase: Phase) -> u64
     }
 }
 
-/// Returns what every later call answers, by its number (see `Offset`). `None` if the number is not
-/// 0, 1, 2, 22 or 32.
+/// Returns the phase for which `Offset::answer` has this number. `None` if there is none: if the
+/// number is not 0, 1, 2, 22 or 32.
 fn phase_at(answer: u64) -> Option<Phase>
     ensures { result ≡ phase_at answer }
 {
@@ -48,7 +48,7 @@ fn phase_at(answer: u64) -> Option<Phase>
     }
 }
 
-/// Returns how far a feed with these registers has come.
+/// Returns how far a feed with these registers has come, as numbers that a caller may store.
 pub(crate) fn offset_of(parked: Parked) -> Offset
     requires counted { parked.base + parked.at < 2 ^ 63 }
     requires few { parked.line_feeds ≤ parked.base + parked.at }
@@ -63,9 +63,9 @@ pub(crate) fn offset_of(parked: Parked) -> Offset
     }
 }
 
-/// Returns the registers of a feed that has come to this offset, with nothing in its chunk. `None`
-/// if the offset is 2^63 bytes or more, has more line feeds than bytes, or has an answer that does
-/// not exist.
+/// Returns the registers of a feed that has come to this offset, with an empty chunk. `None` if the
+/// offset is 2^63 bytes or more, has more line feeds than bytes, or has an answer that does not
+/// exist.
 pub(crate) fn registers_at(offset: Offset) -> Option<Parked>
     ensures registers { MatchOption result ⊤ (λ p. p ≡ registers_at offset) }
     ensures counted { MatchOption result ⊤

@@ -29,8 +29,8 @@ pub(crate) enum Filled {
 // How many bytes of an input may be looked at.
 const INPUT_LIMIT: u64 = (1 << 63) - 1;
 
-/// Moves past the white space that comes next in the chunk, if no token has begun. Otherwise
-/// nothing changes.
+/// Moves `parked` past the white space that comes next in the chunk, and counts its line feeds, if
+/// no token has begun. Otherwise nothing changes.
 #[inline(always)]
 pub(crate) fn skip(chunk: &[u8], parked: &mut Parked)
     requires { MayGoOn (length chunk.now) parked.old }
@@ -48,11 +48,12 @@ pub(crate) fn skip(chunk: &[u8], parked: &mut Parked)
     parked.line = parked.line_feeds + 1;
 }
 
-/// Copies bytes of the chunk to the token window, up to the end of the token.
+/// Copies the bytes of a token from the chunk into `token`, after those that earlier calls copied,
+/// and moves `parked` past them.
 ///
-/// Returns `Whole` if the chunk had that end, and moves past the white byte there. Returns `Part`
-/// if the bytes that may be looked at end first, and `TooLong` if the token has more bytes than its
-/// window; then nothing is copied.
+/// Returns `Whole` if the chunk has the end of the token; then the white byte there is passed too.
+/// Returns `Part` if the bytes that may be looked at end first, and `TooLong` if the token has more
+/// bytes than `token`; then nothing is copied.
 #[inline(always)]
 pub(crate) fn collect(chunk: &[u8], token: &mut [u8], parked: &mut Parked) -> Collected
     requires registers { MayGoOn (length chunk.now) parked.old }
@@ -82,8 +83,8 @@ pub(crate) fn collect(chunk: &[u8], token: &mut [u8], parked: &mut Parked) -> Co
     Collected::Whole
 }
 
-/// Moves past the byte of white space at `end` in the chunk, at which a token ends, and counts it
-/// if it is a line feed.
+/// Moves `parked` past the byte of white space at `end` in the chunk, at which a token ends, and
+/// counts it if it is a line feed.
 #[inline(always)]
 fn step_past(chunk: &[u8], end: usize, parked: &mut Parked)
     requires within { end < length chunk.now }
@@ -116,8 +117,8 @@ fn token_len(bytes: &[u8]) -> usize
     run_len(bytes)
 }
 
-/// Copies `n` bytes of the chunk from `at` on to the token window, after its first `size` bytes.
-/// The bytes of the window after these may change too.
+/// Copies `n` bytes of the chunk from `at` on into `token`, after its first `size` bytes. The bytes
+/// of `token` after these may change too.
 // A short token is one copy of 16 bytes, if both slices have 16: a copy of an unknown length is a
 // call.
 #[inline(always)]
@@ -133,8 +134,9 @@ fn append(token: &mut [u8], size: usize, chunk: &[u8], at: usize, n: usize)
     }
 }
 
-/// Reads the next bytes of the source into the chunk, and returns what the read gave. The registers
-/// change only if it gave bytes.
+/// Reads the next bytes of the source into the chunk, and returns whether there were some, the
+/// source has ended, or the read failed. `parked` changes only if there were some: then it is at
+/// the first of them.
 pub(crate) fn fill<S: Source>(source: &mut S, chunk: &mut [u8], parked: &mut Parked) -> Filled
     requires failures { S.failures source.old < 2 ^ 64 - 1 }
     requires some { 0 < length chunk.old }
@@ -164,8 +166,8 @@ pub(crate) fn fill<S: Source>(source: &mut S, chunk: &mut [u8], parked: &mut Par
     Filled::More
 }
 
-/// Halts the feed for good, and returns `halt`. The line of this answer is 1 plus the line feeds
-/// that were looked at; for `TokenTooLong` the line does not change.
+/// Halts the feed with these registers for good, and returns `halt`. The line of this answer is 1
+/// plus the line feeds that were looked at; for `TokenTooLong` the line does not change.
 pub(crate) fn halted(parked: &mut Parked, halt: Halt) -> Halt
     requires line_feeds { parked.old.line_feeds < 2 ^ 63 }
     ensures result { result ≡ halt }
@@ -181,8 +183,8 @@ pub(crate) fn halted(parked: &mut Parked, halt: Halt) -> Halt
     halt
 }
 
-/// Ends the feed at the end of its source. Returns `Token` if that end closes a token, otherwise
-/// `Finish`.
+/// Ends the feed with these registers at the end of its source. Returns `Token` if a token has
+/// begun, which the end then closes, otherwise `Finish`.
 pub(crate) fn finish(parked: &mut Parked) -> Next
     requires { parked.old.line_feeds < 2 ^ 63 }
     ensures kept { parked.new.kept ≡ parked.old.kept }
