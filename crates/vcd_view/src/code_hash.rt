@@ -17,8 +17,8 @@ pub struct CodeSeed {
 }
 
 impl CodeSeed {
-    /// Returns the seed that a hasher gives: each of its two numbers is made of two hashes,
-    /// `factor` of those of 0 and 1, `more` of those of 2 and 3.
+    /// Returns the seed that consists of four hashes of `hasher`: `factor` of its hashes of 0 and
+    /// 1, and `more` of those of 2 and 3.
     pub fn of<B: BuildHasher>(hasher: &B) -> CodeSeed
         ensures factor { result.factor ≡ drawn B.BuildHasher B.Hasher.Hasher hasher.now 0 }
         ensures more { result.more ≡ drawn B.BuildHasher B.Hasher.Hasher hasher.now 2 }
@@ -29,8 +29,8 @@ impl CodeSeed {
         }
     }
 
-    /// Returns the state after a word: the upper half of `(state ^ word) * factor + more` in 128
-    /// bits.
+    /// Returns the hash of some bytes and one word more; `state` is the hash of these bytes. It is
+    /// the upper half of `(state ^ word) * factor + more` in 128 bits.
     #[inline(always)]
     pub fn mixed(self, state: u64, word: u64) -> u64
         ensures { result ≡ mixed self state word }
@@ -41,8 +41,9 @@ impl CodeSeed {
         (product >> 64) as u64
     }
 
-    /// Returns the state after these bytes: each eight of them count as one word, and the rest, if
-    /// there is any, as one more.
+    /// Returns the hash of these bytes; `state` is the hash of the bytes before them, 0 if there
+    /// are none. Each eight bytes are mixed in as one word, and the last ones, if they are fewer,
+    /// as one more.
     #[inline(always)]
     pub fn hashed(self, state: u64, bytes: &[u8]) -> u64
         ensures { result ≡ hashed self state bytes.now }
@@ -55,7 +56,8 @@ impl CodeSeed {
         }
     }
 
-    /// Returns the state after these bytes, of any number, by a loop over words, as `hashed` does.
+    /// Returns the hash of these bytes, by a loop over words of eight bytes; `state` is the hash of
+    /// the bytes before them, 0 if there are none.
     fn hashed_by_words(self, state: u64, bytes: &[u8]) -> u64
         ensures { result ≡ hashed self state bytes.now }
     {
@@ -73,7 +75,8 @@ impl CodeSeed {
     }
 }
 
-/// Returns a number of 128 bits that a hasher gives: its hashes of `first` and of the next number.
+/// Returns a number of 128 bits: the upper half is the hash of `first` that `hasher` gives, the
+/// lower half the one of `first + 1`.
 fn number_of<B: BuildHasher>(hasher: &B, first: u64) -> u128
     requires { first < 2 ^ 32 }
     ensures { result ≡ drawn B.BuildHasher B.Hasher.Hasher hasher.now first }

@@ -10,7 +10,8 @@ use crate::probes::Probes;
 use crate::view::{Code, Entry, code_in, text_in};
 use std::cmp::Ordering;
 
-/// Returns the index of a code's own entry in a table of `entries`, a power of two.
+/// Returns the index of the entry in which a look-up of this code begins, in a table of `entries`
+/// entries. `entries` is a power of two.
 ///
 /// Simulators number codes from `!` on in base 94, the lowest digit first, in the order of
 /// declaration. Read as a number in base 99, nearly all of these have entries of their own, side by
@@ -24,9 +25,9 @@ pub fn entry_of(code: &[u8], entries: usize) -> usize
     entry_for(code_number(code), entries)
 }
 
-/// Returns the low bits of a number, as an index in a table of `entries`, a power of two. The
-/// number is that of a code (`code_number`), for its own entry, or comes from a hash. If `entries`
-/// is 0, it is the number itself.
+/// Returns the low bits of a number, as an index into a table of `entries` entries, a power of two.
+/// The number comes from a code (`code_number`) or from a hash. If `entries` is 0, the result is
+/// the number itself.
 #[inline(always)]
 pub fn entry_for(number: usize, entries: usize) -> usize
     ensures { result ≡ bit_and number ((entries + (2 ^ 64 - 1)) % 2 ^ 64) }
@@ -34,8 +35,8 @@ pub fn entry_for(number: usize, entries: usize) -> usize
     number & entries.wrapping_sub(1)
 }
 
-/// Returns the number whose digits in base 99 are the bytes of a code, each less 32, the first one
-/// lowest. The number wraps at 2^64.
+/// Returns the number whose digits in base 99 are the bytes of a code, each less 32, the first byte
+/// as the lowest digit. It wraps at 2^64, so long codes may have the same number.
 #[inline(always)]
 pub fn code_number(code: &[u8]) -> usize
     ensures { result ≡ number_in code.now }
@@ -52,7 +53,8 @@ pub fn code_number(code: &[u8]) -> usize
     }
 }
 
-/// Returns the number with one more digit below its lowest: `byte` less 32. It wraps at 2^64.
+/// Returns the number in base 99 that has `byte` less 32 as its lowest digit and the digits of
+/// `number` above that. It wraps at 2^64.
 #[inline(always)]
 fn above(number: usize, byte: u8) -> usize
     ensures { result ≡ above number byte }
@@ -62,7 +64,8 @@ fn above(number: usize, byte: u8) -> usize
         .wrapping_add(usize::from(byte).wrapping_sub(32))
 }
 
-/// Returns the number of a code of any length, as `code_number` does.
+/// Returns the number whose digits in base 99 are the bytes of a code of any length, each less 32,
+/// the first byte as the lowest digit. It wraps at 2^64.
 fn number_of(code: &[u8]) -> usize
     ensures { result ≡ number_in code.now }
 {
@@ -81,11 +84,11 @@ const LONG: u64 = 1 << 63;
 /// How many of the entries to which the hash of a code leads a look-up looks at, at most.
 pub const MAX_LOOKS: usize = 64;
 
-/// Returns the index of the entry to which a hash leads after this many looks, in a table of
-/// `entries`, a power of two.
+/// Returns the index of the entry that a look-up by `hash` looks at after it has looked at `looks`
+/// others, in a table of `entries` entries, a power of two.
 ///
-/// The lower half of the hash says where the first of them is, and the upper half how far one is
-/// from the next, so that the second look already leaves a crowded part of the entries.
+/// The lower half of the hash says where the first of these entries is, and the upper half how far
+/// one is from the next, so that the second look already leaves a crowded part of the table.
 #[inline(always)]
 pub fn entry_after(hash: u64, looks: usize, entries: usize) -> usize
     ensures { result ≡ entry_after hash looks entries }
@@ -97,8 +100,8 @@ pub fn entry_after(hash: u64, looks: usize, entries: usize) -> usize
     )
 }
 
-/// Returns the key of the entry of a code of 8 bytes or more, which has this hash. No shorter code
-/// has it.
+/// Returns the key of the entry of a code of 8 bytes or more, which has this hash: its highest bit
+/// is set. No shorter code has such a key.
 #[inline(always)]
 pub fn long_key(hash: u64) -> u64
     ensures key { result ≡ hash % 2 ^ 63 + 2 ^ 63 }
@@ -107,8 +110,9 @@ pub fn long_key(hash: u64) -> u64
     hash % LONG + LONG
 }
 
-/// Returns the index of a code, if one of the last two entries beside its own or one to which its
-/// hash leads is that of the code. Otherwise `None`; then the code may still be among the codes.
+/// Returns the index of a code in `codes`, if its entry is the third or fourth of the four beside
+/// each other that its number leads to, or one that its hash leads to. `None` if it has none of
+/// these; then it may still be in `codes`. `probes` counts the comparisons of codes.
 // For codes of 8 bytes or more, and codes crafted to share entries: `check` of 100,000 takes 1.5 to
 // 2.6 times as long as for ordinary codes, and with only the binary search 8 to 13 times.
 pub(crate) fn index_by_hash(
@@ -138,9 +142,9 @@ pub(crate) fn index_by_hash(
     }
 }
 
-/// Returns the index that one of the last two entries beside the one at `own` gives, if one of them
-/// has this key; otherwise `None`. A code's own entry and the three beside it have 64 bytes, so a
-/// look at them reads at most one cache line more.
+/// Returns the index of the code with this key, if the entry at `own ^ 2` or `own ^ 3` has the key;
+/// otherwise `None`. The four entries from `own` to `own ^ 3` have 64 bytes, so a look at them
+/// reads at most one cache line more than a look at the first.
 fn index_beside(entries: &[Entry], own: usize, key: u64) -> Option<usize>
     ensures { IfSome result (λ position. HasEntry entries.now key position) }
 {
@@ -153,8 +157,8 @@ fn index_beside(entries: &[Entry], own: usize, key: u64) -> Option<usize>
     None
 }
 
-/// Returns the index that an entry with this key gives, if the hash leads to that entry in at most
-/// `MAX_LOOKS` looks and to no empty one before it; otherwise `None`.
+/// Returns the index of the code with this key, if a look-up by `hash` comes to its entry in at
+/// most `MAX_LOOKS` looks, and to no empty entry before it; otherwise `None`.
 fn index_of_key(entries: &[Entry], hash: u64, key: u64) -> Option<usize>
     ensures { IfSome result (λ position. HasEntry entries.now key position) }
 {
@@ -170,8 +174,9 @@ fn index_of_key(entries: &[Entry], hash: u64, key: u64) -> Option<usize>
     None
 }
 
-/// Returns the index that an entry gives for this code of 8 bytes or more, if its hash leads to
-/// that entry; otherwise `None`. Another code may have the same key, so one comparison is made.
+/// Returns the index in `codes` of this code of 8 bytes or more, if `hash`, the hash of the code,
+/// leads to its entry; otherwise `None`. As another code may have the same key, the bytes are
+/// compared, at most once, and `probes` counts that.
 fn index_of_long(
     text: &[u8],
     codes: &[Code],
@@ -193,8 +198,8 @@ fn index_of_long(
     }
 }
 
-/// Returns the size of the code: how many digits a change of it may have. It is 0 if its variables
-/// are events, or if the size does not fit into 32 bits.
+/// Returns the size of a code: how many binary digits a change of it may have. It is 0 if its
+/// variables are events, or if the size does not fit into 32 bits.
 pub fn size_or_zero_of(code: Code) -> u32
     ensures { result ≡ size_or_zero_of code }
 {

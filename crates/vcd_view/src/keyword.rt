@@ -30,7 +30,8 @@ pub fn is(token: &[u8], word: &[u8]) -> bool
     word == token
 }
 
-/// Returns the keyword that the whole token is; `None` if it is no keyword.
+/// Returns the keyword that has exactly the bytes of the token, such as `$var`; `None` if it is no
+/// keyword.
 pub fn keyword_of(token: &[u8]) -> Option<Keyword>
     ensures { option_map model_keyword result ≡ keyword_is token.now }
 {
@@ -82,8 +83,9 @@ fn word_ahead<'a>(ahead: &mut Ahead<'a>) -> Option<&'a [u8]>
     Some(token)
 }
 
-/// Returns how many bytes the words ahead have, with the white space before each and one white byte
-/// after the last. The words end at the first `$end`, or where `Ahead::next` returns `None`.
+/// Returns how many bytes of the chunk the tokens before the next `$end` take, with the white space
+/// before each and one white byte after the last. It also stops at a token that does not lie
+/// completely in the chunk, where `Ahead::next` returns `None`.
 fn words_len(ahead: Ahead<'_>) -> usize
     requires { passed_of ahead ≡ 0 }
     ensures { PassesWordsTo ahead.entry result }
@@ -93,8 +95,9 @@ fn words_len(ahead: Ahead<'_>) -> usize
     next.passed()
 }
 
-/// Passes the words that come next and that `Ahead::next` gives, up to the first `$end`, which it
-/// does not pass. It reads nothing. After it `token` may be empty.
+/// Moves the feed past the tokens that come next and lie completely in its chunk, up to the first
+/// `$end`, which it does not pass. It reads nothing from the source. After it the feed's `token`
+/// may be empty.
 pub fn pass_words<S: Source>(feed: &mut Feed<'_, '_, '_, '_, S>)
     ensures passes { PassesWords feed.old feed.new }
     ensures advances { Advances S.failures feed.old feed.new CallEnd.GoesOn }

@@ -19,7 +19,8 @@ pub struct Found {
     pub size_or_zero: usize,
 }
 
-/// Returns the index of a code among the distinct codes; `None` if it is not among them.
+/// Returns the index of an identifier code in `view.codes`; `None` if the header does not declare
+/// it.
 ///
 /// A look at one entry finds nearly all codes that simulators give, and a look at the first one
 /// beside it most of the others. The rest are looked for in the other two beside it and by their
@@ -32,8 +33,8 @@ pub fn find(view: HeadView<'_>, code: &[u8]) -> Option<usize>
     find_counted(view, code, &mut Probes::new())
 }
 
-/// Returns the index of a code among the distinct codes, with its size; `None` if it is not among
-/// them.
+/// Returns the index of an identifier code in `view.codes`, and its size; `None` if the header does
+/// not declare it.
 #[inline(always)]
 pub fn find_sized(view: HeadView<'_>, code: &[u8]) -> Option<Found>
     ensures found { (h : Header) → IsViewOf view.entry h
@@ -43,8 +44,8 @@ pub fn find_sized(view: HeadView<'_>, code: &[u8]) -> Option<Found>
     find_sized_counted(view, code, &mut Probes::new())
 }
 
-/// Returns the index of a code among the distinct codes, and counts the comparisons of codes;
-/// `None` if it is not among them.
+/// Returns the index of an identifier code in `view.codes`; `None` if the header does not declare
+/// it. `probes` counts how often the bytes of two codes are compared.
 ///
 /// A code of at most 7 bytes has a number, which entries keep. The code is compared with others
 /// only if no entry that is looked at has its number. The count grows by at most one more than the
@@ -64,8 +65,8 @@ pub fn find_counted(view: HeadView<'_>, code: &[u8], probes: &mut Probes) -> Opt
     Some(found.position)
 }
 
-/// Returns the index of a code among the distinct codes, with its size, and counts the comparisons
-/// of codes; `None` if it is not among them.
+/// Returns the index of an identifier code in `view.codes`, and its size; `None` if the header does
+/// not declare it. `probes` counts how often the bytes of two codes are compared.
 #[inline(always)]
 fn find_sized_counted(view: HeadView<'_>, code: &[u8], probes: &mut Probes) -> Option<Found>
     ensures found { (h : Header) → IsViewOf view.entry h
@@ -100,8 +101,9 @@ fn find_sized_counted(view: HeadView<'_>, code: &[u8], probes: &mut Probes) -> O
     })
 }
 
-/// Returns the index and size of a code by a look at only its own entry. `None` if another code has
-/// that entry, if it is empty, or if the code has more than 7 bytes; then `find_sized` may find it.
+/// Returns the index and size of an identifier code, by a look at only the entry that its number
+/// leads to. `None` if another code has that entry, if it is empty, or if the code has more than 7
+/// bytes; then `find_sized` may find it.
 #[inline(always)]
 pub fn find_in_own_entry(view: HeadView<'_>, code: &[u8]) -> Option<Found>
     ensures found { (h : Header) → IsViewOf view.entry h
@@ -112,9 +114,9 @@ pub fn find_in_own_entry(view: HeadView<'_>, code: &[u8]) -> Option<Found>
     find_in_entry(view, code, 0)
 }
 
-/// Returns the index and size of a code by a look at only one entry: its own if `other` is 0, and
-/// the first one beside it if `other` is 1. `None` if that is not the entry of the code, or if the
-/// code has more than 7 bytes.
+/// Returns the index and size of an identifier code, by a look at only one entry: the one that its
+/// number leads to if `other` is 0, and the first one beside it if `other` is 1. `None` if that is
+/// not the entry of the code, or if the code has more than 7 bytes.
 // Most changes that rtl_433 writes are of a code that the entry beside its own holds. If
 // `find_slowly` looks there, `check` takes 29 % more.
 #[inline(always)]
@@ -140,10 +142,12 @@ fn find_in_entry(view: HeadView<'_>, code: &[u8], other: usize) -> Option<Found>
     }
 }
 
-/// Returns the index of a code that neither its own entry nor the first one beside it holds: by a
-/// look at the other two beside it, by its hash, or else by a binary search. `None` if it is not
-/// among the distinct codes. It takes no view, so that a look-up by one entry need not make one
-/// ready, and it returns only a number, which needs no memory.
+/// Returns the index in `codes` of a code that the first two entries to look at do not have: by a
+/// look at the other two beside them, by its hash, or else by a binary search. `None` if the code
+/// is not in `codes`. `probes` counts the comparisons of codes.
+///
+/// It takes no view, so that a look-up by one entry need not make one ready, and it returns only a
+/// number, which needs no memory.
 #[inline(never)]
 fn find_slowly(
     text: &[u8],
@@ -170,8 +174,9 @@ fn find_slowly(
     }
 }
 
-/// Returns the index of a code by a binary search in the order of the codes; `None` if it is not
-/// among them. It takes single slices, like `find_slowly`.
+/// Returns the index of a code in `codes`, by a binary search in `index`, which has the indexes of
+/// all codes in the order of their bytes; `None` if the code is not in `codes`. `probes` counts the
+/// comparisons. It takes single slices, so that no view has to be made ready for it.
 #[inline(never)]
 fn search(
     text: &[u8],
@@ -201,7 +206,8 @@ fn search(
     None
 }
 
-/// Returns the bytes of the code at an index; empty after the last.
+/// Returns the bytes of the code at index `position` of `codes`; no bytes if there is no such code.
+/// The bytes lie in `text`.
 fn text_of<'a>(text: &'a [u8], codes: &[Code], position: usize) -> &'a [u8]
     ensures { AnyCodes text.now codes.now (λ ks. position < length ks → result.now ≡ code_text ks position) }
 {

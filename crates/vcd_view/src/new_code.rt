@@ -32,7 +32,7 @@ impl NewCode {
         }
     }
 
-    /// Returns the bytes of the code.
+    /// Returns the bytes of the code, 1 to 10 characters.
     pub fn text(&self) -> &[u8]
         ensures { result.now ≡ digits_of self.now }
     {
@@ -40,7 +40,8 @@ impl NewCode {
     }
 }
 
-/// Writes the code with this number. If a write fails, a prefix was written.
+/// Writes the identifier code with this number: in base 94 from `!` on, the lowest digit first. If
+/// a write fails, a prefix was written.
 pub fn put_code<W: Sink>(number: u64, w: &mut W) -> Result<(), WriteFailed>
     requires failures { (W.device w.old).failures < 2 ^ 64 - 1 }
     ensures { Puts (W.device w.old) (W.device w.new) (new_code number) result }

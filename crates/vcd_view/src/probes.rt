@@ -18,7 +18,7 @@ impl Model for Probes {
 }
 
 impl Probes {
-    /// Returns a count of 0.
+    /// Returns a count of comparisons that begins at 0.
     pub fn new() -> Self
         ensures { result.count ≡ 0 }
     {
@@ -36,8 +36,8 @@ impl Probes {
         }
     }
 
-    /// Returns how `code` compares with `other` by their bytes, and counts the comparison. The
-    /// first bytes that differ decide, and a code comes before those that it begins.
+    /// Returns how `code` compares with `other` in the order of their bytes, and adds 1 to this
+    /// count, which only proofs see.
     pub fn probe(&mut self, code: &[u8], other: &[u8]) -> Ordering
         ensures order { result ≡ slice_cmp nat_cmp code.now other.now }
         ensures counted { self.new.count ≡ self.old.count + 1 }

@@ -4,8 +4,9 @@ ghost use Rattle.vcd_view.specs.Names.{FitsEachInput, Header, IsViewOf, room, ro
 
 use crate::view::{HeadView, Need};
 
-/// Returns the room that an engine over this header needs. If the values need 2^64 bytes or more,
-/// `values` is 2^64 - 1.
+/// Returns how much memory a command needs for the codes and declarations of this header: bytes for
+/// values, one slot for each code, one mark for each declaration. If the values need 2^64 bytes or
+/// more, `values` is 2^64 - 1.
 pub fn need(view: HeadView<'_>) -> Need
     ensures lengths { (result.slots ≡ length view.entry.codes.now)
         × (result.marks ≡ length view.entry.rows.now) }

@@ -96,7 +96,7 @@ pub struct HeadView<'a> {
 impl<'a> HeadView<'a> {
     ghost use Rattle.vcd_view.specs.Names.{AnyDeclared, AnyRow, Header, IsViewOf, code_text, exponent, name_of, parent, reference_of, type_of};
 
-    /// Returns the row at an index; `None` after the last.
+    /// Returns the declaration at index `row` of the header; `None` if there is no such index.
     #[inline(always)]
     pub fn row_at(self, row: usize) -> Option<Row>
         ensures { result ≡ slice_get self.entry.rows.now row }
@@ -104,7 +104,8 @@ impl<'a> HeadView<'a> {
         self.rows.get(row).copied()
     }
 
-    /// Returns the code at an index; `None` after the last.
+    /// Returns the identifier code at index `position` of the distinct codes; `None` if there is no
+    /// such index.
     #[inline(always)]
     pub fn code_at(self, position: usize) -> Option<Code>
         ensures { result ≡ slice_get self.entry.codes.now position }
@@ -112,7 +113,8 @@ impl<'a> HeadView<'a> {
         code_in(self.codes, position)
     }
 
-    /// Returns `len` bytes of the text from offset `start` on; empty if the text has fewer.
+    /// Returns `len` bytes of the header's text from offset `start` on; no bytes if the text has
+    /// fewer. Rows and codes have such offsets and lengths.
     #[inline(always)]
     pub fn text_at(self, start: usize, len: usize) -> &'a [u8]
         ensures { result.now ≡ text_in self.entry.text.now start len }
@@ -120,8 +122,9 @@ impl<'a> HeadView<'a> {
         text_in(self.text, start, len)
     }
 
-    /// Returns the index of the row of the scope that encloses the declaration of a row; for an
-    /// `$upscope` of the one that it closes. `None` if no scope does, and after the last row.
+    /// Returns the index of the row of the scope that encloses the declaration at index `row`; for
+    /// an `$upscope` of the scope that it closes. `None` if it is in no scope, or if there is no
+    /// such row.
     #[inline(always)]
     pub fn scope_of(self, row: usize) -> Option<usize>
         ensures earlier { IfSome result (λ scope. scope < row) }
@@ -131,8 +134,8 @@ impl<'a> HeadView<'a> {
         (scope < row).then_some(scope)
     }
 
-    /// Returns the type of the scope or the variable of a row; empty for an `$upscope` and after
-    /// the last row.
+    /// Returns the type of the scope or the variable at index `row`, such as `module` or `wire`; no
+    /// bytes for an `$upscope` or if there is no such row.
     #[inline(always)]
     pub fn type_of(self, row: usize) -> &'a [u8]
         ensures { AnyDeclared self.entry row (λ _ d. result.now ≡ type_of d) }
@@ -143,8 +146,8 @@ impl<'a> HeadView<'a> {
         }
     }
 
-    /// Returns the name of the scope or the variable of a row: the first token of its reference. It
-    /// is empty for an `$upscope` and after the last row.
+    /// Returns the name of the scope or the variable at index `row`: the first token of its
+    /// reference. It is empty for an `$upscope` or if there is no such row.
     #[inline(always)]
     pub fn name_of(self, row: usize) -> &'a [u8]
         ensures { AnyDeclared self.entry row (λ _ d. result.now ≡ name_of d) }
@@ -158,8 +161,9 @@ impl<'a> HeadView<'a> {
         }
     }
 
-    /// Returns the whole reference of the scope or the variable of a row: its tokens with a space
-    /// between. It is empty for an `$upscope` and after the last row.
+    /// Returns the whole reference of the scope or the variable at index `row`: its tokens with a
+    /// space between, such as `data [7:0]`. It is empty for an `$upscope` or if there is no such
+    /// row.
     #[inline(always)]
     pub fn reference_of(self, row: usize) -> &'a [u8]
         ensures { AnyDeclared self.entry row (λ _ d. result.now ≡ reference_of d) }
@@ -170,7 +174,8 @@ impl<'a> HeadView<'a> {
         }
     }
 
-    /// Returns the bytes of the code at an index; empty after the last.
+    /// Returns the bytes of the identifier code at index `code` of the distinct codes; no bytes if
+    /// there is no such index.
     #[inline(always)]
     pub fn code_text(self, code: usize) -> &'a [u8]
         ensures { (h : Header) → IsViewOf self.entry h → result.now ≡ code_text h.codes code }
@@ -181,7 +186,8 @@ impl<'a> HeadView<'a> {
         }
     }
 
-    /// Returns the power of ten of its time scale, in seconds: 0, that is 1 s, if it has none.
+    /// Returns the power of ten of the header's time scale, in seconds, such as -9 for 1 ns. It is
+    /// 0, that is 1 s, if the header has no time scale.
     pub fn exponent(self) -> i8
         ensures { (h : Header) → IsViewOf self.entry h → result ≡ exponent h }
     {
@@ -191,7 +197,8 @@ impl<'a> HeadView<'a> {
         }
     }
 
-    /// Returns whether the variables of the code at an index are events; false after the last.
+    /// Returns whether the variables of the identifier code at index `code` are events; false if
+    /// there is no such index.
     #[inline(always)]
     pub fn is_event(self, code: usize) -> bool
         ensures event { (h : Header) → IsViewOf self.entry h
@@ -206,7 +213,7 @@ impl<'a> HeadView<'a> {
     }
 }
 
-/// Returns the code at an index among these; `None` after the last.
+/// Returns the code at index `position` of `codes`; `None` if there is no such index.
 #[inline(always)]
 pub fn code_in(codes: &[Code], position: usize) -> Option<Code>
     ensures { result ≡ slice_get codes.now position }
@@ -214,7 +221,7 @@ pub fn code_in(codes: &[Code], position: usize) -> Option<Code>
     codes.get(position).copied()
 }
 
-/// Returns `len` bytes of a text from offset `start` on; empty if the text has fewer.
+/// Returns `len` bytes of `text` from offset `start` on; no bytes if the text has fewer.
 #[inline(always)]
 pub fn text_in(text: &[u8], start: usize, len: usize) -> &[u8]
     ensures { result.now ≡ text_in text.now start len }
