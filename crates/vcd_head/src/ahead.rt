@@ -14,8 +14,8 @@ use std::alloc::Global;
 use vcd_text::{Ahead, Feed, Source};
 use vcd_view::Kind;
 
-/// Returns the next token and passes it. `None` if the feed itself has to read it: it may not lie
-/// completely in the chunk, or it is too long.
+/// Returns the next token ahead and passes it. `None` if it has to be read with `Feed::next`: it is
+/// too long, or does not lie completely in the chunk.
 #[inline(always)]
 pub(crate) fn token_ahead<'a>(ahead: &mut Ahead<'a>) -> Option<&'a [u8]>
     ensures one { IfSome result (λ token. GivesToken ahead.old ahead.new token.now) }
@@ -24,8 +24,9 @@ pub(crate) fn token_ahead<'a>(ahead: &mut Ahead<'a>) -> Option<&'a [u8]>
     ahead.next()
 }
 
-/// Passes the reference that comes next and the `$end` after it, and returns the reference. `None`
-/// if it has no token or more than two, or does not lie completely in the chunk.
+/// Returns the reference of a variable (its name, and maybe a range such as `[7:0]`) that comes
+/// next, and passes it and the `$end` after it. `None` if it has no token or more than two, or if
+/// it does not lie completely in the chunk.
 #[inline(always)]
 fn reference_ahead<'a>(ahead: &mut Ahead<'a>) -> Option<Reference<'a>>
     ensures gives { Gives IsReference ahead.old ahead.new result }
@@ -49,9 +50,9 @@ fn reference_ahead<'a>(ahead: &mut Ahead<'a>) -> Option<Reference<'a>>
     })
 }
 
-/// Returns the variable whose phrase comes next, and passes the phrase. `None` if the next phrase
-/// is no correct one of a variable, has a reference of more than two tokens, or has a token that
-/// the feed itself has to read. Then some of its tokens may have been passed.
+/// Returns what the next phrase says of a variable, if it is a correct `$var ... $end`, and passes
+/// it. `None` if it is anything else, if its reference has more than two tokens, or if it does not
+/// lie completely in the chunk. Then some of its tokens may have been passed.
 #[inline(always)]
 fn variable_ahead<'a>(ahead: &mut Ahead<'a>) -> Option<VariablePhrase<'a>>
     ensures gives { Gives IsVariable ahead.old ahead.new result }
@@ -80,9 +81,9 @@ fn variable_ahead<'a>(ahead: &mut Ahead<'a>) -> Option<VariablePhrase<'a>>
     })
 }
 
-/// Declares a variable whose phrase lies ahead, and returns whether it may come here. If not, the
-/// draft does not change, and `read_variable` finds the fault. At most `most` declarations are
-/// allowed. Fails only with `OutOfMemory`.
+/// Adds a variable to the draft, and returns whether it may be declared here. If it may not, the
+/// draft does not change; `read_variable` reads the phrase again and says why. At most `most`
+/// declarations are allowed. Fails only with `OutOfMemory`.
 fn take_variable(
     alloc: Global,
     most: u64,
@@ -98,9 +99,9 @@ fn take_variable(
     declare(alloc, draft, variable)
 }
 
-/// Opens a scope whose phrase lies ahead, and returns whether it may come here. If not, the
-/// draft does not change, and `read_scope` finds the fault. At most `most` declarations are
-/// allowed. Fails only with `OutOfMemory`.
+/// Opens a scope in the draft, and returns whether it may be opened here. If it may not, the draft
+/// does not change; `read_scope` reads the phrase again and says why. At most `most` declarations
+/// are allowed. Fails only with `OutOfMemory`.
 #[inline(always)]
 fn take_scope(most: u64, draft: &mut Draft, scope: ScopePhrase<'_>) -> Result<bool, HeadFault>
     ensures takes { TakesNext most (λ more. IsScope more scope.entry) draft.old draft.new result }
@@ -113,9 +114,9 @@ fn take_scope(most: u64, draft: &mut Draft, scope: ScopePhrase<'_>) -> Result<bo
     Ok(true)
 }
 
-/// Closes a scope by a phrase that lies ahead, and returns whether it may come here. If not, the
-/// draft does not change, and `read_upscope` finds the fault. At most `most` declarations are
-/// allowed. Fails only with `OutOfMemory`.
+/// Closes the innermost open scope of the draft, and returns whether a scope may be closed here. If
+/// not, the draft does not change; `read_upscope` reads the phrase again and says why. At most
+/// `most` declarations are allowed. Fails only with `OutOfMemory`.
 #[inline(always)]
 fn take_upscope(most: u64, draft: &mut Draft) -> Result<bool, HeadFault>
     ensures takes { TakesNext most IsUpscope draft.old draft.new result }
@@ -128,10 +129,10 @@ fn take_upscope(most: u64, draft: &mut Draft) -> Result<bool, HeadFault>
     Ok(true)
 }
 
-/// Takes the next phrase, if it lies completely in the chunk and declares a variable or a scope, or
-/// closes a scope. Returns true if the draft took it. If it may not come here, the result is false,
-/// but the phrase was passed. At most `most` declarations are allowed. Fails only with
-/// `OutOfMemory`.
+/// Passes the next phrase, and adds it to the draft if it is a correct `$var`, `$scope` or
+/// `$upscope` that lies completely in the chunk and may come here. Returns whether it was added. If
+/// it was not, the draft does not change, but tokens may have been passed. At most `most`
+/// declarations are allowed. Fails only with `OutOfMemory`.
 #[inline(always)]
 fn declare_next(
     alloc: Global,
@@ -163,9 +164,9 @@ fn declare_next(
     Ok(false)
 }
 
-/// Takes the phrases that come next, as long as they declare variables or scopes, or close scopes,
-/// lie completely in the chunk, and may come here. Returns how many bytes were passed for these. At
-/// most `most` declarations are allowed. Fails only with `OutOfMemory`.
+/// Adds the phrases that come next to the draft, as long as they are correct `$var`, `$scope` or
+/// `$upscope` that lie completely in the chunk and may come here. Returns how many bytes of the
+/// chunk these take. At most `most` declarations are allowed. Fails only with `OutOfMemory`.
 fn declare_ahead(
     alloc: Global,
     ahead: Ahead<'_>,
@@ -186,9 +187,10 @@ fn declare_ahead(
     }
 }
 
-/// Reads the variables and scopes that come next, after a phrase, and lie completely in the chunk.
-/// It stops before one that may not come here. The feed then shows no token. At most `most`
-/// declarations are allowed. Fails only with `OutOfMemory`.
+/// Reads the phrases that come next into the draft, as long as they are correct `$var`, `$scope` or
+/// `$upscope` that lie completely in the feed's chunk and may come here. Moves the feed past these;
+/// its `token` is then empty. At most `most` declarations are allowed. Fails only with
+/// `OutOfMemory`.
 pub(crate) fn read_ahead<S: Source>(
     alloc: Global,
     feed: &mut Feed<'_, '_, '_, '_, S>,

@@ -6,8 +6,8 @@ use crate::declarations::ScopePhrase;
 use crate::words::{is_end, is_scope, is_upscope};
 use vcd_text::Ahead;
 
-/// Returns the scope whose phrase comes next, and passes the phrase. `None` if the next phrase is
-/// no correct one of a scope, or has a token that the feed itself has to read. Then some of its
+/// Returns what the next phrase says of a scope, if it is a correct `$scope ... $end`, and passes
+/// it. `None` if it is anything else, or does not lie completely in the chunk. Then some of its
 /// tokens may have been passed.
 #[inline(always)]
 pub(crate) fn scope_ahead<'a>(ahead: &mut Ahead<'a>) -> Option<ScopePhrase<'a>>
@@ -33,8 +33,8 @@ pub(crate) fn scope_ahead<'a>(ahead: &mut Ahead<'a>) -> Option<ScopePhrase<'a>>
     Some(ScopePhrase { word, name })
 }
 
-/// Passes the phrase that closes a scope. `None` if no such phrase comes next, or if it has a token
-/// that the feed itself has to read. Then some of its tokens may have been passed.
+/// Passes the next phrase, if it is `$upscope $end`. `None` if it is anything else, or does not lie
+/// completely in the chunk. Then some of its tokens may have been passed.
 #[inline(always)]
 pub(crate) fn upscope_ahead(ahead: &mut Ahead<'_>) -> Option<()>
     ensures gives { Gives (λ more _. IsUpscope more) ahead.old ahead.new result }

@@ -14,8 +14,8 @@ pub(crate) enum CodeKey {
 }
 
 impl CodeKey {
-    /// Returns the key of the code with these bytes. A code of at most 7 bytes takes no memory.
-    /// Fails if there is no memory for a longer one.
+    /// Returns the key by which the identifier code with these bytes is found in the set. A code of
+    /// at most 7 bytes takes no memory. Fails if there is no memory for a longer one.
     #[inline(always)]
     pub(crate) fn of(alloc: Global, bytes: &[u8]) -> Result<CodeKey, AllocError>
         ensures { IfOk result (λ key. shape_of key ≡ shape_in bytes.now) }
@@ -27,7 +27,7 @@ impl CodeKey {
         Ok(CodeKey::Long(Vec::from_slice(alloc, bytes)?))
     }
 
-    /// Returns whether this is the key of the code with these bytes.
+    /// Returns whether this is the key of the identifier code with these bytes.
     pub(crate) fn is_of(&self, bytes: &[u8]) -> bool
         ensures { result ≡ bytes_eq (shape_in bytes.now) (shape_of self.now) }
     {

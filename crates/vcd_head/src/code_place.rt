@@ -10,10 +10,10 @@ use crate::rows::token_len;
 use std::alloc::Global;
 use vcd_view::{Code, code_in, key_of};
 
-/// Returns the index of the code of a variable, which has this size, and is an event if `event` is
-/// true. A new code is added to `known`, and its bytes at the end of `text`. `None` if the code was
-/// declared with another size, or if only one of the two is an event. Fails only for a new code,
-/// with `OutOfMemory`.
+/// Returns the index in `known` of the code of a variable with this size, which is an event if
+/// `event` is true. A new code is added to `known`, and its bytes at the end of `text`. `None` if
+/// the code was declared before with another size, or if only one of the two is an event. Fails
+/// only with `OutOfMemory`, and only for a new code.
 #[inline(always)]
 pub(crate) fn enter_code(
     alloc: Global,
@@ -43,8 +43,9 @@ pub(crate) fn enter_code(
     Ok(Some(position))
 }
 
-/// Enters the key of the code with these bytes, if it is new. Returns the index of the code, and
-/// whether it is new. Fails only for a new code, with `OutOfMemory`.
+/// Returns the index in `known` of the code with these bytes, and whether it is new. If it is, adds
+/// its number or its key to `known`, but not yet the code to `known.list`. Fails only with
+/// `OutOfMemory`, and only for a new code.
 #[inline(always)]
 fn enter_key(alloc: Global, known: &mut Codes, bytes: &[u8]) -> Result<(usize, bool), HeadFault>
     ensures enters { Rises known.old.rising.items
@@ -65,8 +66,9 @@ fn enter_key(alloc: Global, known: &mut Codes, bytes: &[u8]) -> Result<(usize, b
     enter_in_set(alloc, known, bytes)
 }
 
-/// Enters the key of the code with these bytes in the set, if it is new. Returns the index of the
-/// code, and whether it is new. A code that is not new is found even if memory is refused.
+/// Returns the index in `known` of the code with these bytes, and whether it is new. If it is, adds
+/// its key to `known.keys`. The code is none of those in `known.rising`. Fails only with
+/// `OutOfMemory`: a code that is not new is found even if memory is refused.
 fn enter_in_set(alloc: Global, known: &mut Codes, bytes: &[u8]) -> Result<(usize, bool), HeadFault>
     ensures enters { Rises known.old.rising.items
         → list_any (nat_eq (key_in bytes.now)) known.old.rising.items ≡ false
@@ -93,8 +95,8 @@ fn enter_in_set(alloc: Global, known: &mut Codes, bytes: &[u8]) -> Result<(usize
     Ok((position, new))
 }
 
-/// Appends the bytes of a code to `text`, and the code to `list`: one of this size, and of an event
-/// if `event` is true. Fails only with `OutOfMemory`.
+/// Appends the bytes of a code to `text`, and to `list` the code with its `size` and whether its
+/// variables are events. Fails only with `OutOfMemory`.
 #[inline(always)]
 fn add(
     text: &mut Vec<u8>,

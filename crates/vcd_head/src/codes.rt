@@ -21,7 +21,7 @@ pub(crate) struct Codes {
 }
 
 impl Codes {
-    /// Returns an empty set of codes, which are hashed with `seed`.
+    /// Returns a list of no codes. Codes that are added to it are hashed with `seed`.
     pub(crate) fn new(alloc: Global, seed: CodeSeed) -> Self
         ensures { HasNone result }
     {
@@ -32,9 +32,9 @@ impl Codes {
         }
     }
 
-    /// Returns whether a variable of this size, which is an event if `event` is true, may have the
-    /// code with these bytes: if the code is new, or was declared with the same size and the same
-    /// `event`.
+    /// Returns whether a variable with this size, which is an event if `event` is true, may have
+    /// the code with these bytes: if the code is new, or was declared with the same size and the
+    /// same `event`.
     pub(crate) fn allow(&self, alloc: Global, bytes: &[u8], size: usize, event: bool) -> bool
         ensures { Allows self.now bytes.now size event result }
     {
@@ -47,7 +47,7 @@ impl Codes {
         }
     }
 
-    /// Returns the index of the code with these bytes. `None` if it was not declared.
+    /// Returns the index in the list of the code with these bytes. `None` if it was not declared.
     fn find(&self, alloc: Global, bytes: &[u8]) -> Option<usize>
         ensures { (text : List ℕ) (cs : List IdCode) → AreHeld text self.now.list.items cs
             → AreKeysOf (keys_of self.now) cs → Rises self.now.rising.items
@@ -60,8 +60,9 @@ impl Codes {
         self.rising.len().checked_add(position)
     }
 
-    /// Returns the index in the set of the key of the code with these bytes. `None` if the set does
-    /// not have it. The key of a long code needs memory. If that is refused, every key is compared.
+    /// Returns the index in `keys` of the code with these bytes. `None` if `keys` does not have it.
+    /// The key of a code of more than 7 bytes needs memory. If that is refused, the bytes are
+    /// compared with every key.
     fn find_key(&self, alloc: Global, bytes: &[u8]) -> Option<usize>
         ensures { result ≡ position (is_key bytes.now) self.now.keys.keys }
     {
@@ -72,8 +73,8 @@ impl Codes {
     }
 }
 
-/// Returns whether a code was declared with this size, and as an event if `event` is true, but as
-/// none if it is false.
+/// Returns whether a code was declared with this size, and as the code of an event exactly if
+/// `event` is true.
 #[inline(always)]
 pub(crate) fn is_declared_as(code: Code, size: usize, event: bool) -> bool
     ensures { result ≡ is_of code size event }
@@ -81,8 +82,8 @@ pub(crate) fn is_declared_as(code: Code, size: usize, event: bool) -> bool
     code.size == size && code.event == event
 }
 
-/// Returns the index of the key of the code with these bytes, by a look at each key. `None` if no
-/// key is that of the code.
+/// Returns the index in `keys` of the key of the code with these bytes, by a look at each key.
+/// `None` if none of them is the key of this code.
 pub(crate) fn index_among(keys: &[CodeKey], bytes: &[u8]) -> Option<usize>
     ensures { result ≡ position (is_key bytes.now) keys.now }
 {

@@ -40,8 +40,9 @@ pub(crate) struct ScopePhrase<'a> {
     pub(crate) name: &'a [u8],
 }
 
-/// Fails if a declaration of this kind may not come next: if `most` were read already, if 1,000
-/// scopes are open and it opens one, or if none is open and it closes one.
+/// Fails if a declaration of this kind may not come next: with `TooMany` if the draft has `most`
+/// declarations already, with `TooDeep` if it opens a scope while 1,000 are open, and with
+/// `NoScope` if it closes a scope while none is open.
 #[inline(always)]
 pub(crate) fn check_start(draft: &Draft, most: u64, kind: Kind) -> Result<(), HeadFault>
     ensures checks { (ps : List HeaderPhrase) → IsDraftOf most draft.now ps
@@ -68,8 +69,9 @@ pub(crate) fn check_start(draft: &Draft, most: u64, kind: Kind) -> Result<(), He
     }
 }
 
-/// Declares a variable, and returns whether its code allows that. It does not if the code was
-/// declared with another size, or if only one of the two is an event.
+/// Adds a variable to the draft, and returns whether its code allows that. It does not if the code
+/// was declared before with another size, or if only one of the two variables is an event. Fails
+/// only with `OutOfMemory`.
 #[inline(always)]
 pub(crate) fn declare(
     alloc: Global,
@@ -126,7 +128,8 @@ fn add_reference(text: &mut Vec<u8>, reference: Reference<'_>) -> Result<usize, 
     Ok(text.len() - start)
 }
 
-/// Opens a scope in the draft, or fails with `OutOfMemory`.
+/// Adds the declaration of a scope to the draft, and makes it the innermost open one. Fails only
+/// with `OutOfMemory`.
 #[inline(always)]
 pub(crate) fn open_scope(draft: &mut Draft, scope: ScopePhrase<'_>) -> Result<(), HeadFault>
     ensures opens { IfOk result (λ _. TakesPhrase Kind.Scope
@@ -151,8 +154,8 @@ pub(crate) fn open_scope(draft: &mut Draft, scope: ScopePhrase<'_>) -> Result<()
     Ok(())
 }
 
-/// Closes the innermost open scope. `check_start` has found before that there is one. Fails only
-/// with `OutOfMemory`.
+/// Adds an `$upscope` to the draft, which closes its innermost open scope. There must be one
+/// (`check_start`). Fails only with `OutOfMemory`.
 #[inline(always)]
 pub(crate) fn close_scope(draft: &mut Draft) -> Result<(), HeadFault>
     ensures closes { IfOk result (λ _. TakesPhrase Kind.Up Declaration.Up draft.old draft.new) }

@@ -20,7 +20,8 @@ pub(crate) struct Draft {
 }
 
 impl Draft {
-    /// Returns a draft of which nothing was read. Its codes are hashed with `seed`.
+    /// Returns an empty draft, for a header of which nothing was read. Codes that are added to it
+    /// are hashed with `seed`.
     pub(crate) fn new(alloc: Global, seed: CodeSeed) -> Self
         ensures { IsNew result }
     {
@@ -35,7 +36,7 @@ impl Draft {
         }
     }
 
-    /// Returns 1 plus the row of the innermost open scope, or 0 if none is open.
+    /// Returns 1 plus the index of the row of the innermost open scope, or 0 if none is open.
     #[inline(always)]
     pub(crate) fn parent(&self) -> usize
         ensures { result ≡ unwrap_or

@@ -26,7 +26,8 @@ pub(crate) struct Enclosing {
 }
 
 impl Enclosing {
-    /// Returns all scopes around the declaration of a row.
+    /// Returns an iterator over all scopes around the declaration with index `row`, outermost
+    /// first.
     #[inline(always)]
     pub(crate) fn new(row: usize) -> Self
         ensures { (h : Header) → row < length h.declarations
@@ -35,7 +36,8 @@ impl Enclosing {
         Self::innermost(row, row)
     }
 
-    /// Returns the innermost `most` scopes around a row, or all if there are fewer.
+    /// Returns an iterator over the innermost `most` scopes around the declaration with index
+    /// `row`, or over all if there are fewer; the outermost of these comes first.
     #[inline(always)]
     pub(crate) fn innermost(row: usize, most: usize) -> Self
         ensures { (h : Header) → row < length h.declarations
@@ -49,8 +51,8 @@ impl Enclosing {
         }
     }
 
-    /// Returns the row of the next scope inwards, or `None` after the innermost. `view` has to show
-    /// the header of the row in every call.
+    /// Returns the index of the row of the next scope inwards, or `None` after the innermost.
+    /// `view` has to be of the same header in every call.
     #[inline(always)]
     pub(crate) fn next(&mut self, view: HeadView<'_>) -> Option<usize>
         ensures gives { (h : Header) (row : ℕ) (rest : List ℕ) → IsViewOf view.entry h
@@ -67,8 +69,9 @@ impl Enclosing {
     }
 }
 
-/// Walks outwards from a row by at most `most` scopes, and returns how many it passed. It keeps the
-/// last 128 in `rows`, each at its number, counted outwards from 0, modulo 128.
+/// Walks outwards from the declaration with index `row` by at most `most` scopes, and returns how
+/// many scopes it passed. It writes the index of each one's row to `rows`: of the k-th, counted
+/// from 0, to element k modulo 128, so that the last 128 are kept.
 fn walk(view: HeadView<'_>, row: usize, most: usize, rows: &mut [usize; SCOPES_HELD]) -> usize
     ensures walks { AnyRow view.entry row (λ h. Walks h row most rows.new result) }
     ensures within { result ≤ most }

@@ -16,9 +16,10 @@ const EMPTY: Entry = Entry {
     size_or_zero: 0,
 };
 
-/// Returns the entries of these codes, whose bytes lie in the text: a power of two of them, at most
-/// three for each code, or none if there is no code. Fewer suffice if the codes are in the order of
-/// their numbers, as `in_order` says. Codes are hashed with `seed`.
+/// Returns the table of entries by which these codes are looked up: a power of two of them, at most
+/// three for each code, or none if there is no code. The bytes of the codes lie in `text`.
+/// `in_order` says that the codes are in the order of their numbers (`code_number`); then fewer
+/// entries suffice. Codes are hashed with `seed`. Fails if there is no memory.
 pub(crate) fn entries_of(
     alloc: Global,
     text: &[u8],
@@ -38,8 +39,8 @@ pub(crate) fn entries_of(
     Ok(entries)
 }
 
-/// Returns the number of the last code if `in_order` is true: the codes are then in the order of
-/// their numbers, and this one is the greatest. Otherwise, or if there is no code, 2^64 - 1.
+/// Returns the greatest number (`code_number`) of these codes, if `in_order` says that they are in
+/// the order of their numbers: the number of the last. Otherwise, or if there is no code, 2^64 - 1.
 fn greatest_of(text: &[u8], codes: &[Code], in_order: bool) -> usize
     ensures { in_order ≡ false → result ≡ 2 ^ 64 - 1 }
 {
@@ -49,9 +50,10 @@ fn greatest_of(text: &[u8], codes: &[Code], in_order: bool) -> usize
     }
 }
 
-/// Returns how many entries this many codes get, whose greatest number is `greatest`: the least
-/// power of two that has one for each code, and twice as many if three for each code allow that. If
-/// each number is that of an entry, no two codes have the same one, so no more are needed.
+/// Returns how many entries a table for this many codes gets; `greatest` is the greatest number of
+/// a code. It is the least power of two that has one entry for each code, or twice as many if three
+/// for each code allow that. If `greatest` is less than that power, each code has an entry of its
+/// own, and no more are needed.
 // With 1.5 to 3 entries for each code, the header of 184,002 codes in order takes 2 % more
 // instructions.
 fn count_for(codes: usize, greatest: usize) -> usize
@@ -66,8 +68,8 @@ fn count_for(codes: usize, greatest: usize) -> usize
     }
 }
 
-/// Writes the entry of each code. The bytes of the codes lie in the text. A code for which `enter`
-/// finds no free entry gets none.
+/// Writes the entry of each code to the table. The bytes of the codes lie in `text`, and `seed`
+/// hashes them. A code for which `enter` finds no free entry gets none.
 fn fill(entries: &mut [Entry], text: &[u8], codes: &[Code], seed: CodeSeed)
     ensures right { KeepsRight text.now codes.now entries.old entries.new }
     ensures len { length entries.new ≡ length entries.old }
@@ -78,9 +80,10 @@ fn fill(entries: &mut [Entry], text: &[u8], codes: &[Code], seed: CodeSeed)
     }
 }
 
-/// Writes the entry of the code at index `position`, which has these bytes: to its own entry or one
-/// beside it, if one of them is free, otherwise to one where its hash leads. If all of these are
-/// taken, the code gets no entry, and only a binary search finds it.
+/// Writes an entry for the code at index `position`, which has these bytes, to the table: to the
+/// one that its number leads to, to one of the three beside it, or to one that its hash leads to,
+/// whichever of these is free first. If none is free, the code gets no entry, and only a binary
+/// search finds it.
 #[inline(always)]
 fn enter(entries: &mut [Entry], position: usize, code: Code, bytes: &[u8], seed: CodeSeed)
     ensures right { (text : List ℕ) (codes : List Code) → slice_get codes position ≡ Some code
@@ -100,8 +103,8 @@ fn enter(entries: &mut [Entry], position: usize, code: Code, bytes: &[u8], seed:
     }
 }
 
-/// Returns the index of the first free entry among a code's own one, at `own`, and the three beside
-/// it. `None` if each of the four is taken or out of range.
+/// Returns the index of the first free entry among the four at `own`, `own ^ 1`, `own ^ 2` and `own
+/// ^ 3`. `None` if each of the four is taken or out of range.
 #[inline(always)]
 fn free_near(entries: &[Entry], own: usize) -> Option<usize>
     ensures { IfSome result (λ at. at < length entries.now) }
@@ -114,8 +117,8 @@ fn free_near(entries: &[Entry], own: usize) -> Option<usize>
     None
 }
 
-/// Writes an entry to the first free one to which the hash leads. If all that it looks at are
-/// taken, it writes none.
+/// Writes an entry to the first free place that `hash` leads to, in at most `MAX_LOOKS` looks. If
+/// all of these are taken, nothing changes.
 fn put_hashed(entries: &mut [Entry], hash: u64, entry: Entry)
     ensures right { (text : List ℕ) (codes : List Code) → is_right text codes entry ≡ true
         → KeepsRight text codes entries.old entries.new }
@@ -130,7 +133,7 @@ fn put_hashed(entries: &mut [Entry], hash: u64, entry: Entry)
     }
 }
 
-/// Returns whether `at` is in range and the entry there is that of no code.
+/// Returns whether index `at` is in range and no code has the entry there.
 #[inline(always)]
 fn is_free(entries: &[Entry], at: usize) -> bool
     ensures { result ≡ true → at < length entries.now }
@@ -141,7 +144,7 @@ fn is_free(entries: &[Entry], at: usize) -> bool
     }
 }
 
-/// Returns the entry of the code at index `position`, which has this key, or an empty one if the
+/// Returns an entry with this key for the code at index `position`. It is an empty entry if the
 /// index does not fit into 32 bits.
 #[inline(always)]
 fn entry_with(position: usize, code: Code, key: u64) -> Entry
@@ -160,7 +163,7 @@ fn entry_with(position: usize, code: Code, key: u64) -> Entry
     }
 }
 
-/// Writes the entry at `at`. If that is out of range, nothing changes.
+/// Writes the entry to index `at` of the table. If that is out of range, nothing changes.
 #[inline(always)]
 fn put(entries: &mut [Entry], at: usize, entry: Entry)
     ensures { entries.new ≡ set entries.old at entry }

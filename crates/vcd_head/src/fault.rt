@@ -38,7 +38,7 @@ pub enum HeadFault {
 }
 
 impl HeadFault {
-    /// Returns the number of the fault.
+    /// Returns the number of this fault, by which `text_of` of `vcd_text` returns its message.
     pub fn number(self) -> u8
         ensures { result ≡ fault_number self }
     {

@@ -10,7 +10,8 @@ use crate::head::Head;
 use crate::index::index_of;
 use std::alloc::Global;
 
-/// Returns the head of a draft that holds all phrases of a header. Fails only with `OutOfMemory`.
+/// Returns the header that a draft has once all phrases were read into it, with the tables for
+/// look-ups of codes. Fails only with `OutOfMemory`.
 pub(crate) fn finish(alloc: Global, draft: Draft) -> Result<Head, HeadFault>
     ensures head { (most : ℕ) (ps : List HeaderPhrase) → IsDraftOf most draft ps
         → IfOk result (λ head. Views (shown head) (header_of ps)) }

@@ -22,7 +22,7 @@ pub struct Head {
 impl Head {
     ghost use Rattle.vcd_head.specs.Names.{parts, shown};
 
-    /// Returns the header as slices and numbers.
+    /// Returns this header as slices and numbers, in the form that other crates take.
     pub fn view(&self) -> HeadView<'_>
         ensures { parts result ≡ shown self.now }
     {

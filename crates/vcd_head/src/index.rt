@@ -23,7 +23,8 @@ pub(crate) struct Prefix {
     pub(crate) position: usize,
 }
 
-/// Returns the indexes of the codes in the order of their bytes, which lie in the text.
+/// Returns the indexes of the codes in the order of the codes' bytes, which lie in `text`. Fails if
+/// there is no memory.
 pub(crate) fn index_of(alloc: Global, text: &[u8], codes: &[Code]) -> Result<Vec<usize>, AllocError>
     ensures { AnyHeld text.now codes.now (λ cs. IfOk result (λ index. IsIndex cs index.items)) }
 {
@@ -33,9 +34,9 @@ pub(crate) fn index_of(alloc: Global, text: &[u8], codes: &[Code]) -> Result<Vec
     }
 }
 
-/// Returns the indexes of short codes in the order of their bytes. `None` if a code has more than 4
-/// bytes, or if there are more than 16,777,216 codes. It sorts ranks, and then reduces them to the
-/// indexes in the same memory.
+/// Returns the indexes of short codes in the order of the codes' bytes, which lie in `text`, by
+/// sorting numbers instead of texts. `None` if a code has more than 4 bytes, or if there are more
+/// than 16,777,216 codes. Fails if there is no memory.
 fn index_by_ranks(
     alloc: Global,
     text: &[u8],
@@ -53,8 +54,9 @@ fn index_by_ranks(
     Ok(Some(index))
 }
 
-/// Returns the ranks of the codes, in their order of declaration. `None` if some code does not fit
-/// into a rank: if it has more than 4 bytes, or if its index is 16,777,216 or more.
+/// Returns for each code, in the order of `codes`, the number that `rank_of` makes of its bytes and
+/// its index. `None` if a code has more than 4 bytes, or if there are more than 16,777,216 codes.
+/// Fails if there is no memory.
 fn ranks_of(alloc: Global, text: &[u8], codes: &[Code]) -> Result<Option<Vec<usize>>, AllocError>
     ensures { IfOk result (λ some. IfSome some (λ ranks. AreRanks text.now codes.now ranks.items)) }
 {
@@ -72,8 +74,9 @@ fn ranks_of(alloc: Global, text: &[u8], codes: &[Code]) -> Result<Option<Vec<usi
     Ok(Some(ranks))
 }
 
-/// Returns the bytes of a code, their number and its index as one number, which is less if the
-/// bytes come before others. Ranks are compared as numbers, without a look at the codes.
+/// Returns the bytes of a code (at most 4), how many they are, and its index `position` in one
+/// number. Such numbers are in the order of the codes' bytes, so that they can be sorted without a
+/// look at the codes.
 #[inline(always)]
 fn rank_of(bytes: &[u8], position: usize) -> usize
     requires short { length bytes.now ≤ 4 }
@@ -84,7 +87,7 @@ fn rank_of(bytes: &[u8], position: usize) -> usize
     (front as usize * 8 + bytes.len()) * PLACES + position
 }
 
-/// Reduces each rank to the index of its code.
+/// Replaces each number that `rank_of` returned by the index in it.
 fn ranks_to_indexes(ranks: &mut [usize])
     ensures { ranks.new ≡ map place_in_rank ranks.old }
 {
@@ -93,7 +96,8 @@ fn ranks_to_indexes(ranks: &mut [usize])
     }
 }
 
-/// Returns the indexes of codes of any length in the order of their bytes.
+/// Returns the indexes of codes of any length in the order of the codes' bytes, which lie in
+/// `text`. Fails if there is no memory.
 fn index_by_prefixes(alloc: Global, text: &[u8], codes: &[Code]) -> Result<Vec<usize>, AllocError>
     ensures { AnyHeld text.now codes.now (λ cs. IfOk result (λ index. IsIndex cs index.items)) }
 {
@@ -102,7 +106,8 @@ fn index_by_prefixes(alloc: Global, text: &[u8], codes: &[Code]) -> Result<Vec<u
     places_of(alloc, &prefixes)
 }
 
-/// Returns the prefixes of the codes, in their order of declaration.
+/// Returns for each code, in the order of `codes`, its first 8 bytes as a number, and its index.
+/// Fails if there is no memory.
 fn prefixes_of(alloc: Global, text: &[u8], codes: &[Code]) -> Result<Vec<Prefix>, AllocError>
     ensures { IfOk result (λ prefixes. ArePrefixes text.now codes.now prefixes.items) }
 {
@@ -114,7 +119,8 @@ fn prefixes_of(alloc: Global, text: &[u8], codes: &[Code]) -> Result<Vec<Prefix>
     Ok(prefixes)
 }
 
-/// Returns the index of the code of each prefix, in the order of the prefixes.
+/// Returns the index of the code of each of these prefixes, in their order. Fails if there is no
+/// memory.
 fn places_of(alloc: Global, prefixes: &[Prefix]) -> Result<Vec<usize>, AllocError>
     ensures { IfOk result (λ positions. positions.items ≡ map (λ f. f.position) prefixes.now) }
 {
@@ -125,8 +131,8 @@ fn places_of(alloc: Global, prefixes: &[Prefix]) -> Result<Vec<usize>, AllocErro
     Ok(positions)
 }
 
-/// Returns the order of two codes by their bytes. It looks at the bytes only if the prefixes are
-/// the same.
+/// Returns how the code of prefix `a` compares with that of `b` in the order of their bytes, which
+/// lie in `text`. It looks at the bytes only if the prefixes are the same.
 #[inline(always)]
 fn order_of(text: &[u8], codes: &[Code], a: Prefix, b: Prefix) -> Ordering
     ensures { result ≡ order_of text.now codes.now a b }
@@ -140,7 +146,8 @@ fn order_of(text: &[u8], codes: &[Code], a: Prefix, b: Prefix) -> Ordering
     }
 }
 
-/// Returns the bytes of the code at an index, or none if there is no such code.
+/// Returns the bytes of the code at index `position` of `codes`, which lie in `text`; no bytes if
+/// there is no such code.
 fn bytes_at<'a>(text: &'a [u8], codes: &[Code], position: usize) -> &'a [u8]
     ensures { result.now ≡ bytes_at text.now codes.now position }
 {
@@ -150,7 +157,8 @@ fn bytes_at<'a>(text: &'a [u8], codes: &[Code], position: usize) -> &'a [u8]
     }
 }
 
-/// Returns the first `count` bytes as a number, the first one highest, padded with zeros.
+/// Returns the first `count` bytes (at most 8) as a number, the first byte as the highest. Missing
+/// bytes count as zeros.
 #[inline(always)]
 fn prefix_of(bytes: &[u8], count: usize) -> u64
     requires { count ≤ 8 }
@@ -164,7 +172,7 @@ fn prefix_of(bytes: &[u8], count: usize) -> u64
     number
 }
 
-/// Returns the byte at an index, or zero if there is none.
+/// Returns the byte at index `position`, or 0 if there is none.
 #[inline(always)]
 fn byte_at(bytes: &[u8], position: usize) -> u64
     ensures byte { result ≡ get_or bytes.now position 0 }

@@ -19,7 +19,7 @@ pub(crate) struct Inside {
 }
 
 impl Inside {
-    /// Returns what is outside of all scopes, where all names of a group continue.
+    /// Returns the names that can select something outside of all scopes: all names of the group.
     pub(crate) fn outermost(group: &Group<'_>) -> Self
         ensures scope { result.scope ≡ 0 }
         ensures run { (flags : List Bool) → IsOrder (names_of group.now) group.now.order.now
@@ -46,8 +46,9 @@ pub(crate) struct Open<'o> {
 }
 
 impl<'o> Open<'o> {
-    /// Returns what is open before the first row: only what is outside of all scopes. It is kept in
-    /// `inside`, whatever was there before.
+    /// Returns the state before the first row of a header: no scope is open, and all names of
+    /// `group` can select something. `inside` is its memory, and its elements need not be set
+    /// before.
     pub(crate) fn new(group: &Group<'_>, inside: &'o mut [Inside; MAX_OPEN]) -> Self
         ensures { (h : Header) (flags : List Bool) → IsOrder (names_of group.now) group.now.order.now
             → AreSame (names_of group.now) flags → IsOpen h group.now flags result }
@@ -60,9 +61,9 @@ impl<'o> Open<'o> {
         }
     }
 
-    /// Takes the next row. Returns whether it is a variable that some name selects, or any variable
-    /// if there are no names. It also sets the flags in `matched` of the names that select it, and
-    /// leaves the other flags as they are.
+    /// Moves on to the next row of the header, and returns whether it is a variable that some name
+    /// of the group selects, or any variable if there are no names. Sets the flags in `matched` of
+    /// the names that select it, by their indexes, and leaves the other flags as they are.
     #[inline(always)]
     pub(crate) fn take(
         &mut self,
@@ -94,8 +95,9 @@ impl<'o> Open<'o> {
         }
     }
 
-    /// Returns whether some name selects the variable of a row, and sets the flags in `matched` of
-    /// those that do.
+    /// Returns whether some name of the group selects the variable of a row, and sets the flags in
+    /// `matched` of those that do. Before that it enters the scopes around the variable that were
+    /// not entered yet.
     #[inline(always)]
     fn selects(
         &mut self,
@@ -114,9 +116,9 @@ impl<'o> Open<'o> {
     }
 
     /// Enters the scopes around the variable of `row` that were not entered yet, from the outermost
-    /// inwards: keeps in `self`, for each, the names that continue inside it. Sets the flags in
-    /// `matched` of the names that select all of a scope that it enters, and leaves the others as
-    /// they are. `row` is the row that `take` was given.
+    /// inwards: keeps in `self`, for each, the names that can select something inside it. Sets the
+    /// flags in `matched` of the names that select all of a scope that it enters, and leaves the
+    /// others as they are. `row` is the row that `take` was given.
     fn enter_around(
         &mut self,
         view: HeadView<'_>,
@@ -133,8 +135,9 @@ impl<'o> Open<'o> {
         }
     }
 
-    /// Enters the scope of a row, if it is in the innermost one that was entered, and sets the
-    /// flags in `matched` of the names that select all of it. Otherwise nothing changes.
+    /// Enters the scope of a row, if it lies directly in the scope that was entered last: keeps in
+    /// `self` the names that can select something inside it, and sets the flags in `matched` of the
+    /// names that select all of it. Otherwise nothing changes.
     fn enter(
         &mut self,
         view: HeadView<'_>,
@@ -155,8 +158,8 @@ impl<'o> Open<'o> {
         });
     }
 
-    /// Keeps the names that continue in one more scope, which is now the innermost one entered. If
-    /// 1,000 are entered, nothing changes, and `compare` looks at each name by itself.
+    /// Keeps the names that can select something in one more scope, which is now the innermost one
+    /// entered. If 1,000 are entered, nothing changes, and `compare` looks at each name by itself.
     fn hold(&mut self, inner: Inside)
         ensures { StaysOpen inner self.old self.new }
     {
@@ -167,8 +170,8 @@ impl<'o> Open<'o> {
         }
     }
 
-    /// Returns whether some name selects the variable of a row, whose scopes were entered, and sets
-    /// the flags in `matched` of those that do.
+    /// Returns whether some name of the group selects the variable of a row, and sets the flags in
+    /// `matched` of those that do. The scopes around the variable have been entered before.
     #[inline(always)]
     fn compare(
         &self,
@@ -185,8 +188,9 @@ impl<'o> Open<'o> {
         }
     }
 
-    /// Returns the names that continue in the scope around a row, or outside of all scopes. `None`
-    /// if that scope is not the innermost one that was entered, or if there is no such row.
+    /// Returns the names that can select something in the scope around a row, or outside of all
+    /// scopes if it is in none. `None` if that scope is not the one that was entered last, or if
+    /// there is no such row.
     #[inline(always)]
     fn around(&self, view: HeadView<'_>, row: usize) -> Option<Inside>
         ensures row { IfSome result (λ _. row < length view.entry.rows.now) }
@@ -201,8 +205,8 @@ impl<'o> Open<'o> {
     }
 }
 
-/// Returns whether some name selects the variable of a row, by a look at each name, and sets the
-/// flags in `matched` of those that do.
+/// Returns whether one of these names selects the variable of a row, by a look at each name, and
+/// sets the flags in `matched` of those that do.
 fn compare_each(
     view: HeadView<'_>,
     row: usize,

@@ -8,8 +8,8 @@ use crate::write::{put_lines, put_scope, put_variable, text_of_exponent};
 use vcd_text::{Sink, WriteFailed, put, put_number};
 use vcd_view::{HeadView, Kind, NewCode};
 
-/// Returns the least power of ten of the heads' time scales, in seconds. A missing scale counts as
-/// 1 s. The result is 0 if there is no head.
+/// Returns the least power of ten, in seconds, of the time scales of these headers. A header
+/// without a time scale counts as 1 s. The result is 0 if there is no header.
 pub fn least_exponent(heads: &[Head]) -> i8
     ensures { (hs : List Header) → ShowHeaders heads.now hs → result ≡ least_of hs }
 {
@@ -35,7 +35,8 @@ pub(crate) struct OpenScopes {
 }
 
 impl OpenScopes {
-    /// Moves on to the scopes that are open after a row of this kind.
+    /// Changes the counts of open scopes by a row of this kind: a scope opens, a scope closes, or a
+    /// variable has caused the lines of all open scopes to be written.
     fn pass(&mut self, kind: Kind)
         ensures { IsPast kind self.old.pending self.old.written self.new.pending self.new.written }
     {
@@ -51,7 +52,8 @@ impl OpenScopes {
     }
 }
 
-/// Writes the lines that open this many of the innermost scopes around a row, outermost first.
+/// Writes the `$scope` lines of the innermost `count` scopes around a row, outermost first. If a
+/// write fails, it stops.
 fn put_openings<W: Sink>(
     view: HeadView<'_>,
     row: usize,
@@ -69,8 +71,8 @@ fn put_openings<W: Sink>(
     Ok(())
 }
 
-/// Writes the line of an `$upscope` at which these scopes are open, if the line of the scope that
-/// it closes is written. Otherwise it writes nothing.
+/// Writes an `$upscope` line if the `$scope` line of the innermost of these open scopes was
+/// written. Otherwise it writes nothing. Fails if the write fails.
 fn put_closing<W: Sink>(scopes: OpenScopes, w: &mut W) -> Result<(), WriteFailed>
     requires failures { (W.device w.old).failures < 2 ^ 64 - 1 }
     ensures { PutsTo W.device w.old w.new (closing scopes.pending scopes.written) result }
@@ -81,7 +83,7 @@ fn put_closing<W: Sink>(scopes: OpenScopes, w: &mut W) -> Result<(), WriteFailed
     put(w, b"$upscope $end\n")
 }
 
-/// Writes the lines that close this many scopes.
+/// Writes this many `$upscope` lines. If a write fails, it stops.
 fn put_closings<W: Sink>(count: usize, w: &mut W) -> Result<(), WriteFailed>
     requires failures { (W.device w.old).failures < 2 ^ 64 - 1 }
     ensures { PutsWhere W.device w.old w.new result (λ takes. (scopes : List ℕ)
@@ -93,9 +95,10 @@ fn put_closings<W: Sink>(count: usize, w: &mut W) -> Result<(), WriteFailed>
     Ok(())
 }
 
-/// Writes what is due at a row of an input, at which these scopes are open: the line of a variable,
-/// with a new code, after the lines of the scopes in which it is the first; or the line of an
-/// `$upscope`. At the row of a scope nothing is due. The codes are numbered from `first` on.
+/// Writes the lines that a merged header has for one row of an input. For a variable: the `$scope`
+/// lines of the scopes around it that are not written yet, and its own line with a new code;
+/// `first` is the number of the input's first new code. For an `$upscope`: its line, if that of its
+/// scope was written. For a scope nothing. `scopes` are those open before the row.
 fn put_input_row<W: Sink>(
     view: HeadView<'_>,
     row: usize,
@@ -122,8 +125,8 @@ fn put_input_row<W: Sink>(
     }
 }
 
-/// Writes the variables of an input with new codes, numbered from `first` on, and the scopes around
-/// these.
+/// Writes the lines of all variables of an input with new codes, and of the scopes around these.
+/// `first` is the number of the input's first new code. If a write fails, it stops.
 fn put_input_rows<W: Sink>(view: HeadView<'_>, first: u64, w: &mut W) -> Result<(), WriteFailed>
     requires failures { (W.device w.old).failures < 2 ^ 64 - 1 }
     ensures { PutsWhere W.device w.old w.new result (λ takes.
@@ -140,9 +143,9 @@ fn put_input_rows<W: Sink>(view: HeadView<'_>, first: u64, w: &mut W) -> Result<
     put_closings(scopes.written, w)
 }
 
-/// Writes what the head of a merged dump has of an input: the scope of the input, named by its
-/// number from 1, and in it the variables with new codes, numbered from `first` on, and the scopes
-/// around these.
+/// Writes what the header of a merged dump has for one input: a scope `in1`, `in2`, .. with the
+/// input's `number`, and in it the input's variables with new codes and the scopes around these.
+/// `first` is the number of the input's first new code. If a write fails, it stops.
 fn put_input_head<W: Sink>(
     view: HeadView<'_>,
     number: u64,
@@ -161,8 +164,8 @@ fn put_input_head<W: Sink>(
     put(w, b"$upscope $end\n")
 }
 
-/// Writes what the head of a merged dump has of each input, in order. The codes are numbered from 0
-/// on, those of an input after those of the inputs before it.
+/// Writes what the header of a merged dump has for each input, in order. The new codes are numbered
+/// from 0 on, those of an input after those of the inputs before it. If a write fails, it stops.
 fn put_input_heads<W: Sink>(heads: &[Head], w: &mut W) -> Result<(), WriteFailed>
     requires heads { length heads.now ≤ 64 }
     requires failures { (W.device w.old).failures < 2 ^ 64 - 1 }
@@ -178,10 +181,10 @@ fn put_input_heads<W: Sink>(heads: &[Head], w: &mut W) -> Result<(), WriteFailed
     Ok(())
 }
 
-/// Writes the head of the merged dump of inputs with these heads, at most 64: the least of their
-/// time scales, for each input a scope with its variables and the scopes around these, and
-/// `$enddefinitions`. The codes are new ones, in the order of the inputs. If a write fails, a
-/// prefix was written.
+/// Writes the header of the dump that a merge of inputs with these headers makes, at most 64: the
+/// least of their time scales, for each input a scope with its variables and the scopes around
+/// these, and `$enddefinitions`. The codes are new ones, in the order of the inputs. If a write
+/// fails, a prefix was written.
 pub fn put_merged_head<W: Sink>(heads: &[Head], w: &mut W) -> Result<(), WriteFailed>
     requires heads { length heads.now ≤ 64 }
     requires failures { (W.device w.old).failures < 2 ^ 64 - 1 }

@@ -15,8 +15,8 @@ pub struct Moment {
 }
 
 impl Moment {
-    /// Returns the moment `number` units after the time 0, or ticks if `unit` is empty. `None` if
-    /// `unit` is neither empty nor `s`, `ms`, `us`, `ns`, `ps` or `fs`.
+    /// Returns the time that is `number` units after the time 0, or `number` ticks if `unit` is
+    /// empty. `None` if `unit` is neither empty nor `s`, `ms`, `us`, `ns`, `ps` or `fs`.
     pub fn from_parts(number: u64, unit: &[u8]) -> Option<Moment>
         ensures { option_map asked result ≡ with_unit number unit.now }
     {
@@ -41,7 +41,7 @@ pub enum TickFault {
 }
 
 impl TickFault {
-    /// Returns the number of the fault.
+    /// Returns the number of this fault, by which `text_of` of `vcd_text` returns its message.
     pub fn number(self) -> u8
         ensures { result ≡ tick_fault_number self }
     {
@@ -72,8 +72,9 @@ pub fn ticks(view: HeadView<'_>, moment: Moment, up: bool) -> Result<u64, TickFa
     unit_ticks(moment.number, unit, scale.exponent, up).ok_or(TickFault::OutOfRange)
 }
 
-/// Returns `number` units in ticks, rounded up if `up` is true, otherwise down. `None` if they are
-/// 2^64 or more. `unit` and `tick` are powers of ten in seconds.
+/// Returns how many ticks `number` units are, rounded up if `up` is true, otherwise down. `None` if
+/// they are 2^64 or more. `unit` and `tick` say how long a unit and a tick are: powers of ten in
+/// seconds.
 fn unit_ticks(number: u64, unit: i8, tick: i8, up: bool) -> Option<u64>
     ensures { SomeIff result (ticks number unit tick up < 2 ^ 64) (ticks number unit tick up) }
 {
@@ -91,14 +92,15 @@ fn unit_ticks(number: u64, unit: i8, tick: i8, up: bool) -> Option<u64>
 /// The power of ten in seconds of a femtosecond.
 const FEMTOSECOND: i8 = -15;
 
-/// Returns the power of ten in femtoseconds of `exponent`, one in seconds: how far it is from -15.
+/// Returns how far `exponent` is from -15: the power of ten in femtoseconds, if `exponent` is one
+/// in seconds.
 fn power_of(exponent: i8) -> u8
     ensures { result ≡ nat_abs (exponent +ℤ pos 15) }
 {
     exponent.abs_diff(FEMTOSECOND)
 }
 
-/// Returns a number times 10^`power`. `None` if that is 2^64 or more.
+/// Returns `number` times 10 to the power `power`. `None` if that is 2^64 or more.
 fn multiplied(number: u64, power: u8) -> Option<u64>
     ensures { SomeIff result (number * 10 ^ power < 2 ^ 64) (number * 10 ^ power) }
 {
@@ -108,7 +110,7 @@ fn multiplied(number: u64, power: u8) -> Option<u64>
     number.checked_mul(10u64.checked_pow(u32::from(power))?)
 }
 
-/// Returns a number divided by 10^`power`, rounded down.
+/// Returns `number` divided by 10 to the power `power`, rounded down.
 fn divided(number: u64, power: u8) -> u64
     ensures { result ≡ number / 10 ^ power }
 {
@@ -118,7 +120,7 @@ fn divided(number: u64, power: u8) -> u64
     }
 }
 
-/// Returns a number divided by 10^`power`, rounded up.
+/// Returns `number` divided by 10 to the power `power`, rounded up.
 fn divided_up(number: u64, power: u8) -> u64
     ensures { result ≡ div_ceil number (10 ^ power) }
 {

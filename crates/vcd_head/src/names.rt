@@ -33,7 +33,7 @@ pub(crate) struct NameRun {
 impl<'n> Group<'n> {
     ghost use Rattle.vcd_head.specs.Names.{AreRising, FlagsSome, GoesOnWith, IsRun, IsRunOn, Narrows, RunsOn, names_of};
 
-    /// Returns the group of these names, at most 16,384. `order` has their indexes in the order of
+    /// Returns a group of these names, at most 16,384. `order` has their indexes in the order of
     /// their bytes, as `put_names` writes them.
     pub(crate) fn new(names: &'n [String], order: &'n [u16; GROUP_NAMES]) -> Self
         requires few { length names.now ≤ 16384 }
@@ -44,7 +44,7 @@ impl<'n> Group<'n> {
         Group { names, order }
     }
 
-    /// Returns the run of all names, which begin with an empty front.
+    /// Returns the range of all names of the group: those that begin with the empty path.
     pub(crate) fn all(&self) -> NameRun
         ensures { (flags : List Bool) → IsOrder (names_of self.now) self.now.order.now
             → AreSame (names_of self.now) flags → IsRun self.now flags [] result }
@@ -57,8 +57,8 @@ impl<'n> Group<'n> {
         }
     }
 
-    /// Returns the index of the name that is at this index of the order, or 0 if the order does not
-    /// have this index.
+    /// Returns the index in `names` of the name that is at place `at` in the order of bytes, or 0
+    /// if there is no such place.
     #[inline(always)]
     fn index_at(&self, at: usize) -> usize
         ensures position { result ≡ get_or self.now.order.now at 0 }
@@ -71,8 +71,8 @@ impl<'n> Group<'n> {
         }
     }
 
-    /// Returns 1 plus the byte after the first `passed` bytes of the name at an index of the order,
-    /// or 0 if the name ends before.
+    /// Returns 1 plus the byte after the first `passed` bytes of a name, or 0 if the name ends
+    /// before that. `at` is the place of the name in the order of bytes.
     #[inline(always)]
     fn next_at(&self, at: usize, passed: usize) -> usize
         ensures next { result ≡ next_in (names_of self.now) self.now.order.now passed at }
@@ -85,9 +85,9 @@ impl<'n> Group<'n> {
         }
     }
 
-    /// Returns the first index of the order, from `first` on and before `end`, at which `next_at`,
-    /// after `passed` bytes, is at least `least`; `end` if there is none. Between these two
-    /// `next_at` must not decrease.
+    /// Returns the first place from `first` to `end` (exclusive), in the order of the names' bytes,
+    /// at which `next_at` with `passed` is at least `least`; `end` if there is none. `next_at` must
+    /// not decrease between these places.
     #[inline(always)]
     fn first_from(&self, first: usize, end: usize, passed: usize, least: usize) -> usize
         ensures range { first ≤ end → (first ≤ result) × (result ≤ end) }
@@ -107,8 +107,8 @@ impl<'n> Group<'n> {
         low
     }
 
-    /// Flags the names of a run that have no more bytes than those passed so far, and returns
-    /// whether there are some.
+    /// Sets the flags in `matched` of the names of a range that end after the bytes of the path
+    /// that were followed so far, and returns whether there are some.
     #[inline(always)]
     fn note(&self, run: NameRun, matched: &mut [bool; GROUP_NAMES]) -> bool
         ensures { FlagsSome self.now matched.old matched.new run
@@ -129,8 +129,9 @@ impl<'n> Group<'n> {
         true
     }
 
-    /// Flags the names of a run that have no more bytes than those passed so far, if `byte`, the
-    /// next one of the path, is a dot. Returns whether there are some; false for any other byte.
+    /// Sets the flags in `matched` of the names of a range that end after the bytes of the path
+    /// that were followed so far, if `byte`, the next one of the path, is a dot. Returns whether
+    /// there are some; false for any other byte.
     #[inline(always)]
     fn note_at(&self, run: NameRun, byte: u8, matched: &mut [bool; GROUP_NAMES]) -> bool
         ensures { FlagsSome self.now matched.old matched.new run
@@ -143,8 +144,9 @@ impl<'n> Group<'n> {
         }
     }
 
-    /// Returns the names of a run that continue with this byte: an empty run if none does. `whole`
-    /// says whether some name selects all paths that continue after the front.
+    /// Returns the part of a range of names that continue with this byte of the path: an empty
+    /// range if none does. `whole` says whether some name has already selected all paths that begin
+    /// like this one.
     #[inline(always)]
     fn with_byte(&self, run: NameRun, byte: u8, whole: bool) -> NameRun
         ensures narrows { run.first ≤ run.end → AreRising self.now run.passed run.first run.end
@@ -170,7 +172,9 @@ impl<'n> Group<'n> {
         }
     }
 
-    /// Returns the run after one more byte, and flags the names that end before it, if it is a dot.
+    /// Returns the part of a range of names that continue with this byte of the path. If the byte
+    /// is a dot, it sets the flags in `matched` of the names that end before it, which select all
+    /// paths from here on.
     #[inline(always)]
     fn step(&self, run: NameRun, byte: u8, matched: &mut [bool; GROUP_NAMES]) -> NameRun
         ensures { RunsOn self.now matched.old matched.new run (λ front. front ++ byte ∷ []) result }
@@ -179,7 +183,7 @@ impl<'n> Group<'n> {
         self.with_byte(run, byte, run.whole | ends)
     }
 
-    /// Returns how many of these bytes all names of a run continue with.
+    /// Returns how many of the first bytes of `bytes` all names of a range continue with.
     #[inline(always)]
     fn shared_by_run(&self, run: NameRun, bytes: &[u8]) -> usize
         ensures within { result ≤ length bytes.now }
@@ -196,8 +200,10 @@ impl<'n> Group<'n> {
         )
     }
 
-    /// Returns the run after some of these bytes, at least one, and how many they are: all that all
-    /// names of the run continue with, and one more.
+    /// Follows one or more of these bytes of a path: all that every name of the range continues
+    /// with, and one more if there is one. Returns the names that continue with all of these, and
+    /// how many bytes were followed. Sets the flags in `matched` of the names that end before a dot
+    /// among them.
     // Without this, 30,000 names with a dot each over 30,000 variables took eight times as long.
     #[inline(always)]
     fn hop(&self, run: NameRun, bytes: &[u8], matched: &mut [bool; GROUP_NAMES]) -> (NameRun, usize)
@@ -217,7 +223,8 @@ impl<'n> Group<'n> {
         }
     }
 
-    /// Returns the run after these bytes, and flags the names that end before a dot in them.
+    /// Returns the part of a range of names that continue with these bytes of a path, and sets the
+    /// flags in `matched` of the names that end before a dot in them.
     pub(crate) fn follow(
         &self,
         run: NameRun,
@@ -239,8 +246,9 @@ impl<'n> Group<'n> {
         run
     }
 
-    /// Returns the run inside a scope with this name, and flags the names that select all that is
-    /// in it.
+    /// Returns the names of a range that can select something inside a scope named `component`, and
+    /// sets the flags in `matched` of the names that select all that is in it. `run` has those that
+    /// can outside of it.
     pub(crate) fn enter(
         &self,
         run: NameRun,
@@ -254,8 +262,9 @@ impl<'n> Group<'n> {
         self.step(named, b'.', matched)
     }
 
-    /// Flags the names that select a variable whose own name is `own`, and returns whether there
-    /// are some. `run` is the run inside the scopes around the variable.
+    /// Returns whether some name selects a variable whose own name is `own`, and sets the flags in
+    /// `matched` of those that do. `run` has the names that can select something inside the scopes
+    /// around the variable.
     pub(crate) fn selects(
         &self,
         run: NameRun,
@@ -271,8 +280,8 @@ impl<'n> Group<'n> {
     }
 }
 
-/// Writes the indexes of the names, in the order of their bytes, to the first elements of `order`.
-/// It has only zeros before, and the rest of it stays so.
+/// Writes the indexes of the names, in the order of the names' bytes, to the first elements of
+/// `order`. The elements must be 0 before, and the other ones stay so.
 pub(crate) fn put_names(order: &mut [u16; GROUP_NAMES], names: &[String])
     requires few { length names.now ≤ 16384 }
     requires zeros { (i : ℕ) → get_or order.old i 0 ≡ 0 }
@@ -281,7 +290,8 @@ pub(crate) fn put_names(order: &mut [u16; GROUP_NAMES], names: &[String])
     put_order(&mut order[..names.len()], names);
 }
 
-/// Writes the indexes of names, in the order of the names' bytes, to `positions`.
+/// Writes the indexes of the names, in the order of the names' bytes, to `positions`, which has as
+/// many elements.
 fn put_order(positions: &mut [u16], names: &[String])
     requires count { length positions.old ≡ length names.now }
     requires few { length names.now ≤ 16384 }
@@ -294,7 +304,7 @@ fn put_order(positions: &mut [u16], names: &[String])
     sort(positions, names);
 }
 
-/// Writes 0, 1, 2, .. over the elements: to each its own index.
+/// Writes to each element its own index: 0, 1, 2, ..
 fn number(positions: &mut [u16])
     requires { length positions.old ≤ 16384 }
     ensures len { length positions.new ≡ length positions.old }
@@ -305,7 +315,7 @@ fn number(positions: &mut [u16])
     }
 }
 
-/// Sorts indexes of names by the bytes of the names.
+/// Sorts these indexes of names by the bytes of the names.
 fn sort(positions: &mut [u16], names: &[String])
     ensures permutation { IsPermutation positions.old positions.new }
     ensures sorted { IsSortedBy (comes_before (map string_bytes names.now)) positions.new }
@@ -313,7 +323,7 @@ fn sort(positions: &mut [u16], names: &[String])
     positions.sort_unstable_by(|a, b| order_by(names, *a, *b));
 }
 
-/// Returns the order of the names at two indexes, by their bytes.
+/// Returns how the name at index `a` compares with the one at `b` in the order of their bytes.
 #[inline(always)]
 fn order_by(names: &[String], a: u16, b: u16) -> Ordering
     ensures { result ≡ order_in (map string_bytes names.now) a b }
@@ -321,7 +331,7 @@ fn order_by(names: &[String], a: u16, b: u16) -> Ordering
     name_at(names, usize::from(a)).cmp(name_at(names, usize::from(b)))
 }
 
-/// Returns the bytes of the name at an index, or none if there is no such index.
+/// Returns the bytes of the name at index `position`; no bytes if there is no such index.
 #[inline(always)]
 fn name_at(names: &[String], position: usize) -> &[u8]
     ensures { result.now ≡ get_or (map string_bytes names.now) position [] }
@@ -332,7 +342,7 @@ fn name_at(names: &[String], position: usize) -> &[u8]
     }
 }
 
-/// Returns the bytes after the first `passed`, or none if there are fewer.
+/// Returns the bytes after the first `passed`; no bytes if there are fewer.
 #[inline(always)]
 fn bytes_after(bytes: &[u8], passed: usize) -> &[u8]
     ensures { result.now ≡ drop passed bytes.now }
@@ -340,7 +350,7 @@ fn bytes_after(bytes: &[u8], passed: usize) -> &[u8]
     bytes.get(passed..).unwrap_or(&[])
 }
 
-/// Returns how many bytes are the same at the beginning of all three texts.
+/// Returns the length of the longest common prefix of the three texts.
 #[inline(always)]
 fn shared(first: &[u8], last: &[u8], bytes: &[u8]) -> usize
     ensures within { result ≤ length bytes.now }

@@ -6,7 +6,8 @@ use crate::enclosing::Enclosing;
 use vcd_text::{Sink, WriteFailed, put};
 use vcd_view::HeadView;
 
-/// Writes the names of the scopes around a declaration, outermost first, each with a dot after it.
+/// Writes the names of the scopes around the declaration with index `row`, outermost first, each
+/// with a dot after it. If a write fails, it stops.
 fn put_scopes<W: Sink>(view: HeadView<'_>, row: usize, w: &mut W) -> Result<(), WriteFailed>
     requires failures { (W.device w.old).failures < 2 ^ 64 - 1 }
     ensures { PutsWhere W.device w.old w.new result (λ takes.
@@ -20,9 +21,10 @@ fn put_scopes<W: Sink>(view: HeadView<'_>, row: usize, w: &mut W) -> Result<(), 
     Ok(())
 }
 
-/// Writes the path of a declaration: the names of the scopes around it, outermost first, and its
-/// own (the first token of its reference), with dots between. If a write fails, a prefix was
-/// written. It takes little more than 1 KB of stack, however many scopes there are.
+/// Writes the path of the declaration with index `row`, such as `tb.cpu.clk`: the names of the
+/// scopes around it, outermost first, and its own (the first token of its reference), with dots
+/// between. If a write fails, a prefix was written. It takes little more than 1 KB of stack,
+/// however many scopes there are.
 pub fn put_path<W: Sink>(view: HeadView<'_>, row: usize, w: &mut W) -> Result<(), WriteFailed>
     requires failures { (W.device w.old).failures < 2 ^ 64 - 1 }
     ensures takes { TakesRow view.entry row (W.device w.old) (W.device w.new)

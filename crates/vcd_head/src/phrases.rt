@@ -14,9 +14,10 @@ use std::alloc::Global;
 use vcd_text::{Feed, Source};
 use vcd_view::{Keyword, keyword_of};
 
-/// Reads the rest of a command that the standard does not have, up to its `$end`. Fails with
-/// `OutOfPlace` if the feed's token could begin a timestamp or a value change, and with
-/// `UnknownCommand` if it is no command. The draft stays as it is.
+/// Reads the rest of a command that is no keyword, up to its `$end`; the feed's token is its first
+/// one. Fails with `OutOfPlace` if that token could begin a timestamp or a value change, with
+/// `UnknownCommand` if it is no command, and if the `$end` cannot be read. The draft stays as it
+/// is.
 fn read_other<S: Source>(
     feed: &mut Feed<'_, '_, '_, '_, S>,
     draft: &mut Draft,
@@ -34,8 +35,8 @@ fn read_other<S: Source>(
     skip_to_end(feed)
 }
 
-/// Reads the `$end` after `$enddefinitions`. Fails with `OutOfPlace` if another token comes next.
-/// The draft stays as it is.
+/// Reads the `$end` after `$enddefinitions`. Fails with `OutOfPlace` if another token comes next,
+/// and if none can be read. The draft stays as it is.
 fn read_end<S: Source>(
     feed: &mut Feed<'_, '_, '_, '_, S>,
     draft: &mut Draft,
@@ -50,7 +51,8 @@ fn read_end<S: Source>(
     Err(HeadFault::OutOfPlace)
 }
 
-/// Returns whether other phrases may follow one with this keyword: all but `$enddefinitions`.
+/// Returns whether other phrases may follow one with this keyword (`None` if it begins with no
+/// keyword): true for all but `$enddefinitions`.
 fn goes_on(keyword: Option<Keyword>) -> bool
     ensures { result ≡ goes_on_after keyword }
 {
@@ -60,8 +62,9 @@ fn goes_on(keyword: Option<Keyword>) -> bool
     }
 }
 
-/// Reads a phrase, and returns whether more may follow: true for all but `$enddefinitions`. At most
-/// `most` declarations are allowed. The feed need not show the token before the phrase.
+/// Reads the next phrase of a header into the draft, and returns whether more may follow: true for
+/// all but `$enddefinitions`. At most `most` declarations are allowed. Fails with the fault of the
+/// first token that is not allowed or cannot be read.
 pub(crate) fn read_phrase<S: Source>(
     alloc: Global,
     feed: &mut Feed<'_, '_, '_, '_, S>,
@@ -79,8 +82,10 @@ pub(crate) fn read_phrase<S: Source>(
     Ok(goes_on(keyword))
 }
 
-/// Reads the rest of a phrase that begins with this keyword, or with none. Fails with `OutOfPlace`
-/// if the keyword is `$end` or belongs into the body. At most `most` declarations are allowed.
+/// Reads the rest of a phrase into the draft; `keyword` is the keyword that was read, or `None` if
+/// the token is none. Fails with `OutOfPlace` if the keyword is `$end` or belongs into the body,
+/// and with the fault of the first other token that is not allowed or cannot be read. At most
+/// `most` declarations are allowed.
 fn read_rest<S: Source>(
     alloc: Global,
     feed: &mut Feed<'_, '_, '_, '_, S>,

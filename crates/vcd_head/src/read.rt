@@ -60,8 +60,9 @@ pub fn read_head_with_hasher<S: Source, B: BuildHasher>(
     finish(alloc, draft)
 }
 
-/// Reads the phrases of a header, up to the one that ends it. At most `most` declarations are
-/// allowed.
+/// Reads all phrases of a header into the draft, up to `$enddefinitions $end`. At most `most`
+/// declarations are allowed. Fails with the fault of the first token that is not allowed or cannot
+/// be read.
 fn read_phrases<S: Source>(
     alloc: Global,
     feed: &mut Feed<'_, '_, '_, '_, S>,

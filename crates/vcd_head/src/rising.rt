@@ -2,7 +2,7 @@
 ghost use Rattle.std.specs.Prelude.{◌≡◌, ◌-◌, nat_eq, length, position, slice_get, unwrap_or};
 ghost use Rattle.vcd_head.specs.Names.{Rises};
 
-/// Returns the last of these numbers, or 0 if there is none.
+/// Returns the last of these numbers, which increase, or 0 if there is none.
 #[inline(always)]
 pub(crate) fn last_of(rising: &[u64]) -> u64
     ensures { result ≡ unwrap_or (slice_get rising.now (length rising.now - 1)) 0 }
@@ -10,7 +10,8 @@ pub(crate) fn last_of(rising: &[u64]) -> u64
     rising.last().copied().unwrap_or(0)
 }
 
-/// Returns the index of a number among these, which increase; `None` if it is not among them.
+/// Returns the index of `number` in `rising`, whose numbers increase; `None` if it is not among
+/// them.
 // Most new codes need one comparison and no hash: otherwise the header of 184,002 codes takes 17 %
 // more instructions.
 #[inline(always)]

@@ -17,8 +17,8 @@ pub(crate) struct WideRow {
     pub(crate) code: usize,
 }
 
-/// Returns the length of a token in 32 bits. Fails with `OutOfMemory` for a token of 4 GiB or more,
-/// which needs windows that are as long.
+/// Returns the length of a token as a number of 32 bits. Fails with `OutOfMemory` for a token of 4
+/// GiB or more.
 #[inline(always)]
 pub(crate) fn token_len(len: usize) -> Result<u32, HeadFault>
     ensures held { IfOk result (λ held. held ≡ len) }
@@ -27,8 +27,8 @@ pub(crate) fn token_len(len: usize) -> Result<u32, HeadFault>
     u32::try_from(len).or(Err(HeadFault::OutOfMemory))
 }
 
-/// Returns the number of a row or of a code in 32 bits. The number of each declaration that is
-/// allowed fits. One that does not fit becomes 2^32 - 1.
+/// Returns an index of a row or of a code as a number of 32 bits. The index of each declaration
+/// that is allowed fits. One that does not fit becomes 2^32 - 1.
 #[inline(always)]
 fn in_32_bits(number: usize) -> u32
     ensures { number < 2 ^ 32 → result ≡ number }
@@ -36,7 +36,8 @@ fn in_32_bits(number: usize) -> u32
     u32::try_from(number).unwrap_or(u32::MAX)
 }
 
-/// Appends a row, or fails with `OutOfMemory`.
+/// Appends a declaration to `rows`. Fails with `OutOfMemory` if there is no memory, or if its type
+/// or name has 4 GiB or more.
 // With `Vec::push` the header of 184,002 codes takes 5 % more instructions.
 #[inline(always)]
 pub(crate) fn push(rows: &mut Vec<Row>, row: WideRow) -> Result<(), HeadFault>

@@ -9,8 +9,8 @@ use crate::words::{exponent_of, power_of, unit_of};
 use vcd_text::{Feed, Source};
 use vcd_view::Scale;
 
-/// Reads a number and a unit, in one token or two, and returns the power of ten in seconds. Fails
-/// with `BadTimescale` if the tokens are no time scale.
+/// Reads the number and the unit of a time scale, in one token or two, and returns the power of ten
+/// in seconds. Fails with `BadTimescale` if the tokens are no time scale, and if none can be read.
 fn read_exponent<S: Source>(feed: &mut Feed<'_, '_, '_, '_, S>) -> Result<i8, HeadFault>
     requires { S.failures (source_of feed.old) < 2 ^ 64 - 1 }
     ensures reads { ReadsScale feed.old feed.new result }
@@ -30,8 +30,8 @@ fn read_exponent<S: Source>(feed: &mut Feed<'_, '_, '_, '_, S>) -> Result<i8, He
     }
 }
 
-/// Reads a time scale: number and unit, in one token or two, and `$end`. Fails with `BadTimescale`
-/// if other tokens come next.
+/// Reads the rest of a `$timescale` into the draft: number and unit, in one token or two, and
+/// `$end`. Fails with `BadTimescale` if other tokens come next, and if none can be read.
 pub(crate) fn read_timescale<S: Source>(
     feed: &mut Feed<'_, '_, '_, '_, S>,
     draft: &mut Draft,

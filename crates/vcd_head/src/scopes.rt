@@ -10,8 +10,9 @@ use std::alloc::Global;
 use vcd_text::{Feed, Source};
 use vcd_view::Kind;
 
-/// Reads a scope: type, name and `$end`. Fails with `BadScope` if other tokens come next, and as
-/// `check_start` does if no scope may come here.
+/// Reads the rest of a `$scope` into the draft: type, name and `$end`. Fails with `BadScope` if
+/// other tokens come next, with `TooMany` if the draft has `most` declarations, with `TooDeep` if
+/// 1,000 scopes are open, and if a token cannot be read.
 pub(crate) fn read_scope<S: Source>(
     alloc: Global,
     feed: &mut Feed<'_, '_, '_, '_, S>,
@@ -40,8 +41,9 @@ pub(crate) fn read_scope<S: Source>(
     Ok(())
 }
 
-/// Reads the end of a scope: `$end`. Fails with `BadScope` if another token comes next, and as
-/// `check_start` does if no `$upscope` may come here.
+/// Reads the rest of an `$upscope` into the draft: `$end`. Fails with `BadScope` if another token
+/// comes next, with `TooMany` if the draft has `most` declarations, with `NoScope` if no scope is
+/// open, and if a token cannot be read.
 pub(crate) fn read_upscope<S: Source>(
     feed: &mut Feed<'_, '_, '_, '_, S>,
     most: u64,

@@ -17,7 +17,7 @@ pub(crate) enum Match<'n> {
     Differs,
 }
 
-/// Returns whether the text is the name, or begins with it and a dot.
+/// Returns whether the text is exactly the name, or begins with the name and a dot.
 pub(crate) fn is_or_goes_on(text: &[u8], name: &[u8]) -> bool
     ensures { result ≡ selects_path text.now name.now }
 {
@@ -64,7 +64,8 @@ pub fn selects(view: HeadView<'_>, row: usize, name: &str) -> bool
     is_or_goes_on(view.name_of(row), rest)
 }
 
-/// Sets to 1 the mark of a row and of each scope around it. `marks` has one byte for each row.
+/// Sets the elements of a row and of each scope around it to 1 in `marks`, which has one byte for
+/// each row.
 fn mark(view: HeadView<'_>, row: usize, marks: &mut [u8])
     requires { row < length marks.old }
     ensures { AnyRow view.entry row (λ h. Marked (row_and_scopes h row) marks.old marks.new) }
@@ -76,9 +77,9 @@ fn mark(view: HeadView<'_>, row: usize, marks: &mut [u8])
     }
 }
 
-/// Sets the marks of a row and of the scopes around it, and returns the row of the scope around it,
-/// counted from 1, or 0 if there is none. `marked`, counted in the same way, is a scope that is
-/// already marked with those around it.
+/// Sets the elements of a row and of the scopes around it to 1 in `marks`. Returns 1 plus the index
+/// of the row of the scope directly around it, or 0 if there is none. `marked` is such a number of
+/// a scope that is already marked together with those around it.
 fn mark_row(view: HeadView<'_>, row: usize, marked: usize, marks: &mut [u8]) -> usize
     requires { row < length marks.old }
     ensures marks { AnyRow view.entry row (λ h. AllMarked (scopes_at h.declarations marked) marks.old
@@ -96,7 +97,7 @@ fn mark_row(view: HeadView<'_>, row: usize, marked: usize, marks: &mut [u8]) -> 
     parent
 }
 
-/// Returns 1 plus the row of the scope around a row, or 0 if there is none.
+/// Returns 1 plus the index of the row of the scope directly around a row, or 0 if there is none.
 fn parent_of(view: HeadView<'_>, row: usize) -> usize
     ensures { (h : Header) → IsViewOf view.entry h → row < length h.declarations
         → result ≡ counted_from_one (parent (take row h.declarations)) }
@@ -107,7 +108,8 @@ fn parent_of(view: HeadView<'_>, row: usize) -> usize
     }
 }
 
-/// Sets the marks of all variables and of the scopes around them. The other marks stay as they are.
+/// Sets the elements of all variables, and of the scopes around them, to 1 in `marks`. The other
+/// elements stay as they are.
 // It needs no names in order, and so not their 88 KB of stack.
 fn mark_all(view: HeadView<'_>, marks: &mut [u8])
     requires { length marks.old ≡ length view.rows.now }
@@ -124,7 +126,7 @@ fn mark_all(view: HeadView<'_>, marks: &mut [u8])
     }
 }
 
-/// Returns whether a row declares a variable: false for others, and after the last row.
+/// Returns whether a row declares a variable; false if there is no such row.
 fn is_variable(view: HeadView<'_>, row: usize) -> bool
     ensures { AnyDeclared view.entry row (λ _ d. result ≡ is_variable d) }
 {
@@ -138,8 +140,9 @@ fn is_variable(view: HeadView<'_>, row: usize) -> bool
     }
 }
 
-/// Sets the marks of the variables that some name selects and of the scopes around them. Returns
-/// the index of the first name that selects nothing; `None` if each name selects some variable.
+/// Sets the elements of the variables that some name selects, and of the scopes around them, to 1
+/// in `marks`. Returns the index of the first name that selects nothing; `None` if each name
+/// selects some variable.
 fn mark_selected(view: HeadView<'_>, names: &[String], marks: &mut [u8]) -> Option<usize>
     requires len { length marks.old ≡ length view.rows.now }
     requires few { length names.now ≤ 16384 }
@@ -166,7 +169,8 @@ fn mark_selected(view: HeadView<'_>, names: &[String], marks: &mut [u8]) -> Opti
     first_false(&matched, names.len())
 }
 
-/// Returns the index of the first of `count` flags that is not set; `None` if all of these are set.
+/// Returns the index of the first of the first `count` flags that is not set; `None` if all of
+/// these are set.
 fn first_false(flags: &[bool], count: usize) -> Option<usize>
     requires { count ≤ length flags.now }
     ensures { IsFirstFalse flags.now count result }
@@ -180,8 +184,8 @@ fn first_false(flags: &[bool], count: usize) -> Option<usize>
 }
 
 /// Marks the variables that the names select (all if there are no names) and the scopes around
-/// them: their marks are 1, and all others 0. `marks` has one byte for each row. Fails with the
-/// index of the first name that selects nothing; then the marks may be anything.
+/// them: in `marks`, which has one byte for each row, their elements become 1, and all others 0.
+/// Fails with the index of the first name that selects nothing; then `marks` may have any values.
 pub fn select(view: HeadView<'_>, names: &[String], marks: &mut [u8]) -> Result<(), usize>
     requires marks { length marks.old ≡ length view.rows.now }
     ensures marks { (h : Header) → IsViewOf view.entry h

@@ -9,7 +9,8 @@ use crate::words::is_end;
 use std::alloc::Global;
 use vcd_text::{Ahead, Feed, Source};
 
-/// Passes the tokens up to the first `$end`. Fails if there is none.
+/// Reads tokens up to and with the next `$end`, and ignores them. Fails if there is no `$end`, or
+/// if a token cannot be read.
 pub(crate) fn skip_to_end<S: Source>(feed: &mut Feed<'_, '_, '_, '_, S>) -> Result<(), HeadFault>
     requires { S.failures (source_of feed.old) < 2 ^ 64 - 1 }
     ensures reads { ReadsToEnd feed.old feed.new (λ _ inner. Unit {0}) result }
@@ -22,8 +23,8 @@ pub(crate) fn skip_to_end<S: Source>(feed: &mut Feed<'_, '_, '_, '_, S>) -> Resu
     }
 }
 
-/// Appends the tokens before the first `$end` to the text, a space before each. Fails if there is
-/// no `$end`, or no memory.
+/// Reads tokens up to and with the next `$end`, and appends those before it to the text, a space
+/// before each. Fails if there is no `$end`, if a token cannot be read, or if there is no memory.
 pub(crate) fn append_to_end<S: Source>(
     feed: &mut Feed<'_, '_, '_, '_, S>,
     text: &mut Vec<u8>,
@@ -44,8 +45,9 @@ pub(crate) fn append_to_end<S: Source>(
     }
 }
 
-/// Appends the tokens that come next, lie completely in the chunk and come before the first `$end`
-/// to the text, a space before each. Returns how many bytes were passed.
+/// Appends the tokens that come next and lie completely in the chunk to the text, up to the first
+/// `$end`, which is left; a space is put before each. Returns how many bytes of the chunk they
+/// take. Fails if there is no memory.
 // Without it, `check` of a date of tokens of one byte takes 2.2 times as many instructions.
 fn append_ahead(ahead: Ahead<'_>, text: &mut Vec<u8>) -> Result<usize, HeadFault>
     ensures appends { AppendsAhead ahead.entry text.old.items text.new.items result }
@@ -66,8 +68,9 @@ fn append_ahead(ahead: Ahead<'_>, text: &mut Vec<u8>) -> Result<usize, HeadFault
     }
 }
 
-/// Returns the tokens before the first `$end`, with a space between: no bytes if there are none.
-/// Fails if there is no `$end`, or no memory.
+/// Reads tokens up to and with the next `$end`, and returns those before it with a space between:
+/// no bytes if there are none. Fails if there is no `$end`, if a token cannot be read, or if there
+/// is no memory.
 pub(crate) fn text_to_end<S: Source>(
     alloc: Global,
     feed: &mut Feed<'_, '_, '_, '_, S>,

@@ -7,8 +7,8 @@ use crate::words;
 use std::alloc::Global;
 use vcd_text::{Feed, Halt, Next, Source};
 
-/// Reads the next token. Fails if the input has ended, or if the feed halts: the token or the input
-/// is too long, or the source failed. The feed need not show the token before it.
+/// Reads the next token; `Feed::token` then returns it. Fails if the input has ended, if the token
+/// or the input is too long, or if the source failed.
 #[inline(always)]
 pub(crate) fn next_token<S: Source>(feed: &mut Feed<'_, '_, '_, '_, S>) -> Result<(), HeadFault>
     requires { S.failures (source_of feed.old) < 2 ^ 64 - 1 }
@@ -24,7 +24,8 @@ pub(crate) fn next_token<S: Source>(feed: &mut Feed<'_, '_, '_, '_, S>) -> Resul
     }
 }
 
-/// Reads the next token, and returns whether it is `$end`.
+/// Reads the next token, and returns whether it is `$end`. Fails if there is no token or it cannot
+/// be read.
 #[inline(always)]
 pub(crate) fn next_ends<S: Source>(feed: &mut Feed<'_, '_, '_, '_, S>) -> Result<bool, HeadFault>
     requires { S.failures (source_of feed.old) < 2 ^ 64 - 1 }
@@ -37,7 +38,8 @@ pub(crate) fn next_ends<S: Source>(feed: &mut Feed<'_, '_, '_, '_, S>) -> Result
     Ok(words::is_end(feed.token()))
 }
 
-/// Reads the next token, and returns its bytes. `None` if it is `$end`.
+/// Reads the next token, and returns a copy of its bytes, or `None` if it is `$end`. Fails if there
+/// is no token, if it cannot be read, or if there is no memory.
 pub(crate) fn next_word<S: Source>(
     alloc: Global,
     feed: &mut Feed<'_, '_, '_, '_, S>,

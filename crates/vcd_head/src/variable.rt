@@ -14,7 +14,7 @@ use vcd_text::{Feed, Source};
 use vcd_view::Kind;
 
 /// Reads the size of a variable, in bits. Fails with `BadVariable` if the next token is not the
-/// digits of a number from 1 to 16,777,215.
+/// digits of a number from 1 to 16,777,215, and if it cannot be read.
 fn read_size<S: Source>(feed: &mut Feed<'_, '_, '_, '_, S>) -> Result<usize, HeadFault>
     requires { S.failures (source_of feed.old) < 2 ^ 64 - 1 }
     ensures reads { ReadsSize feed.old feed.new result }
@@ -27,9 +27,10 @@ fn read_size<S: Source>(feed: &mut Feed<'_, '_, '_, '_, S>) -> Result<usize, Hea
     }
 }
 
-/// Reads the code of a variable of this size, which is an event if `event` is true. Fails with
-/// `BadVariable` if the next token is no code, and with `CodeDiffers` if the code was declared with
-/// another size, or if only one of its variables is an event.
+/// Reads the code of a variable with this size, which is an event if `event` is true, and returns
+/// its bytes. Fails with `BadVariable` if the next token is no code, with `CodeDiffers` if `known`
+/// has the code with another size, or if only one of its variables is an event, and if the token
+/// cannot be read.
 fn read_code<S: Source>(
     alloc: Global,
     feed: &mut Feed<'_, '_, '_, '_, S>,
@@ -62,9 +63,9 @@ struct VariableStart {
     code: Vec<u8>,
 }
 
-/// Reads the type, the size and the code of a variable. Fails with `BadVariable` if other tokens
-/// come next, and with `CodeDiffers` if the code was declared with another size, or if only one of
-/// its variables is an event.
+/// Reads the type, the size and the code of a variable, and returns them. Fails with `BadVariable`
+/// if other tokens come next, with `CodeDiffers` if `known` has the code with another size, or if
+/// only one of its variables is an event, and if a token cannot be read.
 fn read_variable_start<S: Source>(
     alloc: Global,
     feed: &mut Feed<'_, '_, '_, '_, S>,
@@ -83,9 +84,10 @@ fn read_variable_start<S: Source>(
     Ok(VariableStart { word, size, code })
 }
 
-/// Reads a variable: type, size, code, one or more tokens of reference, and `$end`. Fails with
-/// `BadVariable` if other tokens come next, with `CodeDiffers` as `read_variable_start` does, and
-/// with `TooMany` if `most` declarations were read before.
+/// Reads the rest of a `$var` into the draft: type, size, code, one or more tokens of reference,
+/// and `$end`. Fails with `BadVariable` if other tokens come next, with `CodeDiffers` if the code
+/// was declared before with another size, or if only one of its variables is an event, with
+/// `TooMany` if the draft has `most` declarations, and if a token cannot be read.
 pub(crate) fn read_variable<S: Source>(
     alloc: Global,
     feed: &mut Feed<'_, '_, '_, '_, S>,

@@ -20,7 +20,7 @@ pub(crate) fn is_var(token: &[u8]) -> bool
     matches!(token, [b'$', b'v', b'a', b'r'])
 }
 
-/// Returns whether the type is `event`.
+/// Returns whether the word, the type of a variable, is `event`.
 #[inline(always)]
 pub(crate) fn is_event(word: &[u8]) -> bool
     ensures { result ≡ bytes_eq (codes "event") word.now }
@@ -44,7 +44,7 @@ pub(crate) fn is_upscope(token: &[u8]) -> bool
     matches!(token, [b'$', b'u', b'p', b's', b'c', b'o', b'p', b'e'])
 }
 
-/// Returns whether the token could begin a timestamp or a value change.
+/// Returns whether the token could begin a timestamp or a value change: by its first byte.
 pub(crate) fn begins_change(token: &[u8]) -> bool
     ensures { result ≡ changes token.now }
 {
@@ -54,14 +54,15 @@ pub(crate) fn begins_change(token: &[u8]) -> bool
     }
 }
 
-/// Returns whether the token is `$` and one or more bytes.
+/// Returns whether the token has the form of a command: a `$` and one or more bytes after it.
 pub(crate) fn is_command(token: &[u8]) -> bool
     ensures { result ≡ commands token.now }
 {
     token.len() > 1 && token[0] == b'$'
 }
 
-/// Returns the power of ten of a time scale's number. `None` if it is not 1, 10 or 100.
+/// Returns the power of ten of the number in a time scale: 0 for `1`, 1 for `10`, 2 for `100`.
+/// `None` for any other token.
 pub(crate) fn power_of(number: &[u8]) -> Option<i8>
     ensures { result ≡ power_in number.now }
 {
@@ -76,7 +77,8 @@ pub(crate) fn power_of(number: &[u8]) -> Option<i8>
     }
 }
 
-/// Returns the power of ten of a time scale's unit, in seconds. `None` if no unit has this name.
+/// Returns the power of ten, in seconds, of the unit in a time scale: -9 for `ns`. `None` if no
+/// unit has this name.
 pub(crate) fn unit_of(unit: &[u8]) -> Option<i8>
     ensures { result ≡ unit_in unit.now }
 {
@@ -97,8 +99,8 @@ pub(crate) fn unit_of(unit: &[u8]) -> Option<i8>
     }
 }
 
-/// Returns the power of ten of a number and a unit in one token, in seconds. `None` if the token is
-/// no time scale.
+/// Returns the power of ten, in seconds, of a time scale in one token: -8 for `10ns`. `None` if the
+/// token is no time scale.
 pub(crate) fn exponent_of(scale: &[u8]) -> Option<i8>
     ensures { result ≡ exponent_is scale.now }
 {
@@ -114,8 +116,8 @@ pub(crate) fn exponent_of(scale: &[u8]) -> Option<i8>
     None
 }
 
-/// Returns the power of ten of a time scale, in seconds: that of its unit plus `power`, which is
-/// that of its number. `None` if no unit has this name.
+/// Returns the power of ten, in seconds, of a time scale: that of its unit plus `power`, the one of
+/// its number. `None` if no unit has this name.
 fn raised(unit: &[u8], power: i8) -> Option<i8>
     requires low { pos 0 ≤ℤ power }
     requires high { power ≤ℤ pos 2 }
@@ -127,8 +129,8 @@ fn raised(unit: &[u8], power: i8) -> Option<i8>
     }
 }
 
-/// Returns the size that the digits of the token spell. `None` if it has another byte or none, or
-/// spells a number that is not from 1 to 16,777,215.
+/// Returns the size of a variable that the digits of this token spell. `None` if the token has a
+/// byte that is no digit, or no byte, or if the number is not from 1 to 16,777,215.
 #[inline(always)]
 pub(crate) fn size_of(token: &[u8]) -> Option<usize>
     ensures { result ≡ size_in token.now }
@@ -149,7 +151,8 @@ pub(crate) fn size_of(token: &[u8]) -> Option<usize>
 // One more than the greatest size.
 const TOO_WIDE: usize = 16_777_216;
 
-/// Returns whether all bytes may be in a code: 33 to 126 (clause 18, identifier code).
+/// Returns whether all bytes of the token may be in an identifier code: 33 to 126 (clause 18,
+/// identifier code).
 #[inline(always)]
 pub(crate) fn is_code(token: &[u8]) -> bool
     ensures { result ≡ list_all is_code_byte token.now }

@@ -5,7 +5,7 @@ ghost use Rattle.vcd_head.specs.Names.{AnyDeclared, AnyHeader, AnyVariable, Coun
 use vcd_text::{Sink, WriteFailed, put, put_number};
 use vcd_view::{HeadView, Kind, Scale};
 
-/// Writes texts one after the other.
+/// Writes these texts one after the other. If a write fails, it stops.
 fn put_texts<W: Sink>(w: &mut W, texts: &[&[u8]]) -> Result<(), WriteFailed>
     requires failures { (W.device w.old).failures < 2 ^ 64 - 1 }
     ensures { PutsTo W.device w.old w.new (flat_map (λ text. text.now) texts.now) result }
@@ -16,7 +16,7 @@ fn put_texts<W: Sink>(w: &mut W, texts: &[&[u8]]) -> Result<(), WriteFailed>
     Ok(())
 }
 
-/// Writes a keyword, a text and `$end`, on three lines.
+/// Writes a keyword, a text and `$end`, each on a line of its own. If a write fails, it stops.
 pub(crate) fn put_lines<W: Sink>(w: &mut W, keyword: &[u8], text: &[u8]) -> Result<(), WriteFailed>
     requires failures { (W.device w.old).failures < 2 ^ 64 - 1 }
     ensures { PutsWhere W.device w.old w.new result (λ takes. (k : Keyword)
@@ -25,7 +25,8 @@ pub(crate) fn put_lines<W: Sink>(w: &mut W, keyword: &[u8], text: &[u8]) -> Resu
     put_texts(w, &[keyword, b"\n\t", text, b"\n$end\n"])
 }
 
-/// Writes a keyword, a text and `$end`, on three lines, or nothing if there is no text.
+/// Writes a keyword, a text and `$end`, each on a line of its own, or nothing if the text is empty.
+/// If a write fails, it stops.
 fn put_section<W: Sink>(w: &mut W, keyword: &[u8], text: &[u8]) -> Result<(), WriteFailed>
     requires failures { (W.device w.old).failures < 2 ^ 64 - 1 }
     ensures { PutsWhere W.device w.old w.new result (λ takes. (k : Keyword)
@@ -37,8 +38,8 @@ fn put_section<W: Sink>(w: &mut W, keyword: &[u8], text: &[u8]) -> Result<(), Wr
     put_lines(w, keyword, text)
 }
 
-/// Returns the number and the unit of the time scale with this exponent, or no bytes if no scale
-/// has it.
+/// Returns the time scale whose power of ten in seconds is `exponent`, as a header has it (`10ns`
+/// for -8). It is empty if no time scale has this exponent.
 pub(crate) fn text_of_exponent(exponent: i8) -> &'static [u8]
     ensures { result.now ≡ scale_text exponent }
 {
@@ -65,7 +66,7 @@ pub(crate) fn text_of_exponent(exponent: i8) -> &'static [u8]
     }
 }
 
-/// Returns the number and the unit of a time scale, or no bytes if there is none.
+/// Returns a time scale as a header has it, such as `10ns`. It is empty for `None`.
 fn text_of_scale(scale: Option<Scale>) -> &'static [u8]
     ensures { result.now ≡ unwrap_or
         (option_map scale_text (option_map (λ x. x.exponent) scale)) [] }
@@ -76,15 +77,14 @@ fn text_of_scale(scale: Option<Scale>) -> &'static [u8]
     }
 }
 
-/// Returns whether the declaration of a row is marked: whether its mark is 1. It is not if there is
-/// no mark for the row.
+/// Returns whether the element of a row in `marks` is 1. It is not if there is no such element.
 fn has_mark(marks: &[u8], row: usize) -> bool
     ensures { result ≡ is_marked marks.now row }
 {
     marks.get(row).copied().unwrap_or(0) == 1
 }
 
-/// Writes the line that opens the scope of a row.
+/// Writes the `$scope` line of the scope at index `row`. Fails if the write fails.
 pub(crate) fn put_scope<W: Sink>(
     view: HeadView<'_>,
     row: usize,
@@ -99,8 +99,8 @@ pub(crate) fn put_scope<W: Sink>(
     put_texts(w, &[b"$scope ", type_text, b" ", name, b" $end\n"])
 }
 
-/// Writes the line of the variable of a row, with this code instead of its own. If there is no such
-/// row, it writes nothing.
+/// Writes the `$var` line of the variable at index `row`, with `code` instead of its own code. If
+/// there is no such row, it writes nothing. Fails if the write fails.
 pub(crate) fn put_variable<W: Sink>(
     view: HeadView<'_>,
     row: usize,
@@ -124,8 +124,8 @@ pub(crate) fn put_variable<W: Sink>(
     put_texts(w, &[b" ", code, b" ", reference, b" $end\n"])
 }
 
-/// Writes the line that closes a scope, whose row is `scope`, if the scope is marked. Otherwise it
-/// writes nothing.
+/// Writes an `$upscope` line if the row at index `scope`, the scope that it closes, is marked (has
+/// 1 in `marks`). Otherwise it writes nothing. Fails if the write fails.
 fn put_up<W: Sink>(marks: &[u8], scope: usize, w: &mut W) -> Result<(), WriteFailed>
     requires failures { (W.device w.old).failures < 2 ^ 64 - 1 }
     ensures { PutsTo W.device w.old w.new (up_lines_at (is_marked marks.now) (scope ∷ [])) result }
@@ -136,9 +136,9 @@ fn put_up<W: Sink>(marks: &[u8], scope: usize, w: &mut W) -> Result<(), WriteFai
     Ok(())
 }
 
-/// Writes the line of the declaration of a row: a scope or a variable if it is marked, an
-/// `$upscope` if the scope that it closes is marked. Otherwise it writes nothing. A variable has
-/// its own code.
+/// Writes the line of the declaration at index `row`: of a scope or a variable if it is marked (has
+/// 1 in `marks`), and of an `$upscope` if the scope that it closes is marked. Otherwise it writes
+/// nothing. A variable keeps its code. Fails if the write fails.
 fn put_row<W: Sink>(
     view: HeadView<'_>,
     marks: &[u8],
@@ -165,8 +165,8 @@ fn put_row<W: Sink>(
     }
 }
 
-/// Writes the lines of the marked scopes and variables, and each `$upscope` that closes a marked
-/// scope, in the order of the rows.
+/// Writes the lines of the marked scopes and variables (those with 1 in `marks`), and each
+/// `$upscope` that closes a marked scope, in the order of the rows. If a write fails, it stops.
 fn put_rows<W: Sink>(view: HeadView<'_>, marks: &[u8], w: &mut W) -> Result<(), WriteFailed>
     requires failures { (W.device w.old).failures < 2 ^ 64 - 1 }
     ensures { PutsWhere W.device w.old w.new result (λ takes. AnyHeader view.entry (λ h.
@@ -178,7 +178,8 @@ fn put_rows<W: Sink>(view: HeadView<'_>, marks: &[u8], w: &mut W) -> Result<(), 
     Ok(())
 }
 
-/// Returns the row of the innermost scope that is open after the last row. `None` if none is open.
+/// Returns the index of the row of the innermost scope that is still open at the end of the header.
+/// `None` if none is open.
 fn innermost(view: HeadView<'_>) -> Option<usize>
     ensures { (h : Header) → IsViewOf view.entry h → result ≡ parent h.declarations }
 {
@@ -190,7 +191,8 @@ fn innermost(view: HeadView<'_>) -> Option<usize>
     }
 }
 
-/// Writes the lines that close the marked scopes still open after the last row, innermost first.
+/// Writes an `$upscope` line for each marked scope (one with 1 in `marks`) that is still open at
+/// the end of the header. If a write fails, it stops.
 fn put_closing<W: Sink>(view: HeadView<'_>, marks: &[u8], w: &mut W) -> Result<(), WriteFailed>
     requires failures { (W.device w.old).failures < 2 ^ 64 - 1 }
     ensures { PutsWhere W.device w.old w.new result (λ takes. AnyHeader view.entry (λ h.
@@ -204,8 +206,8 @@ fn put_closing<W: Sink>(view: HeadView<'_>, marks: &[u8], w: &mut W) -> Result<(
     Ok(())
 }
 
-/// Writes the marked declarations in order, and an `$upscope` for each marked scope that is still
-/// open.
+/// Writes the lines of the marked declarations (those with 1 in `marks`) in order, and an
+/// `$upscope` for each marked scope that is still open at the end. If a write fails, it stops.
 fn put_declarations<W: Sink>(view: HeadView<'_>, marks: &[u8], w: &mut W) -> Result<(), WriteFailed>
     requires failures { (W.device w.old).failures < 2 ^ 64 - 1 }
     ensures { PutsWhere W.device w.old w.new result (λ takes. AnyHeader view.entry (λ h.
