@@ -41,9 +41,9 @@ pub struct ScannedItem<'a> {
 }
 
 impl ScannedItem<'_> {
-    /// Returns the size in bits of a change's code. `None` if `size_or_zero` is 0: for an event,
-    /// for an item that is no change, for a size that 32 bits do not hold, and if the size is not
-    /// known.
+    /// Returns the size in bits of the code of a change. `None` for an event, for an item that is
+    /// no change, and for a size that does not fit into 32 bits or was not found out
+    /// (`size_or_zero` is 0).
     #[inline(always)]
     pub fn size(self) -> Option<usize>
         ensures told { IfSome result (λ size. (size ≡ self.entry.size_or_zero) × (0 < size)) }
@@ -64,7 +64,8 @@ struct Places {
     code_at: usize,
 }
 
-/// Returns a change of the code that was found, whose digits are not known as a number.
+/// Returns a `ScannedItem` for a change of the code `found`, with this text, at these places.
+/// Nothing is known of its digits: `bits` is `None`, and `binary` is false.
 #[inline(always)]
 fn change_of(found: Found, form: Form, text: &[u8], places: Places) -> ScannedItem<'_>
     ensures { result ≡ record {
@@ -93,8 +94,8 @@ fn change_of(found: Found, form: Form, text: &[u8], places: Places) -> ScannedIt
     }
 }
 
-/// Returns an item that is no change and begins at this offset. It has no text, no size and no
-/// `bits`.
+/// Returns a `ScannedItem` for an item that is no change and begins at offset `begin`. It has no
+/// text, no size and no `bits`.
 #[inline(always)]
 fn without_text<'a>(item: Item, begin: usize) -> ScannedItem<'a>
     requires { begin + 1 < 2 ^ 64 }
@@ -117,8 +118,9 @@ fn without_text<'a>(item: Item, begin: usize) -> ScannedItem<'a>
     }
 }
 
-/// Returns the code after the digits of a vector, if there are digits and the code has room for
-/// them.
+/// Returns the code of a vector change, looked up by the token `code`. `None` if `token` (`b` and
+/// digits) has bad digits or none, if the header does not declare the code, or if its size is less
+/// than the number of digits. `binary` says that all digits are known to be `0` and `1`.
 #[inline(always)]
 fn vector_code(token: &[u8], code: &[u8], view: HeadView<'_>, binary: bool) -> Option<Found>
     requires begins { Begins token.now kind.Vector }
@@ -135,7 +137,9 @@ fn vector_code(token: &[u8], code: &[u8], view: HeadView<'_>, binary: bool) -> O
     None
 }
 
-/// Returns the code after the text of a real number, if the text has 1 to 64 bytes.
+/// Returns the code of a change of a real number, looked up by the token `code`. `None` if the text
+/// in `token` (`r` and the text) does not have 1 to 64 bytes, or if the header does not declare the
+/// code.
 // Not inlined, since real numbers are rare.
 #[inline(never)]
 fn real_code(token: &[u8], code: &[u8], view: HeadView<'_>) -> Option<Found>
@@ -158,7 +162,8 @@ pub(crate) struct Opening<'a> {
     pub(crate) from_lines: bool,
 }
 
-/// Returns the next token ahead, with what it begins; `None` if the look-ahead gives none.
+/// Returns the next token ahead and the kind of item that it begins, and passes it. `None` if
+/// `Ahead::next` returns `None`; then nothing has changed.
 // Inlined into each arm of `take_next`, where the compiler knows what the token begins.
 #[inline(always)]
 pub(crate) fn opening_ahead<'a>(ahead: &mut Ahead<'a>) -> Option<Opening<'a>>
@@ -173,8 +178,9 @@ pub(crate) fn opening_ahead<'a>(ahead: &mut Ahead<'a>) -> Option<Opening<'a>>
     })
 }
 
-/// Returns the next token ahead, with what it begins, if it begins at the next byte and has two
-/// bytes and a line feed after them.
+/// Returns the next token ahead and the kind of item that it begins, and passes it, if it begins at
+/// the next byte and has two bytes and a line feed after them. Otherwise `None`, and nothing has
+/// changed.
 #[inline(always)]
 fn short_opening<'a>(ahead: &mut Ahead<'a>) -> Option<Opening<'a>>
     ensures opens { IfSome result (λ o. Opens ahead.old ahead.new o) }
@@ -188,9 +194,9 @@ fn short_opening<'a>(ahead: &mut Ahead<'a>) -> Option<Opening<'a>>
     })
 }
 
-/// Returns the next token ahead, if it begins a timestamp, begins at the next byte, and has at most
-/// 15 bytes and a line feed after them. Otherwise `None`, and nothing has changed; then
-/// `opening_ahead` may give one.
+/// Returns the next token ahead and passes it, if it begins with `#`, begins at the next byte, and
+/// has at most 15 bytes and a line feed after them. Otherwise `None`, and nothing has changed; then
+/// `opening_ahead` may return one.
 #[inline(always)]
 pub(crate) fn line_timestamp<'a>(ahead: &mut Ahead<'a>) -> Option<Opening<'a>>
     ensures opens { IfSome result (λ o. Opens ahead.old ahead.new o) }
@@ -211,7 +217,8 @@ pub(crate) fn line_timestamp<'a>(ahead: &mut Ahead<'a>) -> Option<Opening<'a>>
     })
 }
 
-/// Returns the offset of a token that the look-ahead has just given.
+/// Returns the offset at which a token begins in the bytes of `ahead`. It must be the token that
+/// `ahead` gave last.
 #[inline(always)]
 fn begin_of(token: &[u8], ahead: Ahead<'_>) -> usize
     requires { length token.now + 1 ≤ passed_of ahead }
@@ -220,8 +227,9 @@ fn begin_of(token: &[u8], ahead: Ahead<'_>) -> usize
     ahead.passed() - 1 - token.len()
 }
 
-/// Returns the change of a digit and a code, whose token the look-ahead has just given. `None` if
-/// no code comes after the digit, or if the header has no such code.
+/// Returns the change that a token of a digit and a code right after it spells; `opening` has the
+/// token, and `ahead` gave it last. `None` if no code comes after the digit, or if the header does
+/// not declare the code.
 #[inline(always)]
 pub(crate) fn scalar_ahead<'a>(
     opening: Opening<'a>,
@@ -245,7 +253,8 @@ pub(crate) fn scalar_ahead<'a>(
     Some(change_of(found, Form::Scalar, text, places))
 }
 
-/// Returns the code after a digit. `None` if a look at one entry does not find it.
+/// Returns the code after the first byte of the token, by a look at one entry of the header's
+/// table. `None` if there is no code, or if that entry is not the code's.
 #[inline(always)]
 fn short_code(token: &[u8], view: HeadView<'_>) -> Option<Found>
     requires begins { IsScalar token.now }
@@ -259,9 +268,9 @@ fn short_code(token: &[u8], view: HeadView<'_>) -> Option<Found>
     Some(found)
 }
 
-/// Returns the change that a `0` or a `1` begins, if its token begins at the next byte, has two
-/// bytes and a line feed after them, and a look at one entry finds its code. `None` for any other
-/// item; then nothing has changed.
+/// Returns the change that comes next and passes it, if it is a `0` or a `1` with a code of one
+/// byte and a line feed after that, begins at the next byte, and a look at one entry finds its
+/// code. `None` for any other item; then nothing has changed.
 // No call is made, so that a loop over such changes keeps all that it needs in registers.
 #[inline(always)]
 pub(crate) fn short_ahead<'a>(ahead: &mut Ahead<'a>, view: HeadView<'_>) -> Option<ScannedItem<'a>>
@@ -288,7 +297,8 @@ pub(crate) fn short_ahead<'a>(ahead: &mut Ahead<'a>, view: HeadView<'_>) -> Opti
     Some(change_of(found, Form::Scalar, text, places))
 }
 
-/// Returns whether two lines of two bytes come next: the start of a run for `short_ahead`.
+/// Returns whether two lines of two bytes each come next. Then it pays to try `short_ahead` in a
+/// loop.
 #[inline(always)]
 pub(crate) fn two_short_lines_come(ahead: Ahead<'_>) -> bool
     ensures { result ≡ true
@@ -302,8 +312,9 @@ pub(crate) fn two_short_lines_come(ahead: Ahead<'_>) -> bool
     next.two_byte_line_comes()
 }
 
-/// Returns whether the next item lies whole ahead, so that `next_item` reads nothing for it. Before
-/// a comment this is not known, since the item comes after that.
+/// Returns whether the next item lies completely in the chunk, so that `next_item` reads nothing
+/// from the source for it. Before a comment it returns false, since the item comes after the
+/// comment.
 // It looks at one byte after the other: it is asked at the end of a chunk, and at comments.
 #[inline(never)]
 pub fn item_comes(ahead: Ahead<'_>) -> bool
@@ -321,8 +332,8 @@ pub fn item_comes(ahead: Ahead<'_>) -> bool
     }
 }
 
-/// Passes on what the output keeps back, before a read may wait: unless the next item lies
-/// completely in the chunk.
+/// Has the sink pass on what it keeps back, unless the next item lies completely in the chunk of
+/// the feed. Call it before `next_item`, which may wait for input. Fails if the sink fails.
 #[inline(always)]
 pub fn pass_on<S: Source, W: Sink>(
     feed: &Feed<'_, '_, '_, '_, S>,
@@ -349,8 +360,9 @@ pub(crate) struct VectorTokens<'a> {
     pub(crate) code_at: usize,
 }
 
-/// Returns the tokens of a vector's change, of which the first is given: moves the look-ahead past
-/// the next token, its code. `None` if there is no next token ahead.
+/// Returns the two tokens of a vector change: that of `opening`, which `ahead` gave last, and the
+/// next one, its code, which it passes. `None` if `Ahead::next` returns `None`; then nothing has
+/// changed.
 #[inline(always)]
 pub(crate) fn vector_tokens_ahead<'a>(
     opening: Opening<'a>,
@@ -373,8 +385,9 @@ pub(crate) fn vector_tokens_ahead<'a>(
     })
 }
 
-/// Returns a vector's digits as a number, if they are 1 to 32, each `0` or `1`, and `bytes`, the
-/// bytes ahead, have 32 from the first digit on. Otherwise `None`: the digits may still be good.
+/// Returns the digits of a vector change as a number, if they are 1 to 32 digits `0` and `1`, and
+/// `bytes` has at least 32 bytes from the first digit on. `None` otherwise; the digits may still be
+/// correct. `bytes` are those of the look-ahead.
 #[inline(always)]
 pub(crate) fn vector_bits(tokens: VectorTokens<'_>, bytes: &[u8]) -> Option<Bits>
     requires within { tokens.at + length tokens.token.now ≤ length bytes.now }
@@ -386,8 +399,9 @@ pub(crate) fn vector_bits(tokens: VectorTokens<'_>, bytes: &[u8]) -> Option<Bits
     bits_at(bytes, tokens.at + 1, after_first(tokens.token))
 }
 
-/// Returns the change that these tokens are, with the number of the digits if it is known; `None`
-/// if they are no such change. `ahead` is after the tokens.
+/// Returns the change that the two tokens of a vector change spell, which `ahead` gave last. `bits`
+/// has its digits as a number, if that is known. `None` if the digits are bad, if the header does
+/// not declare the code, or if its size is less than the number of digits.
 #[inline(always)]
 pub(crate) fn vector_ahead<'a>(
     tokens: VectorTokens<'a>,
@@ -416,9 +430,10 @@ pub(crate) fn vector_ahead<'a>(
     })
 }
 
-/// Returns the change of an `r` and the text of a real number, whose first token is given: moves
-/// the look-ahead past the next token, its code. `None` if there is none, or if they are no such
-/// change.
+/// Returns the change of a real number: of the token of `opening`, which `ahead` gave last, and of
+/// the next token, its code, which it passes. `None` if there is no next token, if the text does
+/// not have 1 to 64 bytes, or if the header does not declare the code; then the token may have been
+/// passed.
 #[inline(always)]
 pub(crate) fn real_ahead<'a>(
     opening: Opening<'a>,
@@ -444,8 +459,9 @@ pub(crate) fn real_ahead<'a>(
     Some(change_of(found, Form::RealText, text, places))
 }
 
-/// Returns the time of the timestamp that a token is; `None` if it spells none. `ahead` is after
-/// the token.
+/// Returns the time that the token of a timestamp spells; `opening` has the token, and `ahead` gave
+/// it last. `None` if it has other bytes than digits after the `#`, or none, or if the time is 2^64
+/// or more.
 #[inline(always)]
 pub(crate) fn time_ahead<'a>(opening: Opening<'a>, ahead: Ahead<'a>) -> Option<u64>
     requires opens { (a : Ahead) × Opens a ahead opening }
@@ -456,8 +472,9 @@ pub(crate) fn time_ahead<'a>(opening: Opening<'a>, ahead: Ahead<'a>) -> Option<u
     decimal_at(ahead.bytes(), at, ahead.passed() - 1)
 }
 
-/// Returns the timestamp that a token spells, and sets the registers to those after it. `None` if
-/// no such timestamp may come here; then nothing has changed.
+/// Returns the timestamp with this time, and sets `regs` to those after it; `opening` has its
+/// token, and `ahead` gave it last. `None` if it may not come here: inside a section, or if the
+/// time is less than the last one. Then nothing has changed.
 #[inline(always)]
 pub(crate) fn timestamp_ahead<'a>(
     opening: Opening<'a>,
@@ -487,8 +504,9 @@ pub(crate) fn timestamp_ahead<'a>(
     }
 }
 
-/// Returns the begin or the end of a section that a token is, and sets the registers to those after
-/// it. `None` if the token is neither, or if it may not come here; then nothing has changed.
+/// Returns the begin or the end of a section, if the token of `opening`, which `ahead` gave last,
+/// is such a keyword, and sets `regs` to those after it. `None` if it is anything else, or may not
+/// come here; then nothing has changed.
 #[inline(always)]
 pub(crate) fn section_ahead<'a>(
     opening: Opening<'a>,
@@ -520,8 +538,8 @@ pub(crate) fn section_ahead<'a>(
     }
 }
 
-/// Returns the position after a comment that lies completely ahead, up to its `$end`. `None` if no
-/// comment comes next, or if the look-ahead gives none of its tokens.
+/// Returns the look-ahead after the `$end` of the comment that comes next. `None` if no comment
+/// comes next, or if it does not lie completely in the chunk.
 #[inline(always)]
 fn comment_ahead<'a>(ahead: Ahead<'a>) -> Option<Ahead<'a>>
     ensures passes { IfSome result (λ past. PassesNoItem ahead.entry past) }
@@ -540,8 +558,8 @@ fn comment_ahead<'a>(ahead: Ahead<'a>) -> Option<Ahead<'a>>
     }
 }
 
-/// Returns the position after the comments that come next and lie completely ahead: `ahead` itself
-/// if there are none.
+/// Returns the look-ahead after the comments that come next and lie completely in the chunk:
+/// `ahead` itself if there are none.
 // Not inlined, and takes a copy, so that the walk keeps its position in registers.
 #[inline(never)]
 fn past_comments<'a>(ahead: Ahead<'a>) -> Ahead<'a>
@@ -555,8 +573,8 @@ fn past_comments<'a>(ahead: Ahead<'a>) -> Ahead<'a>
     next
 }
 
-/// Returns the position after the comments that come next and lie completely ahead: `ahead` itself
-/// if there are none.
+/// Returns the look-ahead after the comments that come next and lie completely in the chunk:
+/// `ahead` itself if there are none.
 // If neither `$` nor white space comes next, no call is made: nearly each turn of a merge asks this
 // before a timestamp that it leaves.
 #[inline(always)]
@@ -572,7 +590,8 @@ pub(crate) fn after_comments<'a>(ahead: Ahead<'a>) -> Ahead<'a>
     past_comments(ahead)
 }
 
-/// Passes the comments that come next and lie completely in the chunk. It reads nothing.
+/// Moves the feed past the comments that come next and lie completely in its chunk. It reads
+/// nothing from the source. After it the feed's `token` is empty.
 pub(crate) fn pass_comments<S: Source>(feed: &mut Feed<'_, '_, '_, '_, S>)
     ensures gives { GivesNoItem feed.old feed.new }
     ensures advances { Advances S.failures feed.old feed.new CallEnd.GoesOn }
@@ -583,7 +602,8 @@ pub(crate) fn pass_comments<S: Source>(feed: &mut Feed<'_, '_, '_, '_, S>)
     pass_items(feed, bytes);
 }
 
-/// Moves the feed past the items that were taken ahead, which have `bytes` bytes. It reads nothing.
+/// Moves the feed past the next `bytes` bytes of its chunk: the items that a caller has handled
+/// ahead. It reads nothing from the source. After it the feed's `token` is empty.
 pub fn pass_items<S: Source>(feed: &mut Feed<'_, '_, '_, '_, S>, bytes: usize)
     requires { (ts : List Token) × Passed (limit_of feed.old) (lines_of feed.old)
         (ahead_of feed.old) bytes ts }

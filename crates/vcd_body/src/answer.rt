@@ -37,8 +37,9 @@ pub enum Stop {
 }
 
 impl Stop {
-    /// Returns how a run stops at this fault, which is in line `line` of the body of the input at
-    /// the index `input`: with `Stop::Read` if a read failed, otherwise with `Stop::Dump`.
+    /// Returns how a run ends at this fault of a body: `Stop::Read` if a read failed, otherwise
+    /// `Stop::Dump`. `input` is the index of the input, and `line` the line of the fault in it,
+    /// counted from 1.
     pub fn of_body(fault: BodyFault, input: usize, line: u64) -> Stop
         ensures { result ≡ stop_of_body fault input line }
     {

@@ -17,8 +17,8 @@ pub struct Bits {
 }
 
 impl Bits {
-    /// Returns the `len` binary digits that write a number, with zeros on the left if it has fewer.
-    /// `None` if `len` is 0 or above 32, or if the number has more digits.
+    /// Returns the `len` binary digits of `number`, with zeros on the left. `None` if `len` is 0 or
+    /// above 32, or if the number has more than `len` digits.
     #[inline(always)]
     #[tactic(auto, using(crate::proofs::NumberLemmas::small_number, crate::proofs::NumberLemmas::small_rest))]
     pub fn new(len: usize, number: usize) -> Option<Bits>
@@ -32,8 +32,8 @@ impl Bits {
     }
 }
 
-/// Returns binary digits as a slot holds them: the number that they write, and the tag of
-/// `State::Bits` with their count.
+/// Returns `number` and `tag` of a slot that holds these binary digits: the number that they write,
+/// and 7 (`BITS`) plus how many they are.
 #[inline(always)]
 #[tactic(auto, using(crate::proofs::StoreLemmas::many_bits))]
 pub(crate) fn held_bits(bits: Bits) -> (u32, u8)
@@ -44,8 +44,8 @@ pub(crate) fn held_bits(bits: Bits) -> (u32, u8)
     (bits.number as u32, bits.len as u8 + BITS)
 }
 
-/// Returns how many binary digits a slot in `State::Bits` holds, at most 32. In any other state the
-/// result says nothing.
+/// Returns how many binary digits are held, at most 32. Only if the state is `State::Bits` does the
+/// result have a meaning.
 #[inline(always)]
 pub(crate) fn count_in(holding: Holding) -> usize
     ensures { result ≡ count_in (len_of holding) }
@@ -53,8 +53,8 @@ pub(crate) fn count_in(holding: Holding) -> usize
     (holding.upper as usize).min(32)
 }
 
-/// Returns the number that the binary digits of a slot in `State::Bits` write. In any other state
-/// the result says nothing.
+/// Returns the number that the held binary digits write. Only if the state is `State::Bits` does
+/// the result have a meaning.
 #[inline(always)]
 fn number_in(holding: Holding) -> usize
     ensures { result ≡ number_in (len_of holding) }
@@ -62,8 +62,8 @@ fn number_in(holding: Holding) -> usize
     holding.lower as usize
 }
 
-/// Returns whether a slot in `State::Bits` holds at least one binary digit, and its number has no
-/// more digits than it holds: it is below 2 to the power of their count.
+/// Returns whether at least one binary digit is held, and the held number has no more digits than
+/// are held. Only if the state is `State::Bits` does the result have a meaning.
 #[inline(always)]
 pub(crate) fn is_proper(holding: Holding) -> bool
     ensures { result ≡ is_proper (len_of holding) }
@@ -72,8 +72,8 @@ pub(crate) fn is_proper(holding: Holding) -> bool
     count > 0 && number_in(holding) >> count == 0
 }
 
-/// Returns the digit at an index of those that a slot in `State::Bits` holds, from the left, as
-/// `b'0'` or `b'1'`. `None` after the last.
+/// Returns the held binary digit at `index`, counted from the left, as `b'0'` or `b'1'`. `None`
+/// after the last. Only if the state is `State::Bits` does the result have a meaning.
 #[inline(always)]
 pub(crate) fn binary_digit(holding: Holding, index: usize) -> Option<u8>
     ensures { result ≡ slice_get (held_bits holding) index }
@@ -87,8 +87,8 @@ pub(crate) fn binary_digit(holding: Holding, index: usize) -> Option<u8>
     Some(b'0' + digit as u8)
 }
 
-/// Returns the last digit of those that a slot in `State::Bits` holds. There has to be one, so the
-/// result is never `None`.
+/// Returns the last of the held binary digits, as `b'0'` or `b'1'`. At least one has to be held, so
+/// the result is never `None`. Only if the state is `State::Bits` does it have a meaning.
 #[inline(always)]
 pub(crate) fn last_binary(holding: Holding) -> Option<u8>
     requires { 1 ≤ count_in (len_of holding) }
@@ -97,8 +97,8 @@ pub(crate) fn last_binary(holding: Holding) -> Option<u8>
     binary_digit(holding, count_in(holding) - 1)
 }
 
-/// Returns the digit at an index of `bits`, from the left, as `b'0'` or `b'1'`. The index has to be
-/// below their count.
+/// Returns the digit of `bits` at `index`, counted from the left, as `b'0'` or `b'1'`. The index
+/// has to be less than the number of digits.
 #[inline(always)]
 fn digit_of_bits(bits: Bits, index: usize) -> u8
     requires { index < bits.len }
@@ -109,7 +109,7 @@ fn digit_of_bits(bits: Bits, index: usize) -> u8
     b'0' + digit as u8
 }
 
-/// Writes all digits of `bits` into `to`, a byte each, the highest first. `to` has to have as many
+/// Writes all digits of `bits` into `to`, one byte each, the highest first. `to` must have as many
 /// bytes as there are digits.
 pub(crate) fn put_digits(bits: Bits, to: &mut [u8])
     requires { length to.old ≡ bits.len }
@@ -120,8 +120,9 @@ pub(crate) fn put_digits(bits: Bits, to: &mut [u8])
     }
 }
 
-/// Returns whether a slot holds binary digits, and neither they nor those of `bits` are more than
-/// `size`: then both make values of `size` digits.
+/// Returns whether the slot holds binary digits, and neither they nor those of `bits` are more than
+/// `size`. Then the old and the new value of a code of this size differ exactly if the two numbers
+/// do.
 #[inline(always)]
 #[tactic(auto, using(crate::proofs::StoreLemmas::many_bits))]
 pub(crate) fn is_number_step(slot: &Slot, size: usize, bits: Bits) -> bool

@@ -6,24 +6,24 @@ use crate::item::Form;
 use crate::words::{clear_bits, others_32, rest_of};
 use vcd_text::{Sink, WriteFailed, put};
 
-/// Returns the digit by which digits that begin with `digit`, in lower case, are extended on the
-/// left: `0` for a `1`, otherwise the same digit.
+/// Returns the digit by which a value that begins with `digit` is extended on the left: `0` for a
+/// `1`, otherwise the same digit. `digit` is in lower case.
 pub(crate) fn extension_of(digit: u8) -> u8
     ensures { result ≡ extension (digit ∷ []) }
 {
     if digit == b'1' { b'0' } else { digit }
 }
 
-/// Returns the digit, in lower case, by which digits that begin with `digit` are extended on the
-/// left.
+/// Returns the digit, in lower case, by which a value that begins with `digit` is extended on the
+/// left: `0` for a `1`, otherwise the same digit.
 pub(crate) fn extended_by(digit: u8) -> u8
     ensures { result ≡ extension (lower digit ∷ []) }
 {
     extension_of(digit.to_ascii_lowercase())
 }
 
-/// Returns how many bytes on the left equal the first one, which counts too; one fewer if all bytes
-/// are equal. There have to be at least 32. It looks at 32 at a time.
+/// Returns how many bytes at the front equal the first one, which counts too. If all bytes are
+/// equal, the result is one less. There must be at least 32 bytes, and it compares 32 in one step.
 fn same_as_first(bytes: &[u8]) -> usize
     requires { 32 ≤ length bytes.now }
     ensures few { result < length bytes.now }
@@ -42,9 +42,9 @@ fn same_as_first(bytes: &[u8]) -> usize
     last + clear_bits(others_32(bytes, last, first), 32)
 }
 
-/// Returns the end of `digits` that extends to the same value, without some of the first ones. If
+/// Returns a shorter end of `digits` that extends to the same value, if that is easy to find: if
 /// there are at least 32 digits and the first is not `1`, it leaves out those on the left that
-/// equal the first, except one or two of them. Otherwise it returns all.
+/// equal the first, except one or two of them. Otherwise it returns all digits.
 // Without it `pick` of all of a dump of Verilator's takes 2.8 times as many instructions.
 fn without_same(digits: &[u8]) -> &[u8]
     requires { 0 < length digits.now }
@@ -59,8 +59,7 @@ fn without_same(digits: &[u8]) -> &[u8]
     &digits[same_as_first(digits).saturating_sub(1)..]
 }
 
-/// Returns `digits` without those on the left that the value does not need: the shortest digits
-/// that extend to the same value.
+/// Returns the shortest end of `digits` that extends to the same value: `0010` becomes `10`.
 pub(crate) fn shortest(digits: &[u8]) -> &[u8]
     requires { 0 < length digits.now }
     ensures { (size : ℕ) → str_to_ascii_lowercase result.now ≡ short (extended digits.now size) }
@@ -75,8 +74,8 @@ pub(crate) fn shortest(digits: &[u8]) -> &[u8]
     rest
 }
 
-/// Returns whether some byte may be a capital letter: true if one of them has bit 5 clear. Capital
-/// letters have it clear, and the digits of a value in lower case have it set.
+/// Returns whether one of these digits may be a capital letter: whether some byte has bit 5 clear.
+/// Capital letters have it clear; `0`, `1`, `x` and `z` have it set.
 // With two comparisons of each digit instead, `merge` of wide vectors takes 7 % more.
 pub(crate) fn may_have_capital(bytes: &[u8]) -> bool
     ensures { result ≡ false → str_to_ascii_lowercase bytes.now ≡ bytes.now }
@@ -88,7 +87,8 @@ pub(crate) fn may_have_capital(bytes: &[u8]) -> bool
     all == 0
 }
 
-/// Copies `bytes`, in lower case, to the first bytes of `to`, which has to be at least as long.
+/// Copies `bytes` to the first bytes of `to`, which has to be at least as long, and turns capital
+/// letters into small ones.
 fn lower_into(to: &mut [u8], bytes: &[u8])
     requires { length bytes.now ≤ length to.old }
     ensures { take (length bytes.now) to.new ≡ str_to_ascii_lowercase bytes.now }
@@ -98,7 +98,8 @@ fn lower_into(to: &mut [u8], bytes: &[u8])
     }
 }
 
-/// Writes the bytes in lower case, 64 at a time.
+/// Writes the bytes with capital letters turned into small ones, 64 bytes in each write. If a write
+/// fails, it stops.
 #[cold]
 #[inline(never)]
 fn put_lowered<W: Sink>(w: &mut W, bytes: &[u8]) -> Result<(), WriteFailed>
@@ -116,7 +117,8 @@ fn put_lowered<W: Sink>(w: &mut W, bytes: &[u8]) -> Result<(), WriteFailed>
     Ok(())
 }
 
-/// Writes the bytes in lower case. Most bytes are in lower case already.
+/// Writes the bytes with capital letters turned into small ones. If there are none, it writes them
+/// without a copy. If a write fails, it stops.
 fn put_lower<W: Sink>(w: &mut W, bytes: &[u8]) -> Result<(), WriteFailed>
     requires { (W.device w.old).failures < 2 ^ 64 - 1 }
     ensures { Puts (W.device w.old) (W.device w.new) (str_to_ascii_lowercase bytes.now) result }
@@ -127,7 +129,7 @@ fn put_lower<W: Sink>(w: &mut W, bytes: &[u8]) -> Result<(), WriteFailed>
     put(w, bytes)
 }
 
-/// Writes the byte `first`, the code `id` and a line feed.
+/// Writes the byte `first`, the identifier code `id` and a line feed. If a write fails, it stops.
 #[inline(never)]
 pub(crate) fn put_end<W: Sink>(w: &mut W, first: u8, id: &[u8]) -> Result<(), WriteFailed>
     requires { (W.device w.old).failures < 2 ^ 64 - 1 }
@@ -138,8 +140,8 @@ pub(crate) fn put_end<W: Sink>(w: &mut W, first: u8, id: &[u8]) -> Result<(), Wr
     put(w, b"\n")
 }
 
-/// Writes the line of a change of a code of one bit: all of `digits` in lower case, then the code
-/// `id` and a line feed.
+/// Writes a line of all of `digits`, in lower case, and the identifier code `id` right after them.
+/// It is for a code of one bit. If a write fails, it stops.
 #[cold]
 #[inline(never)]
 fn put_all<W: Sink>(w: &mut W, digits: &[u8], id: &[u8]) -> Result<(), WriteFailed>
@@ -152,7 +154,8 @@ fn put_all<W: Sink>(w: &mut W, digits: &[u8], id: &[u8]) -> Result<(), WriteFail
     put(w, b"\n")
 }
 
-/// Writes the line of a change of a real number: `r`, the text, a blank and the code `id`.
+/// Writes the line of a change of a real number: `r`, the text, a blank and the identifier code
+/// `id`. If a write fails, it stops.
 #[inline(never)]
 pub(crate) fn put_real<W: Sink>(w: &mut W, text: &[u8], id: &[u8]) -> Result<(), WriteFailed>
     requires { (W.device w.old).failures < 2 ^ 64 - 1 }
@@ -163,7 +166,8 @@ pub(crate) fn put_real<W: Sink>(w: &mut W, text: &[u8], id: &[u8]) -> Result<(),
     put_end(w, b' ', id)
 }
 
-/// Writes a `b` and the shortest digits of the same value as `digits`, in lower case.
+/// Writes a `b` and the shortest digits, in lower case, that extend to the same value as `digits`.
+/// If a write fails, it stops.
 #[inline(always)]
 pub(crate) fn put_shortest<W: Sink>(w: &mut W, digits: &[u8]) -> Result<(), WriteFailed>
     requires failures { (W.device w.old).failures < 2 ^ 64 - 1 }
@@ -175,9 +179,9 @@ pub(crate) fn put_shortest<W: Sink>(w: &mut W, digits: &[u8]) -> Result<(), Writ
     put_lower(w, shortest(digits))
 }
 
-/// Writes the line of a change that is rare, under the code `id`: of an event, as `1` whatever the
-/// text is, of a real number, or of digits after `b` for a code of one bit. If a write fails, a
-/// prefix was written.
+/// Writes the line of a change of an event (as `1`, whatever the text is), of a real number, or of
+/// digits of a code of one bit, under the identifier code `id`. If a write fails, a prefix was
+/// written.
 pub(crate) fn put_rare<W: Sink>(
     event: bool,
     form: Form,

@@ -8,8 +8,8 @@ use crate::item::Form;
 use crate::packed::holds_packed;
 use crate::slot::{HeldValue, State, digit_of_state};
 
-/// Returns the digit, in lower case, by which a text of digits is extended on the left: `0` if the
-/// text is empty.
+/// Returns the digit, in lower case, by which a text of digits is extended on the left. It is `0`
+/// if the text is empty.
 fn extension_of_text(text: &[u8]) -> u8
     ensures { result ≡ extension (str_to_ascii_lowercase text.now) }
 {
@@ -19,8 +19,8 @@ fn extension_of_text(text: &[u8]) -> u8
     }
 }
 
-/// Returns the digit at an index of a text that is extended to `size` digits, from the left and in
-/// lower case. It is the number 0 after the last.
+/// Returns the digit at `index`, counted from the left, of a text of digits that is extended to
+/// `size` digits, in lower case. It is the byte 0 after the last.
 #[inline(always)]
 fn text_digit(text: &[u8], size: usize, index: usize) -> u8
     ensures { result ≡ get_or (extend (str_to_ascii_lowercase text.now) size) index 0 }
@@ -35,8 +35,8 @@ fn text_digit(text: &[u8], size: usize, index: usize) -> u8
     }
 }
 
-/// Returns the digit at an index of the held digits, which are extended to `size` digits, from the
-/// left. It is the number 0 after the last.
+/// Returns the digit at `index`, counted from the left, of a held value that is extended to `size`
+/// digits. It is the byte 0 after the last.
 #[inline(always)]
 fn shown_digit(held: HeldValue<'_>, size: usize, index: usize) -> u8
     requires digits { HasDigits held }
@@ -46,7 +46,8 @@ fn shown_digit(held: HeldValue<'_>, size: usize, index: usize) -> u8
 }
 
 /// Returns true only if some held digit differs from that of a text at the same place, counted from
-/// the last digit.
+/// the last digit. If it returns false, the values may still differ, in digits that only one of
+/// them has.
 // It extends neither of them, so it takes fewer steps for each digit than `are_same`.
 fn places_differ(held: HeldValue<'_>, text: &[u8]) -> bool
     ensures { result ≡ true → AreTwo (digits_of held.entry) text.now }
@@ -64,8 +65,8 @@ fn places_differ(held: HeldValue<'_>, text: &[u8]) -> bool
     false
 }
 
-/// Returns whether the held digits and those of a text are the same, both extended to a size that
-/// is at least their lengths. It looks from the right, where most differ.
+/// Returns whether a held value and a text of digits are the same, both extended to `size` digits,
+/// which is at least their lengths.
 fn are_same(held: HeldValue<'_>, text: &[u8], size: usize) -> bool
     requires digits { HasDigits held }
     requires held_fit { length (digits_of held) ≤ size }
@@ -85,8 +86,9 @@ fn are_same(held: HeldValue<'_>, text: &[u8], size: usize) -> bool
     true
 }
 
-/// Returns whether a text gives a code of this size other digits than the held ones. It is for
-/// several digits, held or in the text, and takes as long as these are, whatever the size is.
+/// Returns whether a text of digits gives a code of this size another value than the held one. It
+/// is for several digits, held or in the text, and its time grows with their number, not with the
+/// size.
 #[inline(never)]
 fn several_differ(held: HeldValue<'_>, size: usize, text: &[u8]) -> bool
     requires digits { HasDigits held }
@@ -102,8 +104,7 @@ fn several_differ(held: HeldValue<'_>, size: usize, text: &[u8]) -> bool
     }
 }
 
-/// Returns whether a text gives a code of this size other digits than the held ones. Most texts are
-/// one digit.
+/// Returns whether a text of digits gives a code of this size another value than the held digits.
 #[inline(always)]
 fn digits_differ(held: HeldValue<'_>, size: usize, text: &[u8]) -> bool
     requires digits { HasDigits held }
@@ -115,8 +116,8 @@ fn digits_differ(held: HeldValue<'_>, size: usize, text: &[u8]) -> bool
     }
 }
 
-/// Returns whether a text gives a code of this size another value than it has; false if it has
-/// none.
+/// Returns whether a change of this form and text gives a code of this size another value than the
+/// held one; false if it has none yet.
 #[inline(always)]
 pub(crate) fn value_differs(held: HeldValue<'_>, size: usize, form: Form, text: &[u8]) -> bool
     ensures { result ≡ differs (value_at_size size (held_in held.entry))

@@ -4,8 +4,9 @@
 ghost use Rattle.std.specs.Prelude.{◌≡◌, ◌<◌, ℕ, List, ◌==◌, true, false};
 ghost use Rattle.vcd_body.specs.Names.{counts_after, counts_if, counts_of, counts_plus, counts_plus_if, counts_with};
 
-/// Returns the counters of all steps, of rises and of falls, from the parts in the slot and in the
-/// share. A full counter stays at 2^64 - 1.
+/// Returns the three counters of a code: of all value changes that were counted, of rises and of
+/// falls. Each is the sum of what the slot has counted (`steps`) and the share (`counts`), at most
+/// 2^64 - 1.
 #[inline(always)]
 pub(crate) fn counts_of(steps: [u8; 3], counts: [u64; 3]) -> [u64; 3]
     ensures { result ≡ counts_of steps counts }
@@ -24,8 +25,8 @@ pub(crate) fn counts_of(steps: [u8; 3], counts: [u64; 3]) -> [u64; 3]
 // without `flipped`, `edges` of scalars takes 9 % more.
 pub(crate) const CARRY: u64 = 256;
 
-/// Adds `more` to the counter `which`, 0 to 2, of a share. A full one stays full, and any other
-/// `which` changes nothing.
+/// Adds `more` to element `which`, 0 to 2, of the counters of a share. A counter stops at 2^64 - 1.
+/// Any other `which` changes nothing.
 #[inline(always)]
 pub(crate) fn count_more(counts: &mut [u64; 3], which: usize, more: u64)
     ensures { (steps : List ℕ)
@@ -36,8 +37,8 @@ pub(crate) fn count_more(counts: &mut [u64; 3], which: usize, more: u64)
     }
 }
 
-/// Adds `more` to the counter `which` as `count_more` does, if `test` is true. Otherwise nothing
-/// changes.
+/// Adds `more` to element `which`, 0 to 2, of the counters of a share, if `test` is true. A counter
+/// stops at 2^64 - 1. Otherwise, and for any other `which`, nothing changes.
 #[inline(always)]
 fn count_more_if(counts: &mut [u64; 3], which: usize, more: u64, test: bool)
     ensures { (steps : List ℕ)
@@ -49,7 +50,7 @@ fn count_more_if(counts: &mut [u64; 3], which: usize, more: u64, test: bool)
 }
 
 /// Adds `more` to the first counter of a share, to the second if `rises` is true, and to the third
-/// if `falls` is true. A full one stays full.
+/// if `falls` is true. A counter stops at 2^64 - 1.
 pub(crate) fn count_steps(counts: &mut [u64; 3], more: u64, rises: bool, falls: bool)
     ensures { (steps : List ℕ) → counts_of steps counts.new
         ≡ counts_after more rises falls (counts_of steps counts.old) }
@@ -59,9 +60,9 @@ pub(crate) fn count_steps(counts: &mut [u64; 3], more: u64, rises: bool, falls: 
     count_more_if(counts, 2, more, falls);
 }
 
-/// Counts a step in a slot: a fall if `way` is 0, a rise if it is 2, any other if it is 1. Returns
-/// false if the counter of these steps was full: then it begins again at 0, and the caller has 256
-/// steps to count in the share. Otherwise returns true.
+/// Adds 1 to one of the three counters of a slot: to that of falls if `way` is 0, of rises if it is
+/// 2, of other changes of the value if it is 1. Returns false if the counter was at 255: then it is
+/// 0 now, and the caller has to add 256 to those of the share. Otherwise returns true.
 // The step adds to one byte, without a branch. With counters of changes, rises and falls in the
 // slot, `edges` of scalars takes 22 % more.
 #[inline(always)]

@@ -37,7 +37,7 @@ impl BodyFault {
     ghost use Rattle.std.specs.Prelude.{◌≡◌};
     ghost use Rattle.vcd_body.specs.Names.{fault_number};
 
-    /// Returns the number of the fault.
+    /// Returns the number of this fault, by which `text_of` of `vcd_text` returns its message.
     pub fn number(self) -> u8
         ensures { result ≡ fault_number self }
     {

@@ -7,7 +7,7 @@ use crate::change::extension_of;
 use crate::packed::{digit_at, last_packed};
 use crate::slot::{HeldValue, State, digit_of_state};
 
-/// Returns how many digits are held: 0 if there is no value, or a real number.
+/// Returns how many digits of a value are held: 0 if there is no value, or if it is a real number.
 #[inline(always)]
 pub(crate) fn count_of(held: HeldValue<'_>) -> usize
     ensures { result ≡ length (digits_of held.entry) }
@@ -20,8 +20,8 @@ pub(crate) fn count_of(held: HeldValue<'_>) -> usize
     }
 }
 
-/// Returns the digit at an index of those that are held, from the left. `None` after the last, and
-/// if no digits are held.
+/// Returns the held digit at `index`, counted from the left, in lower case. `None` after the last,
+/// and if no digits are held.
 #[inline(always)]
 pub(crate) fn digit_held(held: HeldValue<'_>, index: usize) -> Option<u8>
     ensures { result ≡ slice_get (digits_of held.entry) index }
@@ -34,8 +34,8 @@ pub(crate) fn digit_held(held: HeldValue<'_>, index: usize) -> Option<u8>
     }
 }
 
-/// Returns the digit at an index of the value, extended to `size` digits, from the left. `None`
-/// after the last, and if the value has no digits.
+/// Returns the digit at `index`, counted from the left, of a held value that is extended to `size`
+/// digits, in lower case. `None` after the last, and if the value has no digits.
 #[inline(always)]
 pub(crate) fn digit_shown(held: HeldValue<'_>, size: usize, index: usize) -> Option<u8>
     ensures { result ≡ digit_in (value_at_size size (held_in held.entry)) index }
@@ -48,8 +48,8 @@ pub(crate) fn digit_shown(held: HeldValue<'_>, size: usize, index: usize) -> Opt
     digit_held(held, index - missing)
 }
 
-/// Returns the last digit of the value, which is the same at each size. `None` if there is no
-/// value, or a real number.
+/// Returns the last digit of a held value, in lower case. `None` if there is no value, or if it is
+/// a real number.
 #[inline(always)]
 pub(crate) fn last_held(held: HeldValue<'_>) -> Option<u8>
     ensures { (size : ℕ) → result ≡ last_digit_in (value_at_size size (held_in held.entry)) }

@@ -10,7 +10,7 @@ use vcd_text::{Sink, WriteFailed, put};
 // How many digits one call writes at most.
 const BLOCK: usize = 64;
 
-/// Writes a digit `count` times.
+/// Writes a digit `count` times. If a write fails, it stops.
 fn put_repeated<W: Sink>(digit: u8, count: usize, w: &mut W) -> Result<(), WriteFailed>
     requires { (W.device w.old).failures < 2 ^ 64 - 1 }
     ensures { Puts (W.device w.old) (W.device w.new) (replicate count digit) result }
@@ -25,8 +25,8 @@ fn put_repeated<W: Sink>(digit: u8, count: usize, w: &mut W) -> Result<(), Write
     Ok(())
 }
 
-/// Returns the digit at an index of the held digits, as a byte (`b'0'`, `b'1'`, `b'x'` or `b'z'`),
-/// or the number 0 after the last.
+/// Returns the held digit at `index`, counted from the left, as a byte (`b'0'`, `b'1'`, `b'x'` or
+/// `b'z'`), or the byte 0 after the last.
 #[inline(always)]
 fn digit_or(held: HeldValue<'_>, index: usize) -> u8
     ensures { result ≡ get_or (digits_of held.entry) index 0 }
@@ -34,8 +34,8 @@ fn digit_or(held: HeldValue<'_>, index: usize) -> u8
     digit_held(held, index).unwrap_or(0)
 }
 
-/// Copies the held digits from the index `from` on to `to`, as many as it has bytes. There have to
-/// be at least that many.
+/// Fills `to` with the held digits from index `from` on, counted from the left. There have to be at
+/// least as many as `to` has bytes.
 fn fill(held: HeldValue<'_>, from: usize, to: &mut [u8])
     requires { from + length to.old ≤ length (digits_of held) }
     ensures { to.new ≡ take (length to.old) (drop from (digits_of held.entry)) }
@@ -45,7 +45,8 @@ fn fill(held: HeldValue<'_>, from: usize, to: &mut [u8])
     }
 }
 
-/// Writes the digits that are held, from the index `from` on; nothing if it is after the last.
+/// Writes the held digits from index `from` on, counted from the left; nothing if that is after the
+/// last. If a write fails, it stops.
 fn put_from<W: Sink>(held: HeldValue<'_>, from: usize, w: &mut W) -> Result<(), WriteFailed>
     requires failures { (W.device w.old).failures < 2 ^ 64 - 1 }
     ensures { Puts (W.device w.old) (W.device w.new) (drop from (digits_of held.entry)) result }
@@ -62,8 +63,8 @@ fn put_from<W: Sink>(held: HeldValue<'_>, from: usize, w: &mut W) -> Result<(), 
     Ok(())
 }
 
-/// Returns the index of the held digit at which the shortest digits of the same value begin. At
-/// least one digit has to be held.
+/// Returns the index, counted from the left, of the held digit at which the shortest digits begin
+/// that extend to the same value. At least one digit has to be held.
 fn first_needed(held: HeldValue<'_>) -> usize
     requires some { 0 < length (digits_of held) }
     ensures { (size : ℕ) → drop result (digits_of held.entry)
@@ -80,7 +81,8 @@ fn first_needed(held: HeldValue<'_>) -> usize
     from
 }
 
-/// Writes all digits that are held, and the code `id` right after them, as a line.
+/// Writes a line of all held digits, and the identifier code `id` right after them. If a write
+/// fails, it stops.
 fn put_all_held<W: Sink>(held: HeldValue<'_>, id: &[u8], w: &mut W) -> Result<(), WriteFailed>
     requires failures { (W.device w.old).failures < 2 ^ 64 - 1 }
     ensures { PutsTo W.device w.old w.new (digits_of held.entry ++ (id.now ++ 10 ∷ [])) result }
@@ -90,8 +92,9 @@ fn put_all_held<W: Sink>(held: HeldValue<'_>, id: &[u8], w: &mut W) -> Result<()
     put(w, b"\n")
 }
 
-/// Writes the line of the digits that are held: `b`, the shortest digits of the same value, a blank
-/// and the code. At least one digit has to be held.
+/// Writes the line of a change to the held value: `b`, the shortest digits that extend to it, a
+/// blank and the identifier code `id`. At least one digit has to be held. If a write fails, it
+/// stops.
 fn put_short_held<W: Sink>(held: HeldValue<'_>, id: &[u8], w: &mut W) -> Result<(), WriteFailed>
     requires failures { (W.device w.old).failures < 2 ^ 64 - 1 }
     requires some { 0 < length (digits_of held) }
@@ -103,7 +106,8 @@ fn put_short_held<W: Sink>(held: HeldValue<'_>, id: &[u8], w: &mut W) -> Result<
     put_end(w, b' ', id)
 }
 
-/// Writes the line that gives the code `id`, of this size, its value; nothing if it has none.
+/// Writes the line of a change to the held value of a code of this size, under the identifier code
+/// `id`; nothing if there is no value. If a write fails, a prefix was written.
 pub(crate) fn put_value_line<W: Sink>(
     held: HeldValue<'_>,
     size: usize,
@@ -125,8 +129,8 @@ pub(crate) fn put_value_line<W: Sink>(
     }
 }
 
-/// Writes the digits that are held, extended on the left to `size` digits. If more are held, it
-/// writes these. At least one has to be held.
+/// Writes the held digits, extended on the left to `size` digits. If more are held, it writes
+/// these. At least one has to be held. If a write fails, it stops.
 fn put_extended<W: Sink>(held: HeldValue<'_>, size: usize, w: &mut W) -> Result<(), WriteFailed>
     requires failures { (W.device w.old).failures < 2 ^ 64 - 1 }
     requires some { 0 < length (digits_of held) }
@@ -137,7 +141,7 @@ fn put_extended<W: Sink>(held: HeldValue<'_>, size: usize, w: &mut W) -> Result<
     put_from(held, 0, w)
 }
 
-/// Writes a real number in full: `r` and its text.
+/// Writes `r` and the text of a real number. If a write fails, it stops.
 fn put_real_text<W: Sink>(text: &[u8], w: &mut W) -> Result<(), WriteFailed>
     requires { (W.device w.old).failures < 2 ^ 64 - 1 }
     ensures { Puts (W.device w.old) (W.device w.new) (114 ∷ text.now) result }
@@ -146,7 +150,8 @@ fn put_real_text<W: Sink>(text: &[u8], w: &mut W) -> Result<(), WriteFailed>
     put(w, text)
 }
 
-/// Writes the value in full, with its digits extended to `size`; `-` if there is none.
+/// Writes the held value in full: its digits, extended to `size`, or `r` and the text of a real
+/// number; `-` if there is no value. If a write fails, a prefix was written.
 pub(crate) fn put_value<W: Sink>(
     held: HeldValue<'_>,
     size: usize,

@@ -56,7 +56,8 @@ impl Regs {
     ghost use Rattle.std.specs.Prelude.{◌≡◌, [], false, None, MatchResult};
     ghost use Rattle.vcd_body.specs.Items.{AreRegsAfter, AreRegsWith, AcceptsTimestamp, RefusesTimestamp};
 
-    /// Returns what is known before the first item.
+    /// Returns the registers before the first item of a body: no timestamp came, and no section is
+    /// open.
     pub fn new() -> Regs
         ensures known { AreRegsAfter [] result }
         ensures value { result ≡ record { time = 0; marked = false; section = None } }
@@ -68,8 +69,9 @@ impl Regs {
         }
     }
 
-    /// Takes a timestamp, if one may come: outside a section, and not before the last one.
-    /// Otherwise returns its fault, and nothing changes.
+    /// Sets the registers to those after a timestamp with this time. Fails with `TimeInSection` if
+    /// a section is open, and with `TimeBack` if the time is less than the last one; then nothing
+    /// changes.
     // Not inlined: with it inlined, `cut` of scalars before its window takes 6 % more.
     #[inline(never)]
     pub(crate) fn accept_timestamp(&mut self, time: u64) -> Result<(), BodyFault>
@@ -79,8 +81,9 @@ impl Regs {
         self.accept_timestamp_here(time)
     }
 
-    /// Takes a timestamp as `accept_timestamp` does: by a call of it if `call` is true, otherwise
-    /// inlined.
+    /// Sets the registers to those after a timestamp with this time: by a call of
+    /// `accept_timestamp` if `call` is true, otherwise inlined. Fails as `accept_timestamp` does;
+    /// then nothing changes.
     #[inline(always)]
     pub(crate) fn accept_timestamp_by(&mut self, time: u64, call: bool) -> Result<(), BodyFault>
         ensures may { MatchResult result (λ _. AcceptsTimestamp self.old time) (RefusesTimestamp self.old time) }
@@ -93,7 +96,8 @@ impl Regs {
         }
     }
 
-    /// Takes a timestamp as `accept_timestamp` does, inlined.
+    /// Sets the registers to those after a timestamp with this time; it is always inlined. Fails as
+    /// `accept_timestamp` does; then nothing changes.
     #[inline(always)]
     fn accept_timestamp_here(&mut self, time: u64) -> Result<(), BodyFault>
         ensures may { MatchResult result (λ _. AcceptsTimestamp self.old time) (RefusesTimestamp self.old time) }

@@ -8,15 +8,14 @@ use crate::item::{Form, Item};
 use crate::words::{clear_bits, others_32, others_64};
 use std::simd::prelude::*;
 
-/// Returns true only if all of these digits are in lower case.
+/// Returns true only if none of these digits is a capital letter.
 fn are_lower(digits: &[u8]) -> bool
     ensures { result ≡ true → str_to_ascii_lowercase digits.now ≡ digits.now }
 {
     !may_have_capital(digits)
 }
 
-/// Returns whether a digit is in lower case: of letters and digits, only capital letters have bit 5
-/// clear.
+/// Returns whether a digit is no capital letter: whether bit 5 is set, as in `0`, `1`, `x` and `z`.
 #[inline(always)]
 pub(crate) fn is_lower(digit: u8) -> bool
     ensures { result ≡ true → lower digit ≡ digit }
@@ -24,7 +23,9 @@ pub(crate) fn is_lower(digit: u8) -> bool
     digit & 0x20 != 0
 }
 
-/// Returns whether a digit is in lower case and the code begins right after it, at this offset.
+/// Returns whether a scalar change in the bytes from `from` up to `to` (exclusive) is already as it
+/// would be written: whether its digit is in lower case and its code begins right after it, at
+/// offset `code_at`.
 #[inline(always)]
 fn is_bit_line(bytes: &[u8], from: usize, to: usize, code_at: usize) -> bool
     requires { (text code : List ℕ) × HasChange bytes.now from to Form.Scalar text code }
@@ -33,8 +34,9 @@ fn is_bit_line(bytes: &[u8], from: usize, to: usize, code_at: usize) -> bool
     (from + 1 == code_at) & (bytes[from] & 0x20 != 0)
 }
 
-/// Returns whether a value has this first byte, and exactly one blank between it and the code,
-/// which begins at `code_at`.
+/// Returns whether a change in the bytes from `from` up to `to` (exclusive) begins with the byte
+/// `first`, and has exactly one blank between its text and its code, which begins at offset
+/// `code_at`.
 #[inline(always)]
 fn has_one_blank(
     bytes: &[u8],
@@ -54,7 +56,8 @@ fn has_one_blank(
     (text_end + 1 == code_at) & (bytes[from] == first) & (bytes[text_end] == b' ')
 }
 
-/// Returns how many digits on the left the shortest digits of the same value leave out.
+/// Returns how many digits on the left can be left out without a change of the value that the rest
+/// extends to. There has to be a digit.
 #[inline(never)]
 fn needless(digits: &[u8]) -> usize
     requires { 0 < length digits.now }
@@ -65,8 +68,8 @@ fn needless(digits: &[u8]) -> usize
     digits.len() - shortest(digits).len()
 }
 
-/// Returns how many digits on the left the shortest digits of the same value leave out. `None` if
-/// these are not in lower case, or if there is no digit.
+/// Returns how many digits on the left can be left out without a change of the value that the rest
+/// extends to. `None` if there is no digit, or if one of the rest is a capital letter.
 #[inline(never)]
 fn needless_before_lower(digits: &[u8]) -> Option<usize>
     ensures { IfSome result (IsNeedless digits.now) }
@@ -82,8 +85,8 @@ fn needless_before_lower(digits: &[u8]) -> Option<usize>
 }
 
 /// Returns how many leading zeros of binary digits can be left out: all of them, but never the last
-/// digit. `None` if there are no digits, or if there are at most 32 of them and fewer than 32 bytes
-/// are left from `at` on.
+/// digit. The digits begin at offset `at` in `bytes`. `None` if there are no digits, or if there
+/// are at most 32 of them and fewer than 32 bytes are left from `at` on.
 // It counts them in the bytes. From the number of the digits, `pick` of five of 27,505 codes takes
 // 8 % more.
 #[inline(always)]
@@ -107,10 +110,10 @@ fn left_out_of_binary(bytes: &[u8], at: usize, digits: &[u8]) -> Option<usize>
     Some(needless(digits))
 }
 
-/// Returns how many digits on the left can be left out without changing the value. `None` if there
-/// are no digits, if a digit that stays may be a capital letter, or if there are at most 32 binary
-/// digits and fewer than 32 bytes are left from `at` on. The digits begin at `at` in `bytes`.
-/// `binary` says that all are known to be `0` and `1`.
+/// Returns how many digits on the left can be left out without a change of the value that the rest
+/// extends to. The digits begin at offset `at` in `bytes`, and `binary` says that all are known to
+/// be `0` and `1`. `None` if there are no digits, if one of the rest may be a capital letter, or if
+/// there are at most 32 binary digits and fewer than 32 bytes are left from `at` on.
 // Binary digits have no capital letters, so none is looked for: otherwise `pick` of all of wide
 // vectors takes 15 % more.
 #[inline(always)]
@@ -124,8 +127,10 @@ fn left_out_of(bytes: &[u8], at: usize, digits: &[u8], binary: bool) -> Option<u
     needless_before_lower(digits)
 }
 
-/// Returns how many digits after a `b` to leave out, so that the rest is the line with the code
-/// that begins at this offset. `None` if no such rest is the line, or if that is not known.
+/// Returns how many digits after the `b` of a vector change to leave out, so that the rest of its
+/// bytes is the line that would be written. The change has the bytes from `from` up to `to`
+/// (exclusive), its digits are `digits`, all known to be `0` and `1` if `binary` is true, and its
+/// code begins at offset `code_at`. `None` if no such rest is the line, or if that is not known.
 #[inline(always)]
 fn left_out_of_vector(
     bytes: &[u8],
@@ -144,9 +149,10 @@ fn left_out_of_vector(
     left_out_of(bytes, from + 1, digits, binary)
 }
 
-/// Returns how many bytes after the first one to leave out of a vector or a real number, so that
-/// the others are the line of a change of the code that they spell. The code has this size, and a
-/// line feed comes after it.
+/// Returns how many bytes after the first one of a vector or a real number to leave out, so that
+/// the rest of its bytes is the line that would be written. `scanned` is the change, of this form,
+/// in the bytes from `from` up to `to` (exclusive), and its code has this size. `None` if no such
+/// rest is the line, or if that is not known.
 #[inline(always)]
 fn left_out_of_text(
     scanned: ScannedItem<'_>,
@@ -176,12 +182,13 @@ fn left_out_of_text(
     }
 }
 
-/// Returns how many bytes of a change that was taken ahead to leave out after its first one, so
-/// that the others before its last byte, and a line feed, are the line that `put_change` would
-/// write. The change has the bytes from `from` up to `to`; its last byte is the one after its code.
+/// Returns how many bytes of a change after its first one to leave out, so that the rest and a line
+/// feed are the line that `put_change` would write. `scanned` is the change, in the bytes from
+/// `from` up to `to` (exclusive); the last of these is the one after its code, and does not belong
+/// to the rest.
 ///
-/// `None` for a timestamp, and if the size is not known. For other changes `None` does not mean
-/// that the bytes are not the line.
+/// `None` for an item that is no change, if the size of its code is not known, or if no such rest
+/// is the line or that is not known.
 #[inline(always)]
 pub fn left_out(scanned: ScannedItem<'_>, bytes: &[u8], from: usize, to: usize) -> Option<usize>
     requires { (v : HeadView) × SpellsScanned v bytes.now from to scanned }
@@ -203,9 +210,10 @@ pub fn left_out(scanned: ScannedItem<'_>, bytes: &[u8], from: usize, to: usize) 
     }
 }
 
-/// Returns how many bytes after the first one to leave out of a vector or a real number that was
-/// taken ahead, so that the others before the blank before its code are what its line begins with
-/// under any code. If `None`, that is not known.
+/// Returns how many bytes after the first one of a vector or a real number to leave out, so that
+/// the rest up to the blank before its code is the beginning of its line, whatever its code.
+/// `scanned` is the change, of this form, in the bytes from `from` up to `to` (exclusive). `None`
+/// if no such rest is the beginning, or if that is not known.
 #[inline(always)]
 pub(crate) fn left_out_of_front(
     scanned: ScannedItem<'_>,
@@ -223,9 +231,8 @@ pub(crate) fn left_out_of_front(
     left_out_of_text(scanned, form, scanned.size_or_zero, bytes, from, to)
 }
 
-/// Returns whether these bytes have the line of a timestamp that was taken ahead, but for the line
-/// feed: `#`, and the digits without leading zeros. The digits begin at `at`, and end one byte
-/// before `to`.
+/// Returns whether a timestamp in these bytes is already as it would be written: a `#` and the
+/// digits without leading zeros. The digits begin at offset `at`, and end one byte before `to`.
 #[inline(always)]
 pub fn is_timestamp_line(bytes: &[u8], at: usize, to: usize) -> bool
     requires { (from time : ℕ) × HasTimestamp bytes.now from to at time }

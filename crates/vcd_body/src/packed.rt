@@ -5,8 +5,8 @@ ghost use Rattle.vcd_body.specs.Names.{ArePacked, AreTwo, HasFour, MayPack, chun
 use crate::words::are_all_digits;
 use std::simd::prelude::*;
 
-/// Returns the digit, in lower case, that two bits hold: `0` for 0, `1` for 1, `x` for 3, and `z`
-/// for any other number.
+/// Returns the digit, in lower case, that these two bits stand for in packed digits: `0` for 0, `1`
+/// for 1, `x` for 3, and `z` for any other number.
 #[inline(always)]
 fn digit_of(code: u8) -> u8
     ensures { result ≡ digit_of code }
@@ -19,8 +19,8 @@ fn digit_of(code: u8) -> u8
     }
 }
 
-/// Returns each of the 16 digits from `at` on as two bits: 0 for `0`, 1 for `1`, 3 for an x, and 2
-/// for any other byte. All 16 bytes have to be there.
+/// Returns the two bits of each of the 16 digits from offset `at` on: 0 for `0`, 1 for `1`, 3 for
+/// `x` and `X`, and 2 for any other byte. All 16 bytes have to be there.
 #[inline(always)]
 fn codes_16(bytes: &[u8], at: usize) -> u8x16
     requires { at + 16 ≤ length bytes.now }
@@ -32,7 +32,7 @@ fn codes_16(bytes: &[u8], at: usize) -> u8x16
     at_most_2 + is_x.select(u8x16::splat(1), u8x16::splat(0))
 }
 
-/// Returns whether 16 bytes differ from 16 others: true if they do at one place or more.
+/// Returns whether `first` and `second` differ in at least one of their 16 bytes.
 #[inline(always)]
 fn codes_differ(first: u8x16, second: u8x16) -> bool
     ensures other { result ≡ true → first ≢ second }
@@ -41,8 +41,8 @@ fn codes_differ(first: u8x16, second: u8x16) -> bool
     first.simd_ne(second).to_bitmask() != 0
 }
 
-/// Returns the two highest bits of each of the 16 bytes from `at` on. They hold the last of the
-/// four digits that are packed in a byte. All 16 bytes have to be there.
+/// Returns the two highest bits of each of the 16 bytes of packed digits from offset `at` on: those
+/// of the digits of the last quarter. All 16 bytes have to be there.
 #[inline(always)]
 fn last_codes_16(bytes: &[u8], at: usize) -> u8x16
     requires { at + 16 ≤ length bytes.now }
@@ -51,8 +51,8 @@ fn last_codes_16(bytes: &[u8], at: usize) -> u8x16
     u8x16::from_slice(&bytes[at..]) >> u8x16::splat(6)
 }
 
-/// Returns a digit as two bits, without a branch: 0 for `0`, 1 for `1`, 3 for an x, and 2 for any
-/// other byte.
+/// Returns the two bits of a digit: 0 for `0`, 1 for `1`, 3 for `x` and `X`, and 2 for any other
+/// byte. It takes no branch.
 #[inline(always)]
 fn code_of(digit: u8) -> u8
     ensures { result ≡ code_of digit }
@@ -66,9 +66,9 @@ fn code_of(digit: u8) -> u8
     if digit == b'0' { 0 } else { all_but_0 }
 }
 
-/// Returns true if one of the last of `len` packed digits differs from that of a text at the same
-/// place, counted from the last digit. It looks at up to four of them, and at no more than a
-/// quarter or the text has. Returns false if these are the same.
+/// Returns whether one of the last of `len` packed digits (in `bytes`) differs from that of a text
+/// of digits at the same place, counted from the last digit. It compares up to four digits, and no
+/// more than a quarter of `len` or than the text has.
 fn few_ends_differ(bytes: &[u8], len: usize, text: &[u8]) -> bool
     requires { quarter_of len ≤ length bytes.now }
     ensures differ { result ≡ true → AreTwo (digits_in len bytes.now) text.now }
@@ -83,10 +83,10 @@ fn few_ends_differ(bytes: &[u8], len: usize, text: &[u8]) -> bool
     false
 }
 
-/// Returns true if `len` packed digits and a text differ in one of their last digits: of the last
-/// 16 if a quarter and the text have as many, otherwise of up to four. Returns false if these are
-/// the same, or if there are too few bytes for the digits. The last digits are in the last bytes
-/// that are in use.
+/// Returns whether one of the last of `len` packed digits (in `bytes`) differs from that of a text
+/// of digits at the same place, counted from the last digit. It compares 16 digits if a quarter of
+/// `len` and the text have as many, otherwise up to four. Returns false if these are the same, or
+/// if `bytes` is too short for the digits.
 #[inline(always)]
 pub(crate) fn ends_differ(bytes: &[u8], len: usize, text: &[u8]) -> bool
     ensures differ { result ≡ true → AreTwo (digits_in len bytes.now) text.now }
@@ -106,8 +106,8 @@ pub(crate) fn ends_differ(bytes: &[u8], len: usize, text: &[u8]) -> bool
     )
 }
 
-/// Returns each of the 16 bytes of `low` plus four times the byte of `high` at its place. If a sum
-/// is 256 or more, its byte says nothing.
+/// Returns for each place the byte of `low` plus four times the byte of `high`. If a sum is 256 or
+/// more, its byte has no meaning.
 #[inline(always)]
 fn with_4_times(low: u8x16, high: u8x16) -> u8x16
     requires { (length low ≡ 16) × (length high ≡ 16) }
@@ -119,9 +119,9 @@ fn with_4_times(low: u8x16, high: u8x16) -> u8x16
     low + (twice + twice)
 }
 
-/// Returns 16 digits from each of four offsets on, packed: byte k has the digits that are k places
-/// after `first`, `second`, `third` and `last`, the first of them in the lowest bits. All have to
-/// be there.
+/// Returns 16 bytes of packed digits: byte k has the digits of the text at k bytes after `first`,
+/// `second`, `third` and `last`, that after `first` in its lowest two bits. All of these digits
+/// have to be there.
 // Each byte has one digit from each offset, so four loads and no shuffle give 16 bytes.
 #[inline(always)]
 fn packed_from(text: &[u8], first: usize, second: usize, third: usize, last: usize) -> u8x16
@@ -140,8 +140,8 @@ fn packed_from(text: &[u8], first: usize, second: usize, third: usize, last: usi
     with_4_times(codes_16(text, first), both)
 }
 
-/// Returns 16 digits of each quarter of a text, packed, from the index `at` of each quarter on. A
-/// quarter has `quarter` digits, and the last one ends where the text ends.
+/// Returns 16 bytes of packed digits: byte k has those at index `at + k` of each quarter of the
+/// text. A quarter has `quarter` digits, and the last one ends where the text ends.
 #[inline(always)]
 fn packed_16(text: &[u8], quarter: usize, at: usize) -> u8x16
     requires within { at + 16 ≤ quarter }
@@ -158,7 +158,8 @@ fn packed_16(text: &[u8], quarter: usize, at: usize) -> u8x16
     )
 }
 
-/// Returns the digits of a text, at most 64, and `0` for each that is missing after its last.
+/// Returns the digits of a text, at most 64, and the digit `0` for each that is missing after its
+/// last.
 #[inline(always)]
 fn padded(text: &[u8]) -> [u8; 64]
     requires { length text.now ≤ 64 }
@@ -169,8 +170,8 @@ fn padded(text: &[u8]) -> [u8; 64]
     block
 }
 
-/// Returns the digits of each quarter of a text, packed. A quarter has `quarter` digits, which have
-/// to be fewer than 16. The bytes from the index `quarter` on have no meaning.
+/// Returns the packed digits of a text whose quarters have `quarter` digits, fewer than 16. The
+/// bytes from index `quarter` on have no meaning.
 #[inline(always)]
 fn packed_few(text: &[u8], quarter: usize) -> [u8; 16]
     requires few { quarter < 16 }
@@ -182,8 +183,8 @@ fn packed_few(text: &[u8], quarter: usize) -> [u8; 16]
     packed_from(&block, 0, quarter, 2 * quarter, last).to_array()
 }
 
-/// Packs the digits of each quarter of a text into the first bytes of a share. A quarter has
-/// `quarter` digits, which have to be fewer than 16.
+/// Packs the digits of a text into the first bytes of `bytes`. Its quarters have `quarter` digits,
+/// fewer than 16.
 fn pack_few(bytes: &mut [u8], text: &[u8], quarter: usize)
     requires few { quarter < 16 }
     requires room { quarter ≤ length bytes.old }
@@ -193,8 +194,8 @@ fn pack_few(bytes: &mut [u8], text: &[u8], quarter: usize)
     bytes[..quarter].copy_from_slice(&packed_few(text, quarter)[..quarter]);
 }
 
-/// Returns true only if a share holds the digits of each quarter of a text. A quarter has `quarter`
-/// digits, which have to be fewer than 16.
+/// Returns true only if the first bytes of `bytes` are the packed digits of the text. Its quarters
+/// have `quarter` digits, fewer than 16.
 fn are_few_packed(bytes: &[u8], text: &[u8], quarter: usize) -> bool
     requires few { quarter < 16 }
     requires room { quarter ≤ length bytes.now }
@@ -204,8 +205,8 @@ fn are_few_packed(bytes: &[u8], text: &[u8], quarter: usize) -> bool
     bytes[..quarter] == packed_few(text, quarter)[..quarter]
 }
 
-/// Packs 16 digits of each quarter of a text, from the index `at` of each, into the 16 bytes from
-/// `at` on. The bytes before them stay as they are.
+/// Packs 16 digits of each quarter of a text, those from index `at` of the quarter on, into the 16
+/// bytes from `at` on. The bytes before these stay as they are.
 #[inline(always)]
 fn pack_16(bytes: &mut [u8], text: &[u8], quarter: usize, at: usize)
     requires within { at + 16 ≤ quarter }
@@ -217,8 +218,8 @@ fn pack_16(bytes: &mut [u8], text: &[u8], quarter: usize, at: usize)
     packed_16(text, quarter, at).copy_to_slice(&mut bytes[at..]);
 }
 
-/// Returns true only if the 16 bytes from `at` on hold 16 digits of each quarter of a text, from
-/// the index `at` of each.
+/// Returns true only if the 16 bytes from `at` on are the packed digits from index `at` on of each
+/// quarter of the text. A quarter has `quarter` digits.
 #[inline(always)]
 fn are_packed_16(bytes: &[u8], text: &[u8], quarter: usize, at: usize) -> bool
     requires within { at + 16 ≤ quarter }
@@ -232,9 +233,9 @@ fn are_packed_16(bytes: &[u8], text: &[u8], quarter: usize, at: usize) -> bool
     )
 }
 
-/// Returns true only if a share holds the digits of each quarter of a text. A quarter has `quarter`
-/// digits, which have to be at least 16. It looks at 16 of each at a time, and at some of the last
-/// 16 twice.
+/// Returns true only if the first bytes of `bytes` are the packed digits of the text. Its quarters
+/// have `quarter` digits, at least 16. It compares 16 bytes in one step, and some of the last 16
+/// twice.
 fn are_many_packed(bytes: &[u8], text: &[u8], quarter: usize) -> bool
     requires { MayPack bytes.now text.now quarter }
     ensures { result ≡ true → ArePacked bytes.now text.now quarter }
@@ -250,8 +251,8 @@ fn are_many_packed(bytes: &[u8], text: &[u8], quarter: usize) -> bool
     are_packed_16(bytes, text, quarter, last)
 }
 
-/// Returns true only if a share holds the digits of each quarter of a text. A quarter has `quarter`
-/// digits.
+/// Returns true only if the first bytes of `bytes` are the packed digits of the text. Its quarters
+/// have `quarter` digits.
 #[inline(always)]
 fn are_packed(bytes: &[u8], text: &[u8], quarter: usize) -> bool
     requires room { quarter ≤ length bytes.now }
@@ -265,8 +266,8 @@ fn are_packed(bytes: &[u8], text: &[u8], quarter: usize) -> bool
     }
 }
 
-/// Returns true only if a share holds as many packed digits as the text has, and these are its
-/// digits.
+/// Returns true only if the text is all digits of a value, and the first bytes of `bytes` are these
+/// digits, packed.
 // It compares bytes of the share: digit by digit, `edges` of vectors of 128 bits takes 7.8 times as
 // many instructions.
 pub(crate) fn holds_packed(bytes: &[u8], text: &[u8]) -> bool
@@ -282,8 +283,8 @@ pub(crate) fn holds_packed(bytes: &[u8], text: &[u8]) -> bool
     are_all_digits(text)
 }
 
-/// Returns the 16 bytes from `at` on without the bits that `0` and `1` have in common: 0 for `0`, 1
-/// for `1`, and more than 1 for all others.
+/// Returns each of the 16 bytes from `at` on as a number: 0 for `0`, 1 for `1`, and more than 1 for
+/// any other byte.
 #[inline(always)]
 fn bits_16(bytes: &[u8], at: usize) -> u8x16
     requires { at + 16 ≤ length bytes.now }
@@ -294,8 +295,8 @@ fn bits_16(bytes: &[u8], at: usize) -> u8x16
     u8x16::from_slice(&bytes[at..]) ^ u8x16::splat(b'0')
 }
 
-/// Returns, for each of 16 bytes, the bits that are set in one or the other. The result is 0 or 1
-/// only if both bytes are.
+/// Returns the bitwise or of the two, for each of 16 bytes. A byte of the result is 0 or 1 only if
+/// both are.
 #[inline(always)]
 fn either(first: u8x16, second: u8x16) -> u8x16
     requires { (length first ≡ 16) × (length second ≡ 16) }
@@ -306,7 +307,8 @@ fn either(first: u8x16, second: u8x16) -> u8x16
     first | second
 }
 
-/// Returns whether all of these 16 digits, as `bits_16` returns them, are 0 and 1.
+/// Returns whether all of these 16 numbers are 0 or 1. `bits_16` returns them, or `either` of
+/// several such.
 #[inline(always)]
 fn are_bits(seen: u8x16) -> bool
     requires { length seen ≡ 16 }
@@ -315,9 +317,9 @@ fn are_bits(seen: u8x16) -> bool
     seen.simd_gt(u8x16::splat(1)).to_bitmask() == 0
 }
 
-/// Packs 16 digits of each quarter of a text, from the index `at` of each, into the 16 bytes from
-/// `at` on, as if they were 0 and 1. Returns what `are_bits` takes to say whether they were. The
-/// bytes before `at` stay as they are.
+/// Packs 16 digits of each quarter of a text, those from index `at` of the quarter on, into the 16
+/// bytes from `at` on, as if all were `0` and `1`. Returns numbers for which `are_bits` says
+/// whether they were. The bytes before `at` stay as they are.
 #[inline(always)]
 fn pack_bits_16(bytes: &mut [u8], text: &[u8], quarter: usize, at: usize) -> u8x16
     requires within { at + 16 ≤ quarter }
@@ -337,9 +339,9 @@ fn pack_bits_16(bytes: &mut [u8], text: &[u8], quarter: usize, at: usize) -> u8x
     either(either(first, second), either(third, last))
 }
 
-/// Packs the digits of each quarter of a text, 16 at a time, if all digits are 0 and 1. Returns
-/// whether they are. If not, the bytes that it wrote have no meaning. Of the last 16 some may have
-/// been packed before.
+/// Packs the digits of a text into the first bytes of `bytes`, if all are `0` and `1`, and returns
+/// whether they are. If not, these bytes have no meaning. Its quarters have `quarter` digits, at
+/// least 16.
 fn pack_bits(bytes: &mut [u8], text: &[u8], quarter: usize) -> bool
     requires { MayPack bytes.old text.now quarter }
     ensures { result ≡ true → ArePacked bytes.new text.now quarter }
@@ -354,7 +356,8 @@ fn pack_bits(bytes: &mut [u8], text: &[u8], quarter: usize) -> bool
     are_bits(either(seen, pack_bits_16(bytes, text, quarter, last)))
 }
 
-/// Packs the digits of each quarter, 16 at a time, whatever digits they are.
+/// Packs the digits of a text into the first bytes of `bytes`, whatever digits they are. Its
+/// quarters have `quarter` digits, at least 16.
 #[inline(never)]
 fn pack_any(bytes: &mut [u8], text: &[u8], quarter: usize)
     requires { MayPack bytes.old text.now quarter }
@@ -369,7 +372,8 @@ fn pack_any(bytes: &mut [u8], text: &[u8], quarter: usize)
     pack_16(bytes, text, quarter, last);
 }
 
-/// Packs the digits of each quarter, which has to have 16 or more. In most texts all are 0 and 1.
+/// Packs the digits of a text into the first bytes of `bytes`. Its quarters have `quarter` digits,
+/// at least 16.
 fn pack_many(bytes: &mut [u8], text: &[u8], quarter: usize)
     requires { MayPack bytes.old text.now quarter }
     ensures { ArePacked bytes.new text.now quarter }
@@ -379,8 +383,8 @@ fn pack_many(bytes: &mut [u8], text: &[u8], quarter: usize)
     }
 }
 
-/// Packs the digits of a text into the first bytes of a share, four to a byte: a byte for each
-/// index in a quarter of them. The share has to have that many bytes.
+/// Packs the digits of a text into the first bytes of `bytes`, four to a byte: byte k has digit k
+/// of each quarter of the text. `bytes` must have as many bytes as a quarter has digits.
 #[inline(always)]
 pub(crate) fn pack(bytes: &mut [u8], text: &[u8])
     requires room { length text.now ≤ 4 * length bytes.old }
@@ -394,7 +398,7 @@ pub(crate) fn pack(bytes: &mut [u8], text: &[u8])
     }
 }
 
-/// Returns the byte at an index. `None` after the last.
+/// Returns the byte at `index`, or `None` if there is none.
 #[inline(always)]
 fn byte_at(bytes: &[u8], index: usize) -> Option<u8>
     ensures { result ≡ slice_get bytes.now index }
@@ -402,7 +406,7 @@ fn byte_at(bytes: &[u8], index: usize) -> Option<u8>
     bytes.get(index).copied()
 }
 
-/// Returns the byte at an index, 0 if there is none.
+/// Returns the byte at `index`, or 0 if there is none.
 #[inline(always)]
 fn byte_or(bytes: &[u8], index: usize) -> u8
     ensures { result ≡ get_or bytes.now index 0 }
@@ -410,7 +414,8 @@ fn byte_or(bytes: &[u8], index: usize) -> u8
     byte_at(bytes, index).unwrap_or(0)
 }
 
-/// Returns the digit at an index of `len` digits in a share. `None` after the last.
+/// Returns the digit at `index`, counted from the left, of `len` packed digits, in lower case.
+/// `None` after the last.
 #[inline(always)]
 pub(crate) fn digit_at(bytes: &[u8], len: usize, index: usize) -> Option<u8>
     ensures { result ≡ slice_get (digits_in len bytes.now) index }
@@ -431,8 +436,8 @@ pub(crate) fn last_packed(bytes: &[u8], len: usize) -> u8
     digit_of(bytes[len.div_ceil(4) - 1] / 64)
 }
 
-/// Returns the two bits of the digit at an index of `len` packed digits. The last quarter ends
-/// where the digits do, so it may hold some of the third one again.
+/// Returns the two bits of the digit at `index`, counted from the left, of `len` packed digits. The
+/// last quarter ends where the digits do, so it may have some digits of the third one again.
 #[inline(always)]
 fn code_among(bytes: &[u8], len: usize, index: usize) -> u8
     requires { index < len }

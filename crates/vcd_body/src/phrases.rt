@@ -9,7 +9,8 @@ use crate::words::{after_first, are_binary, are_digits_or_binary, is_end, rest_o
 use vcd_text::{Feed, Source, decimal_of};
 use vcd_view::{Code, Found, HeadView, find_sized, pass_words};
 
-/// Returns the time that the token of a timestamp spells.
+/// Returns the time that the token of a timestamp spells. `None` if it has other bytes than digits
+/// after the `#`, or none, or if the time is 2^64 or more.
 #[inline(always)]
 pub(crate) fn time_in(token: &[u8]) -> Option<u64>
     ensures { result ≡ mark_time token.now }
@@ -17,7 +18,9 @@ pub(crate) fn time_in(token: &[u8]) -> Option<u64>
     decimal_of(rest_of(token))
 }
 
-/// Takes the timestamp that a token is, and returns its time. If there is a fault, nothing changes.
+/// Returns the time of a timestamp with this token, and sets the registers to those after it. Fails
+/// with `BadTime` if it spells no time below 2^64, and as `accept_timestamp` does if it may not
+/// come here; then nothing changes.
 #[inline(always)]
 pub(crate) fn read_timestamp(token: &[u8], regs: &mut Regs) -> Result<u64, BodyFault>
     requires { Begins token.now PhraseKind.Timestamp }
@@ -32,7 +35,8 @@ pub(crate) fn read_timestamp(token: &[u8], regs: &mut Regs) -> Result<u64, BodyF
     Ok(time)
 }
 
-/// Returns the code that comes right after a digit.
+/// Returns the code that comes right after the digit in the token of a scalar change. Fails with
+/// `BadValue` if there is none, and with `UnknownCode` if the header does not declare it.
 #[inline(always)]
 pub(crate) fn scalar_code(token: &[u8], view: HeadView<'_>) -> Result<Found, BodyFault>
     requires begins { IsScalar token.now }
@@ -50,8 +54,9 @@ pub(crate) fn scalar_code(token: &[u8], view: HeadView<'_>) -> Result<Found, Bod
     }
 }
 
-/// Returns the digits of a vector's change: one or more. If they are known to be only `0` and `1`,
-/// none is looked at.
+/// Returns the digits in the first token of a vector change, after its `b`. Fails with `BadValue`
+/// if there are none, or if one of these bytes is no digit of a value. If `binary` is true, all are
+/// known to be `0` and `1`, and none is looked at.
 #[inline(always)]
 pub(crate) fn vector_text(token: &[u8], binary: bool) -> Result<&[u8], BodyFault>
     requires begins { Begins token.now PhraseKind.Vector }
@@ -69,7 +74,8 @@ pub(crate) fn vector_text(token: &[u8], binary: bool) -> Result<&[u8], BodyFault
     Ok(text)
 }
 
-/// Returns the text of a real number's change: 1 to 64 bytes.
+/// Returns the text in the first token of a change of a real number, after its `r`. Fails with
+/// `BadValue` if it is empty, and with `RealTooLong` if it has more than 64 bytes.
 #[inline(always)]
 pub(crate) fn real_text(token: &[u8]) -> Result<&[u8], BodyFault>
     requires begins { Begins token.now PhraseKind.Real }
@@ -88,8 +94,8 @@ pub(crate) fn real_text(token: &[u8]) -> Result<&[u8], BodyFault>
     Ok(text)
 }
 
-/// Passes over a comment, after its keyword, up to its `$end`. Fails if a token cannot be read,
-/// or the input ends before `$end`.
+/// Reads the rest of a comment, up to its `$end`, and ignores it. Fails if a token cannot be read,
+/// or if the input ends before `$end`.
 // Without `pass_words` a comment of tokens of one byte takes 5 times as many instructions.
 pub(crate) fn skip_comment<S: Source>(feed: &mut Feed<'_, '_, '_, '_, S>) -> Result<(), BodyFault>
     requires { S.failures (source_of feed.old) < 2 ^ 64 - 1 }
@@ -105,8 +111,8 @@ pub(crate) fn skip_comment<S: Source>(feed: &mut Feed<'_, '_, '_, '_, S>) -> Res
     }
 }
 
-/// Keeps the token as the value of the feed, reads the next one, and returns the code that it is.
-/// Fails if it cannot be read, or is no code of the header.
+/// Keeps the feed's token as its `value`, reads the next token, and returns the code that this is.
+/// Fails if it cannot be read, and with `UnknownCode` if the header does not declare it.
 #[inline(always)]
 fn read_code<S: Source>(
     feed: &mut Feed<'_, '_, '_, '_, S>,
@@ -127,7 +133,8 @@ fn read_code<S: Source>(
     }
 }
 
-/// Returns whether the code that was found has room for this many digits, or is an event.
+/// Returns whether a change of the code `found` may have this many digits: whether its size is not
+/// less, or its variables are events.
 // The size found with it is mostly enough. Only if it is not, the code is read.
 #[inline(always)]
 pub(crate) fn has_room(codes: &[Code], found: Found, digits: usize) -> bool
@@ -140,10 +147,10 @@ pub(crate) fn has_room(codes: &[Code], found: Found, digits: usize) -> bool
         || digits <= codes[found.position].size
 }
 
-/// Reads the rest of a vector's change, of which the feed shows the first token, `b` and the
-/// digits, and returns the index of its code. Fails if there are no digits, if they are more than
-/// the size, or if the header does not have the code. Then the feed's value is that first token,
-/// and its token is the code.
+/// Reads the rest of a vector change, whose first token (`b` and the digits) the feed has read, and
+/// returns the index of its code. After it the feed's `value` is that first token, and its `token`
+/// the code. Fails if there are no digits or bad ones, if they are more than the size of the code,
+/// or if the header does not declare it.
 #[inline(always)]
 pub(crate) fn read_vector<S: Source>(
     feed: &mut Feed<'_, '_, '_, '_, S>,
@@ -167,9 +174,10 @@ pub(crate) fn read_vector<S: Source>(
     Ok(found.position)
 }
 
-/// Reads the rest of a real number's change, of which the feed shows the first token, `r` and the
-/// text, and returns the index of its code. Any text of 1 to 64 bytes is good, and any code of the
-/// header, whatever its size. Then the feed's value is that first token, and its token is the code.
+/// Reads the rest of a change of a real number, whose first token (`r` and the text) the feed has
+/// read, and returns the index of its code. After it the feed's `value` is that first token, and
+/// its `token` the code. Fails if the text does not have 1 to 64 bytes, or if the header does not
+/// declare the code, which may have any size.
 pub(crate) fn read_real<S: Source>(
     feed: &mut Feed<'_, '_, '_, '_, S>,
     view: HeadView<'_>,

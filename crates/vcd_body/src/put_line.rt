@@ -9,7 +9,8 @@ use crate::renamed::put_code_line;
 use vcd_text::{Sink, WriteFailed, put};
 use vcd_view::NewCode;
 
-/// Writes the byte `first`, the identifier code `id` and a line feed.
+/// Writes the byte `first`, the identifier code `id` and a line feed. If a write fails, a prefix
+/// was written.
 #[inline(always)]
 fn put_end_under<W: Sink>(first: u8, id: Id<'_>, w: &mut W) -> Result<(), WriteFailed>
     requires { (W.device w.old).failures < 2 ^ 64 - 1 }
@@ -21,8 +22,8 @@ fn put_end_under<W: Sink>(first: u8, id: Id<'_>, w: &mut W) -> Result<(), WriteF
     }
 }
 
-/// Writes the line of a change of digits: `b`, the shortest digits of the same value, a blank and
-/// the code `id`.
+/// Writes the line of a vector change: `b`, the shortest digits that extend to the same value, a
+/// blank and the identifier code `id`. If a write fails, a prefix was written.
 #[inline(never)]
 fn put_shortened<W: Sink>(digits: &[u8], id: Id<'_>, w: &mut W) -> Result<(), WriteFailed>
     requires failures { (W.device w.old).failures < 2 ^ 64 - 1 }
@@ -34,8 +35,9 @@ fn put_shortened<W: Sink>(digits: &[u8], id: Id<'_>, w: &mut W) -> Result<(), Wr
     put_end_under(b' ', id, w)
 }
 
-/// Writes the line of a rare change under `id`: of an event, as `1` whatever the text is, of a real
-/// number, or of digits after `b` for a code of one bit. If a write fails, a prefix was written.
+/// Writes the line of a change of an event (as `1`, whatever the text is), of a real number, or of
+/// digits of a code of one bit, under the identifier code `id`. If a write fails, a prefix was
+/// written.
 #[inline(never)]
 fn put_other<W: Sink>(
     event: bool,
@@ -55,7 +57,8 @@ fn put_other<W: Sink>(
     }
 }
 
-/// Returns whether a change is a digit of a code of one bit, as most are.
+/// Returns whether a change is scalar (a digit and its code) and of a code of one bit that is no
+/// event. `size` and `event` are those of its code.
 #[inline(always)]
 pub(crate) fn is_bit(size: usize, event: bool, form: Form) -> bool
     ensures { result ≡ true → (size ≡ 1) × (event ≡ false) × (form ≡ Form.Scalar) }
@@ -63,7 +66,8 @@ pub(crate) fn is_bit(size: usize, event: bool, form: Form) -> bool
     (size == 1) & !event & (form == Form::Scalar)
 }
 
-/// Returns whether a change is digits of a code of several bits, as most others are.
+/// Returns whether a change gives digits to a code of several bits that is no event. `size` and
+/// `event` are those of its code.
 #[inline(always)]
 fn is_vector(size: usize, event: bool, form: Form) -> bool
     ensures vector { result ≡ true → (size ≢ 1) × (event ≡ false) × (form ≢ Form.RealText) }
@@ -72,8 +76,9 @@ fn is_vector(size: usize, event: bool, form: Form) -> bool
     (size != 1) & !event & (form != Form::RealText)
 }
 
-/// Writes a change of a code of this size, or of an event, as its line under `id`. An event is
-/// written as `1`, whatever its text is. If a write fails, a prefix was written.
+/// Writes the line of a change under the identifier code `id`. The code of the change has this
+/// size, or is an event if `event` is true: that is written as `1`, whatever its text is. If a
+/// write fails, a prefix was written.
 #[inline(always)]
 pub(crate) fn put_line<W: Sink>(
     size: usize,

@@ -11,7 +11,10 @@ use crate::words::{KeywordUse, PhraseKind, command_of, first_byte_of, kind_of, r
 use vcd_text::{Feed, Source};
 use vcd_view::HeadView;
 
-/// Reads a phrase that begins with a command. `None` for a comment, which gives no item.
+/// Reads the rest of a phrase whose first token, which the feed has read, begins no value change
+/// and no timestamp, and sets the registers to those after it. Returns the begin or the end of a
+/// section, or `None` for a comment. Fails if the token is no keyword of a body or may not come
+/// here, and if a comment does not end.
 #[inline(always)]
 fn read_command<S: Source>(
     feed: &mut Feed<'_, '_, '_, '_, S>,
@@ -52,7 +55,9 @@ fn read_command<S: Source>(
     }
 }
 
-/// Reads a phrase, or finds the end. `None` for a comment, which gives no item.
+/// Reads the next phrase of a body, and sets the registers to those after it. Returns its item,
+/// `Item::Finish` at the end of the input, or `None` for a comment. Fails with the fault of the
+/// first token that is not allowed or cannot be read, and if the input ends inside a section.
 #[inline(always)]
 fn read_phrase<S: Source>(
     feed: &mut Feed<'_, '_, '_, '_, S>,
@@ -95,8 +100,10 @@ fn read_phrase<S: Source>(
     Ok(Some(item))
 }
 
-/// Reads the next item of the body of the header that is shown, or finds the end. At first the feed
-/// is after the header, and `regs` is new. Do not use either of them again after a fault.
+/// Reads the next item of a body, and sets `regs` to the registers after it. Returns `Item::Finish`
+/// at the end of the input. At first the feed has to be right after the header of `view`, and
+/// `regs` is `Regs::new()`. Fails with the fault of the first token that is not allowed or cannot
+/// be read, and if the input ends inside a section; do not call it again after that.
 #[inline(always)]
 pub fn next_item<S: Source>(
     feed: &mut Feed<'_, '_, '_, '_, S>,
@@ -128,8 +135,8 @@ pub fn next_item<S: Source>(
     }
 }
 
-/// Returns the text of a change, right after `next_item` has given it, in the form that it gave:
-/// its digits, or the text of the real number.
+/// Returns the text of a change that `next_item` returned last: its digits, or the text of the real
+/// number. `form` is the one that `next_item` returned.
 pub fn change_text<'f, S: Source>(feed: &'f Feed<'_, '_, '_, '_, S>, form: Form) -> &'f [u8]
     ensures { result.now ≡ text_of form feed.now }
 {

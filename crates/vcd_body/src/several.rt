@@ -8,8 +8,9 @@ use crate::slot::{Holding, State, holding_of};
 use crate::step::{Step, step_to_text};
 use crate::table::Table;
 
-/// Returns the step from `len` packed digits, in the first bytes of a share, to those of a text, if
-/// they differ in one of the last. `None` if these are the same, or if the bytes are too few.
+/// Returns how the value changes from `len` packed digits in the first bytes of `bytes` to the
+/// digits of a text, if they differ in one of the last digits. `None` if these are the same, or if
+/// `bytes` is too short.
 #[inline(always)]
 fn packed_step(bytes: &[u8], len: usize, text: &[u8]) -> Option<Step>
     ensures some { IfSome result (λ _. 1 ≤ length text.now) }
@@ -24,9 +25,9 @@ fn packed_step(bytes: &[u8], len: usize, text: &[u8]) -> Option<Step>
 }
 
 impl<'a> Table<'a> {
-    /// Returns the step from several packed digits, which are held in a share that begins at
-    /// `start`, to those of a text, if they differ in one of the last. `None` if these are the
-    /// same, if no digits are packed there, or if the values are too short.
+    /// Returns how a value changes from several packed digits, which are held in the values from
+    /// offset `start` on, to the digits of a text, if they differ in one of the last digits. `None`
+    /// if these are the same, if no packed digits are held, or if the values are too short.
     #[inline(always)]
     fn step_from_held(&self, held: Holding, start: usize, text: &[u8]) -> Option<Step>
         ensures some { IfSome result (λ _. 1 ≤ length text.now) }
@@ -40,9 +41,9 @@ impl<'a> Table<'a> {
         }
     }
 
-    /// Sets the value of the code at an index to several digits over several others, if they differ
-    /// in one of the last, and so at each size, and counts the step. Returns whether it did;
-    /// otherwise nothing changes, also if there is no such code. This is the common case.
+    /// Sets the value of the code at index `code` to the digits of a text, and counts the change,
+    /// if several digits are held and one of the last differs. Returns whether it did. If not,
+    /// nothing changes, also if there is no such code.
     // Values that differ mostly do so in their last digits: without it `edges` of wide vectors
     // takes 45 % more.
     #[inline(never)]

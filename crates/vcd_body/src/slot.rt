@@ -82,7 +82,8 @@ pub(crate) struct HeldValue<'a> {
 pub(crate) const UPPER: usize = 4_294_967_296;
 
 impl Holding {
-    /// Returns how many digits, or bytes of a text, are held in the share.
+    /// Returns how many digits, or bytes of a text, are held in the share. Only if the state is
+    /// `State::Packed` or `State::Real` does the result have a meaning.
     #[inline(always)]
     pub(crate) fn len(self) -> usize
         ensures { result ≡ len_of self }
@@ -103,7 +104,7 @@ pub enum Shown {
 }
 
 impl Slot {
-    /// Returns the slot of a code that has no value.
+    /// Returns the slot of a code that has no value, and of which no change was counted.
     pub fn new() -> Slot
         ensures { IsUnset result }
     {
@@ -116,15 +117,16 @@ impl Slot {
 }
 
 impl Share {
-    /// Returns the share of a code of which nothing was counted, and which is not chosen.
+    /// Returns the share of a code of which no change was counted, and which is not chosen. It has
+    /// no bytes of the values yet.
     pub fn new() -> Share
         ensures { IsUncounted result }
     {
         Share::at(0)
     }
 
-    /// Returns a share that begins at `start` in the lent bytes, with no value, no counts, and not
-    /// chosen.
+    /// Returns a share that begins at offset `start` in the bytes of values, with no value, no
+    /// counts, and not chosen.
     pub(crate) fn at(start: usize) -> Share
         ensures { result ≡ share_from start }
     {
@@ -137,7 +139,7 @@ impl Share {
     }
 }
 
-/// Returns the number that encodes a state in a slot.
+/// Returns the tag by which a slot says that its value is held in this state.
 #[inline(always)]
 pub(crate) fn number_of(state: State) -> u8
     ensures { result ≡ number_of state }
@@ -154,7 +156,7 @@ pub(crate) fn number_of(state: State) -> u8
     }
 }
 
-/// Returns whether a digit is 0 or 1.
+/// Returns whether a digit is `0` or `1`.
 #[inline(always)]
 pub(crate) fn is_bit(digit: u8) -> bool
     ensures yes { result ≡ true → (digit ≡ 48) ⊎ (digit ≡ 49) }
@@ -163,7 +165,7 @@ pub(crate) fn is_bit(digit: u8) -> bool
     digit.wrapping_sub(b'0') < 2
 }
 
-/// Returns the number that encodes the state of the digit 0 or 1. It takes no branches.
+/// Returns the tag of the state that holds this digit, which is `0` or `1`. It takes no branch.
 #[inline(always)]
 pub(crate) fn number_of_bit(digit: u8) -> u8
     requires { (digit ≡ 48) ⊎ (digit ≡ 49) }
@@ -172,7 +174,8 @@ pub(crate) fn number_of_bit(digit: u8) -> u8
     b'2' - digit
 }
 
-/// Returns the number that encodes the state of 1 if the digit is 0, and of 0 if it is 1.
+/// Returns the tag of the state that holds the other digit: of `1` if the digit is `0`, and of `0`
+/// if it is `1`.
 #[inline(always)]
 pub(crate) fn number_of_flipped(digit: u8) -> u8
     requires { (digit ≡ 48) ⊎ (digit ≡ 49) }
@@ -181,8 +184,8 @@ pub(crate) fn number_of_flipped(digit: u8) -> u8
     number_of_bit(b'0' + b'1' - digit)
 }
 
-/// Returns the number that encodes the state of 0 for that of 1, and of 1 for that of 0. For any
-/// other number the result says nothing.
+/// Returns the tag of the state of `0` for that of `1`, and the other way round. For any other tag
+/// the result has no meaning.
 #[inline(always)]
 pub(crate) fn flipped(tag: u8) -> u8
     ensures { (one : Bool) → tag ≡ number_of (cond one State.Zero State.One)
@@ -192,7 +195,7 @@ pub(crate) fn flipped(tag: u8) -> u8
     tag ^ 3
 }
 
-/// Returns the state that a number encodes: `State::Bits` for each number from 7 on.
+/// Returns the state that a slot with this tag is in: `State::Bits` for each tag from 7 on.
 #[inline(always)]
 pub(crate) fn state_in(tag: u8) -> State
     ensures { result ≡ state_in tag }
@@ -209,7 +212,7 @@ pub(crate) fn state_in(tag: u8) -> State
     }
 }
 
-/// Returns how the value of a code is held that has this slot and this share.
+/// Returns how the value of a code with this slot and this share is held.
 #[inline(always)]
 pub(crate) fn holding_of(slot: Slot, share: Share) -> Holding
     ensures { result ≡ holding_of slot share }
@@ -226,8 +229,8 @@ pub(crate) fn holding_of(slot: Slot, share: Share) -> Holding
     }
 }
 
-/// Returns the number of the state that holds a digit: that of z for a byte other than `0`, `1`,
-/// `x` and `X`. Most are 0 or 1; between these it takes no branch.
+/// Returns the tag of the state that holds this digit: that of z for any byte other than `0`, `1`,
+/// `x` and `X`. It takes no branch between `0` and `1`, which are the most frequent.
 #[inline(always)]
 pub(crate) fn number_of_digit(digit: u8) -> u8
     ensures { one_digit (state_in result) ≡ Some (held_digit digit) }
@@ -238,7 +241,7 @@ pub(crate) fn number_of_digit(digit: u8) -> u8
     number_of_other(digit)
 }
 
-/// Returns the number of the state that holds a digit other than 0 and 1: that of x for `x` and
+/// Returns the tag of the state that holds a digit other than `0` and `1`: that of x for `x` and
 /// `X`, and that of z for any other byte.
 #[cold]
 #[inline(never)]
@@ -253,8 +256,8 @@ fn number_of_other(digit: u8) -> u8
     }
 }
 
-/// Returns the digit of a state that holds one digit, in lower case. `None` for `Unset`, `Packed`,
-/// `Bits` and `Real`.
+/// Returns the digit that a state holds, in lower case. `None` for the states that do not hold
+/// exactly one: `Unset`, `Packed`, `Bits` and `Real`.
 #[inline(always)]
 pub(crate) fn digit_of_state(state: State) -> Option<u8>
     ensures { result ≡ one_digit state }

@@ -15,7 +15,8 @@ pub struct Step {
     pub falls: bool,
 }
 
-/// Returns whether a last digit was `from`, and is now `to`: false if there was none, or is none.
+/// Returns whether the last digit of a value has changed from `from` to `to`. `before` and `after`
+/// are the last digits before and after the change, `None` if the value has no digits.
 #[inline(always)]
 fn is_edge(from: u8, to: u8, before: Option<u8>, after: Option<u8>) -> bool
     ensures { result ≡ goes_from from to before after }
@@ -26,8 +27,8 @@ fn is_edge(from: u8, to: u8, before: Option<u8>, after: Option<u8>) -> bool
     }
 }
 
-/// Returns the last digit of a text of digits, in lower case; `None` for the text of a real number,
-/// and for an empty text.
+/// Returns the last digit of a change of this form and text, in lower case; `None` for a real
+/// number, and for an empty text.
 #[inline(always)]
 fn last_of(form: Form, text: &[u8]) -> Option<u8>
     ensures { 0 < length text.now → (size : ℕ)
@@ -39,8 +40,8 @@ fn last_of(form: Form, text: &[u8]) -> Option<u8>
     }
 }
 
-/// Returns the step to the value of a text from one with the last digit `before`, which is `None`
-/// if that value has no digits. `differs` says whether the two values differ.
+/// Returns how a value changes by a change of this form and text. `before` is its last digit before
+/// the change, `None` if it had no digits, and `differs` says whether its new value is another one.
 #[inline(always)]
 pub(crate) fn step_to_text(differs: bool, before: Option<u8>, form: Form, text: &[u8]) -> Step
     ensures differs { result.differs ≡ differs }
@@ -57,7 +58,8 @@ pub(crate) fn step_to_text(differs: bool, before: Option<u8>, form: Form, text: 
     }
 }
 
-/// Returns the number by which a slot counts a step: 0 if it falls, 2 if it rises, otherwise 1.
+/// Returns which of the three counters of a slot counts a change of a value: 0 if its last digit
+/// falls, 2 if it rises, otherwise 1.
 #[inline(always)]
 pub(crate) fn way_of(rises: bool, falls: bool) -> usize
     ensures within { result < 3 }
@@ -67,8 +69,8 @@ pub(crate) fn way_of(rises: bool, falls: bool) -> usize
     1 + usize::from(rises) - usize::from(falls)
 }
 
-/// Returns the number by which a slot counts a step from one number of binary digits to another: 0
-/// if the last digit falls, 2 if it rises, otherwise 1.
+/// Returns which of the three counters of a slot counts a change from the binary number `before` to
+/// `after`: 0 if its last digit falls, 2 if it rises, otherwise 1.
 #[inline(always)]
 pub(crate) fn way_between(before: usize, after: usize) -> usize
     ensures within { result < 3 }
@@ -78,8 +80,8 @@ pub(crate) fn way_between(before: usize, after: usize) -> usize
     1 + after % 2 - before % 2
 }
 
-/// Returns the number by which a slot counts a step to this digit from the other of 0 and 1: 0 if
-/// it falls, 2 if it rises.
+/// Returns which of the three counters of a slot counts a change to this digit from the other of
+/// `0` and `1`: 0 if it falls, 2 if it rises.
 #[inline(always)]
 pub(crate) fn way_to(digit: u8) -> usize
     requires { (digit ≡ 48) ⊎ (digit ≡ 49) }

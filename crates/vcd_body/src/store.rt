@@ -14,7 +14,7 @@ use crate::step::{way_between, way_to};
 use crate::table::Table;
 use vcd_view::Code;
 
-/// Returns how many bytes of its share a value uses: 0 if it is only in the slot.
+/// Returns how many bytes of its share a value uses: 0 if it is held only in the slot.
 #[inline(always)]
 fn used_by(holding: Holding) -> usize
     ensures { result ≡ used holding }
@@ -26,8 +26,9 @@ fn used_by(holding: Holding) -> usize
     }
 }
 
-/// Returns false if the state says that digits are held and there are none, or if a binary number
-/// has more digits than are held. Otherwise returns true, as always in a table that is laid out.
+/// Returns whether a value is held as its state says: false if the state says that digits are held
+/// and there are none, or if a binary number has more digits than are held. In a table that
+/// `Table::new` has made it is always true.
 #[inline(always)]
 fn holds_some(holding: Holding) -> bool
     ensures yes { result ≡ true → 1 ≤ some_by holding.state (len_of holding) }
@@ -42,9 +43,9 @@ fn holds_some(holding: Holding) -> bool
 }
 
 impl<'a> Table<'a> {
-    /// Returns the value of the code at an index as it is held. `None` if there is no such code, if
-    /// its share does not lie within the values, or if it holds no digits though its state says
-    /// that it holds some. In a table that is laid out, only the first can be.
+    /// Returns the value of the code at index `code`, in the form in which it is held. `None` if
+    /// there is no such code. (In a table that `Table::new` has not made also if its share does not
+    /// lie within the values, or if it holds no digits though its state says so.)
     #[inline(always)]
     pub(crate) fn held(&self, code: usize) -> Option<HeldValue<'_>>
         ensures { IsLaidOut self.now → held_at self.now code ≡ held_or result }
@@ -63,8 +64,8 @@ impl<'a> Table<'a> {
     }
 }
 
-/// Sets the value of the code at an index to the one digit of the state with the number `tag`.
-/// Nothing changes if there is no such code. It neither reads nor changes the code's share.
+/// Sets the value of the code at index `code` to one digit, by the tag of the state that holds it.
+/// It changes only the slot; nothing changes if there is no such code.
 #[inline(always)]
 pub(crate) fn set_tag(slots: &mut [Slot], code: usize, tag: u8)
     ensures changes { (d : ℕ) → one_digit (state_in tag) ≡ Some d
@@ -76,8 +77,8 @@ pub(crate) fn set_tag(slots: &mut [Slot], code: usize, tag: u8)
     }
 }
 
-/// Holds a text in a share, which has to have the bytes for it: digits four to a byte, the text of
-/// a real number as it is. Returns the state that says so.
+/// Copies a text into the bytes of a share, which must be long enough: digits are packed, four to a
+/// byte, and the text of a real number is copied as it is. Returns the state that a slot has then.
 #[inline(always)]
 fn hold(bytes: &mut [u8], form: Form, text: &[u8]) -> State
     requires room { text_bytes form (length text.now) ≤ length bytes.old }
@@ -95,7 +96,7 @@ fn hold(bytes: &mut [u8], form: Form, text: &[u8]) -> State
     }
 }
 
-/// Copies the bytes `from` to the first bytes of `to`, which has to be at least as long.
+/// Copies `from` to the first bytes of `to`, which has to be at least as long.
 fn copy_front(to: &mut [u8], from: &[u8])
     requires { length from.now ≤ length to.old }
     ensures { take (length from.now) to.new ≡ from.now }
@@ -103,7 +104,8 @@ fn copy_front(to: &mut [u8], from: &[u8])
     to[..from.len()].copy_from_slice(from);
 }
 
-/// Writes into a slot and its share that `len` digits, or bytes of a text, are held in this state.
+/// Sets slot and share of a code to say that `len` digits, or bytes of a text, are held in the
+/// share, in this state.
 #[inline(always)]
 fn hold_text(slot: &mut Slot, share: &mut Share, state: State, len: usize)
     requires text { state ≢ State.Bits }
@@ -114,8 +116,8 @@ fn hold_text(slot: &mut Slot, share: &mut Share, state: State, len: usize)
     share.upper = (len / UPPER) as u32;
 }
 
-/// Returns how many bytes of a share a text of `len` bytes takes: one for each byte of a real
-/// number, one for up to four digits.
+/// Returns how many bytes of a share a text of `len` bytes takes: `len` for a real number, a
+/// quarter for digits, rounded up.
 #[inline(always)]
 fn text_bytes(form: Form, len: usize) -> usize
     ensures { result ≡ text_bytes form len }
@@ -127,8 +129,9 @@ fn text_bytes(form: Form, len: usize) -> usize
 }
 
 impl<'a> Table<'a> {
-    /// Returns where in `values` the share of the code at an index ends: where the next one begins,
-    /// or all values end. In a table that is not laid out it may be any number.
+    /// Returns the offset in the values at which the share of the code at index `code` ends: where
+    /// the next one begins, or all values end. In a table that `Table::new` has not made it may be
+    /// any number.
     #[inline(always)]
     pub(crate) fn end_of(&self, code: usize) -> usize
         requires { code < length self.now.shares.now }
@@ -140,9 +143,9 @@ impl<'a> Table<'a> {
         }
     }
 
-    /// Sets the value of the code at an index to a text. The code has to exist, and its share ends
-    /// at `end`. Nothing changes if the text is empty or does not fit the share, or if this does
-    /// not lie within the values.
+    /// Sets the value of the code at index `code`, which must exist, to the text of a change. Its
+    /// share ends at offset `end` of the values. Nothing changes if the text is empty or does not
+    /// fit into the share, or if the share does not lie within the values.
     #[inline(always)]
     pub(crate) fn set_text_in(&mut self, code: usize, end: usize, form: Form, text: &[u8])
         requires several { form ≢ Form.RealText → length text.now ≢ 1 }
@@ -164,9 +167,9 @@ impl<'a> Table<'a> {
         hold_text(&mut slots[code], &mut shares[code], state, text.len());
     }
 
-    /// Sets the value of the code at an index to a text. Nothing changes if there is no such code,
-    /// or if the text is empty or does not fit the code's share. `set_tag` sets a single digit,
-    /// unless it is the text of a real number.
+    /// Sets the value of the code at index `code` to the text of a change of this form. Nothing
+    /// changes if there is no such code, or if the text is empty or does not fit into the code's
+    /// share.
     #[inline(never)]
     pub(crate) fn set_text(&mut self, code: usize, form: Form, text: &[u8])
         requires { form ≢ Form.RealText → length text.now ≢ 1 }
@@ -177,9 +180,9 @@ impl<'a> Table<'a> {
         }
     }
 
-    /// Adds `more` to the first counter of the code at an index, in its share, to the second if
-    /// `rises` is true, and to the third if `falls` is true. A full counter stays as it is. Nothing
-    /// changes if there is no such code.
+    /// Adds `more` to the first counter of the code at index `code`, to the second if `rises` is
+    /// true, and to the third if `falls` is true: to the part of each that is in the share. A
+    /// counter stops at 2^64 - 1. Nothing changes if there is no such code.
     // It takes the whole table, since it is called once in 256 steps: with the shares, `edges`
     // takes 2 to 5 % more.
     #[cold]
@@ -195,8 +198,8 @@ impl<'a> Table<'a> {
     }
 }
 
-/// Sets the value of the code at an index to binary digits. Nothing changes if there is no such
-/// code. It writes the slot without a look at it, and leaves the share as it is.
+/// Sets the value of the code at index `code` to these binary digits. It changes only the slot, and
+/// does not look at it before; nothing changes if there is no such code.
 #[inline(always)]
 pub(crate) fn set_bits(slots: &mut [Slot], code: usize, bits: Bits)
     ensures changes { ChangesSlot code (with_number bits.len bits.number) slots.old slots.new }
@@ -210,10 +213,10 @@ pub(crate) fn set_bits(slots: &mut [Slot], code: usize, bits: Bits)
     }
 }
 
-/// Counts a step of the value of the code at an index in its slot: a fall if `way` is 0, a rise if
-/// it is 2, any other if it is 1. Returns false if the counter of these steps was full: then it
-/// begins again at 0, and the caller has 256 steps to count in the share. Returns false too, and
-/// nothing changes, if there is no such code. Otherwise returns true.
+/// Adds 1 to a counter in the slot of the code at index `code`: to that of falls if `way` is 0, of
+/// rises if it is 2, of other changes of the value if it is 1. Returns false if the counter was at
+/// 255: then it is 0 now, and the caller has to add 256 to those of the share. Returns false too,
+/// and changes nothing, if there is no such code. Otherwise returns true.
 #[inline(always)]
 pub(crate) fn count_in_slot(slots: &mut [Slot], code: usize, way: usize) -> bool
     requires { way < 3 }
@@ -241,9 +244,9 @@ pub(crate) enum Stepped {
     Uncounted { rises: bool, falls: bool },
 }
 
-/// Sets the value of the code at an index to the digit 0 or 1 over such a digit, and counts the
-/// step if it is another one. Most changes are of this kind, and change only one slot. Returns
-/// `Stepped::Not`, and nothing changes, if there is no such code, or if one of both is no 0 or 1.
+/// Sets the value of the code at index `code` to the digit `0` or `1`, if it holds one of these,
+/// and counts a change if it held the other one. It changes only the slot. Returns `Stepped::Not`,
+/// and changes nothing, if there is no such code, or if the held or the new digit is neither.
 // A digit is a state of the slot, so no byte of values is touched: held as a number of one digit,
 // `edges` of scalars takes some 10 % more.
 #[inline(always)]
@@ -276,9 +279,10 @@ pub(crate) fn flip_at(slots: &mut [Slot], code: usize, digit: u8) -> Stepped
     }
 }
 
-/// Sets the value of the code at an index from one binary number to another, and counts the step if
-/// they differ. Returns `Stepped::Not`, and nothing changes, if there is no such code, if its slot
-/// holds no such number, or if one of both has more than `size` digits.
+/// Sets the value of the code at index `code` to these binary digits, if it holds binary digits,
+/// and counts a change if the two numbers differ. It changes only the slot. Returns `Stepped::Not`,
+/// and changes nothing, if there is no such code, if it holds no such digits, or if the held or the
+/// new ones are more than `size`.
 #[inline(always)]
 pub(crate) fn step_at(slots: &mut [Slot], code: usize, size: usize, bits: Bits) -> Stepped
     ensures counted { result ≡ Stepped.Counted → StepsTo code size bits slots.old slots.new }
@@ -305,8 +309,8 @@ pub(crate) fn step_at(slots: &mut [Slot], code: usize, size: usize, bits: Bits) 
 // How many bytes the share of a code has at least: as many as the text of a real number may have.
 const LEAST_SHARE: usize = 64;
 
-/// Returns how many bytes a code of this size is given: enough for its longest value with four
-/// digits to a byte, and for any real number. The last code has the bytes that are left, too.
+/// Returns how many bytes of the values a code of this size gets: enough for its longest value with
+/// four digits to a byte, and for any real number.
 #[inline(always)]
 fn share_of(size: usize) -> usize
     ensures { result ≡ share_of size }
@@ -314,8 +318,9 @@ fn share_of(size: usize) -> usize
     size.div_ceil(4).max(LEAST_SHARE)
 }
 
-/// Gives each code its share of `values` bytes, one after the other, and unsets all. If there are
-/// too few bytes for all shares, the last ones are cut. Returns where the last share ends.
+/// Sets the slot and the share of each code to no value and no counts, and gives each code its part
+/// of `values` bytes, one after the other. If there are too few bytes, the last codes get fewer or
+/// none. Returns where the last part ends. There is a slot and a share for each code.
 pub(crate) fn lay_out(
     codes: &[Code],
     slots: &mut [Slot],

@@ -24,10 +24,10 @@ pub struct Table<'a> {
 }
 
 impl<'a> Table<'a> {
-    /// Returns a table of the codes of the header that is shown: each is unset, its counters are 0,
-    /// and it is not chosen. A code's value has a quarter of its size of the bytes of `values`,
-    /// rounded up, and at least 64. If there are too few bytes, the last codes get fewer. Slots,
-    /// shares and bytes beyond these stay as they are.
+    /// Returns a table of the codes of this header: none has a value or is chosen, and all counters
+    /// are 0. A code's value gets a quarter of its size of the bytes of `values`, rounded up, and
+    /// at least 64. If there are too few bytes, the last codes get fewer or none. There must be a
+    /// slot and a share for each code; more of them, and more bytes, stay as they are.
     pub fn new(
         view: HeadView<'_>,
         values: &'a mut [u8],
@@ -54,10 +54,10 @@ impl<'a> Table<'a> {
         }
     }
 
-    /// Sets the value of the code at an index by the text of a change: digits, or that of a real
-    /// number, as `change_text` gives it. Nothing changes if there is no such code, or if the text
-    /// is empty or does not fit the code's share. The time grows with the length of the text. A
-    /// single digit changes only the slot of its code.
+    /// Sets the value of the code at index `code` by a change of this form and text, as
+    /// `change_text` returns it. Nothing changes if there is no such code, or if the text is empty
+    /// or does not fit into the code's share. The time grows with the length of the text. A single
+    /// digit changes only the slot of its code.
     #[inline(always)]
     pub fn set(&mut self, code: usize, form: Form, text: &[u8])
         ensures sets { SetsCode code (with_text form text.now) self.old self.new }
@@ -66,9 +66,10 @@ impl<'a> Table<'a> {
         self.set_value(code, Value::of_text(form, text));
     }
 
-    /// Sets the value of the code at an index. Nothing changes if there is no such code, or if the
-    /// text is empty or does not fit the code's share; binary digits always fit. It takes as long
-    /// as the text is. One digit, and binary digits, change only the code's slot.
+    /// Sets the value of the code at index `code`. Nothing changes if there is no such code, or if
+    /// the text is empty or does not fit into the code's share; binary digits always fit. The time
+    /// grows with the length of the text. One digit, and binary digits, change only the code's
+    /// slot.
     #[inline(always)]
     pub fn set_value(&mut self, code: usize, value: Value<'_>)
         ensures sets { SetsCode code (with_value value.entry) self.old self.new }
@@ -91,11 +92,12 @@ impl<'a> Table<'a> {
         }
     }
 
-    /// Sets the value of the code at an index as `set_value` does, and counts its step at this size
-    /// as `count` does, if it differs. Nothing changes if there is no such code, or if the text is
-    /// empty. If the text does not fit the code's share, its step is counted, but the old value
-    /// stays. A digit 0 or 1 over one of them, and binary digits over others, change only the
-    /// code's slot.
+    /// Sets the value of the code at index `code`, and counts the change if the old value was
+    /// another one, both taken at `size` bits: in the first counter, and in the second if the last
+    /// digit rises, in the third if it falls. Nothing is counted if there was no value.
+    ///
+    /// Nothing changes if there is no such code, or if the text is empty. If the text does not fit
+    /// into the code's share, the change is counted, but the old value stays.
     // In one call: `edges` would else ask three times whether the code exists, some 20 % more of
     // scalars.
     #[inline(always)]
@@ -111,9 +113,9 @@ impl<'a> Table<'a> {
         }
     }
 
-    /// Sets the value of the code at an index to these digits. If it differs from the value before,
-    /// both taken at `size` bits, the first counter grows, and that of rises or falls by the last
-    /// digit. Nothing changes if there is no such code, or if the text is empty.
+    /// Sets the value of the code at index `code` to these digits, and counts the change, with its
+    /// rise or fall, if the old value was another one, both taken at `size` bits. Nothing changes
+    /// if there is no such code, or if the text is empty.
     #[inline(always)]
     fn follow_digits(&mut self, code: usize, size: usize, text: &[u8])
         ensures { SetsCode code (with_change size Form.Vector text.now) self.old self.new }
@@ -132,8 +134,9 @@ impl<'a> Table<'a> {
         }
     }
 
-    /// Sets the value of the code at an index to binary digits, and counts its step if it differs
-    /// at `size` bits. Nothing changes if there is no such code.
+    /// Sets the value of the code at index `code` to these binary digits, and counts the change,
+    /// with its rise or fall, if the old value was another one, both taken at `size` bits. Nothing
+    /// changes if there is no such code.
     #[inline(always)]
     fn follow_bits(&mut self, code: usize, size: usize, bits: Bits)
         ensures { SetsCode code (with_number_change size bits.len bits.number) self.old self.new }
@@ -145,9 +148,10 @@ impl<'a> Table<'a> {
         }
     }
 
-    /// Sets the value of the code at an index by the text of a change, and counts its step if it
-    /// differs at `size` bits, whatever the value was. Nothing changes if there is no such code, or
-    /// if the text is empty.
+    /// Sets the value of the code at index `code` by a change of this form and text, and counts the
+    /// change, with its rise or fall, if the old value was another one, both taken at `size` bits.
+    /// It is for every kind of old value. Nothing changes if there is no such code, or if the text
+    /// is empty.
     #[inline(never)]
     fn follow_any(&mut self, code: usize, size: usize, form: Form, text: &[u8])
         ensures { SetsCode code (with_change size form text.now) self.old self.new }
@@ -162,8 +166,9 @@ impl<'a> Table<'a> {
         }
     }
 
-    /// Sets the value of the code at an index to binary digits, and counts its step if it differs
-    /// at `size` bits, whatever the value was. Nothing changes if there is no such code.
+    /// Sets the value of the code at index `code` to these binary digits, and counts the change,
+    /// with its rise or fall, if the old value was another one, both taken at `size` bits. It is
+    /// for every kind of old value. Nothing changes if there is no such code.
     #[inline(never)]
     fn follow_any_bits(&mut self, code: usize, size: usize, bits: Bits)
         ensures { SetsCode code (with_number_change size bits.len bits.number) self.old self.new }
@@ -178,8 +183,8 @@ impl<'a> Table<'a> {
         }
     }
 
-    /// Returns the step from the value of the code at an index to that of a text, both taken at
-    /// `size` bits. If there is no value, it does not differ.
+    /// Returns how the value of the code at index `code` would change by a change of this form and
+    /// text, both values taken at `size` bits. If there is no value yet, it does not differ.
     #[inline(always)]
     fn step_to(&self, code: usize, size: usize, form: Form, text: &[u8]) -> Step
         ensures { IsLaidOut self.now → 0 < length text.now
@@ -197,8 +202,8 @@ impl<'a> Table<'a> {
         )
     }
 
-    /// Returns which kind of value the code at an index has: digits, a real number, or none. It is
-    /// `Unset` too if there is no such code.
+    /// Returns which kind of value the code at index `code` has: digits, a real number, or none. It
+    /// is `Unset` too if there is no such code.
     #[inline]
     pub fn get(&self, code: usize) -> Shown
         ensures { result ≡ shown_as (held_at self.now code) }
@@ -213,9 +218,9 @@ impl<'a> Table<'a> {
         }
     }
 
-    /// Returns the digit at `index` of the value of a code, extended to the code's size, from the
-    /// left and in lower case. `None` after the last, if the value has no digits, or if there is no
-    /// such code.
+    /// Returns the digit at `index`, counted from the left, of the value of the code at index
+    /// `code`, extended to the code's size, in lower case. `None` after the last, if the value has
+    /// no digits, or if there is no such code. `view` is the header of the table.
     #[inline]
     pub fn digit(&self, view: HeadView<'_>, code: usize, index: usize) -> Option<u8>
         ensures { IsLaidOut self.now
@@ -225,8 +230,8 @@ impl<'a> Table<'a> {
         digit_shown(self.held(code)?, declared.size, index)
     }
 
-    /// Returns the text of the real number that is the value of the code at an index; an empty one
-    /// if it has no such value.
+    /// Returns the text of the real number that is the value of the code at index `code`; an empty
+    /// one if there is no such code, or if its value is no real number.
     #[inline]
     pub fn real(&self, code: usize) -> &[u8]
         ensures { IsLaidOut self.now → result.now ≡ real_text (held_at self.now code) }
@@ -237,7 +242,8 @@ impl<'a> Table<'a> {
         }
     }
 
-    /// Returns the three counters of the code at an index; each is 0 if there is no such code.
+    /// Returns the three counters of the code at index `code`: of changes, of rises and of falls,
+    /// if `follow` and `count` counted them. Each is 0 if there is no such code.
     #[inline]
     pub fn tally(&self, code: usize) -> [u64; 3]
         ensures { result ≡ counts_at self.now code }
@@ -249,8 +255,8 @@ impl<'a> Table<'a> {
         }
     }
 
-    /// Adds one to the counter `which`, 0 to 2, of the code at an index. A full counter stays as it
-    /// is. Nothing changes if there is no such code, or if `which` is above 2.
+    /// Adds 1 to counter `which`, 0 to 2, of the code at index `code`. A counter stops at 2^64 - 1.
+    /// Nothing changes if there is no such code, or if `which` is above 2.
     #[inline(always)]
     pub fn bump(&mut self, code: usize, which: usize)
         ensures keeps { KeepsTable self.old self.new }
@@ -264,9 +270,9 @@ impl<'a> Table<'a> {
         }
     }
 
-    /// Counts a step of the value of the code at an index: adds one to the first counter, to the
-    /// second if it rises, and to the third if it falls. A full one stays. Nothing changes if there
-    /// is no such code. Most steps change only the slot.
+    /// Adds 1 to the first counter of the code at index `code`, to the second if `rises` is true,
+    /// and to the third if `falls` is true. A counter stops at 2^64 - 1. Nothing changes if there
+    /// is no such code.
     #[inline(always)]
     pub fn count(&mut self, code: usize, rises: bool, falls: bool)
         ensures keeps { KeepsTable self.old self.new }
@@ -282,7 +288,8 @@ impl<'a> Table<'a> {
         }
     }
 
-    /// Chooses the code at an index. Nothing changes if there is no such code.
+    /// Marks the code at index `code` as chosen, so that `chosen` returns true for it. Nothing
+    /// changes if there is no such code.
     #[inline]
     pub fn choose(&mut self, code: usize)
         ensures keeps { KeepsTable self.old self.new }
@@ -293,8 +300,8 @@ impl<'a> Table<'a> {
         }
     }
 
-    /// Returns whether the code at an index is chosen; false if there is no such code. It takes the
-    /// same time for every table.
+    /// Returns whether `choose` has marked the code at index `code`; false if there is no such
+    /// code. It takes the same time for every table.
     #[inline]
     pub fn chosen(&self, code: usize) -> bool
         ensures { result ≡ is_chosen self.now code }

@@ -7,8 +7,9 @@ use crate::table::Table;
 use vcd_text::{Sink, WriteFailed, put};
 use vcd_view::HeadView;
 
-/// Writes the line of a change that gives the code at an index its value, with the shortest digits;
-/// nothing if it has no value, or if there is no such code. If a write fails, a prefix was written.
+/// Writes the line of a change that gives the code at index `code` the value that it has in the
+/// table, with the shortest digits; nothing if it has no value, or if there is no such code. If a
+/// write fails, a prefix was written.
 pub fn put_short<W: Sink>(
     view: HeadView<'_>,
     table: &Table<'_>,
@@ -30,9 +31,9 @@ pub fn put_short<W: Sink>(
     put_value_line(held, declared.size, id, w)
 }
 
-/// Writes the value of the code at an index in full: all its digits, or `r` and the text of a real
-/// number; `-` if it has no value, or if there is no such code. If a write fails, a prefix was
-/// written.
+/// Writes the value that the code at index `code` has in the table: all its digits, or `r` and the
+/// text of a real number; `-` if it has no value, or if there is no such code. It writes no code
+/// and no line feed. If a write fails, a prefix was written.
 pub fn put_full<W: Sink>(
     view: HeadView<'_>,
     table: &Table<'_>,

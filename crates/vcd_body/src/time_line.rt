@@ -5,7 +5,8 @@ ghost use Rattle.vcd_body.specs.Names.{Puts, time_due, time_line};
 use itoa::write_digits;
 use vcd_text::{Sink, WriteFailed, put_parts};
 
-/// Writes the line of a time. If a write fails, a prefix was written.
+/// Writes the line of a timestamp with this time: `#`, the digits and a line feed. If a write
+/// fails, a prefix was written.
 // One write. With one each for the `#`, the digits and the line feed, `merge` of scalars takes 2 %
 // more.
 #[cold]
@@ -20,7 +21,8 @@ pub fn put_time<W: Sink>(time: u64, out: &mut W) -> Result<(), WriteFailed>
     put_parts(out, b'#', &digits[start..], 20 - start, end, 1)
 }
 
-/// Writes the line of `time`, unless that was written last. If a write fails, a prefix was written.
+/// Writes the line of a timestamp with this time, unless `written`, the time of the last line of
+/// this kind, is the same. If a write fails, a prefix was written.
 #[inline(always)]
 pub fn put_time_unless<W: Sink>(
     written: Option<u64>,

@@ -5,8 +5,8 @@ ghost use Rattle.vcd_body.specs.Names.{Advances, GoesFurther, NeedsOneToken, Rea
 use crate::fault::BodyFault;
 use vcd_text::{Feed, Halt, Next, Source};
 
-/// Reads the next token, and returns whether there was one: false at the clean end of the input.
-/// Fails if the feed halts.
+/// Reads the next token, and returns whether there was one: false at the end of the input. Fails if
+/// a read fails, or if the token or the input is too long.
 #[inline(always)]
 pub(crate) fn next_token<S: Source>(feed: &mut Feed<'_, '_, '_, '_, S>) -> Result<bool, BodyFault>
     requires { S.failures (source_of feed.old) < 2 ^ 64 - 1 }
@@ -26,7 +26,8 @@ pub(crate) fn next_token<S: Source>(feed: &mut Feed<'_, '_, '_, '_, S>) -> Resul
     }
 }
 
-/// Reads the next token of a phrase that has begun. Fails if there is none, or if the feed halts.
+/// Reads the next token of a phrase that has begun. Fails with `EndOfInput` if there is none, and
+/// if a read fails, or if the token or the input is too long.
 #[inline(always)]
 pub(crate) fn next_inner<S: Source>(feed: &mut Feed<'_, '_, '_, '_, S>) -> Result<(), BodyFault>
     requires { S.failures (source_of feed.old) < 2 ^ 64 - 1 }

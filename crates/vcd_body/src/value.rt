@@ -17,8 +17,8 @@ pub enum Value<'a> {
 }
 
 impl<'a> Value<'a> {
-    /// Returns the value that a change of this form and text gives. The text is as `change_text`
-    /// returns it.
+    /// Returns the value that a change of this form and text, as `change_text` returns it, gives
+    /// its code.
     #[inline(always)]
     pub fn of_text(form: Form, text: &'a [u8]) -> Value<'a>
         ensures sets { (k : Kept) → with_value result k ≡ with_text form text.now k }

@@ -49,16 +49,18 @@ pub trait Visit<C>: Drop {
     // Whether no other item is to be taken.
     ghost over: { Self → Bool };
 
-    /// Returns whether the walk stops before a timestamp with this time, without taking it. It is
-    /// also asked before the begin or the end of a section, with the time of the last timestamp.
+    /// Returns whether the walk has to stop before a timestamp with this time, and leave it to the
+    /// caller. It is also asked before the begin or the end of a section, with the time of the last
+    /// timestamp.
     fn ends_before(&self, command: &C, time: u64) -> bool
         ensures { result ≡ is_left self.now command.now time };
 
-    /// Returns whether no other item is to be taken.
+    /// Returns whether the walk has to stop here, before any other item.
     fn is_over(&self) -> bool
         ensures { result ≡ over self.now };
 
-    /// Takes a timestamp, which lies at `extent`. The registers are those before it.
+    /// Handles a timestamp with this time, which lies at `extent`. `regs` are the registers before
+    /// it.
     fn take_timestamp(
         &mut self,
         command: &mut C,
@@ -79,8 +81,8 @@ pub trait Visit<C>: Drop {
         ensures stands { stands self.new command.new (bytes_of extent.entry.to)
             (regs_after regs timestamp.entry.item) };
 
-    /// Takes a change, which lies at `extent`, and puts what is due with it. The registers are
-    /// those after it, as before it.
+    /// Handles a value change, which lies at `extent`, and writes what is due with it. `regs` are
+    /// the registers, which a change leaves as they are. Fails if a write fails.
     fn take_change<W: Sink>(
         &mut self,
         command: &mut C,
@@ -102,8 +104,9 @@ pub trait Visit<C>: Drop {
             (λ _. stands self.new command.new (bytes_of extent.entry.to) regs) }
         ensures over { over self.new ≡ over self.old };
 
-    /// Takes the begin or the end of a section, which lies at `extent`, and puts what is due with
-    /// it. `before` are the registers before it, `after` those after it.
+    /// Handles the begin or the end of a section, which lies at `extent`, and writes what is due
+    /// with it. `before` are the registers before it, `after` those after it. Fails if a write
+    /// fails.
     fn take_section<W: Sink>(
         &mut self,
         command: &mut C,
@@ -143,7 +146,8 @@ pub struct Walked<'a, V> {
 }
 
 impl<'a, V> Walked<'a, V> {
-    /// Returns the end of a walk after these items.
+    /// Returns the result of a walk: the look-ahead, the registers and the visitor after the items
+    /// that were handled, and how it ended.
     #[inline(always)]
     fn until(
         ahead: Ahead<'a>,
@@ -166,7 +170,8 @@ impl<'a, V> Walked<'a, V> {
         }
     }
 
-    /// Returns whether the walk may take more items: the visit is not over, and no write failed.
+    /// Returns whether the walk may handle more items: the visitor has not ended it, and no write
+    /// failed.
     #[inline(always)]
     fn can_go_on(&self) -> bool
         ensures { result ≡ true → self.now.ended ≡ Ok false }
@@ -175,7 +180,8 @@ impl<'a, V> Walked<'a, V> {
     }
 }
 
-/// Takes a change that was found ahead, and returns false, since it was a change.
+/// Has the visitor handle a change that lies at `extent`. Returns false, since it was a change.
+/// Fails if a write fails.
 #[inline(always)]
 fn take_change<C, V: Visit<C>, W: Sink>(
     command: &mut C,
@@ -199,8 +205,9 @@ fn take_change<C, V: Visit<C>, W: Sink>(
     Ok(false)
 }
 
-/// Takes the timestamp of `opening`, which is between `ahead` and `to`. `None` if the token spells
-/// no time, if the time may not come here, or if the visit leaves it; then nothing has changed.
+/// Has the visitor handle the timestamp whose token is that of `opening` and lies between `ahead`
+/// and `to`. Sets `regs` and `ahead` to those after it. `None` if the token spells no time, if the
+/// time may not come here, or if the visitor ends the walk before it; then nothing has changed.
 #[inline(always)]
 fn take_timestamp<'a, C, V: Visit<C>>(
     command: &mut C,
@@ -230,9 +237,10 @@ fn take_timestamp<'a, C, V: Visit<C>>(
     Some(())
 }
 
-/// Takes the begin or the end of a section whose token is that of `opening`, from `ahead` up to
-/// `to`, and returns true, since it was no change. `None` if the token is neither, if it may not
-/// come here, or if the visit leaves it; then nothing has changed.
+/// Has the visitor handle the begin or the end of a section whose keyword is that of `opening` and
+/// lies between `ahead` and `to`. Sets `regs` and `ahead` to those after it, and returns true,
+/// since it was no change. `None` if the token is anything else, if it may not come here, or if the
+/// visitor ends the walk before it; then nothing has changed.
 #[inline(always)]
 fn take_section<'a, C, V: Visit<C>, W: Sink>(
     command: &mut C,
@@ -264,9 +272,9 @@ fn take_section<'a, C, V: Visit<C>, W: Sink>(
     }
 }
 
-/// Takes the change that the tokens of a vector spell, which lies at `extent`, and returns false,
-/// since it was a change. `None` if the header has no such code, or if the digits are bad or too
-/// many for it; then nothing has changed.
+/// Has the visitor handle the change that the two tokens of a vector spell, which lie at `extent`.
+/// Returns false, since it was a change, or that a write failed. `None` if the header does not
+/// declare the code, or if the digits are bad or too many for it; then nothing has changed.
 // The arm for digits of a known number takes 5 % off `merge` of 27,505 codes, and adds 6 % to
 // `check`.
 #[inline(always)]
@@ -298,9 +306,10 @@ fn take_vector<C, V: Visit<C>, W: Sink>(
     }
 }
 
-/// Takes the next item that lies ahead. Returns false if it was a change, and true if it was a
-/// timestamp, or the begin or the end of a section. `None` if the item does not lie completely in
-/// the chunk, if it is bad, or if the visit leaves it; then nothing has changed.
+/// Has the visitor handle the next item ahead, and sets `regs` and `ahead` to those after it.
+/// Returns false if it was a change, true if it was a timestamp or the begin or the end of a
+/// section, or that a write failed. `None` if the item does not lie completely in the chunk, if it
+/// is bad or a comment, or if the visitor ends the walk before it; then nothing has changed.
 // What begins the item is asked once. Each arm is inlined: otherwise `check` takes nearly three
 // times as many instructions.
 #[inline(always)]
@@ -349,9 +358,9 @@ fn take_next<C, V: Visit<C>, W: Sink>(
     Some(taken)
 }
 
-/// Takes the next item that lies ahead, if it is a change by `0` or `1` with a code of one byte on
-/// a line of its own, and returns false, since it was a change. Otherwise `None`, and nothing has
-/// changed.
+/// Has the visitor handle the next item ahead, if it is a change by `0` or `1` with a code of one
+/// byte, on a line of its own, whose code a look at one entry finds. Then it passes it and returns
+/// false, since it was a change, or that a write failed. Otherwise `None`, and nothing has changed.
 #[inline(always)]
 fn take_short<C, V: Visit<C>, W: Sink>(
     command: &mut C,
@@ -377,9 +386,8 @@ fn take_short<C, V: Visit<C>, W: Sink>(
     Some(taken)
 }
 
-/// Takes the next changes, as long as each is a `0` or `1` with a code of one byte on its own line.
-/// Returns the walk when another item, the end of the chunk or a failed write ends it. `take_lines`
-/// calls it for the changes between two timestamps.
+/// Has the visitor handle the next changes, as long as each is one that `take_short` takes, and
+/// returns the state after the last of them: also whether a write failed, which ends the loop.
 #[inline(always)]
 fn take_shorts<'a, C, V: Visit<C>, W: Sink>(
     command: &mut C,
@@ -408,9 +416,10 @@ fn take_shorts<'a, C, V: Visit<C>, W: Sink>(
     }
 }
 
-/// Takes the next item that lies ahead, if it is a timestamp at the next byte, of at most 15 bytes,
-/// with a line feed after it. `None` if it is not, if its time may not come here, or if the visit
-/// leaves it; then nothing has changed.
+/// Has the visitor handle the next item ahead, if it is a timestamp at the next byte, of at most 15
+/// bytes, with a line feed after it. Sets `regs` and `ahead` to those after it. `None` if it is
+/// not, if its time may not come here, or if the visitor ends the walk before it; then nothing has
+/// changed.
 #[inline(always)]
 fn take_timestamp_line<C, V: Visit<C>>(
     command: &mut C,
@@ -429,8 +438,9 @@ fn take_timestamp_line<C, V: Visit<C>>(
     take_timestamp(command, visit, view, opening, regs, ahead, to)
 }
 
-/// Takes the items that come next, as long as each is a short change or a timestamp on a line of
-/// its own.
+/// Has the visitor handle the items that come next, as long as each is a change of two bytes or a
+/// short timestamp on a line of its own, and returns the state after the last of them. It also ends
+/// if the visitor ends the walk, or if a write fails.
 // Without this loop `check` of scalars takes 55 % more, and of other dumps 1 to 2 % less.
 #[inline(never)]
 fn take_lines<'a, C, V: Visit<C>, W: Sink>(
@@ -471,8 +481,8 @@ fn take_lines<'a, C, V: Visit<C>, W: Sink>(
     }
 }
 
-/// Takes the items that come next as `take_lines` does, if two lines of two bytes come and the
-/// visit is not over, otherwise none. `walk_ahead` calls it once, before its first item.
+/// Has the visitor handle items by `take_lines`, if the visitor has not ended the walk and two
+/// lines of two bytes come next; otherwise none. Returns the state after the last of them.
 #[inline(always)]
 fn take_first_lines<'a, C, V: Visit<C>, W: Sink>(
     command: &mut C,
@@ -495,10 +505,10 @@ fn take_first_lines<'a, C, V: Visit<C>, W: Sink>(
     Walked::until(ahead, regs, visit, Ok(false))
 }
 
-/// Takes the items that lie ahead, one after the other, up to the next comment, and returns how the
-/// walk ended. It also ends if the visit is over, if a write fails, or at an item that the visit
-/// leaves, that is bad, or that does not lie completely in the chunk. The first item is tried even
-/// if the visit is over.
+/// Has the visitor handle the items ahead, one after the other, up to the next comment, and returns
+/// the state after the last of them. It also ends if the visitor ends the walk, if a write fails,
+/// or at an item that is bad or does not lie completely in the chunk. The first item is tried even
+/// if the visitor has already ended the walk.
 // In each arm of an item the compiler knows whether it was a change. At its end, the walk forgets
 // the white space that it has seen: otherwise this is saved before each item, and `check` of 27,505
 // codes takes 5 % more.
@@ -549,10 +559,10 @@ fn walk_items<'a, C, V: Visit<C>, W: Sink>(
     }
 }
 
-/// Takes the items that lie ahead, one after the other, and returns how the walk ended. It passes
-/// comments, and the visit gets none of them. The walk ends if the visit is over, if a write fails,
-/// or at an item that the visit leaves, that is bad, or that does not lie completely in the chunk.
-/// The first item is tried even if the visit is over.
+/// Has the visitor `visit` handle the items ahead, one after the other, and returns the state after
+/// the last of them. Comments are passed, and the visitor gets none of them. The walk ends if the
+/// visitor ends it, if a write fails, or at an item that is bad or does not lie completely in the
+/// chunk. The first item is tried even if the visitor has already ended the walk.
 // Registers, offset and visit come and go by value, so that the loop over items keeps them out of
 // memory: in a struct that is kept there they cost `check` of scalars 11 %.
 #[inline(always)]

@@ -34,7 +34,8 @@ pub(crate) enum KeywordUse {
     OfHeader,
 }
 
-/// Returns what kind of phrase the token begins; `PhraseKind::Other` if it is empty.
+/// Returns what kind of phrase the token begins, by its first byte; `PhraseKind::Other` if it is
+/// empty.
 #[inline(always)]
 pub(crate) fn kind_of(token: &[u8]) -> PhraseKind
     ensures { Begins token.now result }
@@ -67,7 +68,7 @@ pub(crate) fn kind_by(byte: u8) -> PhraseKind
     }
 }
 
-/// Returns the bytes after the first one, which has to be there.
+/// Returns the bytes of the token after the first one. There has to be a first one.
 #[inline(always)]
 pub(crate) fn after_first(token: &[u8]) -> &[u8]
     requires { 0 < length token.now }
@@ -76,7 +77,7 @@ pub(crate) fn after_first(token: &[u8]) -> &[u8]
     &token[1..]
 }
 
-/// Returns the bytes after the first one; no bytes if there is no first one.
+/// Returns the bytes of the token after the first one; no bytes if the token is empty.
 #[inline(always)]
 pub(crate) fn rest_of(token: &[u8]) -> &[u8]
     ensures { result.now ≡ drop 1 token.now }
@@ -108,8 +109,8 @@ pub(crate) fn is_comment(token: &[u8]) -> bool
     token == b"$comment".as_slice()
 }
 
-/// Returns what a keyword means at the beginning of a phrase of the body: a comment, the begin of a
-/// section, `$end`, or a keyword that belongs only in the header.
+/// Returns what a keyword means at the beginning of a phrase of a body: a comment, the begin of a
+/// section, the end of one, or that it belongs only in a header.
 fn use_of(keyword: Keyword) -> KeywordUse
     ensures { result ≡ command_is keyword }
 {
@@ -130,7 +131,8 @@ fn use_of(keyword: Keyword) -> KeywordUse
     }
 }
 
-/// Returns what a token means as a keyword of the body. `None` if it is no keyword.
+/// Returns what the token means at the beginning of a phrase of a body, if it is a keyword. `None`
+/// if it is none.
 #[inline(always)]
 pub(crate) fn command_of(token: &[u8]) -> Option<KeywordUse>
     ensures { StandsFor token.now result }
@@ -147,8 +149,8 @@ fn is_value_digit(byte: u8) -> bool
     byte == b'0' || byte == b'1' || byte == b'x' || byte == b'X' || byte == b'z' || byte == b'Z'
 }
 
-/// Returns a mask whose bit k is set if byte `at + k`, of 32 bytes, is not `byte`. All 32 have to
-/// be there.
+/// Returns a mask of the 32 bytes from offset `at` on: bit k is set if byte `at + k` is not `byte`.
+/// All 32 have to be there.
 #[inline(always)]
 pub(crate) fn others_32(bytes: &[u8], at: usize, byte: u8) -> u64
     requires { at + 32 ≤ length bytes.now }
@@ -159,8 +161,8 @@ pub(crate) fn others_32(bytes: &[u8], at: usize, byte: u8) -> u64
     v.simd_ne(u8x32::splat(byte)).to_bitmask()
 }
 
-/// Returns a mask whose bit k is set if byte `at + k`, of 64 bytes, is not `byte`. All 64 have to
-/// be there.
+/// Returns a mask of the 64 bytes from offset `at` on: bit k is set if byte `at + k` is not `byte`.
+/// All 64 have to be there.
 #[inline(always)]
 pub(crate) fn others_64(bytes: &[u8], at: usize, byte: u8) -> u64
     requires { at + 64 ≤ length bytes.now }
@@ -171,8 +173,8 @@ pub(crate) fn others_64(bytes: &[u8], at: usize, byte: u8) -> u64
     v.simd_ne(u8x64::splat(byte)).to_bitmask()
 }
 
-/// Returns how many of the lowest n bits of a mask are clear before the first set one; n - 1 if all
-/// are clear. n has to be 1 to 64.
+/// Returns how many bits of a mask, from the lowest on, are clear before the first one that is set,
+/// among the lowest `n`; `n - 1` if all of these are clear. `n` has to be 1 to 64.
 #[inline(always)]
 pub(crate) fn clear_bits(mask: u64, n: usize) -> usize
     requires some { 1 ≤ n }
@@ -187,8 +189,8 @@ pub(crate) fn clear_bits(mask: u64, n: usize) -> usize
     (mask.trailing_zeros() as usize).min(n - 1)
 }
 
-/// Returns a mask whose bit k is set if byte `at + k`, of 32 bytes, is neither `0` nor `1`. All 32
-/// have to be there.
+/// Returns a mask of the 32 bytes from offset `at` on: bit k is set if byte `at + k` is neither `0`
+/// nor `1`. All 32 have to be there.
 #[inline(always)]
 fn nonbinary_32(bytes: &[u8], at: usize) -> u64
     requires { at + 32 ≤ length bytes.now }
@@ -199,8 +201,8 @@ fn nonbinary_32(bytes: &[u8], at: usize) -> u64
     v.simd_ne(u8x32::splat(b'0')).to_bitmask()
 }
 
-/// Returns a mask whose bit k is set if byte `at + k`, of 32 bytes, is none of `x`, `X`, `z` and
-/// `Z`. All 32 have to be there.
+/// Returns a mask of the 32 bytes from offset `at` on: bit k is set if byte `at + k` is none of
+/// `x`, `X`, `z` and `Z`. All 32 have to be there.
 #[inline(always)]
 fn known_32(bytes: &[u8], at: usize) -> u64
     requires { at + 32 ≤ length bytes.now }
@@ -210,7 +212,8 @@ fn known_32(bytes: &[u8], at: usize) -> u64
     v.simd_ne(u8x32::splat(b'X')).to_bitmask()
 }
 
-/// Returns whether the 32 bytes from `at` on, which have to be there, are digits of a value.
+/// Returns whether the 32 bytes from offset `at` on are all digits of a value: `0`, `1`, `x`, `X`,
+/// `z` or `Z`. All 32 have to be there.
 #[inline(always)]
 fn are_digits_32(bytes: &[u8], at: usize) -> bool
     requires { at + 32 ≤ length bytes.now }
@@ -219,8 +222,8 @@ fn are_digits_32(bytes: &[u8], at: usize) -> bool
     nonbinary_32(bytes, at) & known_32(bytes, at) == 0
 }
 
-/// Returns whether the n bytes from `at` on, at most 32, are only `0` and `1`. The 32 bytes there
-/// are read.
+/// Returns whether the `n` bytes from offset `at` on, at most 32, are only `0` and `1`. All 32
+/// bytes from there on have to exist.
 #[inline(always)]
 fn are_binary_at(bytes: &[u8], at: usize, n: usize) -> bool
     requires room { at + 32 ≤ length bytes.now }
@@ -231,7 +234,7 @@ fn are_binary_at(bytes: &[u8], at: usize, n: usize) -> bool
     nonbinary_32(bytes, at) & ((1 << n) - 1) == 0
 }
 
-/// Returns whether the digits are only `0` and `1`, by a look at each, without a branch.
+/// Returns whether the digits are only `0` and `1`, by a look at each. It is for few digits.
 fn are_few_binary(digits: &[u8]) -> bool
     ensures { result ≡ true → AreBinary digits.now }
 {
@@ -243,8 +246,8 @@ fn are_few_binary(digits: &[u8]) -> bool
     largest <= 1
 }
 
-/// Returns true only if the digits are only `0` and `1`. It looks at 32 at a time, if there are
-/// that many, and at some of the last 32 twice.
+/// Returns true only if the digits are only `0` and `1`. It compares 32 in one step if there are as
+/// many, and some of the last 32 twice.
 #[inline(never)]
 pub(crate) fn are_binary(digits: &[u8]) -> bool
     ensures { result ≡ true → AreBinary digits.now }
@@ -263,8 +266,8 @@ pub(crate) fn are_binary(digits: &[u8]) -> bool
     nonbinary_32(digits, last) == 0
 }
 
-/// Returns true only if there are at least 32 bytes and all are digits of a value. It looks at 32
-/// at a time, and at some of the last 32 twice.
+/// Returns true only if there are at least 32 bytes and all are digits of a value: `0`, `1`, `x`,
+/// `X`, `z` or `Z`.
 fn are_many_digits(digits: &[u8]) -> bool
     ensures { result ≡ true → list_all is_digit digits.now ≡ true }
 {
@@ -282,8 +285,8 @@ fn are_many_digits(digits: &[u8]) -> bool
     are_digits_32(digits, last)
 }
 
-/// Returns whether all of these bytes are digits of a value. It looks at 32 at a time: one by one,
-/// `check` of wide vectors takes 16 % more.
+/// Returns whether all of these bytes are digits of a value: `0`, `1`, `x`, `X`, `z` or `Z`. It
+/// compares 32 in one step: one by one, `check` of wide vectors takes 16 % more.
 #[inline(never)]
 pub(crate) fn are_all_digits(digits: &[u8]) -> bool
     ensures { result ≡ list_all is_digit digits.now }
@@ -291,8 +294,8 @@ pub(crate) fn are_all_digits(digits: &[u8]) -> bool
     are_many_digits(digits) || digits.iter().all(|digit| is_value_digit(*digit))
 }
 
-/// Returns true only if the digits are only `0` and `1`. If `bits` has their number they are, and
-/// none is looked at.
+/// Returns true only if the digits are only `0` and `1`. If `bits` is `Some`, it has their number,
+/// so they are, and none is looked at.
 #[inline(always)]
 pub(crate) fn are_binary_or_known(digits: &[u8], bits: Option<Bits>) -> bool
     requires { MayBe bits digits.now }
@@ -301,8 +304,8 @@ pub(crate) fn are_binary_or_known(digits: &[u8], bits: Option<Bits>) -> bool
     bits.is_some() || are_binary(digits)
 }
 
-/// Returns whether these are one or more digits of a value. `binary` says that they are known to be
-/// only `0` and `1`: then none is looked at.
+/// Returns whether these are one or more digits of a value: `0`, `1`, `x`, `X`, `z` or `Z`. If
+/// `binary` is true, all are known to be `0` and `1`, and none is looked at.
 #[inline(always)]
 pub(crate) fn are_digits_or_binary(digits: &[u8], binary: bool) -> bool
     requires { AreBinaryIf binary digits.now }
@@ -314,8 +317,8 @@ pub(crate) fn are_digits_or_binary(digits: &[u8], binary: bool) -> bool
     binary || are_all_digits(digits)
 }
 
-/// Returns a mask whose bit 31 - k is set if byte `at + k` is `1`: the last of the 32 bytes from
-/// `at` on gives the lowest bit. All 32 have to be there.
+/// Returns a mask of the 32 bytes from offset `at` on: bit 31 - k is set if byte `at + k` is `1`,
+/// so the last byte gives the lowest bit. All 32 have to be there.
 #[inline(always)]
 fn ones_32(bytes: &[u8], at: usize) -> u64
     requires { at + 32 ≤ length bytes.now }
@@ -326,8 +329,8 @@ fn ones_32(bytes: &[u8], at: usize) -> u64
     v.simd_eq(u8x32::splat(b'1')).to_bitmask()
 }
 
-/// Returns the number that n binary digits write, at most 32, which begin at `at`. The 32 bytes
-/// there are read.
+/// Returns the number that the `n` binary digits from offset `at` on write; `n` is at most 32. All
+/// 32 bytes from there on have to exist.
 #[inline(always)]
 fn number_at(bytes: &[u8], at: usize, n: usize) -> usize
     requires room { at + 32 ≤ length bytes.now }
@@ -338,9 +341,9 @@ fn number_at(bytes: &[u8], at: usize, n: usize) -> usize
     (ones_32(bytes, at) >> (32 - n)) as usize
 }
 
-/// Returns `digits`, which begin at `at` in `bytes`, as a binary number. `None` if there are none
-/// or more than 32, if one of them is not `0` or `1`, or if fewer than 32 bytes are left from `at`
-/// on.
+/// Returns `digits`, which begin at offset `at` in `bytes`, as a binary number. `None` if there are
+/// none or more than 32, if one of them is not `0` or `1`, or if fewer than 32 bytes are left from
+/// `at` on.
 // It looks at 32 bytes, without a branch on how many digits there are.
 #[inline(always)]
 pub(crate) fn bits_at(bytes: &[u8], at: usize, digits: &[u8]) -> Option<Bits>
