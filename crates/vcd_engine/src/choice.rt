@@ -2,7 +2,7 @@
 ghost use Rattle.std.specs.Prelude.{◌≡◌, ℕ, ◌<◌, ◌==◌, ◌||◌, false, length};
 ghost use Rattle.vcd_engine.specs.Names.{is_chosen};
 
-/// Sets all flags to 0, so that no code is chosen.
+/// Sets all flags to 0: no code is chosen then. `flags` has one byte for each code.
 pub(crate) fn choose_none(flags: &mut [u8])
     ensures codes { length flags.new ≡ length flags.old }
     ensures chosen { (code : ℕ) → is_chosen flags.new code ≡ false }
@@ -10,7 +10,8 @@ pub(crate) fn choose_none(flags: &mut [u8])
     flags.fill(0);
 }
 
-/// Chooses the code at index `code`. The flags of all other codes stay as they are.
+/// Sets the flag of the code at index `code` to 1: it is chosen then. The flags of all other codes
+/// stay as they are.
 pub(crate) fn choose(flags: &mut [u8], code: usize)
     requires { code < length flags.old }
     ensures codes { length flags.new ≡ length flags.old }
@@ -20,7 +21,7 @@ pub(crate) fn choose(flags: &mut [u8], code: usize)
     flags[code] = 1;
 }
 
-/// Returns whether the code at index `code` is chosen; false if there is no such code.
+/// Returns whether the flag of the code at index `code` is 1; false if there is no such code.
 // A byte for each code: with a flag in a record of 48 bytes, `pick` of 27,505 codes took half as
 // much time again.
 #[inline]

@@ -8,8 +8,9 @@ use vcd_body::{Done, Stop};
 use vcd_text::{Feed, Sink, Source};
 use vcd_view::HeadView;
 
-/// Reads the body after the header that is shown, writes the seven lines of its report, and returns
-/// `Done::Whole`. Fails at the first fault of the body, at a failed read, and at a failed write.
+/// Reads the body that follows the header of `view`, writes the seven lines of its report (counts,
+/// and the last time), and returns `Done::Whole`. Fails at the first fault of the body, at a failed
+/// read, and at a failed write.
 pub fn check<S: Source, W: Sink>(
     view: HeadView<'_>,
     feed: &mut Feed<'_, '_, '_, '_, S>,
@@ -28,9 +29,10 @@ pub fn check<S: Source, W: Sink>(
     run_task(Task::Check, view, feed, room, out)
 }
 
-/// Writes the header of the variables that the names select (all if there are no names) and of the
-/// scopes around them. Then reads the body after the header that is shown, writes its sections and
-/// the changes of these variables, each after the line of its time, and returns `Done::Whole`.
+/// Writes a dump of the variables that the names select (all if there are no names): first the
+/// header of these and of the scopes around them. Then it reads the body that follows the header of
+/// `view`, writes its sections and the changes of these variables, each after the line of its time,
+/// and returns `Done::Whole`.
 ///
 /// A name that selects nothing is refused before anything is read or written. Fails at the first
 /// fault of the body, at a failed read, and at a failed write.
@@ -49,9 +51,9 @@ pub fn pick<S: Source, W: Sink>(
     run_task(Task::Pick(names), view, feed, room, out)
 }
 
-/// Reads the body after the header that is shown, and then writes a line for each variable that the
-/// names select (all if there are no names): its path, and how often its value changes, rises and
-/// falls. Returns `Done::Whole`.
+/// Reads the body that follows the header of `view`, and then writes a line for each variable that
+/// the names select (all if there are no names): its path, and how often its value changes, rises
+/// and falls. Returns `Done::Whole`.
 ///
 /// A name that selects nothing is refused before anything is read. Fails at the first fault of the
 /// body, at a failed read, and at a failed write. At a fault nothing is written.
@@ -70,11 +72,11 @@ pub fn edges<S: Source, W: Sink>(
     run_task(Task::Edges(names), view, feed, room, out)
 }
 
-/// Writes the header of all variables; from the first timestamp of at least `from` on, a section
-/// with the values just before `from`; and the items from then up to `to`, each after the line of
-/// its time. Times are in ticks, and `from` is at most `to`. A timestamp above `to` ends the run:
-/// then the call returns `Done::Early`, otherwise `Done::Whole`. Fails at the first fault of the
-/// body, at a failed read, and at a failed write.
+/// Writes a dump of the time from `from` to `to`: the header of all variables; from the first
+/// timestamp of at least `from` on, a section with the values just before `from`; and the items
+/// from then up to `to`, each after the line of its time. Times are in ticks, and `from` is at most
+/// `to`. A timestamp above `to` ends the run: then the call returns `Done::Early`, otherwise
+/// `Done::Whole`. Fails at the first fault of the body, at a failed read, and at a failed write.
 pub fn cut<S: Source, W: Sink>(
     view: HeadView<'_>,
     feed: &mut Feed<'_, '_, '_, '_, S>,

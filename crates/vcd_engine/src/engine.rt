@@ -21,7 +21,7 @@ pub struct Engine<'v, 'n, 'r> {
     going: bool,
 }
 
-/// Returns whether an item is the end of the body.
+/// Returns whether the item is `Item::Finish`, the end of the body.
 #[inline(always)]
 fn is_finish(item: Item) -> bool
     ensures { MatchBool result (item ≡ Finish) (item ≢ Finish) }
@@ -32,7 +32,8 @@ fn is_finish(item: Item) -> bool
     }
 }
 
-/// Returns the text of the item that the feed gave last: empty, unless it is a change.
+/// Returns the text of `item`, which `next_item` returned last: the digits or the real number of a
+/// change, and no bytes for any other item.
 #[inline(always)]
 fn text_of_item<'f, S: Source>(feed: &'f Feed<'_, '_, '_, '_, S>, item: Item) -> &'f [u8]
     ensures { result.now ≡ item_text feed.now item }
@@ -50,8 +51,9 @@ pub struct Begun<'n, 'r> {
 }
 
 impl<'n, 'r> Begun<'n, 'r> {
-    /// Begins a task over the header that is shown, and writes what comes before all items. The
-    /// task's times are in order.
+    /// Begins a task over the body of this header, and writes what comes before all items: for
+    /// `pick` and `cut` a header. The times of the task are in order, and `room` has the lengths
+    /// that `Task::need` returns.
     ///
     /// # Errors
     ///
@@ -78,7 +80,8 @@ impl<'n, 'r> Begun<'n, 'r> {
 }
 
 impl<'v, 'n, 'r> Engine<'v, 'n, 'r> {
-    /// Returns the engine of a task that has begun over the same header.
+    /// Returns an engine that runs a task that `start` has begun over the same header, before its
+    /// first item.
     pub fn new(begun: Begun<'n, 'r>, view: HeadView<'v>) -> Engine<'v, 'n, 'r>
         ensures holds { (h : Header) → IsViewOf view.entry h
             → CanRun (request_of_begun begun.entry) h → HasBegun begun.entry h → Holds result h [] }
@@ -95,7 +98,7 @@ impl<'v, 'n, 'r> Engine<'v, 'n, 'r> {
         }
     }
 
-    /// Returns whether a step may be taken: neither the body nor an earlier step has ended the run.
+    /// Returns whether `step` may be called: false once a step has returned anything but `Again`.
     #[inline]
     pub fn going(&self) -> bool
         ensures { result ≡ is_going self.now }
@@ -103,9 +106,9 @@ impl<'v, 'n, 'r> Engine<'v, 'n, 'r> {
         self.going
     }
 
-    /// Takes the next item from the feed, writes what is due with it or at the end of the body, and
-    /// returns `Again` if the run goes on, otherwise what ended it. `view` is the engine's, from
-    /// the caller, so that a loop over steps does not load it again. Fails as `step` does.
+    /// Handles the next item of the feed, and writes what is due with it or at the end of the body.
+    /// Returns `Again` if the run goes on, otherwise what ended it. `view` is the engine's own,
+    /// passed by the caller so that a loop over steps does not load it again. Fails as `step` does.
     #[inline(always)]
     fn step_with_view<S: Source, W: Sink>(
         &mut self,
@@ -145,9 +148,9 @@ impl<'v, 'n, 'r> Engine<'v, 'n, 'r> {
         }
     }
 
-    /// Takes the items that are whole in the feed's chunk, and writes what is due with each. The
-    /// feed moves past them in one call, and nothing is read. Fails if a write does, which ends the
-    /// run.
+    /// Handles the items that lie completely in the feed's chunk, writes what is due with each, and
+    /// moves the feed past them. It reads nothing from the source. Fails if a write does, which
+    /// ends the run.
     #[inline(never)]
     fn walk_ahead<S: Source, W: Sink>(
         &mut self,
@@ -184,8 +187,8 @@ impl<'v, 'n, 'r> Engine<'v, 'n, 'r> {
         }
     }
 
-    /// Takes the next item, and returns and fails as `step_with_view` does. It may wait for a read,
-    /// so by then `out` keeps nothing back.
+    /// Handles the next item, and returns and fails as `step_with_view` does. It may wait for
+    /// input, so `out` must keep nothing back.
     #[inline(always)]
     fn read_on<S: Source, W: Sink>(
         &mut self,
@@ -203,9 +206,10 @@ impl<'v, 'n, 'r> Engine<'v, 'n, 'r> {
         self.step_with_view(view, feed, out)
     }
 
-    /// Takes the items that lie completely in the chunk, and then the next one, which may need a
-    /// read: before that `out` passes on all that it keeps back. Returns what `step` does. Fails at
-    /// a fault of the body, at a failed read, and at a failed write.
+    /// Handles the items that lie completely in the chunk, and then the next one, for which it may
+    /// wait for input: before that `out` passes on all that it keeps back. Returns `Again` if the
+    /// run goes on, otherwise what ended it. Fails at a fault of the body, at a failed read, and at
+    /// a failed write.
     #[inline(always)]
     fn advance<S: Source, W: Sink>(
         &mut self,
@@ -244,9 +248,10 @@ impl<'v, 'n, 'r> Engine<'v, 'n, 'r> {
         self.task_state.close(self.view, self.regs, out)
     }
 
-    /// Runs the items that are left, writes what is due with each and at the end, and returns what
-    /// ended the run: the end of the body, or a timestamp. Fails at a fault of the body, at a
-    /// failed read, and at a failed write.
+    /// Handles all items that are left, writes what is due with each and at the end, and returns
+    /// what ended the run: `Done::Whole` at the end of the body, or `Done::Early` at a timestamp
+    /// after which the task needs no items. Fails at a fault of the body, at a failed read, and at
+    /// a failed write.
     fn run_to_end<S: Source, W: Sink>(
         &mut self,
         feed: &mut Feed<'_, '_, '_, '_, S>,
@@ -272,8 +277,9 @@ impl<'v, 'n, 'r> Engine<'v, 'n, 'r> {
     }
 }
 
-/// Takes the next item, and writes what is due with it, or at the end of the body. Returns `Again`
-/// if the run goes on, otherwise what ended it. After any answer but `Again` the run is over.
+/// Handles the next item of the feed, and writes what is due with it, or at the end of the body.
+/// Returns `Again` if the run goes on, otherwise what ended it. After any answer but `Again` do not
+/// call it again.
 ///
 /// # Errors
 ///
@@ -292,8 +298,10 @@ pub fn step<S: Source, W: Sink>(
     engine.step_with_view(engine.view, feed, out)
 }
 
-/// Runs a task over the body after the header that is shown, to its end, and returns what ended it:
-/// the end of the body, or a timestamp. The task's times are in order.
+/// Runs a task over the body that follows the header of `view`, and returns what ended it:
+/// `Done::Whole` at the end of the body, or `Done::Early` at a timestamp after which the task needs
+/// no items. The feed is right after that header, the times of the task are in order, and `room`
+/// has the lengths that `Task::need` returns.
 ///
 /// # Errors
 ///

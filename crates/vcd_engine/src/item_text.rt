@@ -14,7 +14,7 @@ pub(crate) struct ItemText {
     written: Option<u64>,
 }
 
-/// Returns the line that begins a section: its keyword.
+/// Returns the line that begins a section of this kind: its keyword and a line feed.
 fn begin_line(section: Section) -> &'static [u8]
     ensures { result.now ≡ as_line (keyword_text (section_keyword (model_section section))) }
 {
@@ -26,9 +26,9 @@ fn begin_line(section: Section) -> &'static [u8]
     }
 }
 
-/// Writes the line of an item. Writes nothing for a timestamp, for the end of the body, and for a
-/// change whose index has no code. `text` is a change's text, and any bytes for other items. Fails
-/// if a write does.
+/// Writes the line of a change, or of the begin or end of a section. Writes nothing for a
+/// timestamp, for the end of the body, and for a change if the header has no code at its index.
+/// `text` is a change's text; for other items it may be anything. Fails if a write does.
 #[inline(always)]
 fn put_item<W: Sink>(
     view: HeadView<'_>,
@@ -55,8 +55,9 @@ fn put_item<W: Sink>(
     }
 }
 
-/// Returns whether an item may be written: it is the begin or end of a section, or a change, but
-/// not an event inside a section. `regs` are the registers after the item.
+/// Returns whether a dump that is written may have this item: a section's begin or end, or a
+/// change, but not of an event inside a section. Timestamps are written by themselves. `regs` are
+/// the registers after the item.
 #[inline(always)]
 pub(crate) fn may_keep(view: HeadView<'_>, regs: Regs, item: Item) -> bool
     ensures { result ≡ may_be_kept view.entry regs item }
@@ -76,7 +77,7 @@ impl ItemText {
         ItemText { written: None }
     }
 
-    /// Returns the state after the line of `time`.
+    /// Returns the state in which the line of `time` was written last.
     pub(crate) fn after(time: u64) -> ItemText
         ensures { HasWritten (time ∷ []) [] result }
     {
@@ -85,8 +86,9 @@ impl ItemText {
         }
     }
 
-    /// Writes the line of `time`, unless that was the last such line, and then the line of an item.
-    /// `text` is a change's text, and any bytes for other items. Fails if a write does.
+    /// Writes the line of `time`, unless it is the time whose line was written last, and then the
+    /// line of an item. `text` is a change's text; for other items it may be anything. Fails if a
+    /// write does.
     #[inline(always)]
     fn put<W: Sink>(
         &mut self,
@@ -107,10 +109,10 @@ impl ItemText {
         put_item(view, item, text, out)
     }
 
-    /// Adds the line of `time`, unless that was the last such line, and the line of an item, after
-    /// the pending text. If the chunk has such a line, the line becomes pending; otherwise it is
-    /// written. `line` says where the chunk has the line of `time`, if that is known. Fails if a
-    /// write does.
+    /// Adds the line of `time`, unless it is the time whose line was added last, and the line of an
+    /// item to the output. Lines that the chunk already has as they would be written are added to
+    /// `pending`; otherwise `pending` is written, and then the line. `line` says where the chunk
+    /// has the line of `time`, if that is known. Fails if a write does.
     #[inline(always)]
     pub(crate) fn put_spanned<W: Sink>(
         &mut self,
@@ -139,8 +141,9 @@ impl ItemText {
         pending.append_line(item.bytes, item.from, item.to, n, out)
     }
 
-    /// Adds the line of `time`, unless that was the last such line, after the pending text. `line`
-    /// says where it is in `bytes`, those of the chunk, if that is known. Fails if a write does.
+    /// Adds the line of `time` to the output, unless it is the time whose line was added last: to
+    /// `pending` if `line` says where the chunk `bytes` has it, otherwise it writes `pending` and
+    /// then the line. Fails if a write does.
     #[inline(always)]
     fn add_time<W: Sink>(
         &mut self,
@@ -164,8 +167,9 @@ impl ItemText {
         pending.append_time(time, bytes, line.from, line.to, out)
     }
 
-    /// Writes the line of the time `last`, that of the last timestamp. Writes nothing if it is
-    /// `None`, or if that line was written last. Fails if a write does.
+    /// Writes the line of `last`, the time of the last timestamp, at the end of the output. Writes
+    /// nothing if it is `None` (there was no timestamp), or if its line was written last. Fails if
+    /// a write does.
     pub(crate) fn close<W: Sink>(&self, last: Option<u64>, out: &mut W) -> Result<(), WriteFailed>
         requires { (W.device out.old).failures < 2 ^ 64 - 1 }
         ensures takes { (before : List ℕ) (kept : List Entry) → HasWritten before kept self.now

@@ -5,8 +5,8 @@ ghost use Rattle.vcd_engine.specs.Names.{HaveNoLine, Header, IsSelectedAt, IsVie
 
 use vcd_view::{HeadView, Kind};
 
-/// Returns whether a row has a line in a sample: its flag is 1, and it is a variable that is no
-/// event.
+/// Returns whether `sample` writes a line for a row: its flag is 1 (selected), and it declares a
+/// variable that is no event.
 fn has_line(view: HeadView<'_>, row: usize, flag: u8) -> bool
     requires { row < length view.rows.now }
     ensures { (h : Header) (names : List (List ℕ)) → IsViewOf view.entry h
@@ -21,7 +21,7 @@ fn has_line(view: HeadView<'_>, row: usize, flag: u8) -> bool
 }
 
 /// Returns the flag of the first of `count` rows without a line: 2 + log2(`count`), rounded down.
-/// It skips more than half of them. `count` is 1 or more.
+/// For it `rows_on` returns how many rows to skip: more than half of them. `count` is 1 or more.
 fn flag_over(count: usize) -> u8
     requires { 0 < count }
     ensures other { result ≢ 1 }
@@ -30,7 +30,8 @@ fn flag_over(count: usize) -> u8
     2 + count.ilog2() as u8
 }
 
-/// Returns how many rows a flag skips: a power of two, which is 1 for the flags 0 to 2.
+/// Returns how many rows to go on from a row with this flag: a power of two, which is 1 for the
+/// flags 0 to 2.
 pub(crate) fn rows_on(flag: u8) -> usize
     ensures passes { result ≡ rows_on flag }
     ensures some { 0 < result }
@@ -38,8 +39,9 @@ pub(crate) fn rows_on(flag: u8) -> usize
     1 << flag.saturating_sub(2).min(63)
 }
 
-/// Turns `marks`, which has 1 for each selected row, into flags that lead on: 1 if a row has a line
-/// in a sample, otherwise how many rows without a line to skip (`rows_on`).
+/// Turns `marks`, which has 1 for each selected row, into flags by which `sample` goes from row to
+/// row: 1 if it writes a line for the row, otherwise a flag for which `rows_on` returns how many
+/// rows without a line to skip.
 // With a look at each row, a `sample` of one variable of 200,000 at 20,000 times took 100 times as
 // long.
 pub(crate) fn lead_on(view: HeadView<'_>, marks: &mut [u8])

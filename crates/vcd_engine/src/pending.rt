@@ -18,7 +18,8 @@ pub(crate) struct SpannedItem<'a> {
 }
 
 impl<'a> SpannedItem<'a> {
-    /// Returns the item that lies at this extent.
+    /// Returns an item ahead together with its place in the chunk: its bytes from the first one up
+    /// to what was passed with it.
     #[inline(always)]
     pub(crate) fn of(scanned: ScannedItem<'a>, extent: Extent<'a>) -> SpannedItem<'a>
         ensures scanned { result.scanned ≡ scanned.entry }
@@ -32,7 +33,7 @@ impl<'a> SpannedItem<'a> {
         }
     }
 
-    /// Returns an item that the feed gave, with its text.
+    /// Returns an item that `next_item` returned, with its text and without a place in the chunk.
     #[inline(always)]
     pub(crate) fn given(item: Item, text: &'a [u8]) -> SpannedItem<'a>
         ensures item { result.scanned.item ≡ item }
@@ -59,9 +60,9 @@ impl<'a> SpannedItem<'a> {
         }
     }
 
-    /// Returns how many bytes after the first one to drop, so that the rest of the span before its
-    /// last byte, and a line feed, are the item's line. `None` if that is not known, or the feed
-    /// gave the item.
+    /// Returns how many of the item's bytes after the first one to leave out, so that the rest
+    /// before its last byte, and a line feed, are the item's line. `None` if that is not known, or
+    /// if the item has no place in the chunk.
     #[inline(always)]
     pub(crate) fn left_out(self) -> Option<usize>
         requires { (view : HeadView) × IsSpanned view self }
@@ -78,7 +79,7 @@ impl<'a> SpannedItem<'a> {
     }
 }
 
-/// Writes the bytes from `from` up to `to`. Fails if a write does.
+/// Writes the bytes from `from` up to `to` (exclusive). Fails if a write does.
 // Not inlined, so that a loop in which the piece grows has all registers.
 #[inline(never)]
 fn put_part<W: Sink>(bytes: &[u8], from: usize, to: usize, out: &mut W) -> Result<(), WriteFailed>
@@ -89,8 +90,8 @@ fn put_part<W: Sink>(bytes: &[u8], from: usize, to: usize, out: &mut W) -> Resul
     put_front(out, &bytes[from..], to - from)
 }
 
-/// Writes the bytes from `from` up to `to` without the `n` after the first, and a line feed. Fails
-/// if a write does.
+/// Writes the bytes from `from` up to `to` (exclusive), without the `n` bytes after the first, and
+/// a line feed. Fails if a write does.
 // It is for lines that end with CR LF. Made anew from digits and codes, these cost `pick` of all
 // scalars 30 % more.
 #[inline(never)]
@@ -120,7 +121,7 @@ pub(crate) struct PendingCopy {
 }
 
 impl PendingCopy {
-    /// Returns an empty pending text.
+    /// Returns an empty piece of pending text: no bytes of the chunk wait to be written.
     #[inline(always)]
     pub(crate) fn new() -> PendingCopy
         ensures part { (bytes : List ℕ) → IsPart bytes result }
@@ -129,7 +130,8 @@ impl PendingCopy {
         PendingCopy { from: 0, to: 0 }
     }
 
-    /// Writes the pending text. Fails if a write does.
+    /// Writes the pending text, which are some of `bytes`, those of the chunk; after it none is
+    /// pending. Fails if a write does.
     #[inline(always)]
     pub(crate) fn flush<W: Sink>(&mut self, bytes: &[u8], out: &mut W) -> Result<(), WriteFailed>
         requires failures { (W.device out.old).failures < 2 ^ 64 - 1 }
@@ -146,8 +148,9 @@ impl PendingCopy {
         Ok(())
     }
 
-    /// Adds the bytes from `from` up to `to`, which are due next. If they adjoin the pending text,
-    /// it grows; otherwise it is written first. Fails if a write does.
+    /// Adds the bytes from `from` up to `to` (exclusive) to the output. If they come right after
+    /// the pending text, they become part of it; otherwise that is written first, and they are the
+    /// pending text. Fails if a write does.
     #[inline(always)]
     pub(crate) fn append<W: Sink>(
         &mut self,
@@ -172,8 +175,8 @@ impl PendingCopy {
         Ok(())
     }
 
-    /// Adds the bytes from `from` up to `to` without the `n` after the first, as one piece or two.
-    /// Fails if a write does.
+    /// Adds the bytes from `from` up to `to` (exclusive), without the `n` bytes after the first, to
+    /// the output, as `append` does with one piece or two. Fails if a write does.
     #[inline(always)]
     pub(crate) fn append_parts<W: Sink>(
         &mut self,
@@ -196,11 +199,11 @@ impl PendingCopy {
         self.append(bytes, from + 1 + n, to, out)
     }
 
-    /// Adds a line, which is due next: the bytes from `from` up to `to - 1`, without the `n` after
-    /// the first one, and a line feed in place of the byte at `to - 1`.
+    /// Adds a line to the output: the bytes from `from` up to `to - 1` (exclusive), without the `n`
+    /// bytes after the first, and a line feed in place of the byte at `to - 1`.
     ///
-    /// If that byte is a line feed already, the bytes are added as `append_parts` adds them.
-    /// Otherwise the pending text is written, and then the line. Fails if a write does.
+    /// If that byte is a line feed already, the bytes become pending text, as `append_parts` does
+    /// it. Otherwise the pending text is written, and then the line. Fails if a write does.
     #[inline(always)]
     pub(crate) fn append_line<W: Sink>(
         &mut self,
@@ -229,9 +232,9 @@ impl PendingCopy {
         put_line(bytes, from, last, n, out)
     }
 
-    /// Adds the line of a time, which is due next. The bytes from `from` up to the last one before
-    /// `to`, and a line feed, are that line; or there are none, and the line is written after the
-    /// pending text. Fails if a write does.
+    /// Adds the line of `time` to the output. If `from` is less than `to`, the bytes from `from` up
+    /// to `to - 1` (exclusive), and a line feed, are that line, and `append_line` adds it.
+    /// Otherwise the pending text is written, and then the line. Fails if a write does.
     #[inline(always)]
     pub(crate) fn append_time<W: Sink>(
         &mut self,

@@ -12,7 +12,7 @@ pub(crate) struct Declared {
     pub(crate) variables: usize,
 }
 
-/// Returns how many scopes and variables the rows declare, in one pass.
+/// Returns how many scopes and variables these rows declare.
 pub(crate) fn declared_in(rows: &[Row]) -> Declared
     ensures scopes { result.scopes ≡ count_by (λ r. opens_scope r.kind) rows.now }
     ensures variables { result.variables ≡ count_by (λ r. declares_variable r.kind) rows.now }
@@ -30,7 +30,7 @@ pub(crate) fn declared_in(rows: &[Row]) -> Declared
     Declared { scopes, variables }
 }
 
-/// Writes a line with a name and a number. Fails if a write does.
+/// Writes a line with a name, a space and a number. Fails if a write does.
 fn put_count<W: Sink>(out: &mut W, name: &str, number: u64) -> Result<(), WriteFailed>
     requires { (W.device out.old).failures < 2 ^ 64 - 1 }
     ensures { PutsTo W.device out.old out.new (count_line name.now (decimal number)) result }
@@ -41,7 +41,7 @@ fn put_count<W: Sink>(out: &mut W, name: &str, number: u64) -> Result<(), WriteF
     put(out, b"\n")
 }
 
-/// Writes a line for each name and its number. Fails if a write does.
+/// Writes a line with name and number for each of these pairs. Fails if a write does.
 fn put_counts<W: Sink>(out: &mut W, counts: &[(&str, u64)]) -> Result<(), WriteFailed>
     requires { (W.device out.old).failures < 2 ^ 64 - 1 }
     ensures { Puts (W.device out.old) (W.device out.new) (flat_map named_line counts.now) result }
@@ -52,8 +52,8 @@ fn put_counts<W: Sink>(out: &mut W, counts: &[(&str, u64)]) -> Result<(), WriteF
     Ok(())
 }
 
-/// Writes the report: these counts, and the last timestamp, or `-` if there is none. Fails if a
-/// write does.
+/// Writes the report of `check`: a line for each of these names and counts, and one for the last
+/// timestamp, with `-` if there is none. Fails if a write does.
 pub(crate) fn put_report<W: Sink>(
     out: &mut W,
     counts: &[(&str, u64)],

@@ -16,8 +16,8 @@ fn put_word<W: Sink>(out: &mut W, word: &[u8]) -> Result<(), WriteFailed>
     put(out, word)
 }
 
-/// Writes the line of the variable in a row: its path, type, size and code. Writes nothing if there
-/// is no such row. Fails if a write does.
+/// Writes the line of `list` for the variable at index `row`: its path, type, size in bits and
+/// code. Writes nothing if there is no such row. Fails if a write does.
 fn put_variable<W: Sink>(view: HeadView<'_>, row: usize, out: &mut W) -> Result<(), WriteFailed>
     requires failures { (W.device out.old).failures < 2 ^ 64 - 1 }
     ensures { PutsWhere W.device out.old out.new result (λ takes.

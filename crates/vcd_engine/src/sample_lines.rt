@@ -8,8 +8,9 @@ use vcd_head::put_path;
 use vcd_text::{Sink, WriteFailed, put, put_number};
 use vcd_view::HeadView;
 
-/// Writes the line of the variable in a row: `time`, its path and its value. Writes nothing for an
-/// event, and if there is no such row. No item so far is later than `time`. Fails if a write does.
+/// Writes the line of `sample` for the variable at index `row`: `time`, its path, and its value in
+/// the table. Writes nothing for an event, and if there is no such row. The table must have the
+/// values at `time`. Fails if a write does.
 fn put_line<W: Sink>(
     table: &Table<'_>,
     view: HeadView<'_>,
@@ -36,8 +37,9 @@ fn put_line<W: Sink>(
     put(out, b"\n")
 }
 
-/// Writes the lines of a time: one for each row whose flag is 1. Any other flag says how many rows
-/// to skip. No item so far is later than `time`. Fails if a write does.
+/// Writes the lines of `sample` for one time: one for each row whose flag in `marks` is 1. By any
+/// other flag rows are skipped (`rows_on`). The table must have the values at `time`. Fails if a
+/// write does.
 fn put_lines<W: Sink>(
     table: &Table<'_>,
     view: HeadView<'_>,
@@ -61,9 +63,9 @@ fn put_lines<W: Sink>(
     Ok(())
 }
 
-/// Writes for each of these times a line for each row whose flag in `marks` is 1. Any other flag
-/// says how many rows to skip. No item so far is later than any of the times. Fails if a write
-/// does.
+/// Writes the lines of `sample` for each of these times: one for each row whose flag in `marks` is
+/// 1. By any other flag rows are skipped (`rows_on`). The table must have the values at all of
+/// these times. Fails if a write does.
 pub(crate) fn put_samples<W: Sink>(
     table: &Table<'_>,
     view: HeadView<'_>,

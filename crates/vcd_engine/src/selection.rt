@@ -7,15 +7,15 @@ use vcd_body::Stop;
 use vcd_head::select;
 use vcd_view::{HeadView, Kind};
 
-/// Returns whether the flag of a row is set; false if there is no such row.
+/// Returns whether the element of a row in `marks` is 1; false if there is no such row.
 pub(crate) fn is_marked(marks: &[u8], row: usize) -> bool
     ensures { result ≡ is_marked marks.now row }
 {
     marks.get(row).copied().unwrap_or(0) == 1
 }
 
-/// Chooses the codes of the variables whose flag in `marks` is set. The flags of all other codes
-/// stay as they are.
+/// Sets to 1 the flags of the codes of the variables that are marked (have 1 in `marks`). The flags
+/// of all other codes stay as they are.
 fn choose_marked(view: HeadView<'_>, marks: &[u8], flags: &mut [u8])
     requires codes { length view.codes.now ≤ length flags.old }
     ensures codes { length flags.new ≡ length flags.old }
@@ -30,9 +30,10 @@ fn choose_marked(view: HeadView<'_>, marks: &[u8], flags: &mut [u8])
     }
 }
 
-/// Sets the marks of the variables that the names select (all if there are no names) and of the
-/// scopes around them, and the flags of the codes of these variables and of no others. Fails with
-/// `Stop::Unmatched` at the first name that selects nothing; then both may be anything.
+/// Selects variables by these names (all if there are no names): sets `marks` to 1 for these
+/// variables and the scopes around them and to 0 for all other rows, and `flags` to 1 for their
+/// codes and to 0 for all others. Fails with `Stop::Unmatched` at the first name that selects
+/// nothing; then `marks` and `flags` may have any values.
 pub(crate) fn select_codes(
     view: HeadView<'_>,
     names: &[String],

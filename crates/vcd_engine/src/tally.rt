@@ -8,10 +8,10 @@ use vcd_head::put_path;
 use vcd_text::{Sink, WriteFailed, put, put_number};
 use vcd_view::{HeadView, Kind};
 
-/// Sets the value of the code at index `code`, which is no event, by the text of a change. If it
-/// differs from the value before, counts a change, and also a rise or fall if it is one; otherwise
-/// counts nothing. `size` is the size of the code, in bits; `bits` is the text as a number, if that
-/// is known.
+/// Sets the value in the table of the code at index `code`, which is no event, by a change of this
+/// form and text. If it differs from the value before, counts a change, and also a rise or fall if
+/// it is one. `size` is the size of the code, in bits; `bits` has the digits of the text as a
+/// number, if that is known.
 #[inline(always)]
 pub(crate) fn take_value(
     table: &mut Table<'_>,
@@ -35,8 +35,8 @@ pub(crate) fn take_value(
     }
 }
 
-/// Counts a change of the event at index `code`. If `inside` says that a section is open, it counts
-/// nothing.
+/// Counts a change of the event at index `code` in the table, unless it is inside a section, as
+/// `inside` says.
 #[inline(always)]
 pub(crate) fn count_trigger(table: &mut Table<'_>, code: usize, inside: bool)
     ensures takes { (view : HeadView) (h : Header) (items : List BodyItem) (c : IdCode) (d : Change)
@@ -59,8 +59,9 @@ fn put_counter<W: Sink>(number: u64, out: &mut W) -> Result<(), WriteFailed>
     put_number(out, number)
 }
 
-/// Writes the line of the variable in a row: its path, and how often its value changes, rises and
-/// falls. Writes nothing if there is no such row. Fails if a write does.
+/// Writes the line of `edges` for the variable at index `row`: its path, and how often its value
+/// changes, rises and falls, by the table. Writes nothing if there is no such row. Fails if a write
+/// does.
 fn put_row<W: Sink>(
     table: &Table<'_>,
     view: HeadView<'_>,
@@ -82,8 +83,8 @@ fn put_row<W: Sink>(
     put(out, b"\n")
 }
 
-/// Writes a line for each selected variable, in order of declaration. `marks` has a byte for each
-/// row of the view, 1 at a selected variable. Fails if a write does.
+/// Writes the line of `edges` for each selected variable, in order of declaration. `marks` has a
+/// byte for each row, 1 at a selected variable. Fails if a write does.
 pub(crate) fn put_rows<W: Sink>(
     table: &Table<'_>,
     view: HeadView<'_>,

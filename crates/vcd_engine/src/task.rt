@@ -44,7 +44,8 @@ pub struct Room<'r> {
 }
 
 impl<'n> Task<'n> {
-    /// Returns the lengths of the slices that the task needs over the header that is shown.
+    /// Returns how long the slices of a `Room` have to be for this task over the dump with this
+    /// header.
     pub fn need(&self, view: HeadView<'_>) -> Need
         ensures lengths { (result.values ≡ values_for self.now view.entry)
             × (result.slots ≡ slots_for self.now view.entry)

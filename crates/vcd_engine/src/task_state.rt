@@ -25,7 +25,7 @@ pub(crate) enum TaskState<'n, 'r> {
     Edges(edges::Edges<'n, 'r>),
 }
 
-/// Returns the time of the last timestamp; `None` if there was none.
+/// Returns the time of the last timestamp by these registers; `None` if there was none.
 pub(crate) fn last_of(regs: Regs) -> Option<u64>
     ensures { result ≡ last_of regs }
 {
@@ -36,7 +36,8 @@ pub(crate) fn last_of(regs: Regs) -> Option<u64>
 }
 
 impl<'n, 'r> TaskState<'n, 'r> {
-    /// Begins a task, and writes what comes before all items.
+    /// Begins a task over the body of this header, and writes what comes before all items: for
+    /// `pick` and `cut` a header.
     ///
     /// # Errors
     ///
@@ -69,9 +70,9 @@ impl<'n, 'r> TaskState<'n, 'r> {
         }
     }
 
-    /// Takes an item that the feed gave, writes what is due with it, and returns whether it ended
-    /// the run. `text` is a change's text, and any bytes for other items; `regs` are the registers
-    /// after the item. Fails if a write does.
+    /// Handles an item that `next_item` returned, writes what is due with it, and returns whether
+    /// it ends the run. `text` is a change's text; for other items it may be anything. `regs` are
+    /// the registers after the item. Fails if a write does.
     #[inline(always)]
     pub(crate) fn take<W: Sink>(
         &mut self,
@@ -105,7 +106,7 @@ impl<'n, 'r> TaskState<'n, 'r> {
         }
     }
 
-    /// Takes the items that lie completely in the chunk from `ahead` on, writes what is due with
+    /// Handles the items that lie completely in the chunk, from `ahead` on, writes what is due with
     /// each, and returns how far it came, and whether a write failed. `regs` are the registers
     /// before these items.
     // A loop for each task, so that no loop asks for the task at each item.
@@ -138,8 +139,8 @@ impl<'n, 'r> TaskState<'n, 'r> {
         }
     }
 
-    /// Writes what is due at the end of a body without fault. `regs` are the registers there. Fails
-    /// if a write does.
+    /// Writes what is due at the end of a body without fault: counts, values, or the line of the
+    /// last time. `regs` are the registers there. Fails if a write does.
     pub(crate) fn close<W: Sink>(
         &self,
         view: HeadView<'_>,

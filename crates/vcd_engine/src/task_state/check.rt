@@ -19,7 +19,7 @@ pub(crate) struct Check {
 }
 
 impl Check {
-    /// Returns counts of 0.
+    /// Returns the counts of `check` before the first item: all 0.
     pub(crate) fn start() -> Check
         ensures { AreCounted [] result }
     {
@@ -30,8 +30,8 @@ impl Check {
         }
     }
 
-    /// Writes the seven lines of the report. `regs` are the registers after all items. Fails if a
-    /// write does.
+    /// Writes the seven lines of the report of `check`. `regs` are the registers after all items.
+    /// Fails if a write does.
     pub(crate) fn close<W: Sink>(
         &self,
         view: HeadView<'_>,

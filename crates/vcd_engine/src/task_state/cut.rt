@@ -25,8 +25,8 @@ pub(crate) struct Cut<'r> {
     started: bool,
 }
 
-/// Writes the start section of a cut: the line of `from`, and in `$dumpvars` the value of each code
-/// that has one and is no event. Fails if a write does.
+/// Writes the start section of a `cut`: the line of the time `from`, and inside `$dumpvars` the
+/// value in the table of each code that has one and is no event. Fails if a write does.
 #[inline(never)]
 fn put_section<W: Sink>(
     table: &Table<'_>,
@@ -49,8 +49,8 @@ fn put_section<W: Sink>(
 }
 
 impl<'r> Cut<'r> {
-    /// Writes the header, and the start section if `from` is 0. `from` is at most `to`. Fails if a
-    /// write does.
+    /// Begins a `cut` from `from` to `to`, in ticks: writes the header, and the start section if
+    /// `from` is 0. `from` is at most `to`. Fails if a write does.
     pub(crate) fn start<W: Sink>(
         view: HeadView<'_>,
         room: Room<'r>,
@@ -83,8 +83,9 @@ impl<'r> Cut<'r> {
         Ok(cut)
     }
 
-    /// Writes the start section if it is not written yet and `time` is at least `from`. From then
-    /// on, the line of `from` counts as the last timestamp's. Fails if a write does.
+    /// Writes the start section if it is not written yet and `time`, that of a timestamp, is at
+    /// least `from`. Then the time whose line was written last is `from`. Otherwise nothing
+    /// changes. Fails if a write does.
     fn begin_by<W: Sink>(
         &mut self,
         view: HeadView<'_>,
@@ -108,7 +109,7 @@ impl<'r> Cut<'r> {
         Ok(())
     }
 
-    /// Returns whether the start section is written.
+    /// Returns whether the start section, with the values just before `from`, was written.
     #[inline(always)]
     pub(crate) fn has_begun(&self) -> bool
         ensures { result ≡ self.now.started }
@@ -116,9 +117,9 @@ impl<'r> Cut<'r> {
         self.started
     }
 
-    /// Takes a timestamp, and returns whether it is above `to`, which ends the run. Writes the
+    /// Handles a timestamp, and returns whether it is above `to`, which ends the run. Writes the
     /// start section if it is not written yet and `time` is at least `from`, and at the end of the
-    /// run the line of `to`, unless that was written last. Fails if a write does.
+    /// run the line of `to`, unless it was written last. Fails if a write does.
     fn take_time<W: Sink>(
         &mut self,
         view: HeadView<'_>,
@@ -139,10 +140,11 @@ impl<'r> Cut<'r> {
         Ok(true)
     }
 
-    /// Takes an item that the feed gave, and returns whether it ended the run: a timestamp above
-    /// `to` does. Until the start section is written it sets the value that the item gives; from
-    /// then on it writes the item if `may_keep` allows it. `text` is a change's text, and any bytes
-    /// for other items; `regs` are the registers after the item. Fails if a write does.
+    /// Handles an item that `next_item` returned, and returns whether it ends the run, as a
+    /// timestamp above `to` does. Until the start section is written, it sets the value that a
+    /// change gives; from then on it writes the item if `may_keep` allows it. `text` is a change's
+    /// text; for other items it may be anything. `regs` are the registers after the item. Fails if
+    /// a write does.
     #[inline(never)]
     pub(crate) fn take<W: Sink>(
         &mut self,
@@ -168,9 +170,9 @@ impl<'r> Cut<'r> {
         take_given::<NoLine, _, _>(self, view, regs, item, text, out)
     }
 
-    /// Writes the start section if it is not written yet, otherwise the line of the last timestamp,
-    /// unless there is none or that line was written last. `regs` are the registers after all
-    /// items. Fails if a write does.
+    /// Writes the end of a `cut` whose body has ended: the start section if it is not written yet,
+    /// otherwise the line of the last timestamp, unless there is none or it was written last.
+    /// `regs` are the registers after all items. Fails if a write does.
     pub(crate) fn close<W: Sink>(
         &self,
         view: HeadView<'_>,

@@ -25,8 +25,9 @@ pub(crate) struct Pick<'n, 'r> {
 }
 
 impl<'n, 'r> Pick<'n, 'r> {
-    /// Selects the variables, and writes their header. Fails at a name that selects nothing, before
-    /// anything is written, and at a failed write.
+    /// Begins a `pick` of the variables that the names select (all if there are no names): marks
+    /// them, and writes their header. Fails at a name that selects nothing, before anything is
+    /// written, and at a failed write.
     pub(crate) fn start<W: Sink>(
         view: HeadView<'_>,
         room: Room<'r>,
@@ -56,8 +57,9 @@ impl<'n, 'r> Pick<'n, 'r> {
         })
     }
 
-    /// Returns whether an item is written: it is the begin or end of a section, or a change of a
-    /// chosen code, but not an event inside a section. `regs` are the registers after the item.
+    /// Returns whether `pick` writes an item: the begin or end of a section, or a change of a
+    /// selected code, but not of an event inside a section. `regs` are the registers after the
+    /// item.
     #[inline(always)]
     fn keeps(&self, view: HeadView<'_>, regs: Regs, item: Item) -> bool
         ensures { result ≡ is_kept self.now.flags.now view.entry regs item }
@@ -69,8 +71,8 @@ impl<'n, 'r> Pick<'n, 'r> {
         chosen && may_keep(view, regs, item)
     }
 
-    /// Writes the line of the last timestamp, unless there is none or that line was written last.
-    /// `regs` are the registers after all items. Fails if a write does.
+    /// Writes the end of a `pick`: the line of the last timestamp, unless there is none or it was
+    /// written last. `regs` are the registers after all items. Fails if a write does.
     pub(crate) fn close<W: Sink>(&self, regs: Regs, out: &mut W) -> Result<(), WriteFailed>
         requires { (W.device out.old).failures < 2 ^ 64 - 1 }
         ensures takes { (h : Header) (items : List BodyItem) → AreRegsAfter items regs

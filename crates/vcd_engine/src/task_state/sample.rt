@@ -37,8 +37,9 @@ fn count_below(times: &[u64], time: u64) -> usize
 }
 
 impl<'n, 'r> Sample<'n, 'r> {
-    /// Selects the variables. Writes nothing. `times` has at least one time, and each is above the
-    /// one before it. Fails at a name that selects nothing.
+    /// Begins a `sample` at these times of the variables that the names select (all if there are no
+    /// names): marks them. Writes nothing. `times` has at least one time, in ticks, and each is
+    /// above the one before it. Fails at a name that selects nothing.
     pub(crate) fn start(
         view: HeadView<'_>,
         room: Room<'r>,
@@ -71,8 +72,8 @@ impl<'n, 'r> Sample<'n, 'r> {
         })
     }
 
-    /// Takes a timestamp, and returns whether it is above all times, which ends the run. Writes the
-    /// lines of the times below it that are not written yet. Fails if a write does.
+    /// Handles a timestamp, and returns whether it is above all times asked for, which ends the
+    /// run. Writes the lines of those below it that are not written yet. Fails if a write does.
     fn take_time<W: Sink>(
         &mut self,
         view: HeadView<'_>,
@@ -91,10 +92,11 @@ impl<'n, 'r> Sample<'n, 'r> {
         Ok(rest.is_empty())
     }
 
-    /// Takes an item that the feed gave, and returns whether it ended the run: a timestamp above
-    /// all times does. Sets the value that a change gives; at a timestamp writes the lines of the
-    /// times below it. `text` is a change's text, and any bytes for other items; `regs` are the
-    /// registers after the item. Fails if a write does.
+    /// Handles an item that `next_item` returned, and returns whether it ends the run, as a
+    /// timestamp above all times asked for does. Sets the value that a change gives; at a timestamp
+    /// writes the lines of the times below it that are not written yet. `text` is a change's text;
+    /// for other items it may be anything. `regs` are the registers after the item. Fails if a
+    /// write does.
     #[inline(always)]
     pub(crate) fn take<W: Sink>(
         &mut self,
@@ -117,7 +119,8 @@ impl<'n, 'r> Sample<'n, 'r> {
         take_given::<NoLine, _, _>(self, view, regs, item, text, out)
     }
 
-    /// Writes the lines of the times that are not written yet. Fails if a write does.
+    /// Writes the lines of the times asked for that are not written yet, at the end of the body.
+    /// Fails if a write does.
     pub(crate) fn close<W: Sink>(&self, view: HeadView<'_>, out: &mut W) -> Result<(), WriteFailed>
         requires { (W.device out.old).failures < 2 ^ 64 - 1 }
         ensures takes { ClosesOver view.entry (AreSampled self.now)

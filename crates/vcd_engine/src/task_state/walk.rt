@@ -30,8 +30,8 @@ pub(crate) struct WalkEnd {
 }
 
 impl WalkEnd {
-    /// Returns the end of a walk: the bytes that are passed at `ahead`, the registers there, and
-    /// the result of its writes.
+    /// Returns the result of a walk over the chunk that came to `ahead`: how many bytes were
+    /// passed, the registers there, and whether a write failed.
     #[inline(always)]
     fn until(ahead: Ahead<'_>, regs: Regs, written: Result<(), WriteFailed>) -> WalkEnd
         ensures passed { result.passed ≡ passed_of ahead.entry }
@@ -52,12 +52,12 @@ pub(crate) trait LineMemory: Copy {
     // white byte than the line feed. An empty part says nothing.
     ghost line: { Self → ℕ × ℕ };
 
-    /// Returns the state before all items of a chunk: no line is known.
+    /// Returns the state before all items of a chunk, in which no line of a timestamp is known.
     fn new() -> Self
         ensures { (bytes : List ℕ) (time : ℕ) → IsLine bytes (line result) time };
 
-    /// Returns the state after a timestamp whose digits have the bytes from `at` up to the last one
-    /// before `to`.
+    /// Returns the state after a timestamp in the chunk `bytes`, whose digits are at the offsets
+    /// from `at` up to `to - 1` (exclusive).
     fn after_timestamp(bytes: &[u8], at: usize, to: usize) -> Self
         requires { (from time : ℕ) × HasTimestamp bytes.now from to at time }
         ensures { (from time : ℕ) → HasTimestamp bytes.now from to at time
@@ -124,12 +124,12 @@ pub(crate) trait AheadTask<L: LineMemory> {
     // Whether a timestamp of this time is left to `TaskState::take`.
     ghost is_left: { Self → ℕ → Bool };
 
-    /// Returns whether a timestamp of this time is left to `TaskState::take`: it ends the run, or
-    /// output is due with it.
+    /// Returns whether a walk over the chunk has to stop before a timestamp of this time, so that
+    /// `TaskState::take` handles it: it ends the run, or output is due with it.
     fn leaves(&self, time: u64) -> bool
         ensures { result ≡ is_left self.now time };
 
-    /// Notes a timestamp of this time, with which no output is due.
+    /// Handles a timestamp of this time that ends nothing, and with which no output is due.
     fn note_time(&mut self, time: u64)
         requires ready { is_ready self.old ≡ true }
         requires left { is_left self.old time ≡ false }
@@ -137,9 +137,9 @@ pub(crate) trait AheadTask<L: LineMemory> {
         ensures ready { is_ready self.new ≡ true }
         ensures same { SameTask (task_state self.old) (task_state self.new) };
 
-    /// Takes an item that is no timestamp. Its output is added to `pending`, or written to `out`
+    /// Handles an item that is no timestamp. Its output is added to `pending`, or written to `out`
     /// after all that is pending. `regs` are the registers after the item; `line` says where the
-    /// last timestamp's line is. Fails if a write does.
+    /// chunk has the last timestamp's line, if that is known. Fails if a write does.
     fn take_item<W: Sink>(
         &mut self,
         view: HeadView<'_>,
@@ -236,9 +236,9 @@ impl<L: LineMemory, C: AheadTask<L>> Visit<C> for WalkState<L> {
     }
 }
 
-/// Takes the items that lie completely in the chunk from `ahead` on, writes what is due with them,
-/// piece by piece, and returns how far it came, and whether a write failed. `regs` are the
-/// registers before these items.
+/// Has the task `command` handle the items that lie completely in the chunk, from `ahead` on,
+/// writes what is due with them, and returns how far it came, and whether a write failed. `regs`
+/// are the registers before these items.
 // The loop of each task is a function of its own, so that it has all registers.
 #[inline(never)]
 pub(crate) fn take_each<L: LineMemory, C: AheadTask<L>, W: Sink>(
@@ -266,9 +266,9 @@ pub(crate) fn take_each<L: LineMemory, C: AheadTask<L>, W: Sink>(
     }
 }
 
-/// Takes an item that the feed gave, and writes what is due with it. Returns false: the item does
-/// not end the run. `text` is a change's text, and any bytes for other items; `regs` are the
-/// registers after the item. Fails if a write does.
+/// Has the task `command` handle an item that `next_item` returned, and writes what is due with it.
+/// Returns false: the item does not end the run. `text` is a change's text; for other items it may
+/// be anything. `regs` are the registers after the item. Fails if a write does.
 // The item has no bytes in the chunk, so nothing of it stays pending: `pending` need no flush.
 #[inline(always)]
 pub(crate) fn take_given<L: LineMemory, C: AheadTask<L>, W: Sink>(
