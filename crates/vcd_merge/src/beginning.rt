@@ -6,8 +6,8 @@ use crate::seat::Seat;
 use vcd_head::{Head, least_exponent};
 use vcd_view::HeadView;
 
-/// Returns the factor of the times of an input, a power of ten. `least` is the exponent of the
-/// finest time scale of all inputs.
+/// Returns the factor by which a merge multiplies the times of an input with this header, a power
+/// of ten. `least` is the exponent of the finest time scale of all inputs.
 fn factor_of(view: HeadView<'_>, least: i8) -> u64
     ensures { (hs : List Header) (h : Header) → IsViewOf view.entry h → IsExponent least
         → least ≡ least_of hs → result ≡ factor hs h }
@@ -16,8 +16,9 @@ fn factor_of(view: HeadView<'_>, least: i8) -> u64
     10u64.checked_pow(u32::from(power)).unwrap_or(u64::MAX)
 }
 
-/// Sets the factor of each seat, the number of its first code, its time to 0, and that it has not
-/// finished. Feeds and registers do not change.
+/// Sets what a merge of inputs with these headers needs in each seat: the factor of its times, the
+/// number of its first new code, time 0, and that the input has not finished. Feeds and registers
+/// do not change.
 pub(crate) fn set_seats(heads: &[Head], seats: &mut [Seat])
     requires many { length heads.now ≤ 64 }
     requires heads { length heads.now ≡ length seats.old }

@@ -12,7 +12,8 @@ use vcd_body::{Done, More, Stop, put_time_unless};
 use vcd_head::{Head, put_merged_head};
 use vcd_text::{Sink, Source, WriteFailed};
 
-/// Returns the greatest time of all inputs, scaled; `None` if none had a timestamp.
+/// Returns the greatest time that any input has come to, in ticks of the merged dump; `None` if
+/// none had a timestamp.
 fn greatest_time(seats: &[Seat]) -> Option<u64>
     ensures { result ≡ greatest_time seats.now }
 {
@@ -28,9 +29,10 @@ fn greatest_time(seats: &[Seat]) -> Option<u64>
     greatest
 }
 
-/// Takes the turn of an input, as `resume_turn` does, over its seat, its source and its parts of
-/// the windows. Nothing of other inputs changes. `written` is the time whose line was written last.
-/// Fails at a fault of the input, at a failed read of it, and at a failed write.
+/// Handles the items of a turn: of the input `turn.input`, until its time reaches `turn.before`,
+/// with its seat, its source and its parts of the windows. Nothing of other inputs changes.
+/// `written` is the time whose line was written last. Fails at a fault of the input, at a failed
+/// read of it, and at a failed write.
 #[inline(always)]
 fn run_turn<S: Source, W: Sink>(
     heads: &[Head],
@@ -83,8 +85,8 @@ fn run_turn<S: Source, W: Sink>(
 }
 
 impl<'h, 's> Merge<'h, 's> {
-    /// Starts a merge of at most 64 inputs with these heads, and writes its header. The feed of
-    /// each seat is after its header, and stays there.
+    /// Begins a merge of at most 64 inputs with these headers, and writes its header. The parked
+    /// feed in each seat is right after the header of its input, and stays there.
     ///
     /// # Errors
     ///
@@ -116,7 +118,8 @@ impl<'h, 's> Merge<'h, 's> {
         })
     }
 
-    /// Returns whether a step may be taken: no step has ended the merge.
+    /// Returns whether `merge_step` may be called: false once a step has returned anything but
+    /// `Again`.
     #[inline]
     pub fn going(&self) -> bool
         ensures { result ≡ is_going self.now }
@@ -125,8 +128,8 @@ impl<'h, 's> Merge<'h, 's> {
     }
 }
 
-/// Writes what is due at the end of all inputs: the line of the greatest time, unless there is none
-/// or `written` says that it was written last. Fails if a write does.
+/// Writes the end of a merged dump: the line of the greatest time of all inputs, unless there is
+/// none, or `written` says that it was written last. Fails if a write does.
 fn close<W: Sink>(seats: &[Seat], written: Option<u64>, out: &mut W) -> Result<(), WriteFailed>
     requires { (W.device out.old).failures < 2 ^ 64 - 1 }
     ensures takes { (hs : List Header) (ds : List Dump) → AreMarked hs ds seats.now
@@ -140,10 +143,10 @@ fn close<W: Sink>(seats: &[Seat], written: Option<u64>, out: &mut W) -> Result<(
     }
 }
 
-/// Takes the next turn, and puts its input back into the order. Returns `Again` if some input has
-/// not finished, otherwise `Ended`. After the last turn it writes what is due at the end. `written`
-/// is the time whose line was written last. Fails at a fault of the input whose turn it is, at a
-/// failed read of it, and at a failed write.
+/// Handles the items of the next turn, and puts its input back into the order. Returns `Again` if
+/// some input has not finished; otherwise writes the end of the merged dump and returns `Ended`.
+/// `written` is the time whose line was written last. Fails at a fault of the input whose turn it
+/// is, at a failed read of it, and at a failed write.
 #[inline(always)]
 fn run_next<S: Source, W: Sink>(
     heads: &[Head],
@@ -178,8 +181,10 @@ fn run_next<S: Source, W: Sink>(
     Ok(More::Ended(Done::Whole))
 }
 
-/// Takes the next turn of a merge, and returns and fails as `run_next` does. After any answer
-/// except `Again` the merge is over.
+/// Handles the items of the next turn of a merge. Returns `Again` if some input has not finished;
+/// otherwise writes the end of the merged dump and returns `Ended`. After any answer except `Again`
+/// the merge is over. Fails at a fault of the input whose turn it is, at a failed read of it, and
+/// at a failed write.
 #[inline(always)]
 fn run_step<S: Source, W: Sink>(
     merge: &mut Merge<'_, '_>,
@@ -215,8 +220,8 @@ fn run_step<S: Source, W: Sink>(
     answer
 }
 
-/// Returns the order of the inputs that have not finished. Each turn ends at `until` at the latest.
-/// The seats do not change.
+/// Returns the order in which the inputs that have not finished take their turns. Each turn ends at
+/// the time `until` at the latest. The seats do not change.
 // They come as a `&mut`, since a proof learns nothing of what a shared borrow of a field reads.
 fn order_of(seats: &mut [Seat], until: u64) -> TurnOrder
     requires { length seats.old ≤ 64 }
@@ -227,11 +232,11 @@ fn order_of(seats: &mut [Seat], until: u64) -> TurnOrder
     TurnOrder::of(seats, until)
 }
 
-/// Takes the next item of the input whose turn it is, and writes what is due with it, or at the end
-/// of all inputs. At the end of one input while others have items, nothing is written, and the
+/// Handles the next item of the input whose turn it is, and writes what is due with it, or at the
+/// end of all inputs. At the end of one input while others have items, nothing is written, and the
 /// input counts as finished. Before a read `out` passes on what it keeps back; if that fails,
-/// nothing is read. Returns `Again` if some input has not finished. After any other answer the
-/// merge is over.
+/// nothing is read. Returns `Again` if some input has not finished. After any other answer do not
+/// call it again.
 ///
 /// # Errors
 ///
@@ -281,8 +286,8 @@ pub fn merge_step<S: Source, W: Sink>(
 }
 
 impl<'h, 's> Merge<'h, 's> {
-    /// Takes all steps that are left, to the end of the merge, and returns how it ended. Fails as
-    /// `merge_step` does.
+    /// Handles all items that are left, to the end of the merge, writes what is due with them, and
+    /// returns how it ended. Fails at a fault of an input, at a failed read, and at a failed write.
     pub fn finish<S: Source, W: Sink>(
         &mut self,
         sources: &mut [S],

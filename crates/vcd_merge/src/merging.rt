@@ -16,8 +16,8 @@ use vcd_head::Head;
 use vcd_text::{Feed, Sink, Source, WriteFailed};
 use vcd_view::{Code, HeadView, code_in};
 
-/// Returns whether a merge drops a change: it is of an event (`event`), and inside a section
-/// (`inside`).
+/// Returns whether a merge leaves out a change: that of an event (`event` is true) inside a section
+/// (`inside` is true).
 #[inline(always)]
 fn is_left_out(event: bool, inside: bool) -> bool
     ensures { result ≡ (event && inside) }
@@ -25,8 +25,8 @@ fn is_left_out(event: bool, inside: bool) -> bool
     event && inside
 }
 
-/// Writes the line of `time`, unless it was written last, and notes it in `written`. Fails if a
-/// write does.
+/// Writes the line of `time`, unless `written` says that it was written last, and sets `written` to
+/// `time`. Fails if a write does.
 #[inline(always)]
 fn put_due_time<W: Sink>(
     time: u64,
@@ -45,10 +45,10 @@ fn put_due_time<W: Sink>(
     Ok(())
 }
 
-/// Writes a change of the code at index `code`, under its new code, after the line of its time,
-/// unless `written` says that this was written last. Writes nothing for an event if `inside` says
-/// that a section is open, and for an index without a code. `first` is the number of the input's
-/// first code in the merged dump. Fails if a write does.
+/// Writes a change of the code at index `code` of `codes` under its new code, after the line of
+/// `time`, unless `written` says that it was written last. Writes nothing for an event if `inside`
+/// says that a section is open, and for an index without a code. `first` is the number of the
+/// input's first new code. Fails if a write does.
 // Not inlined, and takes no struct, since it is rare.
 #[cold]
 #[inline(never)]
@@ -185,9 +185,9 @@ impl Visit<()> for Merging {
     }
 }
 
-/// Takes the items of an input that are whole in its feed's chunk, while its time is below
-/// `before`, and returns whether the time has reached `before`. The feed moves past these items in
-/// one call. `written` is the time whose line was written last. Fails if a write does.
+/// Handles the items of an input that lie completely in its feed's chunk, while the input's time is
+/// below `before`, and moves the feed past these. Returns whether the time has reached `before`.
+/// `written` is the time whose line was written last. Fails if a write does.
 #[inline(never)]
 fn take_ahead<S: Source, W: Sink>(
     head: &Head,
@@ -233,8 +233,8 @@ fn take_ahead<S: Source, W: Sink>(
 /// The number of the fault of a time that is 2^64 or more once it is scaled.
 const TIME_TOO_LARGE: u8 = 20;
 
-/// Returns the stop at a timestamp whose scaled time is 2^64 or more, on this line of the input at
-/// this index.
+/// Returns how a merge stops at a timestamp whose time is 2^64 or more in ticks of the merged dump.
+/// `input` is the index of the input, and `line` the line of the timestamp in it.
 #[inline(always)]
 fn time_too_large(input: usize, line: u64) -> Stop
     ensures { result ≡ stop.Dump input line 20 }
@@ -246,10 +246,9 @@ fn time_too_large(input: usize, line: u64) -> Stop
     }
 }
 
-/// Takes the next item of the input at index `input` from its feed, and writes what is due with it.
-/// At the end of the body it notes in the seat that the input has finished. It may wait for a read,
-/// so by then `out` keeps nothing back. The caller parks the feed. `written` is the time whose line
-/// was written last.
+/// Handles the next item of the input at index `input`, and writes what is due with it. At the end
+/// of the body it sets `seat.finished`. It may wait for input, so `out` must keep nothing back. The
+/// caller parks the feed. `written` is the time whose line was written last.
 ///
 /// # Errors
 ///
@@ -303,10 +302,10 @@ fn take_item<S: Source, W: Sink>(
     Ok(())
 }
 
-/// Takes the items of a turn from its input's feed: one, and those after it while the input's time
-/// is below the turn's end. Before a read `out` passes on what it keeps back. `written` is the time
-/// whose line was written last. Fails at a fault of the input, at a failed read, and at a failed
-/// write.
+/// Handles the items of a turn with its input's feed: one, and those after it while the input's
+/// time is below `turn.before`. Before a read `out` passes on what it keeps back. `written` is the
+/// time whose line was written last. Fails at a fault of the input, at a failed read, and at a
+/// failed write.
 // So most items cost no look at the seats and no new feed.
 #[inline(always)]
 fn take_turn<S: Source, W: Sink>(
@@ -344,8 +343,8 @@ fn take_turn<S: Source, W: Sink>(
     }
 }
 
-/// Takes the turn of an input over its own source and its parts of the windows: resumes its feed,
-/// takes the items of the turn, and parks the feed. `written` is the time whose line was written
+/// Handles the items of a turn with its input's own source, seat and parts of the windows: resumes
+/// its feed, handles the items, and parks the feed. `written` is the time whose line was written
 /// last. Fails at a fault of the input, at a failed read, and at a failed write.
 #[inline(always)]
 pub(crate) fn resume_turn<S: Source, W: Sink>(

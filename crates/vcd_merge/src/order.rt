@@ -13,8 +13,8 @@ pub(crate) struct Turn {
     pub(crate) before: u64,
 }
 
-/// Returns whether an input comes before the other: by their times, at equal times by their
-/// indices.
+/// Returns whether `input` comes before `other` in a merge: if its time is less, or the times are
+/// equal and its index is less.
 #[inline(always)]
 fn comes_before(seats: &[Seat], input: usize, other: usize) -> bool
     requires input { input < length seats.now }
@@ -29,7 +29,8 @@ fn comes_before(seats: &[Seat], input: usize, other: usize) -> bool
     time < other_time || (time == other_time && input < other)
 }
 
-/// Returns the time below which `input` comes before `other`.
+/// Returns the time below which `input` comes before `other` in a merge: the time of `other`, or
+/// one more if the index of `input` is less.
 #[inline(always)]
 fn end_before(seats: &[Seat], input: usize, other: usize) -> u64
     requires { other < length seats.now }
@@ -59,8 +60,8 @@ pub(crate) struct TurnOrder {
 impl TurnOrder {
     ghost use Rattle.std.specs.Prelude.{◌≤◌};
 
-    /// Returns the index at which to insert an input. The inputs from there on come before it, and
-    /// those below do not.
+    /// Returns the index in `inputs` at which to insert an input, so that they stay in order. The
+    /// inputs from there on come before it in the merge, and those below do not.
     #[inline(always)]
     fn index_for(&self, input: usize, seats: &[Seat]) -> usize
         requires input { input < length seats.now }
@@ -85,7 +86,7 @@ impl TurnOrder {
         low
     }
 
-    /// Inserts an input that is not in the order and has not finished.
+    /// Inserts an input at its place in the order. It must not be there already or have finished.
     #[inline(always)]
     fn insert(&mut self, input: usize, seats: &[Seat])
         requires input { input < length seats.now }
@@ -111,7 +112,8 @@ impl TurnOrder {
         self.len += 1;
     }
 
-    /// Inserts an input that is not in the order, unless it has finished.
+    /// Inserts an input at its place in the order, unless it has finished. It must not be there
+    /// already.
     #[inline(always)]
     pub(crate) fn put(&mut self, input: usize, seats: &[Seat])
         requires input { input < length seats.now }
@@ -130,8 +132,8 @@ impl TurnOrder {
         }
     }
 
-    /// Returns the order of all inputs that have not finished. Each turn ends at `until` at the
-    /// latest.
+    /// Returns the order of all inputs that have not finished, by the times in their seats. Each
+    /// turn ends at the time `until` at the latest.
     pub(crate) fn of(seats: &[Seat], until: u64) -> TurnOrder
         requires { length seats.now ≤ 64 }
         ensures order { AllWait seats.now result.inputs result.len }
@@ -148,7 +150,7 @@ impl TurnOrder {
         order
     }
 
-    /// Returns whether no input waits.
+    /// Returns whether no input waits for its turn.
     #[inline(always)]
     pub(crate) fn is_empty(&self) -> bool
         ensures none { result ≡ true → self.now.len ≡ 0 }
@@ -157,8 +159,8 @@ impl TurnOrder {
         self.len == 0
     }
 
-    /// Returns the time below which `input` comes before all of the first `count` that wait, or
-    /// `u64::MAX` if `count` is 0.
+    /// Returns the time below which `input` comes before all of the first `count` inputs in the
+    /// order, or `u64::MAX` if `count` is 0.
     #[inline(always)]
     fn end_of(&self, input: usize, count: usize, seats: &[Seat]) -> u64
         requires count { count ≤ self.now.len }
@@ -171,8 +173,8 @@ impl TurnOrder {
         end_before(seats, input, self.inputs[count - 1] as usize)
     }
 
-    /// Takes out the input with the smallest time, at equal times the one with the smallest index,
-    /// and returns its turn. `None` if no input waits, so that all have finished.
+    /// Removes the input with the least time, at equal times the one with the least index, from the
+    /// order, and returns its turn. `None` if no input waits, so that all have finished.
     ///
     /// After the turn, pass its input to `put` before the next call. Until then, no time of another
     /// seat may change.

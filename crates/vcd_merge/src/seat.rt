@@ -23,7 +23,8 @@ pub struct Seat {
 }
 
 impl Seat {
-    /// Returns the seat of an input whose feed is after its header. `Merge::start` sets the rest.
+    /// Returns the seat of an input whose feed was parked right after its header. `Merge::start`
+    /// sets what the merge adds.
     pub fn new(parked: Parked) -> Seat
         ensures parked { result.parked ≡ parked }
         ensures open { result.finished ≡ false }

@@ -9,8 +9,9 @@ use vcd_body::{Done, Stop};
 use vcd_head::Head;
 use vcd_text::{Sink, Source};
 
-/// Merges 1 to 64 inputs, whose headers were read: their changes in one order of time, under one
-/// header. Each seat is as `Seat::new` makes it from its input's feed after its header.
+/// Writes the merge of 1 to 64 inputs, whose headers were read: their changes in one order of time,
+/// under one header. Each seat is `Seat::new` of the input's feed, parked after its header. Each of
+/// the slices in `windows` has one equal part for each input.
 ///
 /// # Errors
 ///
