@@ -11,7 +11,7 @@ pub(crate) struct Digits {
     pub known: u64,
 }
 
-/// Returns whether a digit is 0 or 1.
+/// Returns whether a digit is `0` or `1`.
 fn is_known(digit: u8) -> bool
     ensures { result ≡ is_known digit }
 {
@@ -26,8 +26,8 @@ fn last_of(digits: &[u8]) -> &[u8]
     &digits[digits.len().saturating_sub(64)..]
 }
 
-/// Returns whether a value with these digits is extended on the left by a 0 or 1; true if it has no
-/// digits.
+/// Returns whether a value with these digits is extended on the left by `0` or `1`, and not by x or
+/// z; true if there are no digits.
 fn extends_known(digits: &[u8]) -> bool
     ensures { result ≡ is_known (extension digits.now) }
 {
@@ -37,8 +37,8 @@ fn extends_known(digits: &[u8]) -> bool
     }
 }
 
-/// Returns a bit for each of 64 digits, which are these digits extended on the left: 1 if the digit
-/// was added there and is 0 or 1. The bits of these digits themselves are 0.
+/// Returns a mask for these digits, extended on the left to 64: bit k, from the last digit on, is 1
+/// if this digit was added and is `0` or `1`. The bits of the given digits are 0.
 fn known_before(digits: &[u8]) -> u64
     requires { length digits.now ≤ 64 }
     ensures { result ≡ cond (is_known (extension digits.now)) (2 ^ 64 - 2 ^ length digits.now) 0 }
@@ -50,7 +50,7 @@ fn known_before(digits: &[u8]) -> u64
     }
 }
 
-/// Returns a number with one more binary digit, on the right: 1 if `digit` is true, otherwise 0.
+/// Returns twice the number, and 1 more if `digit` is true: it appends a binary digit.
 fn with_digit(number: u64, digit: bool) -> u64
     requires { number < 2 ^ 63 }
     ensures { result ≡ 2 * number + cond digit 1 0 }
@@ -58,8 +58,8 @@ fn with_digit(number: u64, digit: bool) -> u64
     if digit { 2 * number + 1 } else { 2 * number }
 }
 
-/// Returns a bit for each of 64 digits, which are these digits extended on the left: 1 if the digit
-/// is 0 or 1. `known` has the bits of these digits.
+/// Returns a mask for these digits, extended on the left to 64: bit k, from the last digit on, is 1
+/// if this digit is `0` or `1`. `known` is the mask for the given digits.
 fn known_in_all(digits: &[u8], known: u64) -> u64
     requires most { length digits.now ≤ 64 }
     requires known { known ≡ number_where is_known digits.now }
@@ -68,7 +68,8 @@ fn known_in_all(digits: &[u8], known: u64) -> u64
     known_before(digits) + known
 }
 
-/// Returns the last 64 digits of a value as numbers. A value with fewer is extended on the left.
+/// Returns which of the last 64 digits of a value are `1`, and which are `0` or `1`, as two masks.
+/// A value with fewer digits is extended on the left.
 pub(crate) fn digits_of(text: &[u8]) -> Digits
     ensures { result ≡ digits_of text.now }
 {

@@ -56,8 +56,8 @@ pub const FULL: u8 = 4;
 /// The status if no call can have left this `Place`.
 pub const BAD_PLACE: u8 = 5;
 
-/// Returns the status of a reading that has met no fault: `FULL` if the rows are full, otherwise
-/// `DONE`.
+/// Returns the status of a call of `changes` that has met no fault: `FULL` if all rows were filled,
+/// otherwise `DONE`.
 fn status_of(filled: Filled) -> u8
     ensures { result ≡ status_of filled }
 {
@@ -67,11 +67,12 @@ fn status_of(filled: Filled) -> u8
     }
 }
 
-/// Fills the rows with the next changes of the code at `index` among the header's, and returns the
-/// status. Sets `reading.count` to the number of rows that are filled, also if there is a fault.
+/// Fills the rows with the next changes of the code at `index` of the header's codes, and returns
+/// the status. Sets `reading.count` to the number of rows that are filled, also if there is a
+/// fault.
 ///
-/// With `DONE` and `FULL`, `reading.place` is where the next call continues. With `FAULT`, the
-/// reading has the fault and its line, and `place` stays as it was. `limit` is the token limit of
+/// With `DONE` and `FULL`, `reading.place` is where the next call continues. With `FAULT`,
+/// `reading` has the fault and its line, and `place` stays as it was. `limit` is the token limit of
 /// the feed, and `regs` are the registers where the feed is.
 fn read_on(
     limit: usize,
@@ -109,7 +110,7 @@ fn read_on(
     }
 }
 
-/// Returns the bytes after the first `n`, or none if there are fewer.
+/// Returns the bytes of the dump after the first `n`, or no bytes if it has fewer.
 fn after(dump: &[u8], n: u64) -> &[u8]
     ensures { result.now ≡ drop n dump.now }
 {
@@ -119,8 +120,9 @@ fn after(dump: &[u8], n: u64) -> &[u8]
     &dump[n as usize..]
 }
 
-/// Notes the fault of a header and its line in the reading, with no rows, and returns `FAULT`. If
-/// memory ran out, returns `NO_MEMORY`, and notes only that there are no rows.
+/// Sets `reading` to say that the header has this fault in this line and that no rows are filled,
+/// and returns `FAULT`. If memory ran out, it only sets that no rows are filled, and returns
+/// `NO_MEMORY`.
 fn refused(fault: HeadFault, line: u64, reading: &mut Reading) -> u8
     ensures refused { Refused fault line reading.new result }
     ensures place { reading.new.place ≡ reading.old.place }
@@ -135,8 +137,8 @@ fn refused(fault: HeadFault, line: u64, reading: &mut Reading) -> u8
 }
 
 /// Reads the header of a dump with this token limit, fills the rows with the changes of `code` from
-/// the reading's `Place` on, and returns the status, as `changes` does. Fails if there is no memory
-/// for the windows.
+/// `reading.place` on, sets `reading`, and returns the status, as `changes` does. Fails if there is
+/// no memory for the buffers.
 fn read_changes<B: BuildHasher>(
     alloc: Global,
     limit: usize,
@@ -179,8 +181,8 @@ fn read_changes<B: BuildHasher>(
     }
 }
 
-/// Fills the rows with the changes of `code` from the reading's `Place` on with this token limit,
-/// and returns the status, as `changes` does.
+/// Fills the rows with the changes of `code` from `reading.place` on with this token limit, sets
+/// `reading`, and returns the status, as `changes` does.
 fn read_under<B: BuildHasher>(
     alloc: Global,
     limit: usize,
@@ -203,22 +205,24 @@ fn read_under<B: BuildHasher>(
     }
 }
 
-/// Returns whether a call with the lower limit, which left this status and reading, found what a
-/// call with `LIMIT` finds: it met no token that is too long. False also if the feed was halted,
-/// since it may have met one.
+/// Returns whether a call with the lower token limit, which left this status and reading, found
+/// what a call with the full limit (`LIMIT`) would find: it met no token that is too long. It is
+/// false also if the feed had halted at `reading.place`.
 fn is_enough(status: u8, reading: Reading) -> bool
     ensures { result ≡ true → IsEnough reading status }
 {
     (status != FAULT || reading.fault != TOKEN_TOO_LONG) && reading.place.offset.answer <= 1
 }
 
-/// Fills the rows with the changes of the variables with this identifier code, from `reading.place`
-/// on, and returns the status: `DONE`, `FAULT`, `NO_CODE`, `NO_MEMORY`, `FULL` or `BAD_PLACE`.
+/// Fills the rows with the changes of the variables with the identifier code `code`, from
+/// `reading.place` on, and returns the status: `DONE`, `FAULT`, `NO_CODE`, `NO_MEMORY`, `FULL` or
+/// `BAD_PLACE`. For the first call all numbers in `reading.place` are 0.
 ///
 /// Each call reads the header again, and then continues in the body. Identifier codes are hashed
-/// with numbers that the hasher gives; the rows do not depend on them. `reading.count` is at most
-/// the number of rows. It is 0 with `NO_CODE`, `NO_MEMORY` and `BAD_PLACE`, and if the header has a
-/// fault. `reading.place` moves on only with `DONE` and `FULL`.
+/// with numbers that the hasher gives; the rows do not depend on them. `reading.count` becomes the
+/// number of rows that are filled. It is 0 with `NO_CODE`, `NO_MEMORY` and `BAD_PLACE`, and if the
+/// header has a fault. `reading.place` moves on only with `DONE` and `FULL`. With `FAULT`,
+/// `reading.fault` and `reading.line` say which fault and where.
 pub fn changes<B: BuildHasher>(
     alloc: Global,
     dump: &[u8],

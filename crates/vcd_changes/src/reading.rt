@@ -36,7 +36,7 @@ pub struct Reading {
     pub line: u64,
 }
 
-/// Returns the number of the section that is open, as `Place` has it; 0 if none is.
+/// Returns the number that `Place::section` has for this open section: 1 to 4; 0 if none is open.
 fn section_number(section: Option<Section>) -> u64
     ensures { result ≡ section_number section }
 {
@@ -49,7 +49,7 @@ fn section_number(section: Option<Section>) -> u64
     }
 }
 
-/// Returns the section with this number; `None` for 0 and above 4.
+/// Returns the section for which `Place::section` has this number; `None` for 0 and above 4.
 fn section_at(number: u64) -> Option<Section>
     ensures { result ≡ section_at number }
 {
@@ -62,8 +62,8 @@ fn section_at(number: u64) -> Option<Section>
     }
 }
 
-/// Returns where the next call continues, from the token limit, the feed's offset and the registers
-/// there.
+/// Returns where the next call of `changes` continues: with this token limit, at this offset of the
+/// feed, with the registers there.
 pub(crate) fn place_of(limit: u64, offset: Offset, regs: Regs) -> Place
     ensures { result ≡ place_of limit offset regs }
 {
@@ -76,7 +76,7 @@ pub(crate) fn place_of(limit: u64, offset: Offset, regs: Regs) -> Place
     }
 }
 
-/// Returns the registers with which the next call continues.
+/// Returns the registers with which a call of `changes` continues at this place.
 pub(crate) fn regs_of(place: Place) -> Regs
     ensures { result ≡ regs_of place }
 {

@@ -28,9 +28,9 @@ pub(crate) enum Filled {
     Full,
 }
 
-/// Adds the item that was read last to the first `count` rows, if it is a change of the code at
-/// `index`, and returns how many rows are filled then. Any other item changes nothing. `time` is
-/// the time of the item.
+/// Adds a row for `item`, which `next_item` returned last, after the first `count` rows, if it is a
+/// change of the code at `index`, and returns how many rows are filled then. Any other item changes
+/// nothing. `time` is the time of the item, in ticks.
 fn put_row<S: Source>(
     feed: &Feed<'_, '_, '_, '_, S>,
     item: Item,
@@ -55,7 +55,8 @@ fn put_row<S: Source>(
 
 /// Fills the rows with the next changes of the code at `index`, until they are full or the body
 /// ends, and returns which of these it was. Sets `count` to the number of rows that are filled,
-/// also if it fails. Fails with the body's fault, after the rows before it.
+/// also if it fails, and `regs` to the registers where the feed is then. Fails with the fault of
+/// the body, after the rows before it.
 pub(crate) fn collect<S: Source>(
     feed: &mut Feed<'_, '_, '_, '_, S>,
     view: HeadView<'_>,

@@ -27,7 +27,7 @@ struct Rows<'r> {
 }
 
 impl<'r> Rows<'r> {
-    /// Returns these rows, as a walk takes them.
+    /// Returns these rows in the struct that a walk over items fills.
     #[inline(always)]
     fn new(rows: &'r mut [ChangeRow]) -> Rows<'r>
         ensures loan { result.rows.ghost_name ≡ rows.entry.ghost_name }
@@ -51,7 +51,7 @@ struct Collecting {
 impl Collecting {
     ghost use Rattle.vcd_changes.specs.Walk.{is_full, passed_with};
 
-    /// Returns whether the rows are full.
+    /// Returns whether all rows are filled.
     #[inline(always)]
     fn is_full(&self) -> bool
         ensures { result ≡ is_full self.now }
@@ -59,8 +59,9 @@ impl Collecting {
         self.room <= self.count
     }
 
-    /// Returns how many bytes of the chunk are passed: if the rows are full, those up to the end of
-    /// the last row's change, otherwise all that the walk took.
+    /// Returns how many bytes of the chunk the feed has to pass after a walk that came to `ahead`:
+    /// if the rows are full, those up to the end of the last row's change, otherwise all that the
+    /// walk passed.
     #[inline(always)]
     fn passed(&self, ahead: Ahead<'_>) -> usize
         ensures { result ≡ passed_with ahead.entry self.now }
@@ -147,9 +148,9 @@ impl<'r> Visit<Rows<'r>> for Collecting {
     }
 }
 
-/// Takes the items that lie completely in the chunk, fills the rows with the changes of the code,
-/// until they are full, and returns how far it came. `collecting` has the numbers before these
-/// items.
+/// Fills the rows with the changes of one code among the items that lie completely in the chunk,
+/// from `ahead` on, until the rows are full, and returns how far it came. `collecting` says which
+/// code that is, and how many rows are filled before.
 // Not inlined, so that the loop has all registers.
 #[inline(never)]
 fn walk_rows<'a>(
@@ -170,9 +171,10 @@ fn walk_rows<'a>(
     walk_ahead(rows, collecting, view, regs, ahead, &mut out)
 }
 
-/// Returns how many rows are filled once the items that are whole in the feed's chunk are taken:
-/// those after the first `count` get the changes of the code at `index`, until all are full. If all
-/// are full already, no item is taken.
+/// Fills the rows after the first `count` with the changes of the code at `index` among the items
+/// that lie completely in the feed's chunk, until all rows are full, and returns how many are
+/// filled. Moves the feed past these items, and sets `regs` to the registers after them. If all
+/// rows are full already, nothing changes.
 pub(crate) fn take_ahead<S: Source>(
     feed: &mut Feed<'_, '_, '_, '_, S>,
     view: HeadView<'_>,
