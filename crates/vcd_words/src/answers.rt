@@ -50,7 +50,8 @@ const SCRIPTS: [&str; 13] = [
     "x",
 ];
 
-/// Returns the text of `clap`, in which each text of `INSTEAD` that misleads is replaced.
+/// Returns this error text of `clap`, in which each part that misleads (the first texts of
+/// `INSTEAD`) is replaced. Fails if memory runs out.
 fn instead_of(alloc: Global, mut text: String) -> Result<String, AllocError> {
     for (said, instead) in &INSTEAD {
         text = text.replace(alloc, *said, *instead)?;
@@ -58,8 +59,9 @@ fn instead_of(alloc: Global, mut text: String) -> Result<String, AllocError> {
     Ok(text)
 }
 
-/// Returns the text of `clap`, with a hint at a script if the unknown command in the text is the
-/// name of that script without `vcdkit-`. Otherwise it returns the text as it is.
+/// Returns this error text of `clap`, with a hint at the script `vcdkit-NAME` if the text says that
+/// the command `NAME` is unknown and there is such a script. Otherwise it returns the text as it
+/// is. Fails if memory runs out.
 fn with_script(alloc: Global, mut text: String) -> Result<String, AllocError> {
     for script in &SCRIPTS {
         let said = format!(in alloc; "subcommand '{script}'\n")?;
@@ -69,8 +71,8 @@ fn with_script(alloc: Global, mut text: String) -> Result<String, AllocError> {
     Ok(text)
 }
 
-/// Returns whether the text of `clap` is about a word that begins with `-` and a digit, such as a
-/// negative number. `clap` takes such a word for an option.
+/// Returns whether this error text of `clap` is about an argument that begins with `-` and a digit,
+/// such as a negative number, which `clap` takes for an option.
 fn is_of_negative(text: &str) -> bool {
     match text.strip_prefix("error: unexpected argument '-") {
         Some(word) => matches!(word.as_bytes(), [b'0'..=b'9', ..]),
@@ -78,8 +80,8 @@ fn is_of_negative(text: &str) -> bool {
     }
 }
 
-/// Returns the text to write if the parse of the words ends with this error: the text of `clap`,
-/// with hints that fit here.
+/// Returns the text to write if `clap` returned this error for the command line: help, the version,
+/// or what is wrong. It is the text of `clap`, with hints that fit here. Fails if memory runs out.
 pub fn answer_text(alloc: Global, error: &Error) -> Result<String, AllocError> {
     let text = instead_of(alloc, error.to_string(alloc)?)?;
     if is_of_negative(text.as_str()) {

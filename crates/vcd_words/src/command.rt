@@ -8,7 +8,7 @@ use clap::error::ErrorKind;
 use clap::{Arg, Command, Error};
 use std::alloc::{AllocError, Global};
 
-/// Returns the option `--token-limit`.
+/// Returns the definition of the option `--token-limit` for `clap`.
 fn token_limit<'a>(alloc: Global) -> Arg<'a>
     ensures { IsLocal result limit_rule }
 {
@@ -18,7 +18,8 @@ fn token_limit<'a>(alloc: Global) -> Arg<'a>
         .help("How long a token may be, in bytes: 64 to 16777216 [default: 1048576]")
 }
 
-/// Returns a command of this name with its help, and no options yet.
+/// Returns the definition of a command of this name for `clap`, with these help texts, and no
+/// options yet.
 fn new_command<'a>(alloc: Global, name: &'a str, help: Help<'a>) -> Command<'a>
     ensures { IsWhole result (new_app name.entry.now) }
 {
@@ -28,7 +29,8 @@ fn new_command<'a>(alloc: Global, name: &'a str, help: Help<'a>) -> Command<'a>
         .after_help(help.after)
 }
 
-/// Returns a command over one input, with its options `-i` and `--token-limit`.
+/// Returns the definition of a command that reads one input for `clap`, with its options `-i` and
+/// `--token-limit`. Fails if memory runs out.
 fn one_input<'a>(alloc: Global, name: &'a str, help: Help<'a>) -> Result<Command<'a>, AllocError>
     ensures { IfOk result (λ command. IsWhole command (one_input_app name.entry.now)) }
 {
@@ -40,7 +42,8 @@ fn one_input<'a>(alloc: Global, name: &'a str, help: Help<'a>) -> Result<Command
         .arg(token_limit(alloc))
 }
 
-/// Returns a command over one input that takes no names. Its file may come without `-i`.
+/// Returns the definition of a command that reads one input and takes no names of variables, for
+/// `clap`. Its file may come without `-i`. Fails if memory runs out.
 // Both forms have one id, so they are one argument, which may be given once. `conflicts_with` would
 // refuse both forms together too, but then `clap` does not say which words it accepts.
 fn with_file<'a>(alloc: Global, name: &'a str, help: Help<'a>) -> Result<Command<'a>, AllocError>
@@ -52,9 +55,9 @@ fn with_file<'a>(alloc: Global, name: &'a str, help: Help<'a>) -> Result<Command
     one_input(alloc, name, help)?.arg(file)
 }
 
-/// Returns a command over one input, with its options and names of variables. If `required` is
-/// true, the parse fails without names. A word without an option is a name here, so the file comes
-/// after `-i`.
+/// Returns the definition of a command that reads one input and takes names of variables, for
+/// `clap`. If `required` is true, the parse fails without names. An argument without an option is a
+/// name here, so the file comes after `-i`. Fails if memory runs out.
 fn named<'a>(
     alloc: Global,
     name: &'a str,
@@ -71,7 +74,8 @@ fn named<'a>(
     one_input(alloc, name, help)?.arg(names)
 }
 
-/// Returns the option `--NAME` of this name, for times. Its help calls the value `value_name`.
+/// Returns the definition of the option `--NAME`, where NAME is `name`, for `clap`. Its value is
+/// one or more times, which its help text calls `value_name`.
 fn time<'a>(alloc: Global, name: &'a str, value_name: &'a str, help: &'a str) -> Arg<'a>
     ensures { IsLocal result (time_rule name.entry.now) }
 {
@@ -81,8 +85,9 @@ fn time<'a>(alloc: Global, name: &'a str, value_name: &'a str, help: &'a str) ->
         .help(help)
 }
 
-/// Returns the command `cut`, with its options and its two times. Without them it begins at time 0
-/// and goes to the end, since no time is above the greatest one.
+/// Returns the definition of the command `cut` for `clap`, with its options. Without `--from` it
+/// begins at time 0, and without `--to` at the greatest time, so it goes to the end. Fails if
+/// memory runs out.
 fn cut<'a>(alloc: Global) -> Result<Command<'a>, AllocError>
     ensures { IfOk result (λ command. IsWhole command cut_app) }
 {
@@ -104,8 +109,8 @@ fn cut<'a>(alloc: Global) -> Result<Command<'a>, AllocError>
     with_file(alloc, "cut", help::CUT)?.arg(from)?.arg(to)
 }
 
-/// Returns the command `sample`, with its options, its times, which are required, and names of
-/// variables.
+/// Returns the definition of the command `sample` for `clap`, with its options, its times, which
+/// are required, and names of variables. Fails if memory runs out.
 fn sample<'a>(alloc: Global) -> Result<Command<'a>, AllocError>
     ensures { IfOk result (λ command. IsWhole command sample_app) }
 {
@@ -119,7 +124,8 @@ fn sample<'a>(alloc: Global) -> Result<Command<'a>, AllocError>
     named(alloc, "sample", help::SAMPLE, false)?.arg(at)
 }
 
-/// Returns the command `merge`, with its files.
+/// Returns the definition of the command `merge` for `clap`, with its files and `--token-limit`.
+/// Fails if memory runs out.
 fn merge<'a>(alloc: Global) -> Result<Command<'a>, AllocError>
     ensures { IfOk result (λ command. IsWhole command merge_app) }
 {
@@ -133,8 +139,8 @@ fn merge<'a>(alloc: Global) -> Result<Command<'a>, AllocError>
         .arg(files)
 }
 
-/// Returns the program with this command added. Fails if memory ran out for the command, or runs
-/// out here.
+/// Returns the definition of the program with this command added. Fails if memory ran out for the
+/// command, or runs out here.
 fn add<'a>(
     program: Command<'a>,
     command: Result<Command<'a>, AllocError>,
@@ -146,7 +152,8 @@ fn add<'a>(
     program.subcommand(command?)
 }
 
-/// Returns the command `vcdkit` with its commands. Fails if memory runs out.
+/// Returns the definition of the program `vcdkit` with all its commands, by which `clap` parses the
+/// command line. Fails if memory runs out.
 pub fn command_of<'a>(alloc: Global) -> Result<Command<'a>, AllocError>
     ensures { IfOk result (λ command. IsWhole command program_app) }
 {
@@ -163,8 +170,8 @@ pub fn command_of<'a>(alloc: Global) -> Result<Command<'a>, AllocError>
     add(program, merge(alloc))
 }
 
-/// Returns the exit status if the parse of the words ends with this error: 0 for help and the
-/// version, 3 if memory ran out, otherwise 2.
+/// Returns the exit status of the program if `clap` returned this error for the command line: 0 for
+/// help and the version, 3 if memory ran out, otherwise 2.
 pub fn parse_status(error: &Error) -> u8
     ensures { result ≡ parse_status_of (kind_of error.now) }
 {

@@ -34,10 +34,10 @@ pub enum Want {
 }
 
 impl Want {
-    /// Converts the times of a sample to ticks of the header that `view` shows, in place. Anything
-    /// else stays as it is. Fails with the reason if a time has a unit without a time scale, or
-    /// 2^64 ticks or more, or if the times do not increase in ticks; then the times may be
-    /// anything.
+    /// Converts the times of a sample to ticks of the time scale of this header, in place. For any
+    /// other want nothing changes. Fails with the reason if a time has a unit but the header no
+    /// time scale, if it is 2^64 ticks or more, or if the times do not increase in ticks; then the
+    /// times may have any values.
     pub fn write_ticks(&mut self, view: HeadView<'_>) -> Result<(), Refusal>
         requires { is_asked self.old ≡ true }
         ensures same { KeepsRequest view.entry (model_want self.old) (model_want self.new) result }
@@ -57,7 +57,7 @@ impl Want {
         }
     }
 
-    /// Returns whether this is a merge. Only a merge may have several inputs.
+    /// Returns whether this is a merge, the only command that may have several inputs.
     pub fn is_merge(&self) -> bool
         ensures { result ≡ is_merge self.now }
     {
@@ -130,8 +130,8 @@ const MAX_LIMIT: u64 = 16_777_216;
 /// How much is read in one call, in bytes.
 const CHUNK: usize = 65_536;
 
-/// Returns the token limit that a word spells. `None` if the word is not 1 to 20 digits, or if the
-/// number is below 64 or above 16,777,216.
+/// Returns the token limit, in bytes, that a word spells. `None` if the word is not 1 to 20 digits,
+/// or if the number is below 64 or above 16,777,216.
 fn limit_in(word: &str) -> Option<usize>
     ensures { result ≡ cond (is_limit word.now) (Some (decimal_value word.now)) None }
 {
@@ -142,8 +142,9 @@ fn limit_in(word: &str) -> Option<usize>
     Some(limit as usize)
 }
 
-/// Returns the token limit that this word asks for, or the default if there is no word. Fails if
-/// the word is not 1 to 20 digits, or if the number is below 64 or above 16,777,216.
+/// Returns the token limit, in bytes, that the value of `--token-limit` asks for, or the default if
+/// there is none. Fails with `BadLimit` if the word is not 1 to 20 digits, or if the number is
+/// below 64 or above 16,777,216.
 fn limit_of<'a>(word: Option<&'a str>) -> Result<usize, UseFault<'a>>
     ensures limit { IfOk result (λ limit. limit_of (text_of word.entry) ≡ Ok limit) }
     ensures range { IfOk result (λ limit. (64 ≤ limit) × (limit ≤ 16777216)) }
@@ -155,9 +156,9 @@ fn limit_of<'a>(word: Option<&'a str>) -> Result<usize, UseFault<'a>>
     }
 }
 
-/// Returns the job that the matches of the command ask for. Fails with the first fault of the
-/// words, or if memory runs out. Memory is taken for its names, once it is known that there is a
-/// job.
+/// Returns what a parsed command line asks for: the command with copies of its names and times, and
+/// its limits. Fails with the first fault of the words, or if memory runs out. It takes no memory
+/// before the words were checked.
 pub fn job_of<'a>(alloc: Global, matches: &ArgMatches<'a>) -> Result<Job, UseFault<'a>>
     ensures job { IfOk result (λ job. AsksFor matches.now job.task job.limit) }
     ensures chunk { IfOk result (λ job. job.chunk ≡ 65536) }

@@ -12,8 +12,8 @@ use vcd_text::decimal_of;
 /// How many digits a number may have.
 const MAX_DIGITS: usize = 20;
 
-/// Returns the number that these bytes spell. `None` if they are not 1 to 20 digits, or if the
-/// number is 2^64 or more.
+/// Returns the number that 1 to 20 decimal digits spell. `None` if these bytes are anything else,
+/// or if the number is 2^64 or more.
 pub(crate) fn number_of(digits: &[u8]) -> Option<u64>
     ensures { result ≡ cond (is_number digits.now) (Some (decimal_value digits.now)) None }
 {
@@ -30,8 +30,9 @@ fn digits_before(word: &[u8]) -> usize
     word.iter().take_while(|byte| byte.is_ascii_digit()).count()
 }
 
-/// Returns the time that a word is: 1 to 20 digits with a value below 2^64, and then nothing or one
-/// of the units `s`, `ms`, `us`, `ns`, `ps` and `fs`. `None` if the word is anything else.
+/// Returns the time that a word spells: 1 to 20 digits with a value below 2^64, and then nothing
+/// (ticks) or one of the units `s`, `ms`, `us`, `ns`, `ps` and `fs`. `None` if the word is anything
+/// else.
 pub(crate) fn moment_of(word: &str) -> Option<Moment>
     ensures { option_map asked result ≡ moment_of word.now }
 {
@@ -40,7 +41,7 @@ pub(crate) fn moment_of(word: &str) -> Option<Moment>
     Moment::from_parts(number_of(digits)?, unit)
 }
 
-/// Returns the time that a word is. Fails with `BadTime` if `moment_of` returns `None`.
+/// Returns the time that a word spells. Fails with `BadTime` if `moment_of` returns `None`.
 pub(crate) fn time_of<'a>(word: &'a str) -> Result<Moment, UseFault<'a>>
     ensures time { IfOk result (λ moment. time_of word.entry.now ≡ Ok (asked moment)) }
     ensures fault { IfErr result (λ fault. IsFaultIn fault (time_of word.entry.now)) }
@@ -48,9 +49,9 @@ pub(crate) fn time_of<'a>(word: &'a str) -> Result<Moment, UseFault<'a>>
     moment_of(word).ok_or(UseFault::BadTime(word))
 }
 
-/// Returns a cut between the times that these words are. Fails at the first word that is no time,
-/// and if neither time has a unit and `from` is above `to`. With a unit that is checked once the
-/// time scale is known.
+/// Returns the want of a `cut` between the times that these words spell. Fails with `BadTime` at
+/// the first word that is no time, and with `FromAboveTo` if neither time has a unit and `from` is
+/// above `to`. With a unit that is checked once the time scale is known.
 pub(crate) fn cut_of<'a>(from: &'a str, to: &'a str) -> Result<Want, UseFault<'a>>
     ensures want { IfOk result (λ want. cut_in from.entry.now to.entry.now ≡ Ok (model_want want)) }
     ensures asked { IfOk result (λ want. is_asked want ≡ true) }
@@ -76,7 +77,7 @@ struct TimesOrder {
 }
 
 impl TimesOrder {
-    /// Returns the order of no times.
+    /// Returns what is known before the first time: none has a unit, and they increase.
     fn new() -> TimesOrder
         ensures { IsOrderOf [] result }
     {
@@ -87,7 +88,7 @@ impl TimesOrder {
         }
     }
 
-    /// Returns the order of these times with `time` after them.
+    /// Returns what is known of the same times with `time` after them.
     fn with(self, time: Moment) -> TimesOrder
         ensures { (times : List ModelMoment) → IsOrderOf times self
             → IsOrderOf (times ++ asked time ∷ []) result }
@@ -100,9 +101,9 @@ impl TimesOrder {
     }
 }
 
-/// Checks that the words between the commas of `at` may be the times of a sample. Fails at the
-/// first word that is no time, and if no time has a unit and the numbers do not increase. It takes
-/// no memory.
+/// Checks the words between the commas of `at`, the times of a sample. Fails with `BadTime` at the
+/// first word that is no time, and with `NotRising` if no time has a unit and the numbers do not
+/// increase. It takes no memory.
 fn check_times<'a>(at: &'a str) -> Result<(), UseFault<'a>>
     ensures times { OnOk result ((names : List (List ℕ)) → (times : List ModelMoment)
         × (times_of (parts at.entry.now) ≡ Ok times)
@@ -120,8 +121,8 @@ fn check_times<'a>(at: &'a str) -> Result<(), UseFault<'a>>
     Ok(())
 }
 
-/// Returns the numbers of the times between the commas of `at`. Words that are no times are left
-/// out.
+/// Returns the numbers, without their units, of the times between the commas of `at`. Words that
+/// are no times are left out. Fails if memory runs out.
 fn numbers_in(alloc: Global, at: &str) -> Result<Vec<u64>, AllocError>
     ensures { IfOk result (λ numbers. numbers.items
         ≡ map (λ (m : ModelMoment). m.number) (filter_map moment_of (parts at.now))) }
@@ -132,8 +133,8 @@ fn numbers_in(alloc: Global, at: &str) -> Result<Vec<u64>, AllocError>
         .collect(alloc)
 }
 
-/// Returns the units of the times between the commas of `at`: `None` for a time without a unit.
-/// Words that are no times are left out.
+/// Returns the units of the times between the commas of `at`, as powers of ten in seconds: `None`
+/// for a time without a unit. Words that are no times are left out. Fails if memory runs out.
 fn units_in(alloc: Global, at: &str) -> Result<Vec<Option<i8>>, AllocError>
     ensures { IfOk result (λ units. units.items
         ≡ map (λ (m : ModelMoment). m.unit) (filter_map moment_of (parts at.now))) }
@@ -144,9 +145,9 @@ fn units_in(alloc: Global, at: &str) -> Result<Vec<Option<i8>>, AllocError>
         .collect(alloc)
 }
 
-/// Returns a sample of these names at the times between the commas of `at`; of all variables if
-/// `names` is `None`. Fails with the first fault of the times (`check_times`), or if memory runs
-/// out. Memory is taken once it is known that a sample may have these times.
+/// Returns the want of a `sample` of these names at the times between the commas of `at`; of all
+/// variables if `names` is `None`. Fails with `BadTime` or `NotRising` as `check_times` does, or if
+/// memory runs out. It takes no memory before the times were checked.
 pub(crate) fn sample_of<'a>(
     alloc: Global,
     at: &'a str,

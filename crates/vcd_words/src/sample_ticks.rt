@@ -6,23 +6,24 @@ use crate::refusal::Refusal;
 use vcd_head::{Moment, ticks};
 use vcd_view::HeadView;
 
-/// Returns whether some time has a unit.
+/// Returns whether some of these times has a unit (is `Some`).
 fn has_units(units: &[Option<i8>]) -> bool
     ensures { result ≡ has_units units.now }
 {
     units.iter().any(|unit| unit.is_some())
 }
 
-/// Returns whether each time is above the one before it.
+/// Returns whether each time is greater than the one before it.
 fn do_rise(times: &[u64]) -> bool
     ensures { result ≡ do_rise times.now }
 {
     times.is_sorted_by(|first, second| first < second)
 }
 
-/// Writes times in ticks of the header that `view` shows over their numbers, each rounded down.
-/// `units` has the unit of each number. Fails with the reason at the first time that has a unit
-/// without a time scale, or 2^64 ticks or more; then only the numbers before it are written.
+/// Replaces each number of a time by the time in ticks of this header's time scale, rounded down.
+/// `units` has the unit of each number, `None` for ticks. Fails with the reason at the first time
+/// that has a unit while the header has no time scale, or that is 2^64 ticks or more; then only the
+/// numbers before it were replaced.
 fn write_ticks(numbers: &mut [u64], units: &[Option<i8>], view: HeadView<'_>) -> Result<(), Refusal>
     requires { length units.now ≡ length numbers.old }
     ensures { (h : Header) → IsViewOf view.entry h → MatchResult result
@@ -39,10 +40,10 @@ fn write_ticks(numbers: &mut [u64], units: &[Option<i8>], view: HeadView<'_>) ->
     Ok(())
 }
 
-/// Writes the times of a sample, with these numbers and units, in ticks of the header that `view`
-/// shows over their numbers, each rounded down, and sets all units to `None`. Changes nothing if no
-/// time has a unit. Fails with the reason as `write_ticks` does, and if the times do not increase
-/// in ticks; then the times may be anything.
+/// Replaces the numbers of a sample's times by the times in ticks of this header's time scale, each
+/// rounded down, and all units by `None`. Changes nothing if no time has a unit. Fails with the
+/// reason if there is a unit and the header has no time scale, if a time is 2^64 ticks or more, or
+/// if the times do not increase in ticks; then the numbers may have any values.
 pub(crate) fn write_times(
     numbers: &mut Vec<u64>,
     units: &mut Vec<Option<i8>>,

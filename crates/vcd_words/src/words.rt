@@ -22,8 +22,8 @@ pub enum Words<'m, 'a> {
     Merge(&'m [&'a str]),
 }
 
-/// Returns the first word of the argument `id` of the command that was used. `None` if no command
-/// was used, or if the argument has no word.
+/// Returns the first value of the argument `id` of the command in a parsed command line. `None` if
+/// there is no command, or if the argument has no value.
 fn word_of<'a>(matches: &ArgMatches<'a>, id: &str) -> Option<&'a str>
     ensures { option_map (λ word. word.now) result ≡ word_after matches.now id.now }
 {
@@ -31,23 +31,23 @@ fn word_of<'a>(matches: &ArgMatches<'a>, id: &str) -> Option<&'a str>
     options.get_str(id)
 }
 
-/// Returns the word for the input file that the matches of the command name. `None` if they name no
-/// file, which means standard input; the word `-` means it too.
+/// Returns the input file that a parsed command line names. `None` if it names no file, which means
+/// standard input; the word `-` means it too.
 pub fn input_of<'a>(matches: &ArgMatches<'a>) -> Option<&'a str>
     ensures { option_map (λ name. name.now) result ≡ input_asked matches.now }
 {
     word_of(matches, "input")
 }
 
-/// Returns the word after `--token-limit`; `None` if there is none.
+/// Returns the value of `--token-limit` in a parsed command line; `None` if there is none.
 pub(crate) fn limit_word<'a>(matches: &ArgMatches<'a>) -> Option<&'a str>
     ensures { option_map (λ word. word.now) result ≡ word_after matches.now (codes "token-limit") }
 {
     word_of(matches, "token-limit")
 }
 
-/// Returns the words of the argument `id` of the command that was used. `matches` are those of the
-/// whole command line. `None` if no command was used, or if the argument has no word.
+/// Returns all values of the argument `id` of the command in a parsed command line. `None` if there
+/// is no command, or if the argument has no value.
 fn words_of<'m, 'a>(matches: &'m ArgMatches<'a>, id: &str) -> Option<&'m [&'a str]>
     ensures { texts_of result ≡ some_of (values_after matches.now id.now) }
 {
@@ -56,22 +56,22 @@ fn words_of<'m, 'a>(matches: &'m ArgMatches<'a>, id: &str) -> Option<&'m [&'a st
     (!words.is_empty()).then_some(words)
 }
 
-/// Returns the names of variables after the command that was used; `None` if there are none.
+/// Returns the names of variables in a parsed command line; `None` if there are none.
 fn names_of<'m, 'a>(matches: &'m ArgMatches<'a>) -> Option<&'m [&'a str]>
     ensures { texts_of result ≡ some_of (values_after matches.now (codes "names")) }
 {
     words_of(matches, "names")
 }
 
-/// Returns the files that the matches of a merge name; `None` if they name no file.
+/// Returns the files that a parsed command line names for a merge; `None` if it names none.
 pub fn files_of<'m, 'a>(matches: &'m ArgMatches<'a>) -> Option<&'m [&'a str]>
     ensures { texts_of result ≡ some_of (files_asked matches.now) }
 {
     words_of(matches, "files")
 }
 
-/// Returns the command of this name with its words. `None` if no command has this name, or if
-/// names, times or files that it needs are missing.
+/// Returns the command `name`, with its arguments in a parsed command line. `None` if there is no
+/// such command, or if names, times or files that it needs are missing.
 fn words_named<'m, 'a>(name: &str, matches: &'m ArgMatches<'a>) -> Option<Words<'m, 'a>>
     ensures { option_map words_command result ≡ complete (command_named name.now matches.now) }
 {
@@ -87,15 +87,15 @@ fn words_named<'m, 'a>(name: &str, matches: &'m ArgMatches<'a>) -> Option<Words<
     }
 }
 
-/// Returns the command that was used with its words. `None` if no command was used, or if names,
-/// times or files that it needs are missing.
+/// Returns the command of a parsed command line, with its arguments. `None` if there is no command,
+/// or if names, times or files that it needs are missing.
 pub(crate) fn words_in<'m, 'a>(matches: &'m ArgMatches<'a>) -> Option<Words<'m, 'a>>
     ensures { option_map words_command result ≡ complete (command_used matches.now) }
 {
     words_named(matches.subcommand_name()?, matches)
 }
 
-/// Returns a copy of names.
+/// Returns copies of these names. Fails if memory runs out.
 fn copied(alloc: Global, names: &[&str]) -> Result<Vec<String>, AllocError>
     ensures { IfOk result (λ copies. map string_bytes copies.items
         ≡ map (λ name. name.now) names.now) }
@@ -107,7 +107,7 @@ fn copied(alloc: Global, names: &[&str]) -> Result<Vec<String>, AllocError>
     Ok(copies)
 }
 
-/// Returns a copy of these names; no names if `names` is `None`.
+/// Returns copies of these names; no names if `names` is `None`. Fails if memory runs out.
 pub(crate) fn copied_some(alloc: Global, names: Option<&[&str]>) -> Result<Vec<String>, AllocError>
     ensures { IfOk result (λ copies. map string_bytes copies.items ≡ some_names names.entry) }
 {
@@ -117,22 +117,22 @@ pub(crate) fn copied_some(alloc: Global, names: Option<&[&str]>) -> Result<Vec<S
     }
 }
 
-/// Returns whether this word for a file means standard input, which only `-` does.
+/// Returns whether this name of a file means standard input: whether it is `-`.
 pub fn is_standard_input(file: &str) -> bool
     ensures { result ≡ is_standard_input file.now }
 {
     file == "-"
 }
 
-/// Returns how many of these words for files mean standard input.
+/// Returns how many of these names of files mean standard input (`-`).
 fn count_standard_inputs(files: &[&str]) -> usize
     ensures { result ≡ count_by is_standard_input (map (λ file. file.now) files.now) }
 {
     files.iter().filter(|file| is_standard_input(file)).count()
 }
 
-/// Returns a merge of these files. Fails if there are more than 64, or if more than one of them is
-/// standard input.
+/// Returns the want of a `merge` of these files. Fails with `TooManyFiles` if there are more than
+/// 64, and with `InputTwice` if more than one of them is standard input.
 fn merge_of<'a>(files: &[&str]) -> Result<Want, UseFault<'a>>
     ensures { GivesWant (want_of (merge_command files.now)) result }
 {
@@ -145,8 +145,8 @@ fn merge_of<'a>(files: &[&str]) -> Result<Want, UseFault<'a>>
     Ok(Want::Merge)
 }
 
-/// Returns what these words ask for, with copies of their names. Fails with the first fault of the
-/// words, or if memory runs out.
+/// Returns what this command with its arguments asks for, with copies of its names. Fails with the
+/// first fault of the arguments, or if memory runs out.
 pub fn want_of<'a>(alloc: Global, words: Words<'_, 'a>) -> Result<Want, UseFault<'a>>
     ensures { GivesWant (want_of (words_command words.entry)) result }
 {
