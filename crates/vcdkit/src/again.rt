@@ -16,7 +16,8 @@ pub struct Again<D> {
 impl<D> Again<D> {
     ghost use Rattle.std.specs.Prelude.{◌≡◌};
 
-    /// Returns a device whose interrupted calls are made again, over this one.
+    /// Returns a reader or writer over `device` that makes a call again if the call was
+    /// interrupted.
     pub fn new(device: D) -> Again<D>
         ensures { result.device ≡ device }
     {

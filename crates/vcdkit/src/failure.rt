@@ -19,8 +19,8 @@ pub(crate) enum Failure {
 }
 
 impl Failure {
-    /// Returns this fault of a header as a failure. `input` is the index of its input among all,
-    /// and `line` is the line that its feed is at, which only a fault of the dump has.
+    /// Returns how a run fails at this fault of a header. `input` is the index of its input among
+    /// all, and `line` the line that its feed is at; only a fault of the dump keeps it.
     pub(crate) fn of_head(fault: HeadFault, input: usize, line: u64) -> Failure
         ensures { result ≡ head_failure fault input line }
     {
@@ -35,8 +35,9 @@ impl Failure {
         }
     }
 
-    /// Returns this stop of a task as a failure, with the index of the task's only input among all.
-    /// A failed write and a name that selects nothing stay as they are.
+    /// Returns how a run fails if its task stopped like this. `input` is the index of the task's
+    /// only input among all, which a fault or a failed read gets. A failed write and a name that
+    /// selects nothing stay as they are.
     pub(crate) fn of_stop(stop: Stop, input: usize) -> Failure
         ensures { result ≡ stop_failure stop input }
     {

@@ -24,8 +24,8 @@ pub(crate) struct WindowMemory {
     pub values: Vec<u8>,
 }
 
-/// Returns the memory for the windows of this many inputs, at most 64, with the lengths that the
-/// job gives.
+/// Returns new memory for the buffers of this many inputs, at most 64, with the lengths that the
+/// job gives. Fails if there is none.
 pub(crate) fn windows_for(
     alloc: Global,
     job: &Job,
@@ -55,8 +55,9 @@ pub(crate) struct Reading<'h, B> {
     ghost within: { most ≤ 16777216 },
 }
 
-/// Reads the header of the input at this index among all, and returns its head. The feed has given
-/// nothing yet. Fails at a fault of the header, if a read fails, or if memory runs out.
+/// Reads the header of the input at index `input` of all, and returns it. `feed` is at the
+/// beginning of that input; after it, it is right after the header. Fails at a fault of the header,
+/// if a read fails, or if memory runs out.
 pub(crate) fn open_input<S: Source, B: BuildHasher>(
     reading: &Reading<'_, B>,
     input: usize,
@@ -87,8 +88,9 @@ pub(crate) struct BegunInput {
     pub seat: Seat,
 }
 
-/// Reads the header of the input at this index among all, over its own reader and its parts of the
-/// windows, parks its feed, and returns both. Fails as `open_input` does.
+/// Reads the header of the input at index `input` of all with its own reader and its parts of the
+/// windows, and returns the header and the parked feed. Fails at a fault of the header, if a read
+/// fails, or if memory runs out.
 fn begin<S: Source, B: BuildHasher>(
     reading: &Reading<'_, B>,
     input: usize,
@@ -112,8 +114,9 @@ fn begin<S: Source, B: BuildHasher>(
     Ok(BegunInput { head, seat })
 }
 
-/// Reads the header of the input at this index among the readers, parks its feed, and returns both.
-/// It uses only the parts of the windows at that index. Fails as `open_input` does.
+/// Reads the header of the input at index `input` of `readers`, and returns the header and the
+/// parked feed. It uses only the parts of the windows at that index. Fails at a fault of the
+/// header, if a read fails, or if memory runs out.
 fn begin_at<S: Source, B: BuildHasher>(
     reading: &Reading<'_, B>,
     input: usize,
@@ -153,7 +156,7 @@ pub(crate) struct Inputs {
 }
 
 impl Inputs {
-    /// Adds an input after the others.
+    /// Adds an input, whose header was read, after the others. Fails if memory runs out.
     fn push(&mut self, begun: BegunInput) -> Result<(), AllocError>
         ensures { IfOk result (λ _. AddsBegun begun self.old self.new) }
     {
@@ -163,8 +166,8 @@ impl Inputs {
     }
 }
 
-/// Reads the headers of all inputs in order, parks their feeds, and returns them. Fails at the
-/// first input for which `open_input` fails, or if memory runs out.
+/// Reads the headers of all inputs in order, and returns them with the parked feeds. Fails at the
+/// first header with a fault, at a failed read, or if memory runs out.
 pub(crate) fn open_inputs<S: Source, B: BuildHasher>(
     alloc: Global,
     readers: &mut [S],

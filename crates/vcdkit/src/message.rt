@@ -8,7 +8,7 @@ use vcd_body::Stop;
 use vcd_text::{Sink, WriteFailed, put, put_number, text_of};
 use vcd_words::{Refusal, UseFault};
 
-/// Writes `vcdkit: TEXT` as a line. Fails at the first write that fails.
+/// Writes the line `vcdkit: TEXT`, where TEXT is `text`. Fails if a write does.
 fn put_line<E: Sink>(err: &mut E, text: &str) -> Result<(), WriteFailed>
     requires { (E.device err.old).failures < 2 ^ 64 - 1 }
     ensures { Puts (E.device err.old) (E.device err.new) (program_line text.now) result }
@@ -18,7 +18,7 @@ fn put_line<E: Sink>(err: &mut E, text: &str) -> Result<(), WriteFailed>
     put(err, b"\n")
 }
 
-/// Writes `vcdkit: ` and both texts as one line. Fails at the first write that fails.
+/// Writes one line of `vcdkit: `, `first` and `second`. Fails if a write does.
 fn put_both<E: Sink>(err: &mut E, first: &str, second: &str) -> Result<(), WriteFailed>
     requires { (E.device err.old).failures < 2 ^ 64 - 1 }
     ensures { PutsTo E.device err.old err.new (program_line (first.now ++ second.now)) result }
@@ -29,8 +29,8 @@ fn put_both<E: Sink>(err: &mut E, first: &str, second: &str) -> Result<(), Write
     put(err, b"\n")
 }
 
-/// Writes `vcdkit: NAME:LINE: TEXT`, about a fault in the input of that name. Fails at the first
-/// write that fails.
+/// Writes the line `vcdkit: NAME:LINE: TEXT`, about a fault in the input `name`. Fails if a write
+/// does.
 fn put_fault<E: Sink>(err: &mut E, name: &str, line: u64, text: &str) -> Result<(), WriteFailed>
     requires { (E.device err.old).failures < 2 ^ 64 - 1 }
     ensures { Puts (E.device err.old) (E.device err.new)
@@ -45,7 +45,8 @@ fn put_fault<E: Sink>(err: &mut E, name: &str, line: u64, text: &str) -> Result<
     put(err, b"\n")
 }
 
-/// Writes `vcdkit: TEXT`, and returns the status. An error of the stream is ignored.
+/// Writes the line `vcdkit: TEXT`, where TEXT is `text`, and returns `status`. A failed write is
+/// ignored.
 fn say<E: Sink>(err: &mut E, text: &str, status: u8) -> u8
     requires { (E.device err.old).failures < 2 ^ 64 - 1 }
     ensures { Reports E.device err.old err.new (program_line text.now) status result }
@@ -54,7 +55,7 @@ fn say<E: Sink>(err: &mut E, text: &str, status: u8) -> u8
     status
 }
 
-/// Writes `vcdkit: ` and both texts as one line, and returns the status. An error of the stream is
+/// Writes one line of `vcdkit: `, `first` and `second`, and returns `status`. A failed write is
 /// ignored.
 fn say_both<E: Sink>(err: &mut E, first: &str, second: &str, status: u8) -> u8
     requires { (E.device err.old).failures < 2 ^ 64 - 1 }
@@ -65,7 +66,7 @@ fn say_both<E: Sink>(err: &mut E, first: &str, second: &str, status: u8) -> u8
     status
 }
 
-/// Returns the name at the index `place`, or an empty one if there is none.
+/// Returns the name at index `place`, or an empty one if there is none.
 fn name_of(names: &[String], place: usize) -> &str
     ensures { result.now ≡ name_at (map string_bytes names.now) place }
 {
@@ -76,8 +77,8 @@ fn name_of(names: &[String], place: usize) -> &str
 }
 
 /// Writes the line that says why a run stopped, and returns the exit status: 3 if a read or a write
-/// failed, otherwise 1. `names` are those of the inputs, `asked` those of variables. An error of
-/// the stream is ignored.
+/// failed, otherwise 1. `names` are those of the inputs, and `asked` are the names of variables on
+/// the command line. A failed write to `err` is ignored.
 fn report_stop<E: Sink>(stop: Stop, names: &[String], asked: &[String], err: &mut E) -> u8
     requires { (E.device err.old).failures < 2 ^ 64 - 1 }
     ensures { Reports E.device err.old err.new (stop_message (map string_bytes names.now)
@@ -94,9 +95,9 @@ fn report_stop<E: Sink>(stop: Stop, names: &[String], asked: &[String], err: &mu
     }
 }
 
-/// Writes the line that says why times are refused, once a header is read, and returns the exit
-/// status: 1 if there is no time scale, otherwise 2. `names` are those of the inputs. An error of
-/// the stream is ignored.
+/// Writes the line that says why the times of a command are refused, after its header was read, and
+/// returns the exit status: 1 if there is no time scale, otherwise 2. `names` are those of the
+/// inputs. A failed write to `err` is ignored.
 fn report_refusal<E: Sink>(refusal: Refusal, names: &[String], err: &mut E) -> u8
     requires { (E.device err.old).failures < 2 ^ 64 - 1 }
     ensures { Reports E.device err.old err.new
@@ -111,7 +112,8 @@ fn report_refusal<E: Sink>(refusal: Refusal, names: &[String], err: &mut E) -> u
 }
 
 /// Writes the line that says why a run failed, and returns the exit status, from 1 to 3. `names`
-/// are those of the inputs, `asked` those of variables. An error of the stream is ignored.
+/// are those of the inputs, and `asked` are the names of variables on the command line. A failed
+/// write to `err` is ignored.
 pub(crate) fn report<E: Sink>(
     failure: Failure,
     names: &[String],
@@ -129,8 +131,8 @@ pub(crate) fn report<E: Sink>(
     }
 }
 
-/// Writes that the output could not be written, and returns the exit status, which is 3. An error
-/// of the stream is ignored.
+/// Writes the line that says that the output could not be written, and returns the exit status 3. A
+/// failed write to `err` is ignored.
 pub fn write_fault<E: Sink>(err: &mut E) -> u8
     requires { (E.device err.old).failures < 2 ^ 64 - 1 }
     ensures { Reports E.device err.old err.new (stop_message [] [] Write) (stop_status Write) result }
@@ -138,8 +140,8 @@ pub fn write_fault<E: Sink>(err: &mut E) -> u8
     report_stop(Stop::Write, &[], &[], err)
 }
 
-/// Writes the line that says why the words ask for no job, and returns the exit status: 3 if memory
-/// ran out, otherwise 2. An error of the stream is ignored.
+/// Writes the line that says what is wrong with the arguments of the command line, and returns the
+/// exit status: 3 if memory ran out, otherwise 2. A failed write to `err` is ignored.
 pub fn use_fault<E: Sink>(fault: UseFault<'_>, err: &mut E) -> u8
     requires { (E.device err.old).failures < 2 ^ 64 - 1 }
     ensures { Reports E.device err.old err.new
@@ -157,8 +159,8 @@ pub fn use_fault<E: Sink>(fault: UseFault<'_>, err: &mut E) -> u8
     }
 }
 
-/// Writes that the file of this name cannot be opened, and returns the exit status, which is 3. An
-/// error of the stream is ignored.
+/// Writes the line that says that the file of this name cannot be opened, and returns the exit
+/// status 3. A failed write to `err` is ignored.
 pub fn open_fault<E: Sink>(name: &str, err: &mut E) -> u8
     requires { (E.device err.old).failures < 2 ^ 64 - 1 }
     ensures { Reports E.device err.old err.new

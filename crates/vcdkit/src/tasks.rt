@@ -9,9 +9,9 @@ use vcd_head::{Moment, ticks};
 use vcd_view::{HeadView, Need};
 use vcd_words::{Refusal, Want};
 
-/// Returns the cut between these times, in ticks of the header that `view` shows: the first rounded
-/// up, the last down. Fails if a time has a unit without a time scale, or 2^64 ticks or more, or if
-/// the first is above the last in ticks.
+/// Returns the task of a cut between these times, in ticks of this header's time scale: the first
+/// rounded up, the last down. Fails with the reason if a time has a unit while the header has no
+/// time scale, if it is 2^64 ticks or more, or if the first is above the last in ticks.
 fn cut_of<'w>(from: Moment, to: Moment, view: HeadView<'_>) -> Result<Task<'w>, Refusal>
     requires { is_asked (Want.Cut from to) ≡ true }
     ensures request { (h : Header) → IsViewOf view.entry h
@@ -26,12 +26,11 @@ fn cut_of<'w>(from: Moment, to: Moment, view: HeadView<'_>) -> Result<Task<'w>, 
     Ok(Task::Cut { from, to })
 }
 
-/// Returns the task that is wanted, with the times of a cut in ticks of the header that `view`
-/// shows. `None` for a list, which reads no body, and for a merge, which reads several. Fails if a
-/// time of a cut has no ticks, or if they are out of order.
+/// Returns the task for what is wanted, with the times of a cut in ticks of this header's time
+/// scale. `None` for a list, which reads no body, and for a merge, which reads several. Fails with
+/// the reason if a time of a cut has no number of ticks, or if the first is above the last.
 ///
-/// Words may ask for what is wanted (`is_asked`), and `write_ticks` has already converted the times
-/// of a sample.
+/// `Want::write_ticks` must have converted the times of a sample before.
 pub(crate) fn task_of<'w>(want: &'w Want, view: HeadView<'_>) -> Result<Option<Task<'w>>, Refusal>
     requires asked { is_asked want.now ≡ true }
     requires ticks { HasTicks want.now }
@@ -53,7 +52,8 @@ pub(crate) fn task_of<'w>(want: &'w Want, view: HeadView<'_>) -> Result<Option<T
     }
 }
 
-/// Returns how much room a task needs over the header that `view` shows: none if `task` is `None`.
+/// Returns how long the slices of a `Room` have to be for this task over the dump with this header:
+/// 0 if `task` is `None`.
 pub(crate) fn need_of(task: Option<Task<'_>>, view: HeadView<'_>) -> Need
     ensures room { AnyRoom result (IsEnough task.entry view.entry) }
     ensures bound { KeepsBound view.entry result }
@@ -77,7 +77,7 @@ pub(crate) struct RoomMemory {
     pub marks: Vec<u8>,
 }
 
-/// Returns the memory of a room with these lengths.
+/// Returns new memory for the slices of a `Room` with these lengths. Fails if there is none.
 pub(crate) fn room_for(alloc: Global, need: Need) -> Result<RoomMemory, AllocError>
     ensures { IfOk result (λ memory. (vec_len memory.values ≡ need.values)
         × (vec_len memory.slots ≡ need.slots)

@@ -15,8 +15,8 @@ use vcd_text::{Feed, Sink, Source};
 use vcd_view::HeadView;
 use vcd_words::{Job, Want};
 
-/// Returns how a run ended, from the answer of its task over the input at this index among all. A
-/// stop becomes a failure.
+/// Returns how a run ended if its task returned `answer`. `input` is the index of the task's input
+/// among all, which a stop gets when it becomes a failure.
 fn ended(answer: Result<Done, Stop>, input: usize) -> Result<Done, Failure>
     ensures { result ≡ end_of answer input }
 {
@@ -26,7 +26,7 @@ fn ended(answer: Result<Done, Stop>, input: usize) -> Result<Done, Failure>
     }
 }
 
-/// Returns how a run ended, from the answer of its merge. A stop becomes a failure.
+/// Returns how a run ended if its merge returned `answer`: a stop becomes a failure.
 fn merged(answer: Result<Done, Stop>) -> Result<Done, Failure>
     ensures { result ≡ merge_end answer }
 {
@@ -36,9 +36,9 @@ fn merged(answer: Result<Done, Stop>) -> Result<Done, Failure>
     }
 }
 
-/// Runs the task over the body after the header that `view` shows, in this room, or writes the list
-/// if `task` is `None`. Fails with the stop of the task or of the list. It gets no allocator, so it
-/// takes no memory.
+/// Runs the task over the body that follows the header of `view`, in this room, or writes the list
+/// of variables if `task` is `None`. Returns what ended it. Fails if the task or the list does. It
+/// gets no allocator, so it takes no memory.
 fn run_in<S: Source, W: Sink>(
     task: Option<Task<'_>>,
     view: HeadView<'_>,
@@ -67,9 +67,9 @@ fn run_in<S: Source, W: Sink>(
     }
 }
 
-/// Runs what is wanted after the header that `view` shows: takes the room for it, and then calls
-/// `run_in`, which takes no more memory. Fails if the times are refused, if memory runs out, or if
-/// `run_in` fails.
+/// Runs what is wanted over the body that follows the header of `view`: takes the memory for it,
+/// and then calls `run_in`, which takes no more. Returns what ended it. Fails if the times are
+/// refused, if memory runs out, or if `run_in` fails.
 fn run_want<S: Source, W: Sink>(
     alloc: Global,
     want: &mut Want,
@@ -104,8 +104,9 @@ fn run_want<S: Source, W: Sink>(
     ended(run_in(task, view, feed, room, out), 0)
 }
 
-/// Runs a job over one input: takes its windows, reads its header, and then runs what is wanted.
-/// Fails if memory runs out, or if `open_input` or `run_want` fails.
+/// Runs a job, which is no merge, over one input: takes its buffers, reads its header, and then
+/// runs what is wanted. Returns what ended it. Fails at a fault of the input, if a read or a write
+/// fails, if times or names are refused, or if memory runs out.
 fn run_input<S: Source, W: Sink, B: BuildHasher>(
     alloc: Global,
     job: &mut Job,
@@ -138,8 +139,9 @@ fn run_input<S: Source, W: Sink, B: BuildHasher>(
     run_want(alloc, &mut job.task, head.view(), &mut feed, out)
 }
 
-/// Runs a merge over these inputs: takes their windows, reads their headers in order, and then
-/// merges. Fails if memory runs out, or if `open_inputs` or the merge fails.
+/// Runs a merge over these inputs: takes their buffers, reads their headers in order, and then
+/// merges. Returns what ended it. Fails at a fault of an input, if a read or a write fails, or if
+/// memory runs out.
 fn run_merge<S: Source, W: Sink, B: BuildHasher>(
     alloc: Global,
     job: &Job,
@@ -164,8 +166,9 @@ fn run_merge<S: Source, W: Sink, B: BuildHasher>(
     merged(merge(&inputs.heads, readers, &mut windows, &mut inputs.seats, out))
 }
 
-/// Runs a job over its readers: over all of them for a merge, otherwise over the only one. Fails as
-/// `run_merge` or `run_input` does.
+/// Runs a job over its readers: over all of them if it is a merge, otherwise over the only one.
+/// Returns what ended it. Fails at a fault of an input, if a read or a write fails, if times or
+/// names are refused, or if memory runs out.
 fn run_readers<S: Source, W: Sink, B: BuildHasher>(
     alloc: Global,
     job: &mut Job,
@@ -237,8 +240,8 @@ pub fn run_with_hasher<S: Source, W: Sink, E: Sink, B: BuildHasher>(
 /// How long a window is at least after it was shortened.
 const SHORTEST: usize = 64;
 
-/// Returns the same job with windows of at most `longest` bytes, or 64 if `longest` is less. If it
-/// is `None`, the job stays as it is.
+/// Returns this job with buffers for chunk and token of at most `longest` bytes, or 64 if `longest`
+/// is less. If it is `None`, the job stays as it is.
 fn narrowed(job: Job, longest: Option<usize>) -> Job
     ensures { Narrows longest job result }
 {
@@ -253,10 +256,10 @@ fn narrowed(job: Job, longest: Option<usize>) -> Job
     }
 }
 
-/// Runs a job over the readers, as `run_with_hasher` does, and returns the exit status. `longest`
-/// is how many bytes each of them gives at most, if that is known. The windows are then no longer
-/// than that, or than 64 bytes if it is less. What is written is the same, and a call over small
-/// inputs takes and clears less memory.
+/// Runs a job over the readers, and returns the exit status. `longest` is how many bytes each of
+/// them gives at most, if that is known: then the buffers are no longer than that, or than 64 bytes
+/// if it is less, so that a run over small inputs takes and clears less memory. What is written is
+/// the same. The other arguments, the output and the status are those of `run_with_hasher`.
 pub fn run_within<S: Source, W: Sink, E: Sink, B: BuildHasher>(
     alloc: Global,
     job: Job,
