@@ -6,8 +6,8 @@ use clap::ArgMatches;
 use std::alloc::{AllocError, Global};
 use vcd_words::{files_of, input_of, is_standard_input};
 
-/// Returns the name of the input that a word for a file means; `None` for `-`, which is standard
-/// input.
+/// Returns the name of a file on the command line as the name of an input: `None` for `-`, which is
+/// standard input.
 fn input_named(word: &str) -> Option<&str>
     ensures { text_of result ≡ input_named word.now }
 {
@@ -17,17 +17,17 @@ fn input_named(word: &str) -> Option<&str>
     Some(word)
 }
 
-/// Returns the name of the only input of a command. `None` if it is standard input: if the matches
-/// name no file, or the file `-`.
+/// Returns the name of the input of a parsed command line whose command has only one. `None` if it
+/// is standard input: if no file is named, or the file `-`.
 fn only_input<'a>(matches: &ArgMatches<'a>) -> Option<&'a str>
     ensures { text_of result ≡ option_and_then input_named (input_asked matches.now) }
 {
     input_named(input_of(matches)?)
 }
 
-/// Returns the inputs that the matches name: of a merge if `merge` is true, otherwise the only one
-/// of another job. An input is the name of its file, or `None` for standard input. Without files a
-/// merge has no inputs.
+/// Returns the names of the inputs of a parsed command line: of all files of a merge if `merge` is
+/// true, otherwise of the only input. `None` in the list is standard input. Without files a merge
+/// has no inputs. Fails if memory runs out.
 pub fn inputs_of<'a>(
     alloc: Global,
     merge: bool,

@@ -61,7 +61,7 @@ pub(crate) fn copy(from: &[u8], to: &mut [u8])
     }
 }
 
-/// Copies the first 64 bytes of `from` into `to` from `position` on. Both must have them.
+/// Copies the first 64 bytes of `from` into `to` from offset `position` on. Both must have as many.
 #[inline(always)]
 pub(crate) fn copy_short(to: &mut [u8], position: usize, from: &[u8])
     requires room { position + 64 ≤ length to.old }
@@ -72,7 +72,7 @@ pub(crate) fn copy_short(to: &mut [u8], position: usize, from: &[u8])
     u8x64::from_slice(from).copy_to_slice(&mut to[position..]);
 }
 
-/// Returns these bytes, through one number, so that one write copies them.
+/// Returns the same bytes, by way of one number, so that the compiler copies them in one step.
 #[inline(always)]
 fn as_word(bytes: [u8; 8]) -> [u8; 8]
     ensures { result ≡ bytes }
@@ -80,7 +80,8 @@ fn as_word(bytes: [u8; 8]) -> [u8; 8]
     u64::from_le_bytes(bytes).to_le_bytes()
 }
 
-/// Copies 8 bytes into `to` from `position` on, in one write. `to` must have room for them.
+/// Copies the 8 bytes of `from` into `to` from offset `position` on, in one step. `to` must have
+/// room for them.
 #[inline(always)]
 pub(crate) fn copy_eight(to: &mut [u8], position: usize, from: [u8; 8])
     requires room { position + 8 ≤ length to.old }
@@ -90,9 +91,9 @@ pub(crate) fn copy_eight(to: &mut [u8], position: usize, from: [u8; 8])
     to[position..position + 8].copy_from_slice(&as_word(from));
 }
 
-/// Copies the byte `first`, the first n bytes of `from` and the eight of `end`, one after another,
-/// into `to` from `position` on. n is at most 64, `from` has at least 64 bytes, and `to` has room
-/// for 73. The bytes after these in `to` may be anything.
+/// Copies the byte `first`, the first `n` bytes of `from` and the 8 of `end`, one after another,
+/// into `to` from offset `position` on. `n` is at most 64, `from` has at least 64 bytes, and `to`
+/// has room for 73. The bytes of `to` after these may get any values.
 // The copy of `from` always has 64 bytes: a copy of an unknown length is a call.
 #[inline(always)]
 pub(crate) fn copy_parts(
@@ -118,7 +119,7 @@ pub(crate) fn copy_parts(
 impl Buffer {
     ghost use Rattle.vcd_host.specs.Buffer.{kept};
 
-    /// Returns a buffer in which no byte waits.
+    /// Returns an empty buffer with room for 8,192 bytes. Fails if memory runs out.
     pub(crate) fn new(alloc: Global) -> Result<Buffer, AllocError>
         ensures bytes { IfOk result (λ buffer. kept buffer ≡ []) }
         ensures failed { IfOk result (λ buffer. buffer.failed_at ≡ 0) }
@@ -131,14 +132,14 @@ impl Buffer {
         })
     }
 
-    /// Returns the bytes that wait.
+    /// Returns the bytes in the buffer, which are not written yet.
     pub(crate) fn as_slice(&self) -> &[u8]
         ensures { result.now ≡ kept self.now }
     {
         &self.bytes[..self.len]
     }
 
-    /// Appends all of these bytes, for which there has to be room.
+    /// Appends all of these bytes to the buffer, which must have room for them.
     #[inline(always)]
     pub(crate) fn push(&mut self, from: &[u8])
         requires { self.old.len + length from.now ≤ 8192 }
@@ -150,7 +151,8 @@ impl Buffer {
         self.len = end;
     }
 
-    /// Appends the first n of these bytes, by one copy of all of them. There has to be room for 8.
+    /// Appends the first `n` of these bytes to the buffer, by one copy of all 8, for which it must
+    /// have room.
     #[inline(always)]
     pub(crate) fn push_few(&mut self, bytes: [u8; 8], n: usize)
         requires few { n ≤ 8 }
@@ -162,8 +164,8 @@ impl Buffer {
         self.len += n;
     }
 
-    /// Returns whether `push_front` and `push_parts` may push the first n of these bytes: n is at
-    /// most 64, there are at least 64 of these bytes, and there is room for the 73 that
+    /// Returns whether `push_front` and `push_parts` may append the first `n` bytes of `from`: `n`
+    /// is at most 64, `from` has at least 64 bytes, and the buffer has room for the 73 that
     /// `push_parts` may copy.
     #[inline(always)]
     pub(crate) fn has_room(&self, from: &[u8], n: usize) -> bool
@@ -174,8 +176,8 @@ impl Buffer {
         n <= SHORT && from.len() >= SHORT && self.len <= ROOM - PARTS
     }
 
-    /// Appends the first n of these bytes, by one copy of 64. n is at most 64, and there has to be
-    /// room for 64.
+    /// Appends the first `n` bytes of `from` to the buffer, by one copy of 64, for which it must
+    /// have room. `n` is at most 64.
     #[inline(always)]
     pub(crate) fn push_front(&mut self, from: &[u8], n: usize)
         requires few { n ≤ 64 }
@@ -188,8 +190,9 @@ impl Buffer {
         self.len += n;
     }
 
-    /// Appends the byte `first`, the first n bytes of `from` and the first m of `end`, by copies of
-    /// known lengths. n is at most 64, m at most 8, and there has to be room for 73.
+    /// Appends the byte `first`, the first `n` bytes of `from` and the first `m` of `end` to the
+    /// buffer, by copies of fixed lengths. `n` is at most 64, `m` at most 8, and the buffer must
+    /// have room for 73.
     #[inline(always)]
     pub(crate) fn push_parts(&mut self, first: u8, from: &[u8], n: usize, end: [u8; 8], m: usize)
         requires few { n ≤ 64 }
@@ -204,7 +207,7 @@ impl Buffer {
         self.len = position + 1 + n + m;
     }
 
-    /// Notes that a write has failed, and that no byte was taken since.
+    /// Notes that a write has failed after the last byte that was appended.
     pub(crate) fn note_failure(&mut self)
         ensures kept { kept self.new ≡ kept self.old }
         ensures len { self.new.len ≡ self.old.len }
@@ -213,7 +216,8 @@ impl Buffer {
         self.failed_at = self.len + 1;
     }
 
-    /// Removes the first n bytes, which were written, and forgets that a write failed before.
+    /// Removes the first `n` bytes from the buffer, which were written, and forgets that a write
+    /// failed before.
     pub(crate) fn remove_front(&mut self, n: usize)
         requires { n ≤ self.old.len }
         ensures kept { kept self.new ≡ drop n (kept self.old) }

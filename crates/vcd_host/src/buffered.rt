@@ -21,8 +21,8 @@ pub struct Buffered<D: Write + Drop> {
     failures: u64,
 }
 
-/// Writes some of these bytes to the device, from the first one on, and returns how many: at least
-/// 1. Fails if the device returns an error or takes nothing. `bytes` is not empty.
+/// Writes some of these bytes to the device, from the first one on, and returns how many it took:
+/// at least 1. Fails if the device returns an error or takes nothing. `bytes` is not empty.
 fn write_some<D: Write>(bytes: &[u8], device: &mut D) -> Result<usize, WriteFailed>
     requires { 0 < length bytes.now }
     ensures bound { WritesAtMost result bytes.now }
@@ -57,7 +57,8 @@ impl<D: Write + Drop> Buffered<D> {
     ghost use Rattle.vcd_host.specs.Buffer.{kept};
     ghost use Rattle.vcd_host.specs.Buffered.{has_just_failed, taken};
 
-    /// Returns a sink over the device, with an empty buffer and no failure.
+    /// Returns a sink that writes to the device through an empty buffer, and has counted no
+    /// failure. Fails if memory runs out.
     pub fn new(alloc: Global, device: D) -> Result<Buffered<D>, AllocError>
         ensures device { IfOk result (λ sink. sink.device ≡ device) }
         ensures empty { IfOk result (λ sink. kept sink.buffer ≡ []) }
@@ -72,8 +73,9 @@ impl<D: Write + Drop> Buffered<D> {
         })
     }
 
-    /// Writes what is in the buffer to the device. Fails if a write fails; then the rest stays in
-    /// the buffer. The failure is not counted here.
+    /// Writes all bytes in the buffer to the device, and removes them from the buffer. Fails if a
+    /// write fails; then the bytes that the device did not take stay in the buffer. It does not
+    /// count the failure.
     fn write_kept(&mut self) -> Result<(), WriteFailed>
         ensures empty { OnOk result (kept self.new.buffer ≡ []) }
         ensures room { OnOk result (self.new.buffer.len ≡ 0) }
@@ -89,8 +91,8 @@ impl<D: Write + Drop> Buffered<D> {
         Ok(())
     }
 
-    /// Makes room for n bytes: writes what is in the buffer, if the buffer has no room for them.
-    /// Fails if that write fails.
+    /// Makes room in the buffer for `n` bytes: if it has too little, writes what is in it. Fails if
+    /// that write fails; it does not count the failure.
     fn make_room(&mut self, n: usize) -> Result<(), WriteFailed>
         requires { n ≤ 8192 }
         ensures room { OnOk result (self.new.buffer.len + n ≤ 8192) }
@@ -103,9 +105,9 @@ impl<D: Write + Drop> Buffered<D> {
         Ok(())
     }
 
-    /// Takes some of these bytes, from the first one on, and returns how many. Bytes that would
-    /// fill an empty buffer are written to the device, after what is in the buffer. Otherwise all
-    /// of them are put into the buffer. Fails if a write fails.
+    /// Takes some of these bytes, from the first one on, and returns how many. If they would fill
+    /// an empty buffer, some are written to the device, after what is in the buffer. Otherwise all
+    /// of them are put into the buffer. Fails if a write fails; it does not count the failure.
     fn take_long(&mut self, from: &[u8]) -> Result<usize, WriteFailed>
         ensures bound { WritesAtMost result from.now }
         ensures takes { 0 < length from.now → IfOk result (λ n. 0 < n) }
@@ -124,8 +126,8 @@ impl<D: Write + Drop> Buffered<D> {
         Ok(from.len())
     }
 
-    /// Takes bytes that fill the buffer or have no room in it, from the first one on, and returns
-    /// how many. Returns 0 if a write failed, and counts that failure.
+    /// Takes some of these bytes, from the first one on, and returns how many. It is for bytes that
+    /// fill the buffer or have no room in it. Returns 0 if a write failed, and counts that failure.
     // Not inlined, since most writes fit.
     #[cold]
     #[inline(never)]

@@ -16,7 +16,7 @@ impl Model for Gone {
 }
 
 impl Gone {
-    /// Returns a `Gone` without bytes.
+    /// Returns a record of dropped bytes that has none yet.
     pub(crate) fn new() -> Gone
         ensures { result.bytes ≡ [] }
     {
@@ -25,7 +25,8 @@ impl Gone {
         }
     }
 
-    /// Drops these bytes, for which there is no room. Only the contracts know them.
+    /// Adds these bytes, for which an output has no room, to the record. It takes no memory, as
+    /// only contracts see the record.
     #[inline(always)]
     pub(crate) fn push(&mut self, _bytes: &[u8])
         ensures { self.new.bytes ≡ self.old.bytes ++ _bytes.now }

@@ -22,14 +22,14 @@ pub trait Host {
     // over every host uses it to say which calls were made; there is no other way to say that.
     ghost opens: { Self → Option (List ℕ) → Result Self.Input OpenFault → Self → Type 0 };
 
-    /// Opens the file of this name, or standard input if `name` is `None`. Fails if the input
-    /// cannot be opened, or if memory runs out.
+    /// Opens the file of this name, or standard input if `name` is `None`, and returns it. Fails if
+    /// the input cannot be opened, or if memory runs out.
     fn open(&mut self, name: Option<&str>) -> Result<Self::Input, OpenFault>
         ensures opens { opens self.old (option_map (λ n. n.now) name.entry) result self.new }
         ensures fresh { IfOk result (λ input. Self.Input.failures input ≡ 0) };
 
-    /// Returns how many bytes the reads of an input give at most. `None` if the host does not know
-    /// it; the provided function never does.
+    /// Returns a number of bytes that the reads of this input do not exceed. `None` if the host
+    /// knows none, as in the provided function.
     fn max_bytes_of(_input: &Self::Input) -> Option<usize>
         ensures { IfSome (Self.Input.rest _input.now)
             (λ text. IfSome result (λ most. length text ≤ most)) }
@@ -43,8 +43,8 @@ pub trait Output: Sink {
     // What a call of `flush` leaves of the sink, if the call succeeds and if it fails.
     ghost flushes: { Self → Bool → Self → Type 0 };
 
-    /// Passes on what is in the buffer. Fails if a call of the device fails. A failure is not
-    /// counted as one of a write.
+    /// Writes what is in the buffer to the device, and flushes the device. Fails if a call of the
+    /// device fails; such a failure is not counted by `failures`.
     fn flush(&mut self) -> Result<(), WriteFailed>
         ensures flushes { flushes self.old (is_ok result) self.new }
         ensures held { Keeps (Self.device self.old).held (Self.device self.new).held }

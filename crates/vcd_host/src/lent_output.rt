@@ -28,7 +28,8 @@ impl<'a> LentOutput<'a> {
     ghost use Rattle.vcd_host.specs.Fills.{Fills};
     ghost use Rattle.vcd_host.specs.LentOutput.{held, written};
 
-    /// Returns an output that fills these bytes, from the first one on. No byte is filled yet.
+    /// Returns an output that writes into these bytes, from the first one on. Nothing was written
+    /// yet.
     pub fn new(bytes: &'a mut [u8]) -> LentOutput<'a>
         ensures loan { result.bytes.ghost_name ≡ bytes.entry.ghost_name }
         ensures empty { written result ≡ [] }
@@ -41,8 +42,9 @@ impl<'a> LentOutput<'a> {
         }
     }
 
-    /// Returns how many bytes were written, also those that found no room. `None` if 2^63 or more
-    /// found no room. Those for which there was room are the first of the bytes that were lent.
+    /// Returns how many bytes were written to this output, also those for which the slice had no
+    /// room. `None` if there was no room for 2^63 or more. The others are the first bytes of the
+    /// slice.
     pub fn len(&self) -> Option<u64>
         ensures { IfSome result (λ n. Fills self.now.bytes.now n (written self.now)) }
     {
@@ -52,9 +54,9 @@ impl<'a> LentOutput<'a> {
         Some(self.used as u64 + self.over)
     }
 
-    /// Takes bytes that fill the room or more, and returns how many: the first ones, for which
-    /// there is room. If there is no room at all, it counts and drops all of them, and returns how
-    /// many they are.
+    /// Takes some of these bytes, from the first one on, and returns how many. They are as long as
+    /// the room that the slice has left, or longer: those for which it has room are written. If it
+    /// has no room at all, all of them are counted and dropped.
     #[cold]
     #[inline(never)]
     fn write_over(&mut self, from: &[u8]) -> usize

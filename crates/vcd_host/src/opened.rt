@@ -26,7 +26,7 @@ pub struct Opened<I: Drop> {
 }
 
 impl<I: Drop> Opened<I> {
-    /// Adds an input that was opened under this name; `None` is standard input. Fails if memory
+    /// Adds an open input to the list under this name; `None` is standard input. Fails if memory
     /// runs out; then no reader is added.
     fn push(&mut self, alloc: Global, name: Option<&str>, reader: I) -> Result<(), AllocError>
         ensures readers { OnOk result (self.new.readers.items
@@ -56,8 +56,8 @@ impl<'a> From<AllocError> for OpenStop<'a> {
     }
 }
 
-/// Opens the input of this name, or standard input if `name` is `None`, and adds it. Fails if it
-/// cannot be opened, or if memory runs out; then no reader is added.
+/// Has the host open the input of this name, or standard input if `name` is `None`, and adds it to
+/// `opened`. Fails if it cannot be opened, or if memory runs out; then no reader is added.
 fn open_next<'a, H: Host>(
     alloc: Global,
     name: Option<&'a str>,
@@ -77,8 +77,8 @@ fn open_next<'a, H: Host>(
     }
 }
 
-/// Opens the inputs of these names in order, and returns them; `None` is standard input. Fails at
-/// the first that cannot be opened, or if memory runs out.
+/// Has the host open the inputs of these names in order, and returns them; `None` is standard
+/// input. Fails at the first that cannot be opened, or if memory runs out.
 pub fn open_inputs<'a, H: Host>(
     alloc: Global,
     asked: &[Option<&'a str>],
@@ -101,8 +101,8 @@ pub fn open_inputs<'a, H: Host>(
     Ok(opened)
 }
 
-/// Returns how many bytes each of these inputs gives at most. `None` if the host does not know it
-/// of all.
+/// Returns a number of bytes that the reads of none of these inputs exceed. `None` if the host does
+/// not know one for each.
 pub fn max_bytes_of_all<H: Host>(inputs: &[H::Input]) -> Option<usize>
     ensures { IfSome result (λ most.
         All (λ r. IfSome (H.Input.rest r) (λ text. length text ≤ most)) inputs.now) }
