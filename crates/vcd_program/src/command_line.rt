@@ -10,10 +10,9 @@ use vcd_text::{Sink, put};
 use vcd_words::{Job, UseFault, answer_text, command_of, job_of, parse_status};
 use vcdkit::{open_fault, run_within, use_fault, write_fault};
 
-/// Opens the inputs that the matches of this job name, runs it over them, and returns the exit
-/// status. It does not flush `out`. If memory runs out or an input cannot be opened, nothing is
-/// written to `out`, and `err` gets a line. The chunk is the one that all jobs of the command line
-/// have.
+/// Runs a job, which the parsed command line `matches` asks for: opens its inputs, runs it over
+/// them, and returns the exit status. Output goes to `out`, which is not flushed, and messages go
+/// to `err`. If memory runs out or an input cannot be opened, nothing is written to `out`.
 fn run_job<H: Host, W: Sink, E: Sink, B: BuildHasher>(
     alloc: Global,
     job: Job,
@@ -52,9 +51,9 @@ fn run_job<H: Host, W: Sink, E: Sink, B: BuildHasher>(
     }
 }
 
-/// Runs the job that the matches ask for over the inputs that they name, and returns the exit
-/// status. If they ask for no job, it opens no input, and writes only a line to `err`. It does not
-/// flush `out`.
+/// Does what a parsed command line asks for, and returns the exit status. Output goes to `out`,
+/// which is not flushed, and messages go to `err`. If it asks for no valid job, no input is opened,
+/// and only a line is written to `err`.
 fn run_matches<H: Host, W: Sink, E: Sink, B: BuildHasher>(
     alloc: Global,
     matches: &ArgMatches<'_>,
@@ -74,9 +73,10 @@ fn run_matches<H: Host, W: Sink, E: Sink, B: BuildHasher>(
     }
 }
 
-/// Writes what a parse answered that gave no matches, and returns the exit status. Help and the
-/// version go to the output, all else to the error stream. The status is 0 if help or the version
-/// was written, 3 if memory runs out or the output cannot be written, otherwise 2.
+/// Writes the text for a command line that `clap` did not accept, or that asks for help or the
+/// version, and returns the exit status. Help and the version go to `out`, all else to `err`. The
+/// status is 0 if help or the version was written, 3 if memory runs out or `out` cannot be written,
+/// otherwise 2.
 fn answer<W: Sink, E: Sink>(alloc: Global, error: &Error, out: &mut W, err: &mut E) -> u8
     requires sinks { MayFailOnce W.Sink E.Sink out.old err.old }
     ensures answers { Answers (kind_of error.now)
@@ -100,8 +100,8 @@ fn answer<W: Sink, E: Sink>(alloc: Global, error: &Error, out: &mut W, err: &mut
     status
 }
 
-/// Parses the words, does what they ask for, and returns the exit status. The first word is the
-/// program's name. It does not flush `out`.
+/// Parses these arguments, the program's name first among them, does what they ask for, and returns
+/// the exit status. Output goes to `out`, which is not flushed, and messages go to `err`.
 fn run_words<H: Host, W: Sink, E: Sink, B: BuildHasher>(
     alloc: Global,
     words: &[String],
@@ -124,11 +124,15 @@ fn run_words<H: Host, W: Sink, E: Sink, B: BuildHasher>(
     }
 }
 
-/// Runs what the words ask for, of which the first is the program's name, flushes the output, and
-/// returns the exit status. That is the status of the definitions for the words and the inputs; or
-/// 3 if an input cannot be opened, if memory runs out, or if a read or a write fails; or 0 for help
-/// and the version. The output goes to `out`, and messages go to `err`. Identifier codes are hashed
-/// with numbers that the hasher gives.
+/// Runs the program with these arguments, its own name first among them, flushes the output, and
+/// returns the exit status. `host` opens the inputs, output goes to `out`, and messages go to
+/// `err`.
+///
+/// The status is 0 if the job is done, and for help and the version; 1 for a fault of an input, a
+/// name that selects nothing, or a unit without a time scale; 2 for other arguments that are
+/// refused; 3 if an input cannot be opened, if memory runs out, or if a read or a write fails.
+/// Identifier codes are hashed with numbers that the hasher gives; what is written does not depend
+/// on them.
 pub fn run_program<H: Host, W: Output, E: Sink, B: BuildHasher>(
     alloc: Global,
     words: &[String],

@@ -26,7 +26,8 @@ pub enum Measured<R> {
 }
 
 impl<R: Read> Measured<R> {
-    /// Returns the first `len` bytes of the reader, or all of them if `len` is `None`.
+    /// Returns a reader of the first `len` bytes that `reader` gives, or of all of them if `len` is
+    /// `None`.
     fn new(reader: R, len: Option<u64>) -> Self {
         match len {
             Some(len) => Measured::AtMost(reader.take(len)),
@@ -34,8 +35,8 @@ impl<R: Read> Measured<R> {
         }
     }
 
-    /// Returns a number of bytes that reads do not exceed. `None` if there is no limit, or if it
-    /// does not fit into a `usize`.
+    /// Returns a number of bytes that the reads to come do not exceed. `None` if there is no limit,
+    /// or if it does not fit into a `usize`.
     fn max_bytes(&self) -> Option<usize>
         ensures { GivesAtMost (measured_left R.remaining self.now) result }
     {
@@ -61,9 +62,9 @@ impl<R: Read> Read for Measured<R> {
 /// longer file needs windows of this length anyway, which is the default token limit.
 const MAX_SHORT_FILE: u64 = 1_048_576;
 
-/// Returns the length of a short file. `None` if this is no regular file, if it is longer than
-/// `MAX_SHORT_FILE`, or if its length is 0 or unknown. A file of length 0 may give bytes: the
-/// machine makes the bytes of some files while they are read.
+/// Returns the length of a file with this metadata, if it is short. `None` if it is no regular
+/// file, if it is longer than `MAX_SHORT_FILE`, or if its length is 0 or unknown. A file of length
+/// 0 may give bytes: the machine makes the bytes of some files while they are read.
 fn short_len(about: io::Result<Metadata>) -> Option<u64> {
     let about = about.ok()?;
     let len = about.len();
@@ -92,7 +93,7 @@ trait Machine {
     // What `input` may return.
     ghost gives: { Self → Self.Input → Type 0 };
 
-    /// Opens the file of this name, to read it.
+    /// Opens the file of this name for reading, and returns it.
     fn open(&self, name: &str) -> io::Result<Self::File>
         ensures { opens self.now name.now result };
 
@@ -100,11 +101,12 @@ trait Machine {
     fn input(&self) -> Self::Input
         ensures { gives self.now result };
 
-    /// Returns a number of bytes that reads of a file do not exceed; `None` if none is known.
+    /// Returns a number of bytes that the reads of this file do not exceed; `None` if none is
+    /// known.
     fn max_bytes_of_file(file: &Self::File) -> Option<usize>
         ensures { GivesAtMost (Self.File.remaining file.now) result };
 
-    /// Returns a number of bytes that reads of standard input do not exceed; `None` if none is
+    /// Returns a number of bytes that the reads of standard input do not exceed; `None` if none is
     /// known.
     fn max_bytes_of_input(input: &Self::Input) -> Option<usize>
         ensures { GivesAtMost (Self.Input.remaining input.now) result };
@@ -175,8 +177,8 @@ struct MachineHost<'r, M> {
 }
 
 impl<M: Machine> MachineHost<'_, M> {
-    /// Returns this stream as an input of which no read failed yet. If the machine gave no random
-    /// numbers, each read of the input fails.
+    /// Returns this stream as a source that counts its failed reads, from 0. If the machine gave no
+    /// random numbers, it returns a source of which each read fails instead.
     fn input(&self, stream: Stream<M::File, M::Input>) -> Watch<Stream<M::File, M::Input>>
         ensures device { result.device ≡ read_as self.now.is_seeded stream }
         ensures failures { failed_calls result ≡ 0 }
@@ -216,8 +218,8 @@ impl<M: Machine> Host for MachineHost<'_, M> {
     }
 }
 
-/// Returns the arguments, the program's name first. Fails if one of them is not UTF-8, or if memory
-/// runs out.
+/// Returns the arguments of the process, the program's name first. Fails if one of them is not
+/// UTF-8, or if memory runs out.
 fn words_of<R: Env + AllocGlobal>(rt: &R) -> Result<Vec<String>, UseFault<'static>> {
     let words = env::args(rt).map_err(|error| match error.kind() {
         ErrorKind::OutOfMemory => UseFault::OutOfMemory,
@@ -227,8 +229,8 @@ fn words_of<R: Env + AllocGlobal>(rt: &R) -> Result<Vec<String>, UseFault<'stati
 }
 
 /// Runs the program with these arguments over the inputs of this machine, and returns the exit
-/// status, as `run_program` does. If `is_seeded` is false, the machine gave no random numbers, and
-/// no input can be read.
+/// status, as `run_program` does. Output goes to `out`, and messages go to `err`. If `is_seeded` is
+/// false, the machine gave no random numbers, and each read of an input fails.
 fn run_over<M: Machine, W: Output, E: Sink, B: BuildHasher>(
     alloc: Global,
     machine: &M,
@@ -248,9 +250,9 @@ fn run_over<M: Machine, W: Output, E: Sink, B: BuildHasher>(
     run_program(alloc, words, &mut host, out, err, hasher)
 }
 
-/// Runs the program with these arguments over the files and the streams of the process, and returns
-/// the exit status. Messages go to `err`. If `is_seeded` is false, the machine gave no random
-/// numbers, and no input can be read.
+/// Runs the program with these arguments over the files, the standard input and the standard output
+/// of the process, and returns the exit status, as `run_program` does. Messages go to `err`. If
+/// `is_seeded` is false, the machine gave no random numbers, and each read of an input fails.
 fn run_words<E: Sink, B: BuildHasher>(
     rt: &HostRuntime,
     words: &[String],
@@ -272,7 +274,7 @@ fn run_words<E: Sink, B: BuildHasher>(
 /// to `err`.
 ///
 /// Identifier codes are hashed with random numbers of the machine, so that nobody can make a dump
-/// whose codes are slow to find. If the machine gives none, the first input cannot be read.
+/// whose codes are slow to find. If the machine gives none, each read of an input fails.
 pub fn run_words_on_machine<E: Sink>(rt: &HostRuntime, words: &[String], err: &mut E) -> u8
     requires { (E.device err.old).failures < 2 ^ 64 - 2 }
     ensures { result ≤ 3 }
@@ -289,9 +291,9 @@ pub fn run_words_on_machine<E: Sink>(rt: &HostRuntime, words: &[String], err: &m
 /// The highest descriptor of a standard stream.
 const MAX_STANDARD: i32 = 2;
 
-/// Opens a folder on the first standard stream that is closed, and returns it. `None` if all are
-/// open, or if the folder cannot be opened. Reads and writes of a folder fail, as they do on a
-/// closed stream.
+/// Opens the folder `/`, and returns it if it got the descriptor of a standard stream, which was
+/// closed then. `None` if all standard streams are open, or if the folder cannot be opened. Reads
+/// and writes of a folder fail, as they do on a closed stream.
 fn stand_in(rt: &HostRuntime) -> Option<File> {
     let folder = File::open(rt, "/").ok()?;
     if folder.as_raw_fd() <= MAX_STANDARD {

@@ -29,7 +29,7 @@ pub struct Memory<'a> {
     pub opened: Vec<Option<String>>,
 }
 
-/// Returns a copy of this name; `None` if there is no name.
+/// Returns a copy of this name, or `None` for `None`. Fails if memory runs out.
 fn copied(alloc: Global, name: Option<&str>) -> Result<Option<String>, AllocError>
     ensures { IfOk result (λ copy. option_map string_bytes copy ≡ text_of name.entry) }
 {
@@ -39,7 +39,7 @@ fn copied(alloc: Global, name: Option<&str>) -> Result<Option<String>, AllocErro
     }
 }
 
-/// Returns the bytes of the first file of this name; `None` if no file has it.
+/// Returns the bytes of the first of these files with this name; `None` if no file has it.
 fn bytes_named<'a>(files: &[MemoryFile<'a>], name: &str) -> Option<&'a [u8]>
     ensures { text_of result ≡ bytes_named files.now name.now }
 {
@@ -52,8 +52,8 @@ fn bytes_named<'a>(files: &[MemoryFile<'a>], name: &str) -> Option<&'a [u8]>
 }
 
 impl<'a> Memory<'a> {
-    /// Notes that the input of this name is opened; `None` is standard input. Fails if memory runs
-    /// out.
+    /// Adds this name to the list of inputs that were opened or tried; `None` is standard input.
+    /// Fails if memory runs out.
     fn note(&mut self, name: Option<&str>) -> Result<(), AllocError>
         ensures files { self.new.files ≡ self.old.files }
         ensures input { self.new.input ≡ self.old.input }
@@ -63,8 +63,8 @@ impl<'a> Memory<'a> {
         Ok(self.opened.push(copied(alloc, name)?)?)
     }
 
-    /// Returns the bytes of the first file of this name, or those of standard input if there is no
-    /// name. `None` if no file has the name.
+    /// Returns the bytes of the first file with this name, or those of standard input if `name` is
+    /// `None`. `None` if no file has the name.
     fn bytes_of(&self, name: Option<&str>) -> Option<&'a [u8]>
         ensures { text_of result ≡ bytes_in self.now (text_of name.entry) }
     {
@@ -109,7 +109,8 @@ pub struct Left {
 }
 
 /// Runs the program with these arguments, its own name first among them, over files in memory, and
-/// returns what it left. Fails if memory for the output, for the message or for the notes runs out.
+/// returns its output, its message, its status, and which inputs it opened. Fails if memory for
+/// these runs out.
 ///
 /// `input` is standard input. Codes are hashed with numbers that everybody may know, so codes can
 /// be crafted that take long to find. Use `run_into_memory` for dumps that are not trusted.
@@ -153,8 +154,9 @@ pub struct Filled {
     pub status: u8,
 }
 
-/// Runs the program with these arguments over files in memory, with an output and an error stream
-/// to which nothing was written yet, and returns its exit status.
+/// Runs the program with these arguments, its own name first among them, over the files in
+/// `memory`, and returns its exit status. Output goes to `out`, and messages go to `err`, to which
+/// nothing was written yet.
 fn run_into_lent<B: BuildHasher>(
     alloc: Global,
     words: &[String],
@@ -175,11 +177,12 @@ fn run_into_lent<B: BuildHasher>(
 }
 
 /// Runs the program with these arguments, its own name first among them, over files in memory, and
-/// returns its status and the lengths of output and message. `None` if 2^63 bytes or more of one of
-/// them found no room. Those for which there is room are the first bytes of `out` and of `err`.
+/// returns its status and the lengths of output and message. The output is written to `out` and the
+/// message to `err`, from the first byte on, as far as there is room. `None` if 2^63 bytes or more
+/// of one of them found no room.
 ///
 /// `input` is standard input. Identifier codes are hashed with numbers that the hasher gives; what
-/// is left does not depend on them.
+/// is written does not depend on them.
 pub fn run_into_memory<B: BuildHasher>(
     alloc: Global,
     words: &[String],
