@@ -28,15 +28,15 @@ const BAD_WORDS: &[u8] = b"vcdkit: bad words\n";
 /// The status if the program did not begin, or its output cannot be counted.
 const NOT_RUN: u8 = 4;
 
-/// Runs the program with these arguments, which come without its name, over files in memory, and
-/// returns its exit status; or 4 if memory ran out before it began, or 2^63 bytes or more found no
-/// room.
+/// Runs the program with these arguments, without its own name, over files in memory, and returns
+/// its exit status; or 4 if memory ran out before it began, or if 2^63 bytes or more found no room.
 ///
-/// `input` is standard input. Identifier codes are hashed with `seed`. What is left does not depend
-/// on it, and whoever does not know it cannot make a dump whose codes are slow to find. The output
-/// is written to `out`, as far as there is room, and `out_used` becomes its length. If that is more
-/// than the length of `out`, `out` has to be as long as that for all of the output. The same holds
-/// of the message, `err` and `err_used`. With a 4 they may be anything.
+/// `input` is standard input. Identifier codes are hashed with `seed`. What is written does not
+/// depend on it, and whoever does not know it cannot make a dump whose codes are slow to find. The
+/// output is written to `out`, as far as there is room, and `out_used` becomes its length. If that
+/// is more than the length of `out`, the rest is lost: `out` would have to be as long as that. The
+/// same holds of the message, `err` and `err_used`. If it returns 4, all of these may have any
+/// values.
 #[unsafe(no_mangle)]
 pub extern "C" fn vcdkit_run(
     alloc: Global,
@@ -73,9 +73,10 @@ pub extern "C" fn vcdkit_run(
     }
 }
 
-/// Finds the changes of the variables with this identifier code, from the `Place` of the reading
-/// on, at most as many as there are rows, and returns the status, as `changes` of `vcd_changes`
-/// does. Identifier codes are hashed with `seed`, as in `vcdkit_run`.
+/// Fills `rows` with the changes of the variables with the identifier code `code`, from
+/// `reading.place` on, as far as there are rows, and returns the status, as `changes` of
+/// `vcd_changes` does. `reading` says how many rows were filled, and where the next call continues.
+/// Identifier codes are hashed with `seed`; the rows do not depend on it.
 #[unsafe(no_mangle)]
 pub extern "C" fn vcdkit_changes(
     alloc: Global,

@@ -9,7 +9,7 @@ pub(crate) struct Seed {
 }
 
 impl Seed {
-    /// Returns a maker of hashers that all begin with this number.
+    /// Returns what makes hashers for identifier codes, which all begin with this number.
     pub(crate) fn new(number: u64) -> Seed {
         let mut initial = DefaultHasher::new();
         initial.write_u64(number);

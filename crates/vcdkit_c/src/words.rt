@@ -31,8 +31,8 @@ fn push(alloc: Global, word: &str, all: &mut Vec<String>) -> Result<(), AllocErr
     Ok(all.push(String::from_str(alloc, word)?)?)
 }
 
-/// Returns the program's name with these arguments after it. Fails if one of them is not UTF-8, or
-/// if memory runs out.
+/// Returns the words of a command line: the program's name, and then copies of these arguments.
+/// Fails if one of them is not UTF-8, or if memory runs out.
 pub(crate) fn words_of(alloc: Global, words: &[Lent<'_>]) -> Result<Vec<String>, Refused>
     ensures words { IfOk result (λ all. map string_bytes all.items
         ≡ codes "vcdkit" ∷ map bytes_of words.now) }
