@@ -50,7 +50,8 @@ fn with(forms: Forms, item: Item) -> Forms
     forms
 }
 
-/// Counts the changes of a body, of which nothing was read.
+/// Reads a body, of which nothing was read, and returns how many changes of each form it has. Fails
+/// with the fault of the body.
 fn count<S: Source>(
     feed: &mut Feed<'_, '_, '_, '_, S>,
     view: HeadView<'_>,

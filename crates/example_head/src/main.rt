@@ -43,7 +43,8 @@ fn variables_in(view: HeadView<'_>) -> usize
     variable_rows(view.rows)
 }
 
-/// Reads the header that a reader begins with, and counts its variables.
+/// Reads the header that a reader begins with, and returns how many variables it declares. Fails
+/// with the fault of the header.
 fn variables<S: Source>(alloc: Global, reader: &mut S) -> Result<usize, HeadFault>
     requires failures { S.failures reader.old < 2 ^ 64 - 1 }
     ensures reads { (text : List ℕ) → S.rest reader.old ≡ Some text

@@ -36,7 +36,8 @@ fn words_of(alloc: Global, line: &str) -> Result<Vec<String>, AllocError> {
     Ok(words)
 }
 
-/// Runs the program on a command line, and writes its status and what it says.
+/// Runs the program on a command line, and prints the line, what the program writes to standard
+/// output, its status, and what it writes to the error stream.
 fn run_line(rt: &HostRuntime, line: &str) -> io::Result<()> {
     println!(rt; "$ {line}")?;
     let words = words_of(rt.alloc(), line)?;
