@@ -38,8 +38,9 @@ impl White {
         self.next + lowest(self.bits) - 64 == at
     }
 
-    /// Returns the same knowledge without the bytes before offset `start` of the chunk. If no byte
-    /// from `start` on was looked at, no white byte is known, and `next` is `start`.
+    /// Returns what is known of the white bytes from offset `start` of the chunk on: this `White`
+    /// without the earlier ones. If no byte from `start` on was looked at, no white byte is known,
+    /// and `next` is `start`.
     #[inline(always)]
     fn not_before(self, start: usize) -> White
         requires near { self.next ≤ start + 64 }
@@ -131,10 +132,12 @@ impl<'a> Ahead<'a> {
         self.bytes
     }
 
-    /// Returns the next token, and passes it and the white bytes before it.
+    /// Returns the next token, and passes it, the white bytes before it, and one white byte after
+    /// it.
     ///
     /// `None` if it does not lie completely in the chunk or is longer than the limit, and maybe if
-    /// it ends fewer than 64 bytes before the end of the chunk: then `Feed::next` reads it.
+    /// it ends fewer than 64 bytes before the end of the chunk; then nothing has changed, and
+    /// `Feed::next` reads it.
     // With a loop over the white bytes here, `check` of vectors takes 5 % more instructions.
     #[inline(always)]
     pub fn next(&mut self) -> Option<&'a [u8]>
@@ -154,11 +157,11 @@ impl<'a> Ahead<'a> {
     }
 
     /// Returns the next token, if it begins at the next byte and has two bytes and a line feed
-    /// after them.
+    /// after them, and passes these three bytes.
     ///
     /// Otherwise `None`, also if the token has a byte below the space (32) or the limit is less
     /// than 2; then nothing has changed, and `next` may return one. It looks only at these three
-    /// bytes. If it returns a token, it forgets the white space that it has seen. It is for a run
+    /// bytes. If it returns a token, it forgets which white bytes were seen ahead. It is for a run
     /// of such tokens.
     #[inline(always)]
     pub fn next_short(&mut self) -> Option<&'a [u8]>
@@ -174,12 +177,12 @@ impl<'a> Ahead<'a> {
     }
 
     /// Returns the next token, if it begins at the next byte and has at most 15 bytes and a line
-    /// feed after them.
+    /// feed after them, and passes it and the line feed.
     ///
     /// Otherwise `None`, also if fewer than 16 bytes are left, if the token has a byte below the
     /// space (32), or if it is longer than the limit; then nothing has changed, and `next` may
-    /// return one. It looks at 16 bytes in one step. If it returns a token, it forgets the white
-    /// space that it has seen. It is for a run of lines.
+    /// return one. It looks at 16 bytes in one step. If it returns a token, it forgets which white
+    /// bytes were seen ahead. It is for a run of lines.
     #[inline(always)]
     pub fn next_in_16(&mut self) -> Option<&'a [u8]>
         ensures takes { IfSome result (λ token. TakesToken self.old self.new token.now) }
@@ -202,8 +205,9 @@ impl<'a> Ahead<'a> {
         self.take(at, White::before(at + len + 1))
     }
 
-    /// Returns the next token, also near the end of the chunk. `None` if it does not lie completely
-    /// in the chunk or is longer than the limit.
+    /// Returns the next token, also near the end of the chunk, and passes it, the white bytes
+    /// before it, and one white byte after it. `None` if it does not lie completely in the chunk or
+    /// is longer than the limit; then nothing has changed.
     ///
     /// It looks at one byte after the other, so it is only for the last bytes of a chunk.
     pub fn next_slowly(&mut self) -> Option<&'a [u8]>

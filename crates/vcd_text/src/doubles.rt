@@ -84,7 +84,7 @@ pub struct Narrow {
 impl Narrow {
     ghost use Rattle.vcd_text.specs.Doubles.{held_by};
 
-    /// Returns a writer with room for this many bytes, which has taken none yet.
+    /// Returns a writer that takes this many bytes before it is full, and has taken none yet.
     pub fn new(room: usize) -> Self
         requires { room ≤ 1024 }
         ensures { held_by result ≡ [] }
@@ -96,7 +96,7 @@ impl Narrow {
         }
     }
 
-    /// Returns the bytes that it has taken.
+    /// Returns the bytes that were written to this writer.
     pub fn held(&self) -> &[u8]
         ensures { result.now ≡ held_by self.now }
     {
