@@ -75,7 +75,7 @@ impl CodeSeed {
     }
 }
 
-/// Returns a number of 128 bits: the upper half is the hash of `first` that `hasher` gives, the
+/// Returns a number of 128 bits: its upper half is the hash of `first` that `hasher` gives, and its
 /// lower half the one of `first + 1`.
 fn number_of<B: BuildHasher>(hasher: &B, first: u64) -> u128
     requires { first < 2 ^ 32 }

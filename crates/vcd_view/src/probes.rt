@@ -27,7 +27,7 @@ impl Probes {
         }
     }
 
-    /// Returns the count with one more comparison.
+    /// Returns this count with one more comparison.
     fn after_one(&self) -> Self
         ensures { result.count ≡ self.now.count + 1 }
     {
