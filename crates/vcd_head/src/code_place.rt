@@ -95,8 +95,8 @@ fn enter_in_set(alloc: Global, known: &mut Codes, bytes: &[u8]) -> Result<(usize
     Ok((position, new))
 }
 
-/// Appends the bytes of a code to `text`, and to `list` the code with its `size` and whether its
-/// variables are events. Fails only with `OutOfMemory`.
+/// Appends the bytes of a code to `text`, and the code to `list`: with its `size`, and as that of
+/// an event if `event` is true. Fails only with `OutOfMemory`.
 #[inline(always)]
 fn add(
     text: &mut Vec<u8>,

@@ -61,9 +61,10 @@ impl<'o> Open<'o> {
         }
     }
 
-    /// Moves on to the next row of the header, and returns whether it is a variable that some name
-    /// of the group selects, or any variable if there are no names. Sets the flags in `matched` of
-    /// the names that select it, by their indexes, and leaves the other flags as they are.
+    /// Moves on to row `row`, the next one of the header, and returns whether it is a variable that
+    /// some name of the group selects, or any variable if there are no names. Sets the flags in
+    /// `matched` of the names that select it, by their indexes, and leaves the other flags as they
+    /// are.
     #[inline(always)]
     pub(crate) fn take(
         &mut self,
@@ -95,9 +96,9 @@ impl<'o> Open<'o> {
         }
     }
 
-    /// Returns whether some name of the group selects the variable of a row, and sets the flags in
-    /// `matched` of those that do. Before that it enters the scopes around the variable that were
-    /// not entered yet.
+    /// Returns whether some name of the group selects the variable at index `row`, and sets the
+    /// flags in `matched` of those that do. Before that it enters the scopes around the variable
+    /// that were not entered yet.
     #[inline(always)]
     fn selects(
         &mut self,
@@ -115,10 +116,10 @@ impl<'o> Open<'o> {
         self.compare(view, row, group, matched)
     }
 
-    /// Enters the scopes around the variable of `row` that were not entered yet, from the outermost
-    /// inwards: keeps in `self`, for each, the names that can select something inside it. Sets the
-    /// flags in `matched` of the names that select all of a scope that it enters, and leaves the
-    /// others as they are. `row` is the row that `take` was given.
+    /// Enters the scopes around the variable at index `row` that were not entered yet, from the
+    /// outermost inwards: keeps in `self`, for each, the names that can select something inside it.
+    /// Sets the flags in `matched` of the names that select all of a scope that it enters, and
+    /// leaves the others as they are. `row` is the row that `take` was given.
     fn enter_around(
         &mut self,
         view: HeadView<'_>,
@@ -135,9 +136,9 @@ impl<'o> Open<'o> {
         }
     }
 
-    /// Enters the scope of a row, if it lies directly in the scope that was entered last: keeps in
-    /// `self` the names that can select something inside it, and sets the flags in `matched` of the
-    /// names that select all of it. Otherwise nothing changes.
+    /// Enters the scope at index `row`, if it lies directly in the scope that was entered last:
+    /// keeps in `self` the names that can select something inside it, and sets the flags in
+    /// `matched` of the names that select all of it. Otherwise nothing changes.
     fn enter(
         &mut self,
         view: HeadView<'_>,
@@ -170,8 +171,9 @@ impl<'o> Open<'o> {
         }
     }
 
-    /// Returns whether some name of the group selects the variable of a row, and sets the flags in
-    /// `matched` of those that do. The scopes around the variable have been entered before.
+    /// Returns whether some name of the group selects the variable at index `row`, and sets the
+    /// flags in `matched` of those that do. The scopes around the variable have been entered
+    /// before.
     #[inline(always)]
     fn compare(
         &self,
@@ -188,9 +190,9 @@ impl<'o> Open<'o> {
         }
     }
 
-    /// Returns the names that can select something in the scope around a row, or outside of all
-    /// scopes if it is in none. `None` if that scope is not the one that was entered last, or if
-    /// there is no such row.
+    /// Returns the names that can select something in the scope around the variable or scope at
+    /// index `row`, or outside of all scopes if it is in none. `None` if that scope is not the one
+    /// that was entered last, or if there is no such row.
     #[inline(always)]
     fn around(&self, view: HeadView<'_>, row: usize) -> Option<Inside>
         ensures row { IfSome result (λ _. row < length view.entry.rows.now) }
@@ -205,8 +207,8 @@ impl<'o> Open<'o> {
     }
 }
 
-/// Returns whether one of these names selects the variable of a row, by a look at each name, and
-/// sets the flags in `matched` of those that do.
+/// Returns whether one of these names selects the variable at index `row`, by a look at each name,
+/// and sets the flags in `matched` of those that do.
 fn compare_each(
     view: HeadView<'_>,
     row: usize,

@@ -52,8 +52,8 @@ impl OpenScopes {
     }
 }
 
-/// Writes the `$scope` lines of the innermost `count` scopes around a row, outermost first. If a
-/// write fails, it stops.
+/// Writes the `$scope` lines of the innermost `count` scopes around the declaration at index `row`,
+/// outermost first. If a write fails, it stops.
 fn put_openings<W: Sink>(
     view: HeadView<'_>,
     row: usize,
@@ -95,10 +95,11 @@ fn put_closings<W: Sink>(count: usize, w: &mut W) -> Result<(), WriteFailed>
     Ok(())
 }
 
-/// Writes the lines that a merged header has for one row of an input. For a variable: the `$scope`
-/// lines of the scopes around it that are not written yet, and its own line with a new code;
-/// `first` is the number of the input's first new code. For an `$upscope`: its line, if that of its
-/// scope was written. For a scope nothing. `scopes` are those open before the row.
+/// Writes the lines that a merged header has for the declaration at index `row` of an input. For a
+/// variable: the `$scope` lines of the scopes around it that are not written yet, and its own line
+/// with a new code; `first` is the number of the first new code of the input. For an `$upscope`:
+/// its line, if that of its scope was written. For a scope nothing. `scopes` says which scopes are
+/// open before the row.
 fn put_input_row<W: Sink>(
     view: HeadView<'_>,
     row: usize,
@@ -125,8 +126,9 @@ fn put_input_row<W: Sink>(
     }
 }
 
-/// Writes the lines of all variables of an input with new codes, and of the scopes around these.
-/// `first` is the number of the input's first new code. If a write fails, it stops.
+/// Writes the lines that a merged header has for all variables of an input, with new codes, and for
+/// the scopes around these. `first` is the number of the first new code of the input. If a write
+/// fails, it stops.
 fn put_input_rows<W: Sink>(view: HeadView<'_>, first: u64, w: &mut W) -> Result<(), WriteFailed>
     requires failures { (W.device w.old).failures < 2 ^ 64 - 1 }
     ensures { PutsWhere W.device w.old w.new result (λ takes.

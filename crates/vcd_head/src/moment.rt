@@ -49,9 +49,10 @@ impl TickFault {
     }
 }
 
-/// Returns a moment in ticks of the header's time scale. If it is between two ticks, the result is
-/// the later one if `up` is true, otherwise the earlier one. It is exact for every unit and every
-/// scale. Without a unit the number is that of the ticks, whatever the scale.
+/// Returns how many ticks of the header's time scale a moment is after the time 0. If it is between
+/// two ticks, the result is the later one if `up` is true, otherwise the earlier one. It is exact
+/// for every unit and every scale. A moment without a unit is a number of ticks already, whatever
+/// the scale.
 ///
 /// # Errors
 ///

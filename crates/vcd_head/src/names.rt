@@ -44,7 +44,7 @@ impl<'n> Group<'n> {
         Group { names, order }
     }
 
-    /// Returns the range of all names of the group: those that begin with the empty path.
+    /// Returns the run of all names of the group, of whose path no byte was followed yet.
     pub(crate) fn all(&self) -> NameRun
         ensures { (flags : List Bool) → IsOrder (names_of self.now) self.now.order.now
             → AreSame (names_of self.now) flags → IsRun self.now flags [] result }
@@ -107,8 +107,8 @@ impl<'n> Group<'n> {
         low
     }
 
-    /// Sets the flags in `matched` of the names of a range that end after the bytes of the path
-    /// that were followed so far, and returns whether there are some.
+    /// Sets the flags in `matched` of the names of `run` that end after the bytes of the path that
+    /// were followed so far, and returns whether there are some.
     #[inline(always)]
     fn note(&self, run: NameRun, matched: &mut [bool; GROUP_NAMES]) -> bool
         ensures { FlagsSome self.now matched.old matched.new run
@@ -129,9 +129,9 @@ impl<'n> Group<'n> {
         true
     }
 
-    /// Sets the flags in `matched` of the names of a range that end after the bytes of the path
-    /// that were followed so far, if `byte`, the next one of the path, is a dot. Returns whether
-    /// there are some; false for any other byte.
+    /// Sets the flags in `matched` of the names of `run` that end after the bytes of the path that
+    /// were followed so far, if `byte`, the next one of the path, is a dot. Returns whether there
+    /// are some; false for any other byte.
     #[inline(always)]
     fn note_at(&self, run: NameRun, byte: u8, matched: &mut [bool; GROUP_NAMES]) -> bool
         ensures { FlagsSome self.now matched.old matched.new run
@@ -144,9 +144,9 @@ impl<'n> Group<'n> {
         }
     }
 
-    /// Returns the part of a range of names that continue with this byte of the path: an empty
-    /// range if none does. `whole` says whether some name has already selected all paths that begin
-    /// like this one.
+    /// Returns the names of `run` that continue with `byte`, the next one of a path: an empty run
+    /// if none does. `whole` says whether some name has already selected all paths that begin like
+    /// this one.
     #[inline(always)]
     fn with_byte(&self, run: NameRun, byte: u8, whole: bool) -> NameRun
         ensures narrows { run.first ≤ run.end → AreRising self.now run.passed run.first run.end
@@ -172,8 +172,8 @@ impl<'n> Group<'n> {
         }
     }
 
-    /// Returns the part of a range of names that continue with this byte of the path. If the byte
-    /// is a dot, it sets the flags in `matched` of the names that end before it, which select all
+    /// Returns the names of `run` that continue with `byte`, the next one of a path. If the byte is
+    /// a dot, it sets the flags in `matched` of the names that end before it, which select all
     /// paths from here on.
     #[inline(always)]
     fn step(&self, run: NameRun, byte: u8, matched: &mut [bool; GROUP_NAMES]) -> NameRun
@@ -183,7 +183,7 @@ impl<'n> Group<'n> {
         self.with_byte(run, byte, run.whole | ends)
     }
 
-    /// Returns how many of the first bytes of `bytes` all names of a range continue with.
+    /// Returns how many of the first bytes of `bytes` all names of `run` continue with.
     #[inline(always)]
     fn shared_by_run(&self, run: NameRun, bytes: &[u8]) -> usize
         ensures within { result ≤ length bytes.now }
@@ -200,10 +200,10 @@ impl<'n> Group<'n> {
         )
     }
 
-    /// Follows one or more of these bytes of a path: all that every name of the range continues
-    /// with, and one more if there is one. Returns the names that continue with all of these, and
-    /// how many bytes were followed. Sets the flags in `matched` of the names that end before a dot
-    /// among them.
+    /// Follows one or more of `bytes`, the next ones of a path: all that every name of `run`
+    /// continues with, and one more if there is one. Returns the names that continue with all of
+    /// these, and how many bytes were followed. Sets the flags in `matched` of the names that end
+    /// before a dot among them.
     // Without this, 30,000 names with a dot each over 30,000 variables took eight times as long.
     #[inline(always)]
     fn hop(&self, run: NameRun, bytes: &[u8], matched: &mut [bool; GROUP_NAMES]) -> (NameRun, usize)
@@ -223,7 +223,7 @@ impl<'n> Group<'n> {
         }
     }
 
-    /// Returns the part of a range of names that continue with these bytes of a path, and sets the
+    /// Returns the names of `run` that continue with `bytes`, the next ones of a path, and sets the
     /// flags in `matched` of the names that end before a dot in them.
     pub(crate) fn follow(
         &self,
@@ -246,9 +246,9 @@ impl<'n> Group<'n> {
         run
     }
 
-    /// Returns the names of a range that can select something inside a scope named `component`, and
-    /// sets the flags in `matched` of the names that select all that is in it. `run` has those that
-    /// can outside of it.
+    /// Returns the names of `run` that can select something inside a scope named `component`, and
+    /// sets the flags in `matched` of those that select all that is in it. `run` has the names that
+    /// can select something outside of it.
     pub(crate) fn enter(
         &self,
         run: NameRun,

@@ -13,12 +13,14 @@ use std::hash::{BuildHasher, BuildHasherDefault, FoldHasher};
 use vcd_text::{Feed, Source};
 use vcd_view::CodeSeed;
 
-/// Reads a header up to the `$end` of `$enddefinitions`, with at most `most` declarations (at most
-/// 16,777,216). The feed is then after that token.
+/// Reads a header up to the `$end` of `$enddefinitions`, and returns it. At first the feed is at
+/// the beginning of the dump; after it, right after that token. At most `most` declarations are
+/// allowed; `most` is at most 16,777,216. Fails with the first fault of the header, if a read
+/// fails, or if memory runs out.
 ///
-/// After a fault nothing of the head is left, and the feed's token is the last one given: empty if
-/// the input or its source ended the reading, otherwise the one at fault. A type, a name or a code
-/// of 4 GiB or more, for which the windows have to be as long, counts as `OutOfMemory`.
+/// After a fault the feed's token is the last one that was read: empty if the input or its source
+/// ended the reading, otherwise the one at fault. A type, a name or a code of 4 GiB or more, for
+/// which the windows have to be as long, counts as `OutOfMemory`.
 ///
 /// Codes are hashed with numbers that everybody may know, so codes can be crafted that take long to
 /// find. Read dumps that are not trusted with `read_head_with_hasher`.
@@ -35,12 +37,14 @@ pub fn read_head<S: Source>(
     read_head_with_hasher(alloc, feed, most, &hasher)
 }
 
-/// Reads a header up to the `$end` of `$enddefinitions`, with at most `most` declarations (at most
-/// 16,777,216). The feed is then after that token.
+/// Reads a header up to the `$end` of `$enddefinitions`, and returns it. At first the feed is at
+/// the beginning of the dump; after it, right after that token. At most `most` declarations are
+/// allowed; `most` is at most 16,777,216. Fails with the first fault of the header, if a read
+/// fails, or if memory runs out.
 ///
-/// After a fault nothing of the head is left, and the feed's token is the last one given: empty if
-/// the input or its source ended the reading, otherwise the one at fault. A type, a name or a code
-/// of 4 GiB or more, for which the windows have to be as long, counts as `OutOfMemory`.
+/// After a fault the feed's token is the last one that was read: empty if the input or its source
+/// ended the reading, otherwise the one at fault. A type, a name or a code of 4 GiB or more, for
+/// which the windows have to be as long, counts as `OutOfMemory`.
 ///
 /// Codes are hashed with numbers that the hasher gives. What is read does not depend on them. If
 /// the author of the dump does not know these numbers, as with `RandomState`, no choice of codes

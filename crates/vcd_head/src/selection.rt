@@ -47,8 +47,8 @@ pub(crate) fn after_component<'n>(name: &'n [u8], component: &[u8]) -> Match<'n>
     }
 }
 
-/// Returns whether a name selects the variable of a row: the variable's path is the name, or begins
-/// with it and a dot.
+/// Returns whether a name selects the variable at index `row`: the variable's path is the name, or
+/// begins with it and a dot.
 pub fn selects(view: HeadView<'_>, row: usize, name: &str) -> bool
     ensures { AnyVariable view.entry row (λ h v. result ≡ selects_path (row_path h row v) name.now) }
 {
@@ -64,8 +64,8 @@ pub fn selects(view: HeadView<'_>, row: usize, name: &str) -> bool
     is_or_goes_on(view.name_of(row), rest)
 }
 
-/// Sets the elements of a row and of each scope around it to 1 in `marks`, which has one byte for
-/// each row.
+/// Sets the elements of the declaration at index `row` and of each scope around it to 1 in `marks`,
+/// which has one byte for each row.
 fn mark(view: HeadView<'_>, row: usize, marks: &mut [u8])
     requires { row < length marks.old }
     ensures { AnyRow view.entry row (λ h. Marked (row_and_scopes h row) marks.old marks.new) }
@@ -77,9 +77,9 @@ fn mark(view: HeadView<'_>, row: usize, marks: &mut [u8])
     }
 }
 
-/// Sets the elements of a row and of the scopes around it to 1 in `marks`. Returns 1 plus the index
-/// of the row of the scope directly around it, or 0 if there is none. `marked` is such a number of
-/// a scope that is already marked together with those around it.
+/// Sets the elements of the declaration at index `row` and of the scopes around it to 1 in `marks`.
+/// Returns 1 plus the index of the row of the scope directly around it, or 0 if there is none.
+/// `marked` is such a number of a scope that is already marked together with those around it.
 fn mark_row(view: HeadView<'_>, row: usize, marked: usize, marks: &mut [u8]) -> usize
     requires { row < length marks.old }
     ensures marks { AnyRow view.entry row (λ h. AllMarked (scopes_at h.declarations marked) marks.old
