@@ -472,7 +472,7 @@ pub(crate) fn time_ahead<'a>(opening: Opening<'a>, ahead: Ahead<'a>) -> Option<u
     decimal_at(ahead.bytes(), at, ahead.passed() - 1)
 }
 
-/// Returns the timestamp with this time, and sets `regs` to those after it; `opening` has its
+/// Returns the timestamp with this time, and sets the last time of `regs` to it; `opening` has its
 /// token, and `ahead` gave it last. `None` if it may not come here: inside a section, or if the
 /// time is less than the last one. Then nothing has changed.
 #[inline(always)]
@@ -505,8 +505,8 @@ pub(crate) fn timestamp_ahead<'a>(
 }
 
 /// Returns the begin or the end of a section, if the token of `opening`, which `ahead` gave last,
-/// is such a keyword, and sets `regs` to those after it. `None` if it is anything else, or may not
-/// come here; then nothing has changed.
+/// is such a keyword, and sets the open section of `regs`. `None` if it is anything else, or may
+/// not come here; then nothing has changed.
 #[inline(always)]
 pub(crate) fn section_ahead<'a>(
     opening: Opening<'a>,

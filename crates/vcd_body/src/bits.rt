@@ -32,8 +32,8 @@ impl Bits {
     }
 }
 
-/// Returns `number` and `tag` of a slot that holds these binary digits: the number that they write,
-/// and 7 (`BITS`) plus how many they are.
+/// Returns `number` and `tag` of a slot whose value are these binary digits: the number that they
+/// write, and 7 (`BITS`) plus how many they are.
 #[inline(always)]
 #[tactic(auto, using(crate::proofs::StoreLemmas::many_bits))]
 pub(crate) fn held_bits(bits: Bits) -> (u32, u8)

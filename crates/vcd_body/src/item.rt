@@ -56,7 +56,7 @@ impl Regs {
     ghost use Rattle.std.specs.Prelude.{◌≡◌, [], false, None, MatchResult};
     ghost use Rattle.vcd_body.specs.Items.{AreRegsAfter, AreRegsWith, AcceptsTimestamp, RefusesTimestamp};
 
-    /// Returns the registers before the first item of a body: no timestamp came, and no section is
+    /// Returns the state before the first item of a body: no timestamp came, and no section is
     /// open.
     pub fn new() -> Regs
         ensures known { AreRegsAfter [] result }
@@ -69,9 +69,8 @@ impl Regs {
         }
     }
 
-    /// Sets the registers to those after a timestamp with this time. Fails with `TimeInSection` if
-    /// a section is open, and with `TimeBack` if the time is less than the last one; then nothing
-    /// changes.
+    /// Sets the last time to that of a timestamp. Fails with `TimeInSection` if a section is open,
+    /// and with `TimeBack` if the time is less than the last one; then nothing changes.
     // Not inlined: with it inlined, `cut` of scalars before its window takes 6 % more.
     #[inline(never)]
     pub(crate) fn accept_timestamp(&mut self, time: u64) -> Result<(), BodyFault>
@@ -81,9 +80,9 @@ impl Regs {
         self.accept_timestamp_here(time)
     }
 
-    /// Sets the registers to those after a timestamp with this time: by a call of
-    /// `accept_timestamp` if `call` is true, otherwise inlined. Fails as `accept_timestamp` does;
-    /// then nothing changes.
+    /// Sets the last time to that of a timestamp: by a call of `accept_timestamp` if `call` is
+    /// true, otherwise by the same code inlined. Fails with `TimeInSection` if a section is open,
+    /// and with `TimeBack` if the time is less than the last one; then nothing changes.
     #[inline(always)]
     pub(crate) fn accept_timestamp_by(&mut self, time: u64, call: bool) -> Result<(), BodyFault>
         ensures may { MatchResult result (λ _. AcceptsTimestamp self.old time) (RefusesTimestamp self.old time) }
@@ -96,8 +95,9 @@ impl Regs {
         }
     }
 
-    /// Sets the registers to those after a timestamp with this time; it is always inlined. Fails as
-    /// `accept_timestamp` does; then nothing changes.
+    /// Sets the last time to that of a timestamp; it is always inlined. Fails with `TimeInSection`
+    /// if a section is open, and with `TimeBack` if the time is less than the last one; then
+    /// nothing changes.
     #[inline(always)]
     fn accept_timestamp_here(&mut self, time: u64) -> Result<(), BodyFault>
         ensures may { MatchResult result (λ _. AcceptsTimestamp self.old time) (RefusesTimestamp self.old time) }

@@ -8,7 +8,7 @@ use crate::item::{Form, Item};
 use crate::words::{clear_bits, others_32, others_64};
 use std::simd::prelude::*;
 
-/// Returns true only if none of these digits is a capital letter.
+/// Returns whether none of these digits is a capital letter.
 fn are_lower(digits: &[u8]) -> bool
     ensures { result ≡ true → str_to_ascii_lowercase digits.now ≡ digits.now }
 {

@@ -5,8 +5,8 @@ ghost use Rattle.vcd_body.specs.Names.{ArePacked, AreTwo, HasFour, MayPack, chun
 use crate::words::are_all_digits;
 use std::simd::prelude::*;
 
-/// Returns the digit, in lower case, that these two bits stand for in packed digits: `0` for 0, `1`
-/// for 1, `x` for 3, and `z` for any other number.
+/// Returns the digit, in lower case, that two bits stand for where digits are packed four to a
+/// byte: `0` for 0, `1` for 1, `x` for 3, and `z` for any other number.
 #[inline(always)]
 fn digit_of(code: u8) -> u8
     ensures { result ≡ digit_of code }
@@ -41,8 +41,8 @@ fn codes_differ(first: u8x16, second: u8x16) -> bool
     first.simd_ne(second).to_bitmask() != 0
 }
 
-/// Returns the two highest bits of each of the 16 bytes of packed digits from offset `at` on: those
-/// of the digits of the last quarter. All 16 bytes have to be there.
+/// Returns the two highest bits of each of the 16 bytes from offset `at` on. In packed digits
+/// (`pack`) they stand for the digits of the last quarter. All 16 bytes have to be there.
 #[inline(always)]
 fn last_codes_16(bytes: &[u8], at: usize) -> u8x16
     requires { at + 16 ≤ length bytes.now }
@@ -66,9 +66,9 @@ fn code_of(digit: u8) -> u8
     if digit == b'0' { 0 } else { all_but_0 }
 }
 
-/// Returns whether one of the last of `len` packed digits (in `bytes`) differs from that of a text
-/// of digits at the same place, counted from the last digit. It compares up to four digits, and no
-/// more than a quarter of `len` or than the text has.
+/// Returns whether one of the last digits of `bytes`, which are `len` digits packed by `pack`,
+/// differs from that of a text at the same place, counted from the last digit. It compares up to
+/// four digits, and no more than a quarter of `len` or than the text has.
 fn few_ends_differ(bytes: &[u8], len: usize, text: &[u8]) -> bool
     requires { quarter_of len ≤ length bytes.now }
     ensures differ { result ≡ true → AreTwo (digits_in len bytes.now) text.now }
@@ -83,10 +83,10 @@ fn few_ends_differ(bytes: &[u8], len: usize, text: &[u8]) -> bool
     false
 }
 
-/// Returns whether one of the last of `len` packed digits (in `bytes`) differs from that of a text
-/// of digits at the same place, counted from the last digit. It compares 16 digits if a quarter of
-/// `len` and the text have as many, otherwise up to four. Returns false if these are the same, or
-/// if `bytes` is too short for the digits.
+/// Returns whether one of the last digits of `bytes`, which are `len` digits packed by `pack`,
+/// differs from that of a text at the same place, counted from the last digit. It compares 16
+/// digits if a quarter of `len` and the text have as many, otherwise up to four. Returns false if
+/// these are the same, or if `bytes` is too short for the digits.
 #[inline(always)]
 pub(crate) fn ends_differ(bytes: &[u8], len: usize, text: &[u8]) -> bool
     ensures differ { result ≡ true → AreTwo (digits_in len bytes.now) text.now }
@@ -140,8 +140,8 @@ fn packed_from(text: &[u8], first: usize, second: usize, third: usize, last: usi
     with_4_times(codes_16(text, first), both)
 }
 
-/// Returns 16 bytes of packed digits: byte k has those at index `at + k` of each quarter of the
-/// text. A quarter has `quarter` digits, and the last one ends where the text ends.
+/// Returns 16 bytes of packed digits (`pack`): byte k has those at index `at + k` of each quarter
+/// of the text. A quarter has `quarter` digits, and the last one ends where the text ends.
 #[inline(always)]
 fn packed_16(text: &[u8], quarter: usize, at: usize) -> u8x16
     requires within { at + 16 ≤ quarter }
@@ -170,8 +170,8 @@ fn padded(text: &[u8]) -> [u8; 64]
     block
 }
 
-/// Returns the packed digits of a text whose quarters have `quarter` digits, fewer than 16. The
-/// bytes from index `quarter` on have no meaning.
+/// Returns the bytes that `pack` writes for a text whose quarters have `quarter` digits, fewer than
+/// 16. The bytes from index `quarter` on have no meaning.
 #[inline(always)]
 fn packed_few(text: &[u8], quarter: usize) -> [u8; 16]
     requires few { quarter < 16 }
@@ -183,8 +183,8 @@ fn packed_few(text: &[u8], quarter: usize) -> [u8; 16]
     packed_from(&block, 0, quarter, 2 * quarter, last).to_array()
 }
 
-/// Packs the digits of a text into the first bytes of `bytes`. Its quarters have `quarter` digits,
-/// fewer than 16.
+/// Packs the digits of a text into the first bytes of `bytes`, as `pack` says. The quarters of the
+/// text have `quarter` digits, fewer than 16.
 fn pack_few(bytes: &mut [u8], text: &[u8], quarter: usize)
     requires few { quarter < 16 }
     requires room { quarter ≤ length bytes.old }
@@ -194,8 +194,8 @@ fn pack_few(bytes: &mut [u8], text: &[u8], quarter: usize)
     bytes[..quarter].copy_from_slice(&packed_few(text, quarter)[..quarter]);
 }
 
-/// Returns true only if the first bytes of `bytes` are the packed digits of the text. Its quarters
-/// have `quarter` digits, fewer than 16.
+/// Returns whether the first bytes of `bytes` are what `pack` writes for this text. The quarters of
+/// the text have `quarter` digits, fewer than 16.
 fn are_few_packed(bytes: &[u8], text: &[u8], quarter: usize) -> bool
     requires few { quarter < 16 }
     requires room { quarter ≤ length bytes.now }
@@ -205,8 +205,8 @@ fn are_few_packed(bytes: &[u8], text: &[u8], quarter: usize) -> bool
     bytes[..quarter] == packed_few(text, quarter)[..quarter]
 }
 
-/// Packs 16 digits of each quarter of a text, those from index `at` of the quarter on, into the 16
-/// bytes from `at` on. The bytes before these stay as they are.
+/// Packs 16 digits of each quarter of a text, those from index `at` of the quarter on, four to a
+/// byte into the 16 bytes from `at` on. The bytes before these stay as they are.
 #[inline(always)]
 fn pack_16(bytes: &mut [u8], text: &[u8], quarter: usize, at: usize)
     requires within { at + 16 ≤ quarter }
@@ -218,8 +218,8 @@ fn pack_16(bytes: &mut [u8], text: &[u8], quarter: usize, at: usize)
     packed_16(text, quarter, at).copy_to_slice(&mut bytes[at..]);
 }
 
-/// Returns true only if the 16 bytes from `at` on are the packed digits from index `at` on of each
-/// quarter of the text. A quarter has `quarter` digits.
+/// Returns whether the 16 bytes from `at` on are what `pack_16` writes there: the packed digits
+/// from index `at` on of each quarter of the text. A quarter has `quarter` digits.
 #[inline(always)]
 fn are_packed_16(bytes: &[u8], text: &[u8], quarter: usize, at: usize) -> bool
     requires within { at + 16 ≤ quarter }
@@ -233,9 +233,9 @@ fn are_packed_16(bytes: &[u8], text: &[u8], quarter: usize, at: usize) -> bool
     )
 }
 
-/// Returns true only if the first bytes of `bytes` are the packed digits of the text. Its quarters
-/// have `quarter` digits, at least 16. It compares 16 bytes in one step, and some of the last 16
-/// twice.
+/// Returns whether the first bytes of `bytes` are what `pack` writes for this text. The quarters of
+/// the text have `quarter` digits, at least 16. It compares 16 bytes in one step, and some of the
+/// last 16 twice.
 fn are_many_packed(bytes: &[u8], text: &[u8], quarter: usize) -> bool
     requires { MayPack bytes.now text.now quarter }
     ensures { result ≡ true → ArePacked bytes.now text.now quarter }
@@ -251,8 +251,8 @@ fn are_many_packed(bytes: &[u8], text: &[u8], quarter: usize) -> bool
     are_packed_16(bytes, text, quarter, last)
 }
 
-/// Returns true only if the first bytes of `bytes` are the packed digits of the text. Its quarters
-/// have `quarter` digits.
+/// Returns whether the first bytes of `bytes` are what `pack` writes for this text. The quarters of
+/// the text have `quarter` digits.
 #[inline(always)]
 fn are_packed(bytes: &[u8], text: &[u8], quarter: usize) -> bool
     requires room { quarter ≤ length bytes.now }
@@ -266,8 +266,8 @@ fn are_packed(bytes: &[u8], text: &[u8], quarter: usize) -> bool
     }
 }
 
-/// Returns true only if the text is all digits of a value, and the first bytes of `bytes` are these
-/// digits, packed.
+/// Returns whether the text is all digits of a value, and the first bytes of `bytes` are what
+/// `pack` writes for it: its digits, four to a byte. It is false if there are too few bytes.
 // It compares bytes of the share: digit by digit, `edges` of vectors of 128 bits takes 7.8 times as
 // many instructions.
 pub(crate) fn holds_packed(bytes: &[u8], text: &[u8]) -> bool
@@ -317,9 +317,9 @@ fn are_bits(seen: u8x16) -> bool
     seen.simd_gt(u8x16::splat(1)).to_bitmask() == 0
 }
 
-/// Packs 16 digits of each quarter of a text, those from index `at` of the quarter on, into the 16
-/// bytes from `at` on, as if all were `0` and `1`. Returns numbers for which `are_bits` says
-/// whether they were. The bytes before `at` stay as they are.
+/// Packs 16 digits of each quarter of a text, those from index `at` of the quarter on, four to a
+/// byte into the 16 bytes from `at` on, as if all were `0` and `1`. Returns numbers for which
+/// `are_bits` says whether they were. The bytes before `at` stay as they are.
 #[inline(always)]
 fn pack_bits_16(bytes: &mut [u8], text: &[u8], quarter: usize, at: usize) -> u8x16
     requires within { at + 16 ≤ quarter }
@@ -339,9 +339,9 @@ fn pack_bits_16(bytes: &mut [u8], text: &[u8], quarter: usize, at: usize) -> u8x
     either(either(first, second), either(third, last))
 }
 
-/// Packs the digits of a text into the first bytes of `bytes`, if all are `0` and `1`, and returns
-/// whether they are. If not, these bytes have no meaning. Its quarters have `quarter` digits, at
-/// least 16.
+/// Packs the digits of a text into the first bytes of `bytes`, as `pack` says, if all are `0` and
+/// `1`, and returns whether they are. If not, these bytes have no meaning. The quarters of the text
+/// have `quarter` digits, at least 16.
 fn pack_bits(bytes: &mut [u8], text: &[u8], quarter: usize) -> bool
     requires { MayPack bytes.old text.now quarter }
     ensures { result ≡ true → ArePacked bytes.new text.now quarter }
@@ -356,8 +356,8 @@ fn pack_bits(bytes: &mut [u8], text: &[u8], quarter: usize) -> bool
     are_bits(either(seen, pack_bits_16(bytes, text, quarter, last)))
 }
 
-/// Packs the digits of a text into the first bytes of `bytes`, whatever digits they are. Its
-/// quarters have `quarter` digits, at least 16.
+/// Packs the digits of a text, whatever digits they are, into the first bytes of `bytes`, as `pack`
+/// says. The quarters of the text have `quarter` digits, at least 16.
 #[inline(never)]
 fn pack_any(bytes: &mut [u8], text: &[u8], quarter: usize)
     requires { MayPack bytes.old text.now quarter }
@@ -372,8 +372,8 @@ fn pack_any(bytes: &mut [u8], text: &[u8], quarter: usize)
     pack_16(bytes, text, quarter, last);
 }
 
-/// Packs the digits of a text into the first bytes of `bytes`. Its quarters have `quarter` digits,
-/// at least 16.
+/// Packs the digits of a text into the first bytes of `bytes`, as `pack` says. The quarters of the
+/// text have `quarter` digits, at least 16.
 fn pack_many(bytes: &mut [u8], text: &[u8], quarter: usize)
     requires { MayPack bytes.old text.now quarter }
     ensures { ArePacked bytes.new text.now quarter }
@@ -383,8 +383,9 @@ fn pack_many(bytes: &mut [u8], text: &[u8], quarter: usize)
     }
 }
 
-/// Packs the digits of a text into the first bytes of `bytes`, four to a byte: byte k has digit k
-/// of each quarter of the text. `bytes` must have as many bytes as a quarter has digits.
+/// Packs the digits of a text into the first bytes of `bytes`, four to a byte, by two bits each:
+/// byte k has digit k of each quarter of the text. `bytes` must have as many bytes as a quarter has
+/// digits.
 #[inline(always)]
 pub(crate) fn pack(bytes: &mut [u8], text: &[u8])
     requires room { length text.now ≤ 4 * length bytes.old }
@@ -414,8 +415,8 @@ fn byte_or(bytes: &[u8], index: usize) -> u8
     byte_at(bytes, index).unwrap_or(0)
 }
 
-/// Returns the digit at `index`, counted from the left, of `len` packed digits, in lower case.
-/// `None` after the last.
+/// Returns the digit at `index`, counted from the left, in lower case, of `bytes`, which are `len`
+/// digits packed by `pack`. `None` after the last.
 #[inline(always)]
 pub(crate) fn digit_at(bytes: &[u8], len: usize, index: usize) -> Option<u8>
     ensures { result ≡ slice_get (digits_in len bytes.now) index }
@@ -426,7 +427,8 @@ pub(crate) fn digit_at(bytes: &[u8], len: usize, index: usize) -> Option<u8>
     Some(digit_of(code_among(bytes, len, index)))
 }
 
-/// Returns the last of `len` packed digits, in lower case. There has to be at least one.
+/// Returns the last digit, in lower case, of `bytes`, which are `len` digits packed by `pack`.
+/// There has to be at least one.
 #[inline(always)]
 pub(crate) fn last_packed(bytes: &[u8], len: usize) -> u8
     requires some { 1 ≤ len }
@@ -436,8 +438,9 @@ pub(crate) fn last_packed(bytes: &[u8], len: usize) -> u8
     digit_of(bytes[len.div_ceil(4) - 1] / 64)
 }
 
-/// Returns the two bits of the digit at `index`, counted from the left, of `len` packed digits. The
-/// last quarter ends where the digits do, so it may have some digits of the third one again.
+/// Returns the two bits of the digit at `index`, counted from the left, of `bytes`, which are `len`
+/// digits packed by `pack`. The last quarter ends where the digits do, so it may have some digits
+/// of the third one again.
 #[inline(always)]
 fn code_among(bytes: &[u8], len: usize, index: usize) -> u8
     requires { index < len }

@@ -18,9 +18,9 @@ pub(crate) fn time_in(token: &[u8]) -> Option<u64>
     decimal_of(rest_of(token))
 }
 
-/// Returns the time of a timestamp with this token, and sets the registers to those after it. Fails
-/// with `BadTime` if it spells no time below 2^64, and as `accept_timestamp` does if it may not
-/// come here; then nothing changes.
+/// Returns the time of a timestamp with this token, and sets the last time of `regs` to it. Fails
+/// with `BadTime` if it spells no time below 2^64, with `TimeInSection` if a section is open, and
+/// with `TimeBack` if the time is less than the last one; then nothing changes.
 #[inline(always)]
 pub(crate) fn read_timestamp(token: &[u8], regs: &mut Regs) -> Result<u64, BodyFault>
     requires { Begins token.now PhraseKind.Timestamp }

@@ -12,7 +12,7 @@ use vcd_text::{Feed, Source};
 use vcd_view::HeadView;
 
 /// Reads the rest of a phrase whose first token, which the feed has read, begins no value change
-/// and no timestamp, and sets the registers to those after it. Returns the begin or the end of a
+/// and no timestamp, and sets the open section of `regs`. Returns the begin or the end of a
 /// section, or `None` for a comment. Fails if the token is no keyword of a body or may not come
 /// here, and if a comment does not end.
 #[inline(always)]
@@ -55,9 +55,10 @@ fn read_command<S: Source>(
     }
 }
 
-/// Reads the next phrase of a body, and sets the registers to those after it. Returns its item,
-/// `Item::Finish` at the end of the input, or `None` for a comment. Fails with the fault of the
-/// first token that is not allowed or cannot be read, and if the input ends inside a section.
+/// Reads the next phrase of a body, and sets `regs` (the last time, the open section) to what holds
+/// after it. Returns its item, `Item::Finish` at the end of the input, or `None` for a comment.
+/// Fails with the fault of the first token that is not allowed or cannot be read, and if the input
+/// ends inside a section.
 #[inline(always)]
 fn read_phrase<S: Source>(
     feed: &mut Feed<'_, '_, '_, '_, S>,
@@ -100,10 +101,11 @@ fn read_phrase<S: Source>(
     Ok(Some(item))
 }
 
-/// Reads the next item of a body, and sets `regs` to the registers after it. Returns `Item::Finish`
-/// at the end of the input. At first the feed has to be right after the header of `view`, and
-/// `regs` is `Regs::new()`. Fails with the fault of the first token that is not allowed or cannot
-/// be read, and if the input ends inside a section; do not call it again after that.
+/// Reads the next item of a body, and sets `regs` (the last time, the open section) to what holds
+/// after it. Returns `Item::Finish` at the end of the input. At first the feed has to be right
+/// after the header of `view`, and `regs` is `Regs::new()`. Fails with the fault of the first token
+/// that is not allowed or cannot be read, and if the input ends inside a section; do not call it
+/// again after that.
 #[inline(always)]
 pub fn next_item<S: Source>(
     feed: &mut Feed<'_, '_, '_, '_, S>,

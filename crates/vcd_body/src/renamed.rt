@@ -11,8 +11,8 @@ use crate::put_line::{is_bit, put_line};
 use vcd_text::{Sink, WriteFailed, put, put_few, put_parts};
 use vcd_view::NewCode;
 
-/// Returns the first byte of the new code with this number (a code of a merged dump): its lowest
-/// digit in base 94, from `!` on.
+/// Returns the first byte of the code that a merged dump has for this number: its lowest digit in
+/// base 94, from `!` on.
 #[inline(always)]
 fn digit_of(number: u64) -> u8
     ensures { result ≡ 33 + number % 94 }
@@ -27,8 +27,9 @@ struct End {
     len: usize,
 }
 
-/// Returns the byte `first`, the new code of a number below 830,584, which has up to three bytes,
-/// and a line feed. `None` for a greater number.
+/// Returns the byte `first`, the code that a merged dump has for this number, and a line feed, if
+/// the number is below 830,584, so that the code has up to three bytes. `None` for a greater
+/// number.
 // Eight bytes in a number, so that `write_few` copies them without a length.
 #[inline(always)]
 fn short_end(first: u8, number: u64) -> Option<End>
@@ -64,8 +65,8 @@ fn short_end(first: u8, number: u64) -> Option<End>
     None
 }
 
-/// Writes the byte `first`, the new code with this number, and a line feed. If a write fails, a
-/// prefix was written.
+/// Writes the byte `first`, the code that a merged dump has for this number, and a line feed. If a
+/// write fails, a prefix was written.
 #[cold]
 #[inline(never)]
 fn put_any_code<W: Sink>(first: u8, number: u64, w: &mut W) -> Result<(), WriteFailed>
@@ -75,8 +76,8 @@ fn put_any_code<W: Sink>(first: u8, number: u64, w: &mut W) -> Result<(), WriteF
     put_end(w, first, NewCode::of(number).text())
 }
 
-/// Writes the byte `first`, the new code with this number, and a line feed: in one write if the
-/// code has up to three bytes. If a write fails, a prefix was written.
+/// Writes the byte `first`, the code that a merged dump has for this number, and a line feed: in
+/// one write if the code has up to three bytes. If a write fails, a prefix was written.
 #[inline(always)]
 pub(crate) fn put_code_line<W: Sink>(first: u8, number: u64, w: &mut W) -> Result<(), WriteFailed>
     requires { (W.device w.old).failures < 2 ^ 64 - 1 }
@@ -88,9 +89,9 @@ pub(crate) fn put_code_line<W: Sink>(first: u8, number: u64, w: &mut W) -> Resul
     }
 }
 
-/// Writes the line of a change under the new code with this number. `size` and `event` are those of
-/// the change's own code, and `text` is as `change_text` returns it. If a write fails, a prefix was
-/// written.
+/// Writes the line of a change under the code that a merged dump has for this number. `size` and
+/// `event` are those of the change's own code, and `text` is as `change_text` returns it. If a
+/// write fails, a prefix was written.
 #[inline(always)]
 pub fn put_renamed<W: Sink>(
     size: usize,
@@ -108,8 +109,8 @@ pub fn put_renamed<W: Sink>(
 }
 
 /// Writes the bytes from `from` up to `end` (exclusive), without the `left_out` bytes after the
-/// first one, then a blank, the new code with this number and a line feed, in several writes. If a
-/// write fails, a prefix was written.
+/// first one, then a blank, the code that a merged dump has for this number, and a line feed, in
+/// several writes. If a write fails, a prefix was written.
 #[cold]
 #[inline(never)]
 fn put_copied_slowly<W: Sink>(
@@ -132,8 +133,8 @@ fn put_copied_slowly<W: Sink>(
 }
 
 /// Writes the bytes from `from` up to `end` (exclusive), without the `left_out` bytes after the
-/// first one, then a blank, the new code with this number and a line feed. The sink may read the
-/// bytes after `end` too. If a write fails, a prefix was written.
+/// first one, then a blank, the code that a merged dump has for this number, and a line feed. The
+/// sink may read the bytes after `end` too. If a write fails, a prefix was written.
 // Mostly one write. With three writes, `merge` of Verilator's takes 46 % more.
 #[inline(never)]
 fn put_copied<W: Sink>(
@@ -164,8 +165,9 @@ fn put_copied<W: Sink>(
     )
 }
 
-/// Writes the line of a change under the new code with this number, by a look at each digit. The
-/// change's own code has this size and is no event. If a write fails, a prefix was written.
+/// Writes the line of a change under the code that a merged dump has for this number, by a look at
+/// each digit. The change's own code has this size and is no event. If a write fails, a prefix was
+/// written.
 // Not inlined, and takes no struct, since it is rare.
 #[cold]
 #[inline(never)]
@@ -184,10 +186,10 @@ fn put_renamed_text<W: Sink>(
     put_renamed(size, false, form, text, number, w)
 }
 
-/// Writes the line of a change under the new code with this number. `scanned` is the change, of
-/// this form, in the bytes from `from` up to `to` (exclusive), and is no event. If it is known that
-/// its line begins with these bytes, or with all but some needless digits, they are copied;
-/// otherwise the line is made of its text. If a write fails, a prefix was written.
+/// Writes the line of a change under the code that a merged dump has for this number. `scanned` is
+/// the change, of this form, in the bytes from `from` up to `to` (exclusive), and is no event. If
+/// it is known that its line begins with these bytes, or with all but some needless digits, they
+/// are copied; otherwise the line is made of its text. If a write fails, a prefix was written.
 // Digits are copied and not looked at one by one: without this `merge` of Verilator's takes 12 %
 // more.
 #[inline(always)]

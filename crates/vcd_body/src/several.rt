@@ -8,9 +8,9 @@ use crate::slot::{Holding, State, holding_of};
 use crate::step::{Step, step_to_text};
 use crate::table::Table;
 
-/// Returns how the value changes from `len` packed digits in the first bytes of `bytes` to the
-/// digits of a text, if they differ in one of the last digits. `None` if these are the same, or if
-/// `bytes` is too short.
+/// Returns how a value changes from the digits of `bytes`, which are `len` digits packed four to a
+/// byte by `pack`, to those of a text, if they differ in one of the last digits. `None` if these
+/// are the same, or if `bytes` is too short.
 #[inline(always)]
 fn packed_step(bytes: &[u8], len: usize, text: &[u8]) -> Option<Step>
     ensures some { IfSome result (λ _. 1 ≤ length text.now) }

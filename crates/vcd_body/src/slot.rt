@@ -139,7 +139,8 @@ impl Share {
     }
 }
 
-/// Returns the tag by which a slot says that its value is held in this state.
+/// Returns the `tag` of a slot whose value is held in this state; for `State::Bits` the one with no
+/// digits, to which the number of digits is added.
 #[inline(always)]
 pub(crate) fn number_of(state: State) -> u8
     ensures { result ≡ number_of state }
@@ -165,7 +166,7 @@ pub(crate) fn is_bit(digit: u8) -> bool
     digit.wrapping_sub(b'0') < 2
 }
 
-/// Returns the tag of the state that holds this digit, which is `0` or `1`. It takes no branch.
+/// Returns the `tag` of a slot whose value is this digit, `0` or `1`. It takes no branch.
 #[inline(always)]
 pub(crate) fn number_of_bit(digit: u8) -> u8
     requires { (digit ≡ 48) ⊎ (digit ≡ 49) }
@@ -174,8 +175,8 @@ pub(crate) fn number_of_bit(digit: u8) -> u8
     b'2' - digit
 }
 
-/// Returns the tag of the state that holds the other digit: of `1` if the digit is `0`, and of `0`
-/// if it is `1`.
+/// Returns the `tag` of a slot whose value is the other digit: `1` if the digit is `0`, and `0` if
+/// it is `1`.
 #[inline(always)]
 pub(crate) fn number_of_flipped(digit: u8) -> u8
     requires { (digit ≡ 48) ⊎ (digit ≡ 49) }
@@ -184,8 +185,8 @@ pub(crate) fn number_of_flipped(digit: u8) -> u8
     number_of_bit(b'0' + b'1' - digit)
 }
 
-/// Returns the tag of the state of `0` for that of `1`, and the other way round. For any other tag
-/// the result has no meaning.
+/// Returns the `tag` of a slot with the value `0` if `tag` is that of one with `1`, and the other
+/// way round. For any other tag the result has no meaning.
 #[inline(always)]
 pub(crate) fn flipped(tag: u8) -> u8
     ensures { (one : Bool) → tag ≡ number_of (cond one State.Zero State.One)
@@ -229,7 +230,7 @@ pub(crate) fn holding_of(slot: Slot, share: Share) -> Holding
     }
 }
 
-/// Returns the tag of the state that holds this digit: that of z for any byte other than `0`, `1`,
+/// Returns the `tag` of a slot whose value is this one digit: z for any byte other than `0`, `1`,
 /// `x` and `X`. It takes no branch between `0` and `1`, which are the most frequent.
 #[inline(always)]
 pub(crate) fn number_of_digit(digit: u8) -> u8
@@ -241,8 +242,8 @@ pub(crate) fn number_of_digit(digit: u8) -> u8
     number_of_other(digit)
 }
 
-/// Returns the tag of the state that holds a digit other than `0` and `1`: that of x for `x` and
-/// `X`, and that of z for any other byte.
+/// Returns the `tag` of a slot whose value is this one digit, which is neither `0` nor `1`: x for
+/// `x` and `X`, and z for any other byte.
 #[cold]
 #[inline(never)]
 fn number_of_other(digit: u8) -> u8

@@ -64,8 +64,8 @@ impl<'a> Table<'a> {
     }
 }
 
-/// Sets the value of the code at index `code` to one digit, by the tag of the state that holds it.
-/// It changes only the slot; nothing changes if there is no such code.
+/// Sets the value of the code at index `code` to one digit: the one for which `number_of_digit`
+/// returns `tag`. It changes only the slot; nothing changes if there is no such code.
 #[inline(always)]
 pub(crate) fn set_tag(slots: &mut [Slot], code: usize, tag: u8)
     ensures changes { (d : ℕ) → one_digit (state_in tag) ≡ Some d

@@ -246,7 +246,7 @@ fn are_few_binary(digits: &[u8]) -> bool
     largest <= 1
 }
 
-/// Returns true only if the digits are only `0` and `1`. It compares 32 in one step if there are as
+/// Returns whether the digits are only `0` and `1`. It compares 32 in one step if there are as
 /// many, and some of the last 32 twice.
 #[inline(never)]
 pub(crate) fn are_binary(digits: &[u8]) -> bool
@@ -266,8 +266,8 @@ pub(crate) fn are_binary(digits: &[u8]) -> bool
     nonbinary_32(digits, last) == 0
 }
 
-/// Returns true only if there are at least 32 bytes and all are digits of a value: `0`, `1`, `x`,
-/// `X`, `z` or `Z`.
+/// Returns whether there are at least 32 bytes and all are digits of a value: `0`, `1`, `x`, `X`,
+/// `z` or `Z`. It returns false for fewer bytes.
 fn are_many_digits(digits: &[u8]) -> bool
     ensures { result ≡ true → list_all is_digit digits.now ≡ true }
 {
@@ -294,8 +294,8 @@ pub(crate) fn are_all_digits(digits: &[u8]) -> bool
     are_many_digits(digits) || digits.iter().all(|digit| is_value_digit(*digit))
 }
 
-/// Returns true only if the digits are only `0` and `1`. If `bits` is `Some`, it has their number,
-/// so they are, and none is looked at.
+/// Returns whether the digits are only `0` and `1`. If `bits` is `Some`, it has their number, so
+/// they are, and none is looked at.
 #[inline(always)]
 pub(crate) fn are_binary_or_known(digits: &[u8], bits: Option<Bits>) -> bool
     requires { MayBe bits digits.now }
