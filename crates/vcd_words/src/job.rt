@@ -64,8 +64,8 @@ impl Want {
         matches!(self, Want::Merge)
     }
 
-    /// Returns the names that have to select something. There are none if the command takes no
-    /// names, or is about all variables.
+    /// Returns the names of variables on the command line, each of which has to select something.
+    /// There are none if the command takes no names, or is about all variables.
     pub fn names(&self) -> &[String]
         ensures { map string_bytes result.now ≡ names_asked self.now }
     {

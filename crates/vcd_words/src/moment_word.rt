@@ -23,7 +23,7 @@ pub(crate) fn number_of(digits: &[u8]) -> Option<u64>
     decimal_of(digits)
 }
 
-/// Returns how many digits a word begins with.
+/// Returns how many decimal digits a word begins with.
 fn digits_before(word: &[u8]) -> usize
     ensures { result ≡ length (take_while is_ascii_digit word.now) }
 {
@@ -146,8 +146,9 @@ fn units_in(alloc: Global, at: &str) -> Result<Vec<Option<i8>>, AllocError>
 }
 
 /// Returns the want of a `sample` of these names at the times between the commas of `at`; of all
-/// variables if `names` is `None`. Fails with `BadTime` or `NotRising` as `check_times` does, or if
-/// memory runs out. It takes no memory before the times were checked.
+/// variables if `names` is `None`. Fails with `BadTime` at the first word that is no time, with
+/// `NotRising` if no time has a unit and the numbers do not increase, or if memory runs out. It
+/// takes no memory before the times were checked.
 pub(crate) fn sample_of<'a>(
     alloc: Global,
     at: &'a str,
