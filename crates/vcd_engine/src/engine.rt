@@ -108,7 +108,8 @@ impl<'v, 'n, 'r> Engine<'v, 'n, 'r> {
 
     /// Handles the next item of the feed, and writes what is due with it or at the end of the body.
     /// Returns `Again` if the run goes on, otherwise what ended it. `view` is the engine's own,
-    /// passed by the caller so that a loop over steps does not load it again. Fails as `step` does.
+    /// passed by the caller so that a loop over steps does not load it again. Fails at a fault of
+    /// the body, at a failed read, and at a failed write.
     #[inline(always)]
     fn step_with_view<S: Source, W: Sink>(
         &mut self,
@@ -187,8 +188,10 @@ impl<'v, 'n, 'r> Engine<'v, 'n, 'r> {
         }
     }
 
-    /// Handles the next item, and returns and fails as `step_with_view` does. It may wait for
-    /// input, so `out` must keep nothing back.
+    /// Handles the next item of the feed, and writes what is due with it or at the end of the body.
+    /// Returns `Again` if the run goes on, otherwise what ended it. It may wait for input, so `out`
+    /// must keep nothing back. Fails at a fault of the body, at a failed read, and at a failed
+    /// write.
     #[inline(always)]
     fn read_on<S: Source, W: Sink>(
         &mut self,
@@ -235,7 +238,8 @@ impl<'v, 'n, 'r> Engine<'v, 'n, 'r> {
         self.read_on(view, feed, out)
     }
 
-    /// Writes what is due at the end of a body without fault. Fails if a write does.
+    /// Writes what is due at the end of a body without fault: counts, values, or the line of the
+    /// last time. Fails if a write does.
     // Not inlined, so that the loop over steps lends no view for it.
     #[inline(never)]
     fn close<W: Sink>(&self, out: &mut W) -> Result<(), WriteFailed>

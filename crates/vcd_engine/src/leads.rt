@@ -5,8 +5,8 @@ ghost use Rattle.vcd_engine.specs.Names.{HaveNoLine, Header, IsSelectedAt, IsVie
 
 use vcd_view::{HeadView, Kind};
 
-/// Returns whether `sample` writes a line for a row: its flag is 1 (selected), and it declares a
-/// variable that is no event.
+/// Returns whether `sample` writes a line for the declaration at index `row`: `flag`, its mark, is
+/// 1 (selected), and it is a variable that is no event.
 fn has_line(view: HeadView<'_>, row: usize, flag: u8) -> bool
     requires { row < length view.rows.now }
     ensures { (h : Header) (names : List (List ℕ)) → IsViewOf view.entry h

@@ -176,7 +176,9 @@ impl PendingCopy {
     }
 
     /// Adds the bytes from `from` up to `to` (exclusive), without the `n` bytes after the first, to
-    /// the output, as `append` does with one piece or two. Fails if a write does.
+    /// the output, as one piece or two. A piece that comes right after the pending text becomes
+    /// part of it; otherwise that is written first, and the piece is the pending text. Fails if a
+    /// write does.
     #[inline(always)]
     pub(crate) fn append_parts<W: Sink>(
         &mut self,
@@ -202,8 +204,8 @@ impl PendingCopy {
     /// Adds a line to the output: the bytes from `from` up to `to - 1` (exclusive), without the `n`
     /// bytes after the first, and a line feed in place of the byte at `to - 1`.
     ///
-    /// If that byte is a line feed already, the bytes become pending text, as `append_parts` does
-    /// it. Otherwise the pending text is written, and then the line. Fails if a write does.
+    /// If that byte is a line feed already, the bytes become pending text, by `append_parts`.
+    /// Otherwise the pending text is written, and then the line. Fails if a write does.
     #[inline(always)]
     pub(crate) fn append_line<W: Sink>(
         &mut self,
