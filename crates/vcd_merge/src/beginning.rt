@@ -17,8 +17,8 @@ fn factor_of(view: HeadView<'_>, least: i8) -> u64
 }
 
 /// Sets what a merge of inputs with these headers needs in each seat: the factor of its times, the
-/// number of its first new code, time 0, and that the input has not finished. Feeds and registers
-/// do not change.
+/// number of the first code that the merged dump has for it, time 0, and that the input has not
+/// finished. Feeds and registers do not change.
 pub(crate) fn set_seats(heads: &[Head], seats: &mut [Seat])
     requires many { length heads.now ≤ 64 }
     requires heads { length heads.now ≡ length seats.old }

@@ -45,10 +45,11 @@ fn put_due_time<W: Sink>(
     Ok(())
 }
 
-/// Writes a change of the code at index `code` of `codes` under its new code, after the line of
-/// `time`, unless `written` says that it was written last. Writes nothing for an event if `inside`
-/// says that a section is open, and for an index without a code. `first` is the number of the
-/// input's first new code. Fails if a write does.
+/// Writes a change of the code at index `code` of `codes` under the code that the merged dump has
+/// for it, after the line of `time`, unless `written` says that it was written last. It is for
+/// changes whose size the look-up did not return. Writes nothing for an event if `inside` says that
+/// a section is open, and for an index without a code. `first` is the number of the first code that
+/// the merged dump has for this input. Fails if a write does.
 // Not inlined, and takes no struct, since it is rare.
 #[cold]
 #[inline(never)]
