@@ -137,8 +137,8 @@ fn refused(fault: HeadFault, line: u64, reading: &mut Reading) -> u8
 }
 
 /// Reads the header of a dump with this token limit, fills the rows with the changes of `code` from
-/// `reading.place` on, sets `reading`, and returns the status, as `changes` does. Fails if there is
-/// no memory for the buffers.
+/// `reading.place` on, sets `reading`, and returns the status: one of those of `changes`. Fails if
+/// there is no memory for the buffers.
 fn read_changes<B: BuildHasher>(
     alloc: Global,
     limit: usize,
@@ -181,8 +181,9 @@ fn read_changes<B: BuildHasher>(
     }
 }
 
-/// Fills the rows with the changes of `code` from `reading.place` on with this token limit, sets
-/// `reading`, and returns the status, as `changes` does.
+/// Reads the header of a dump with this token limit, fills the rows with the changes of `code` from
+/// `reading.place` on, sets `reading`, and returns the status: one of those of `changes`, which is
+/// `NO_MEMORY` if there is no memory for the buffers.
 fn read_under<B: BuildHasher>(
     alloc: Global,
     limit: usize,

@@ -19,8 +19,8 @@ pub struct ChangeRow {
     pub known: u64,
 }
 
-/// Returns the row of a change of this form and text at `time`, in ticks. For a real number the row
-/// has only the time, and 0 for the digits.
+/// Returns the row of a change of this form and text at `time`, in ticks: which of the last 64
+/// digits are `1` (`value`), and which are `0` or `1` (`known`). For a real number both are 0.
 // Not inlined, since most changes are of other codes.
 #[inline(never)]
 pub(crate) fn row_of(time: u64, form: Form, text: &[u8]) -> ChangeRow
