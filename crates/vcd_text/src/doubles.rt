@@ -55,6 +55,8 @@ impl<'a> Pieces<'a> {
 }
 
 impl io::Read for Pieces<'_> {
+    /// Gives at most `size` of the bytes that are left. Fails at call number `fails_at`, and at the
+    /// end of the bytes if `broken` is true.
     fn read(&mut self, into: &mut [u8]) -> io::Result<usize> {
         self.calls = self.calls.saturating_add(1);
         if self.calls == self.fails_at || self.broken && self.bytes.is_empty() {
@@ -105,6 +107,8 @@ impl Narrow {
 }
 
 impl io::Write for Narrow {
+    /// Takes at most three bytes, as far as there is room. Fails if there is no room left and `buf`
+    /// is not empty.
     fn write(&mut self, buf: &[u8]) -> io::Result<usize> {
         let n = buf.len().min(3).min(self.room - self.len);
         if n == 0 && !buf.is_empty() {
@@ -115,6 +119,7 @@ impl io::Write for Narrow {
         Ok(n)
     }
 
+    /// Fails if the writer is full.
     fn flush(&mut self) -> io::Result<()> {
         if self.len == self.room {
             return Err(io::Error::from(io::ErrorKind::StorageFull));
