@@ -98,6 +98,7 @@ impl BuildHasher for CodeSeed {
 
     ghost build_hasher = { λ s. record { seed = s; state = 0 } };
 
+    /// Returns a hasher with this seed that was fed no bytes.
     #[inline(always)]
     fn build_hasher(&self) -> CodeHasher {
         CodeHasher {
@@ -112,11 +113,13 @@ impl Hasher for CodeHasher {
 
     ghost finish = { λ h. h.state };
 
+    /// Returns the hash of the bytes that were fed so far.
     #[inline(always)]
     fn finish(&self) -> u64 {
         self.state
     }
 
+    /// Feeds these bytes to the hash.
     #[inline(always)]
     fn write(&mut self, bytes: &[u8]) {
         self.state = self.seed.hashed(self.state, bytes);
