@@ -44,6 +44,7 @@ impl PartialEq for CodeKey {
 
     ghost laws = { on_per shape_of (partial_equiv_from_equiv nat_list_eq_equiv) };
 
+    /// Returns whether both are keys of the same identifier code.
     #[inline(always)]
     fn eq(&self, other: &CodeKey) -> bool {
         match (self, other) {
@@ -63,6 +64,7 @@ impl Hash for CodeKey {
 
     ghost respects_eq = { same_writes };
 
+    /// Feeds the key to a hasher: the number of a short code, or the bytes of a long one.
     #[inline(always)]
     fn hash<H: Hasher>(&self, state: &mut H) {
         match self {
