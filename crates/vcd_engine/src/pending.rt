@@ -130,8 +130,8 @@ impl PendingCopy {
         PendingCopy { from: 0, to: 0 }
     }
 
-    /// Writes the pending text, which are some of `bytes`, those of the chunk; after it none is
-    /// pending. Fails if a write does.
+    /// Writes the pending text, a part of `bytes`, those of the chunk; after it none is pending.
+    /// Fails if a write does.
     #[inline(always)]
     pub(crate) fn flush<W: Sink>(&mut self, bytes: &[u8], out: &mut W) -> Result<(), WriteFailed>
         requires failures { (W.device out.old).failures < 2 ^ 64 - 1 }

@@ -67,16 +67,19 @@ impl AheadTask<NoLine> for Check {
 
     ghost is_left = { λ _ _. false };
 
+    /// Returns false: no timestamp ends `check` or has output.
     #[inline(always)]
     fn leaves(&self, _time: u64) -> bool {
         false
     }
 
+    /// Counts a timestamp.
     #[inline(always)]
     fn note_time(&mut self, _time: u64) {
         self.times = self.times.wrapping_add(1);
     }
 
+    /// Counts a value change, or a section at its begin. It writes nothing.
     #[inline(always)]
     fn take_item<W: Sink>(
         &mut self,

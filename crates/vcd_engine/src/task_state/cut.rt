@@ -202,14 +202,17 @@ impl<'r> AheadTask<NoLine> for Cut<'r> {
 
     ghost is_left = { λ command time. nat_le command.from time };
 
+    /// Returns whether the start section is due at this time.
     #[inline(always)]
     fn leaves(&self, time: u64) -> bool {
         self.from <= time
     }
 
+    /// Does nothing.
     #[inline(always)]
     fn note_time(&mut self, _time: u64) {}
 
+    /// Sets the value that a change gives. It writes nothing.
     #[inline(always)]
     fn take_item<W: Sink>(
         &mut self,
@@ -236,14 +239,17 @@ impl<'r> AheadTask<KnownLine> for Cut<'r> {
 
     ghost is_left = { λ command time. nat_lt command.to time };
 
+    /// Returns whether a timestamp of this time is above `to`, and so ends the `cut`.
     #[inline(always)]
     fn leaves(&self, time: u64) -> bool {
         self.to < time
     }
 
+    /// Does nothing: the line of a time is written with the first item after it.
     #[inline(always)]
     fn note_time(&mut self, _time: u64) {}
 
+    /// Adds the item to the output if `may_keep` allows it, after the line of its time.
     #[inline(always)]
     fn take_item<W: Sink>(
         &mut self,

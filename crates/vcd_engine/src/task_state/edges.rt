@@ -97,14 +97,18 @@ impl<'n, 'r> AheadTask<NoLine> for Edges<'n, 'r> {
 
     ghost is_left = { λ _ _. false };
 
+    /// Returns false: no timestamp ends `edges` or has output.
     #[inline(always)]
     fn leaves(&self, _time: u64) -> bool {
         false
     }
 
+    /// Does nothing.
     #[inline(always)]
     fn note_time(&mut self, _time: u64) {}
 
+    /// Sets the value that a change gives, and counts the change if the value differs, or if it is
+    /// of an event outside a section. It writes nothing.
     #[inline(always)]
     fn take_item<W: Sink>(
         &mut self,

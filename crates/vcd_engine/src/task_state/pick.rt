@@ -94,14 +94,17 @@ impl<'n, 'r> AheadTask<KnownLine> for Pick<'n, 'r> {
 
     ghost is_left = { λ _ _. false };
 
+    /// Returns false: no timestamp ends `pick` or has output by itself.
     #[inline(always)]
     fn leaves(&self, _time: u64) -> bool {
         false
     }
 
+    /// Does nothing: the line of a time is written with the first item after it.
     #[inline(always)]
     fn note_time(&mut self, _time: u64) {}
 
+    /// Adds the item to the output if `keeps` allows it, after the line of its time.
     #[inline(always)]
     fn take_item<W: Sink>(
         &mut self,

@@ -140,6 +140,7 @@ impl<'n, 'r> AheadTask<NoLine> for Sample<'n, 'r> {
 
     ghost is_left = { λ command time. is_due command.rest.now time };
 
+    /// Returns whether lines are due before a timestamp of this time, or no time is left.
     #[inline(always)]
     fn leaves(&self, time: u64) -> bool {
         match self.rest {
@@ -148,9 +149,11 @@ impl<'n, 'r> AheadTask<NoLine> for Sample<'n, 'r> {
         }
     }
 
+    /// Does nothing.
     #[inline(always)]
     fn note_time(&mut self, _time: u64) {}
 
+    /// Sets the value that a change gives. It writes nothing.
     #[inline(always)]
     fn take_item<W: Sink>(
         &mut self,

@@ -73,11 +73,13 @@ pub(crate) struct NoLine;
 impl LineMemory for NoLine {
     ghost line = { λ _. (0, 0) };
 
+    /// Returns the only value of this type.
     #[inline(always)]
     fn new() -> NoLine {
         NoLine
     }
 
+    /// Returns the only value of this type.
     #[inline(always)]
     fn after_timestamp(_bytes: &[u8], _at: usize, _to: usize) -> NoLine {
         NoLine
@@ -97,11 +99,15 @@ pub(crate) struct KnownLine {
 impl LineMemory for KnownLine {
     ghost line = { λ kind. (kind.from, kind.to) };
 
+    /// Returns the state in which the chunk is not known to have the line of a timestamp.
     #[inline(always)]
     fn new() -> KnownLine {
         KnownLine { from: 0, to: 0 }
     }
 
+    /// Returns the state after a timestamp whose digits are at the offsets from `at` up to `to - 1`
+    /// (exclusive). If they are not as they would be written, the chunk is not known to have its
+    /// line.
     #[inline(always)]
     fn after_timestamp(bytes: &[u8], at: usize, to: usize) -> KnownLine {
         if is_timestamp_line(bytes, at, to) {
@@ -181,16 +187,19 @@ impl<L: LineMemory, C: AheadTask<L>> Visit<C> for WalkState<L> {
 
     ghost over = { λ _. false };
 
+    /// Returns whether the task leaves a timestamp of this time to `TaskState::take`.
     #[inline(always)]
     fn ends_before(&self, command: &C, time: u64) -> bool {
         command.leaves(time)
     }
 
+    /// Returns false: only `ends_before` ends such a walk.
     #[inline(always)]
     fn is_over(&self) -> bool {
         false
     }
 
+    /// Remembers where the chunk has the line of this timestamp, and has the task note the time.
     #[inline(always)]
     fn take_timestamp(
         &mut self,
@@ -206,6 +215,7 @@ impl<L: LineMemory, C: AheadTask<L>> Visit<C> for WalkState<L> {
         command.note_time(time);
     }
 
+    /// Has the task handle a change.
     #[inline(always)]
     fn take_change<W: Sink>(
         &mut self,
@@ -220,6 +230,7 @@ impl<L: LineMemory, C: AheadTask<L>> Visit<C> for WalkState<L> {
         command.take_item(view, regs, change, &self.line, &mut self.pending, out)
     }
 
+    /// Has the task handle the begin or the end of a section.
     #[inline(always)]
     fn take_section<W: Sink>(
         &mut self,
