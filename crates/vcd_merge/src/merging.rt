@@ -109,17 +109,20 @@ impl Visit<()> for Merging {
 
     ghost over = { λ merging. nat_le merging.before merging.time };
 
+    /// Returns whether this time is 2^64 or more in ticks of the merged dump.
     // A time that does not fit once it is scaled is left: the step finds the fault.
     #[inline(always)]
     fn ends_before(&self, _command: &(), time: u64) -> bool {
         time.checked_mul(self.factor).is_none()
     }
 
+    /// Returns whether the time of the input has reached `before`, the end of its turn.
     #[inline(always)]
     fn is_over(&self) -> bool {
         self.before <= self.time
     }
 
+    /// Sets the time of the input to that of a timestamp, in ticks of the merged dump.
     #[inline(always)]
     fn take_timestamp(
         &mut self,
@@ -133,6 +136,8 @@ impl Visit<()> for Merging {
         self.time = time * self.factor;
     }
 
+    /// Writes a change under its code in the merged dump, after the line of the time unless that
+    /// was written last. Leaves out an event inside a section.
     #[inline(always)]
     fn take_change<W: Sink>(
         &mut self,
@@ -170,6 +175,7 @@ impl Visit<()> for Merging {
         )
     }
 
+    /// Does nothing.
     // A merge leaves out sections.
     #[inline(always)]
     fn take_section<W: Sink>(
