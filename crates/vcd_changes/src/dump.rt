@@ -136,9 +136,10 @@ fn refused(fault: HeadFault, line: u64, reading: &mut Reading) -> u8
     FAULT
 }
 
-/// Reads the header of a dump with this token limit, fills the rows with the changes of `code` from
-/// `reading.place` on, sets `reading`, and returns the status: one of those of `changes`. Fails if
-/// there is no memory for the buffers.
+/// Reads the header of a dump with this token limit, fills the rows with the changes of the
+/// identifier code `code` from `reading.place` on, sets `reading`, and returns the status: `DONE`,
+/// `FAULT`, `NO_CODE`, `NO_MEMORY`, `FULL` or `BAD_PLACE`. Fails if there is no memory for the
+/// buffers.
 fn read_changes<B: BuildHasher>(
     alloc: Global,
     limit: usize,
@@ -181,9 +182,9 @@ fn read_changes<B: BuildHasher>(
     }
 }
 
-/// Reads the header of a dump with this token limit, fills the rows with the changes of `code` from
-/// `reading.place` on, sets `reading`, and returns the status: one of those of `changes`, which is
-/// `NO_MEMORY` if there is no memory for the buffers.
+/// Reads the header of a dump with this token limit, fills the rows with the changes of the
+/// identifier code `code` from `reading.place` on, sets `reading`, and returns the status: `DONE`,
+/// `FAULT`, `NO_CODE`, `NO_MEMORY`, `FULL` or `BAD_PLACE`.
 fn read_under<B: BuildHasher>(
     alloc: Global,
     limit: usize,

@@ -89,11 +89,13 @@ impl<'r> Visit<Rows<'r>> for Collecting {
 
     ghost over = { λ _. false };
 
+    /// Returns whether the rows are full.
     #[inline(always)]
     fn ends_before(&self, _rows: &Rows<'r>, _time: u64) -> bool {
         self.is_full()
     }
 
+    /// Returns false: only `ends_before` ends such a walk.
     #[inline(always)]
     fn is_over(&self) -> bool
         ensures { result ≡ false }
@@ -101,6 +103,7 @@ impl<'r> Visit<Rows<'r>> for Collecting {
         false
     }
 
+    /// Does nothing: `regs` has the time at each change.
     #[inline(always)]
     fn take_timestamp(
         &mut self,
@@ -112,6 +115,8 @@ impl<'r> Visit<Rows<'r>> for Collecting {
         _extent: Extent<'_>,
     ) {}
 
+    /// Fills the next row with a change of the code, unless the rows are full. Any other change
+    /// does nothing.
     #[inline(always)]
     fn take_change<W: Sink>(
         &mut self,
@@ -133,6 +138,7 @@ impl<'r> Visit<Rows<'r>> for Collecting {
         Ok(())
     }
 
+    /// Does nothing.
     #[inline(always)]
     fn take_section<W: Sink>(
         &mut self,
