@@ -164,6 +164,7 @@ impl<D: Write + Drop> Sink for Buffered<D> {
 
     ghost kept_back = { λ sink. sink.buffer.len };
 
+    /// Takes bytes into the buffer, or writes to the device if they fill it or have no room.
     #[inline(always)]
     fn write(&mut self, from: &[u8]) -> Result<usize, WriteFailed> {
         if from.is_empty() || from.len() < ROOM - self.buffer.len {
@@ -176,6 +177,8 @@ impl<D: Write + Drop> Sink for Buffered<D> {
         }
     }
 
+    /// Takes the first `n` of these bytes into the buffer. Returns false, and takes none, if it has
+    /// no room for all 8.
     #[inline(always)]
     fn write_few(&mut self, bytes: [u8; 8], n: usize) -> bool {
         if self.buffer.len > ROOM - FEW {
@@ -185,6 +188,8 @@ impl<D: Write + Drop> Sink for Buffered<D> {
         true
     }
 
+    /// Takes the first `n` bytes of `from` into the buffer. Returns false, and takes none, if `n`
+    /// is above 64, if `from` has fewer than 64 bytes, or if the buffer is nearly full.
     #[inline(always)]
     fn write_front(&mut self, from: &[u8], n: usize) -> bool {
         if !self.buffer.has_room(from, n) {
@@ -194,6 +199,9 @@ impl<D: Write + Drop> Sink for Buffered<D> {
         true
     }
 
+    /// Takes `first`, the first `n` bytes of `from` and the first `m` of `end` into the buffer.
+    /// Returns false, and takes none, if `n` is above 64, if `from` has fewer than 64 bytes, or if
+    /// the buffer is nearly full.
     #[inline(always)]
     fn write_parts(&mut self, first: u8, from: &[u8], n: usize, end: [u8; 8], m: usize) -> bool {
         if !self.buffer.has_room(from, n) {
@@ -203,6 +211,7 @@ impl<D: Write + Drop> Sink for Buffered<D> {
         true
     }
 
+    /// Writes what is in the buffer to the device. Fails if a write fails, and counts that failure.
     fn pass_on(&mut self) -> Result<(), WriteFailed> {
         match self.write_kept() {
             Ok(()) => Ok(()),
@@ -214,6 +223,7 @@ impl<D: Write + Drop> Sink for Buffered<D> {
         }
     }
 
+    /// Returns how many calls of `write` and `pass_on` have failed.
     fn failures(&self) -> u64 {
         self.failures
     }
@@ -226,6 +236,8 @@ impl<D: Write + Drop> Output for Buffered<D> {
     // If the call succeeds, no byte is left in the buffer.
     ghost flushes = { λ _ done new. done ≡ true → kept new.buffer ≡ [] };
 
+    /// Writes what is in the buffer to the device, and flushes the device. Fails if a call of the
+    /// device fails; that is not counted.
     fn flush(&mut self) -> Result<(), WriteFailed> {
         self.write_kept()?;
         self.device.flush().map_err(|_| WriteFailed)
@@ -233,6 +245,7 @@ impl<D: Write + Drop> Output for Buffered<D> {
 }
 
 impl<D: Write + Drop> Drop for Buffered<D> {
+    /// Writes what is in the buffer to the device. A failure is ignored.
     fn drop(mut self) {
         let _ = self.write_kept();
         let Buffered {

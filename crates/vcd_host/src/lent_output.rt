@@ -88,6 +88,8 @@ impl Sink for LentOutput<'_> {
 
     ghost kept_back = { λ _. 0 };
 
+    /// Writes bytes into the slice as far as it has room. Once it is full, bytes are counted and
+    /// dropped.
     #[inline(always)]
     fn write(&mut self, from: &[u8]) -> Result<usize, WriteFailed> {
         if from.len() >= self.bytes.len() - self.used {
@@ -99,6 +101,8 @@ impl Sink for LentOutput<'_> {
         Ok(from.len())
     }
 
+    /// Writes the first `n` of these bytes. Returns false, and writes none, if the slice has no
+    /// room for more than 8.
     #[inline(always)]
     fn write_few(&mut self, bytes: [u8; 8], n: usize) -> bool {
         if self.bytes.len() - self.used <= FEW {
@@ -109,6 +113,8 @@ impl Sink for LentOutput<'_> {
         true
     }
 
+    /// Writes the first `n` bytes of `from`. Returns false, and writes none, if `n` is above 64, if
+    /// `from` has fewer than 64 bytes, or if the slice has no room for more than 64.
     #[inline(always)]
     fn write_front(&mut self, from: &[u8], n: usize) -> bool {
         if n > SHORT || from.len() < SHORT || self.bytes.len() - self.used <= SHORT {
@@ -119,6 +125,9 @@ impl Sink for LentOutput<'_> {
         true
     }
 
+    /// Writes `first`, the first `n` bytes of `from` and the first `m` of `end`. Returns false, and
+    /// writes none, if `n` is above 64, if `from` has fewer than 64 bytes, or if the slice has no
+    /// room for more than 73.
     #[inline(always)]
     fn write_parts(&mut self, first: u8, from: &[u8], n: usize, end: [u8; 8], m: usize) -> bool {
         if n > SHORT || from.len() < SHORT || self.bytes.len() - self.used <= PARTS {
@@ -129,11 +138,13 @@ impl Sink for LentOutput<'_> {
         true
     }
 
+    /// Does nothing, since no bytes are kept back.
     #[inline(always)]
     fn pass_on(&mut self) -> Result<(), WriteFailed> {
         Ok(())
     }
 
+    /// Returns 0: no write fails.
     fn failures(&self) -> u64 {
         0
     }
@@ -143,6 +154,7 @@ impl Sink for LentOutput<'_> {
 impl Output for LentOutput<'_> {
     ghost flushes = { λ old done new. (done ≡ true) × (new ≡ old) };
 
+    /// Does nothing, since no bytes are kept back.
     fn flush(&mut self) -> Result<(), WriteFailed> {
         Ok(())
     }
