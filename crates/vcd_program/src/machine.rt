@@ -50,6 +50,7 @@ impl<R: Read> Measured<R> {
 impl<R: Read> Read for Measured<R> {
     ghost remaining = { λ bytes. measured_left R.remaining bytes };
 
+    /// Reads from the reader, up to its limit if it has one.
     fn read(&mut self, into: &mut [u8]) -> io::Result<usize> {
         match self {
             Measured::AtMost(reader) => reader.read(into),
@@ -124,21 +125,28 @@ impl Machine for HostRuntime {
 
     ghost gives = { λ _ _. ⊤ };
 
+    /// Opens the file of this name. If it is short, it is read only up to the length that it has
+    /// now.
     fn open(&self, name: &str) -> io::Result<Measured<File>> {
         let file = File::open(self, name)?;
         let len = short_len(file.metadata());
         Ok(Measured::new(file, len))
     }
 
+    /// Returns standard input. If that is a short file, it is read only up to the length that it
+    /// has now.
     fn input(&self) -> Measured<Stdin> {
         let len = short_len(fs::metadata(self, STANDARD_INPUT));
         Measured::new(self.stdin(), len)
     }
 
+    /// Returns the length up to which a short file is read; `None` for any other.
     fn max_bytes_of_file(file: &Measured<File>) -> Option<usize> {
         file.max_bytes()
     }
 
+    /// Returns the length up to which standard input is read if it is a short file; `None` for any
+    /// other.
     fn max_bytes_of_input(input: &Measured<Stdin>) -> Option<usize> {
         input.max_bytes()
     }
@@ -159,6 +167,7 @@ pub enum Stream<F, I> {
 impl<F: Read, I: Read> Read for Stream<F, I> {
     ghost remaining = { λ stream. bytes_left F.remaining I.remaining stream };
 
+    /// Reads from the file or from standard input. Each read of `Refused` fails.
     fn read(&mut self, into: &mut [u8]) -> io::Result<usize> {
         match self {
             Stream::File(file) => file.read(into),
@@ -195,6 +204,8 @@ impl<M: Machine> Host for MachineHost<'_, M> {
 
     ghost opens = { λ old name result new. OpensOn M.opens M.gives old name result new };
 
+    /// Opens the file of this name on the machine, or standard input if `name` is `None`. Fails if
+    /// the machine cannot open it, or has no memory for it.
     fn open(&mut self, name: Option<&str>) -> Result<Watch<Stream<M::File, M::Input>>, OpenFault> {
         let Some(name) = name else {
             return Ok(self.input(Stream::Input(Again::new(self.machine.input()))));
@@ -206,6 +217,8 @@ impl<M: Machine> Host for MachineHost<'_, M> {
         }
     }
 
+    /// Returns a number of bytes that the reads of this input do not exceed; `None` if the machine
+    /// knows none.
     fn max_bytes_of(input: &Watch<Stream<M::File, M::Input>>) -> Option<usize>
         ensures { GivesAtMost
             (⟦<Watch<Stream<M::File, M::Input>> as Source>⟧.rest input.now) result }

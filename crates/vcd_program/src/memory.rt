@@ -80,6 +80,8 @@ impl<'a> Host for Memory<'a> {
 
     ghost opens = { λ old name result new. OpensIn old name result new };
 
+    /// Returns the bytes of the first file of this name, or those of standard input if `name` is
+    /// `None`, and notes the name. Fails if no file has it, or if memory runs out.
     fn open(&mut self, name: Option<&str>) -> Result<Bytes<'a>, OpenFault> {
         if self.note(name).is_err() {
             return Err(OpenFault::OutOfMemory);
@@ -90,6 +92,7 @@ impl<'a> Host for Memory<'a> {
         }
     }
 
+    /// Returns how many bytes of this input are left.
     fn max_bytes_of(input: &Bytes<'a>) -> Option<usize> {
         Some(input.rest.len())
     }
