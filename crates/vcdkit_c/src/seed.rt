@@ -22,6 +22,7 @@ impl BuildHasher for Seed {
 
     ghost build_hasher = { λ seed. seed.initial };
 
+    /// Returns a hasher that was fed only the number of this seed.
     fn build_hasher(&self) -> DefaultHasher {
         self.initial
     }
