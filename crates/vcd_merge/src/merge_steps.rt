@@ -30,9 +30,9 @@ fn greatest_time(seats: &[Seat]) -> Option<u64>
 }
 
 /// Handles the items of a turn: of the input `turn.input`, until its time reaches `turn.before`,
-/// with its seat, its source and its parts of the windows. Nothing of other inputs changes.
-/// `written` is the time whose line was written last. Fails at a fault of the input, at a failed
-/// read of it, and at a failed write.
+/// with its source and its parts of the windows. Its seat has its state after these items, and
+/// `written` the time whose line was written last, as it had before. Nothing of other inputs
+/// changes. Fails at a fault of the input, at a failed read of it, and at a failed write.
 #[inline(always)]
 fn run_turn<S: Source, W: Sink>(
     heads: &[Head],
@@ -145,8 +145,9 @@ fn close<W: Sink>(seats: &[Seat], written: Option<u64>, out: &mut W) -> Result<(
 
 /// Handles the items of the next turn, and puts its input back into the order. Returns `Again` if
 /// some input has not finished; otherwise writes the end of the merged dump and returns `Ended`.
-/// `written` is the time whose line was written last. Fails at a fault of the input whose turn it
-/// is, at a failed read of it, and at a failed write.
+/// The seats have the states of the inputs after that, and `written` the time whose line was
+/// written last. Fails at a fault of the input whose turn it is, at a failed read of it, and at a
+/// failed write.
 #[inline(always)]
 fn run_next<S: Source, W: Sink>(
     heads: &[Head],

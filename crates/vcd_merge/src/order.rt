@@ -60,7 +60,7 @@ pub(crate) struct TurnOrder {
 impl TurnOrder {
     ghost use Rattle.std.specs.Prelude.{◌≤◌};
 
-    /// Returns the index in `inputs` at which to insert an input, so that they stay in order. The
+    /// Returns the index in `inputs` at which to insert `input`, so that they stay in order. The
     /// inputs from there on come before it in the merge, and those below do not.
     #[inline(always)]
     fn index_for(&self, input: usize, seats: &[Seat]) -> usize

@@ -49,8 +49,9 @@ fn put_section<W: Sink>(
 }
 
 impl<'r> Cut<'r> {
-    /// Begins a `cut` from `from` to `to`, in ticks: writes the header, and the start section if
-    /// `from` is 0. `from` is at most `to`. Fails if a write does.
+    /// Begins the task `cut` from `from` to `to`, in ticks: writes the header, and the start
+    /// section if `from` is 0. `from` is at most `to`. Values are kept in memory of `room`. Fails
+    /// if a write does.
     pub(crate) fn start<W: Sink>(
         view: HeadView<'_>,
         room: Room<'r>,

@@ -22,8 +22,8 @@ pub(crate) struct Edges<'n, 'r> {
 }
 
 impl<'n, 'r> Edges<'n, 'r> {
-    /// Begins an `edges` of the variables that the names select (all if there are no names): marks
-    /// them. Writes nothing. Fails at a name that selects nothing.
+    /// Begins the task `edges` for the variables that the names select (all if there are no names):
+    /// marks them in memory of `room`. Writes nothing. Fails at a name that selects nothing.
     pub(crate) fn start(
         view: HeadView<'_>,
         room: Room<'r>,

@@ -25,9 +25,9 @@ pub(crate) struct Pick<'n, 'r> {
 }
 
 impl<'n, 'r> Pick<'n, 'r> {
-    /// Begins a `pick` of the variables that the names select (all if there are no names): marks
-    /// them, and writes their header. Fails at a name that selects nothing, before anything is
-    /// written, and at a failed write.
+    /// Begins the task `pick` for the variables that the names select (all if there are no names):
+    /// marks them in memory of `room`, and writes their header. Fails at a name that selects
+    /// nothing, before anything is written, and at a failed write.
     pub(crate) fn start<W: Sink>(
         view: HeadView<'_>,
         room: Room<'r>,

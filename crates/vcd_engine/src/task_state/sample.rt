@@ -37,9 +37,10 @@ fn count_below(times: &[u64], time: u64) -> usize
 }
 
 impl<'n, 'r> Sample<'n, 'r> {
-    /// Begins a `sample` at these times of the variables that the names select (all if there are no
-    /// names): marks them. Writes nothing. `times` has at least one time, in ticks, and each is
-    /// above the one before it. Fails at a name that selects nothing.
+    /// Begins the task `sample` at these times for the variables that the names select (all if
+    /// there are no names): marks them in memory of `room`. Writes nothing. `times` has at least
+    /// one time, in ticks, and each is above the one before it. Fails at a name that selects
+    /// nothing.
     pub(crate) fn start(
         view: HeadView<'_>,
         room: Room<'r>,
