@@ -67,9 +67,9 @@ fn run_in<S: Source, W: Sink>(
     }
 }
 
-/// Runs what is wanted over the body that follows the header of `view`: converts the times in
-/// `want` to ticks, takes memory, and then calls `run_in`, which takes no more. Returns what ended
-/// it. Fails if the times are refused, if memory runs out, or if `run_in` fails.
+/// Runs what is wanted over the body that follows the header of `view`: converts the times of a
+/// `sample` in `want` to ticks, takes memory, and then calls `run_in`, which takes no more. Returns
+/// what ended it. Fails if the times are refused, if memory runs out, or if `run_in` fails.
 fn run_want<S: Source, W: Sink>(
     alloc: Global,
     want: &mut Want,
