@@ -56,13 +56,13 @@ ReadsWord old new r = (most : ℕ) (i : Input) (placed : List (Placed HeaderPhra
 abbrev pub ReadsText : {X A : Type 0} {g : Ghosts X} → Keyword → (old : Draft) → Feed X g → (new : Draft) → Feed X g → Result A HeadFault → Type 0
 ReadsText k old before new after r = (most : ℕ) → ReadsPhrase most k old before new after r
 
--- after a token that is no keyword the rest of its phrase was read
-abbrev pub ReadsOther : {X A : Type 0} {g : Ghosts X} → (old : Draft) → Feed X g → (new : Draft) → Feed X g → Result A HeadFault → Type 0
-ReadsOther old before new after r = (most : ℕ) (i : Input) → AtOther most i old before → OrFails most i after (λ _. DraftsUpTo most i new after) r
+-- after a token that is no keyword the rest of its phrase was read, which changes no draft
+abbrev pub ReadsOther : {X A : Type 0} {g : Ghosts X} → Feed X g → Feed X g → Result A HeadFault → Type 0
+ReadsOther before after r = (most : ℕ) (i : Input) (draft : Draft) → AtOther most i draft before → OrFails most i after (λ _. DraftsUpTo most i draft after) r
 
--- after its keyword the end of the header was read
-abbrev pub ReadsEnd : {X A : Type 0} {g : Ghosts X} → (old : Draft) → Feed X g → (new : Draft) → Feed X g → Result A HeadFault → Type 0
-ReadsEnd old before new after r = (most : ℕ) (i : Input) → AtKeyword most i Keyword.EndDefinitions old before → OrFails most i after (λ _. DraftsAll most i new after) r
+-- after its keyword the end of the header was read, which changes no draft
+abbrev pub ReadsEnd : {X A : Type 0} {g : Ghosts X} → Feed X g → Feed X g → Result A HeadFault → Type 0
+ReadsEnd before after r = (most : ℕ) (i : Input) (draft : Draft) → AtKeyword most i Keyword.EndDefinitions draft before → OrFails most i after (λ _. DraftsAll most i draft after) r
 
 -- after its first token, which is this keyword or none, the rest of a phrase was read
 abbrev pub ReadsRest : {X A : Type 0} {g : Ghosts X} → ℕ → Option WordOf → (old : Draft) → Feed X g → (new : Draft) → Feed X g → Result A HeadFault → Type 0

@@ -16,14 +16,10 @@ use vcd_view::{Keyword, keyword_of};
 
 /// Reads the rest of a command that is no keyword, up to its `$end`; the feed's token is its first
 /// one. Fails with `OutOfPlace` if that token could begin a timestamp or a value change, with
-/// `UnknownCommand` if it is no command, and if the `$end` cannot be read. The draft stays as it
-/// is.
-fn read_other<S: Source>(
-    feed: &mut Feed<'_, '_, '_, '_, S>,
-    draft: &mut Draft,
-) -> Result<(), HeadFault>
+/// `UnknownCommand` if it is no command, and if the `$end` cannot be read.
+fn read_other<S: Source>(feed: &mut Feed<'_, '_, '_, '_, S>) -> Result<(), HeadFault>
     requires { S.failures (source_of feed.old) < 2 ^ 64 - 1 }
-    ensures reads { ReadsOther draft.old feed.old draft.new feed.new result }
+    ensures reads { ReadsOther feed.old feed.new result }
     ensures advances { MovesOn S.failures feed.old feed.new result }
 {
     if begins_change(feed.token()) {
@@ -36,13 +32,10 @@ fn read_other<S: Source>(
 }
 
 /// Reads the `$end` after `$enddefinitions`. Fails with `OutOfPlace` if another token comes next,
-/// and if none can be read. The draft stays as it is.
-fn read_end<S: Source>(
-    feed: &mut Feed<'_, '_, '_, '_, S>,
-    draft: &mut Draft,
-) -> Result<(), HeadFault>
+/// and if none can be read.
+fn read_end<S: Source>(feed: &mut Feed<'_, '_, '_, '_, S>) -> Result<(), HeadFault>
     requires { S.failures (source_of feed.old) < 2 ^ 64 - 1 }
-    ensures reads { ReadsEnd draft.old feed.old draft.new feed.new result }
+    ensures reads { ReadsEnd feed.old feed.new result }
     ensures advances { MovesOn S.failures feed.old feed.new result }
 {
     if next_ends(feed)? {
@@ -111,12 +104,12 @@ fn read_rest<S: Source>(
         Some(Keyword::Scope) => read_scope(alloc, feed, most, draft),
         Some(Keyword::Upscope) => read_upscope(feed, most, draft),
         Some(Keyword::Var) => read_variable(alloc, feed, most, draft),
-        Some(Keyword::EndDefinitions) => read_end(feed, draft),
+        Some(Keyword::EndDefinitions) => read_end(feed),
         Some(Keyword::DumpAll) => Err(HeadFault::OutOfPlace),
         Some(Keyword::DumpOff) => Err(HeadFault::OutOfPlace),
         Some(Keyword::DumpOn) => Err(HeadFault::OutOfPlace),
         Some(Keyword::DumpVars) => Err(HeadFault::OutOfPlace),
         Some(Keyword::End) => Err(HeadFault::OutOfPlace),
-        None => read_other(feed, draft),
+        None => read_other(feed),
     }
 }
