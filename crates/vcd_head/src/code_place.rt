@@ -43,9 +43,9 @@ pub(crate) fn enter_code(
     Ok(Some(position))
 }
 
-/// Returns the index in `known` of the code with these bytes, and whether it is new. If it is, adds
-/// its number or its key to `known`, but not yet the code to `known.list`. Fails only with
-/// `OutOfMemory`, and only for a new code.
+/// Returns the index in `known` of the code with these bytes, and whether it is new. A new code is
+/// added to what it is found by (`known.rising` or `known.keys`), but not yet to `known.list`.
+/// Fails only with `OutOfMemory`, and only for a new code.
 #[inline(always)]
 fn enter_key(alloc: Global, known: &mut Codes, bytes: &[u8]) -> Result<(usize, bool), HeadFault>
     ensures enters { Rises known.old.rising.items

@@ -144,8 +144,8 @@ fn is_free(entries: &[Entry], at: usize) -> bool
     }
 }
 
-/// Returns an entry with this key for the code at index `position`. It is an empty entry if the
-/// index does not fit into 32 bits.
+/// Returns an entry for the code at index `position`, with this key and the size of the code. It is
+/// an empty entry if the index does not fit into 32 bits.
 #[inline(always)]
 fn entry_with(position: usize, code: Code, key: u64) -> Entry
     ensures short { (text : List ℕ) (codes : List Code) → slice_get codes position ≡ Some code
