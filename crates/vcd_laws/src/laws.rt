@@ -19,394 +19,377 @@ pub use vcd_model::laws::{
     nothing_revised_in_merge, requests_are_valid, room_fits, short_is_shortest, ticks_are_rounded,
 };
 
-/// Proves that what words ask for is a job, and its token limit is in range.
+/// What words ask for is a job, and its token limit is in range.
 pub fn jobs_are_valid()
     ensures { JobsAreValid }
 {}
 
-/// Proves that what `pick` writes gives the selected codes their values.
+/// What `pick` writes gives the selected codes their values.
 pub fn pick_keeps()
     ensures { PickKeeps }
 {}
 
-/// Proves that what `cut` writes gives each code its values between its times.
+/// What `cut` writes gives each code its values between its times.
 pub fn cut_keeps()
     ensures { CutKeeps }
 {}
 
-/// Proves that the changes under a merged code are those of one input's code.
+/// The changes under a merged code are those of one input's code.
 pub fn merge_keeps_changes()
     ensures { MergeKeepsChanges }
 {}
 
-/// Proves that the changes under a merged code before a fault are those of one input's code before
-/// it.
+/// The changes under a merged code before a fault are those of one input's code before it.
 pub fn merge_keeps_changes_before()
     ensures { MergeKeepsChangesBefore }
 {}
 
-/// Proves that what `merge` writes gives each merged code its values at scaled times.
+/// What `merge` writes gives each merged code its values at scaled times.
 pub fn merge_keeps()
     ensures { MergeKeeps }
 {}
 
-/// Proves that the output of a run of `pick` with status 0 gives the selected codes their values.
+/// The output of a run of `pick` with status 0 gives the selected codes their values.
 pub fn pick_run_keeps()
     ensures { PickRunKeeps }
 {}
 
-/// Proves that the output of a run of `cut` with status 0 gives each code its values between its
-/// times.
+/// The output of a run of `cut` with status 0 gives each code its values between its times.
 pub fn cut_run_keeps()
     ensures { CutRunKeeps }
 {}
 
-/// Proves that the output of a run of `merge` with status 0 gives each merged code its values.
+/// The output of a run of `merge` with status 0 gives each merged code its values.
 pub fn merge_run_keeps()
     ensures { MergeRunKeeps }
 {}
 
-/// Proves that a written head is read again as what it was written from.
+/// A written head is read again as what it was written from.
 pub fn head_is_read_back()
     ensures { HeadIsReadBack }
 {}
 
-/// Proves that a merged head is read again as what it was written from.
+/// A merged head is read again as what it was written from.
 pub fn merged_head_is_read_back()
     ensures { MergedHeadIsReadBack }
 {}
 
-/// Proves that the output of a run of `pick` with status 0 is a dump of the selected variables.
+/// The output of a run of `pick` with status 0 is a dump of the selected variables.
 pub fn pick_is_a_dump()
     ensures { PickIsADump }
 {}
 
-/// Proves that the output of a run of `cut` with status 0 is a dump of all variables, between its
-/// times.
+/// The output of a run of `cut` with status 0 is a dump of all variables, between its times.
 pub fn cut_is_a_dump()
     ensures { CutIsADump }
 {}
 
-/// Proves that the output of a run of `merge` with status 0 is a dump of all variables.
+/// The output of a run of `merge` with status 0 is a dump of all variables.
 pub fn merge_is_a_dump()
     ensures { MergeIsADump }
 {}
 
-/// Proves that what `pick` wrote has the selected variables in their scopes and all their changes,
-/// events too, in order and at their times.
+/// What `pick` wrote has the selected variables in their scopes and all their changes, events too,
+/// in order and at their times.
 pub fn pick_keeps_all()
     ensures { PickKeepsAll }
 {}
 
-/// Proves that what `cut` wrote has all variables in their scopes, the values before its first
-/// time, and all changes between its times, events too, in order.
+/// What `cut` wrote has all variables in their scopes, the values before its first time, and all
+/// changes between its times, events too, in order.
 pub fn cut_keeps_all()
     ensures { CutKeepsAll }
 {}
 
-/// Proves that `list` of what `pick` wrote has the rows of the selected variables.
+/// `list` of what `pick` wrote has the rows of the selected variables.
 pub fn list_of_pick()
     ensures { ListOfPick }
 {}
 
-/// Proves that `sample` of what `pick` wrote is `sample` of its input.
+/// `sample` of what `pick` wrote is `sample` of its input.
 pub fn sample_of_pick()
     ensures { SampleOfPick }
 {}
 
-/// Proves that `edges` of what `pick` wrote is `edges` of its input.
+/// `edges` of what `pick` wrote is `edges` of its input.
 pub fn edges_of_pick()
     ensures { EdgesOfPick }
 {}
 
-/// Proves that `sample` without names of what `pick` wrote is `sample` of its input with the names
-/// of the pick.
+/// `sample` without names of what `pick` wrote is `sample` of its input with the names of the pick.
 pub fn sample_of_all_picked()
     ensures { SampleOfAllPicked }
 {}
 
-/// Proves that `edges` without names of what `pick` wrote is `edges` of its input with the names of
-/// the pick.
+/// `edges` without names of what `pick` wrote is `edges` of its input with the names of the pick.
 pub fn edges_of_all_picked()
     ensures { EdgesOfAllPicked }
 {}
 
-/// Proves that `sample` of what `pick` wrote is `sample` of its input, for what both select.
+/// `sample` of what `pick` wrote is `sample` of its input, for what both select.
 pub fn sample_of_some_picked()
     ensures { SampleOfSomePicked }
 {}
 
-/// Proves that `edges` of what `pick` wrote is `edges` of its input, for what both select.
+/// `edges` of what `pick` wrote is `edges` of its input, for what both select.
 pub fn edges_of_some_picked()
     ensures { EdgesOfSomePicked }
 {}
 
-/// Proves that `pick` of what `pick` wrote, with the same names, writes it again.
+/// `pick` of what `pick` wrote, with the same names, writes it again.
 pub fn pick_twice()
     ensures { PickTwice }
 {}
 
-/// Proves that `pick` of what `pick` wrote is `pick` of its input, for what both select, if it has
-/// a timestamp.
+/// `pick` of what `pick` wrote is `pick` of its input, for what both select, if it has a
+/// timestamp.
 pub fn pick_of_pick()
     ensures { PickOfPick }
 {}
 
-/// Proves that `list` of what `cut` wrote is `list` of its input.
+/// `list` of what `cut` wrote is `list` of its input.
 pub fn list_of_cut()
     ensures { ListOfCut }
 {}
 
-/// Proves that `sample` of what `cut` wrote is `sample` of its input, at times that were kept.
+/// `sample` of what `cut` wrote is `sample` of its input, at times that were kept.
 pub fn sample_of_cut()
     ensures { SampleOfCut }
 {}
 
-/// Proves that `sample` of what `cut` wrote gives the values of its input between the times of the
-/// cut, none before them, and after them those at the second.
+/// `sample` of what `cut` wrote gives the values of its input between the times of the cut, none
+/// before them, and after them those at the second.
 pub fn sample_of_cut_anywhere()
     ensures { SampleOfCutAnywhere }
 {}
 
-/// Proves that `edges` of what `cut` wrote counts from the value before the first of its times to
-/// that at the second.
+/// `edges` of what `cut` wrote counts from the value before the first of its times to that at the
+/// second.
 pub fn edges_of_cut()
     ensures { EdgesOfCut }
 {}
 
-/// Proves that `cut` of what `cut` wrote, from a later time to one that is not later, is `cut` of
-/// its input.
+/// `cut` of what `cut` wrote, from a later time to one that is not later, is `cut` of its input.
 pub fn cut_twice()
     ensures { CutTwice }
 {}
 
-/// Proves that `cut` of what `cut` wrote, from a later time to one past its end, is `cut` of its
-/// input to that end.
+/// `cut` of what `cut` wrote, from a later time to one past its end, is `cut` of its input to that
+/// end.
 pub fn cut_past_end()
     ensures { CutPastEnd }
 {}
 
-/// Proves that `cut` of what `cut` wrote is a dump of all variables, at times within both.
+/// `cut` of what `cut` wrote is a dump of all variables, at times within both.
 pub fn cut_of_cut()
     ensures { CutOfCut }
 {}
 
-/// Proves that `cut` of what `pick` wrote is a dump of what was picked, between the times of the
-/// cut.
+/// `cut` of what `pick` wrote is a dump of what was picked, between the times of the cut.
 pub fn cut_of_pick()
     ensures { CutOfPick }
 {}
 
-/// Proves that `pick` of what `cut` wrote is a dump of what was picked, between the times of the
-/// cut.
+/// `pick` of what `cut` wrote is a dump of what was picked, between the times of the cut.
 pub fn pick_of_cut()
     ensures { PickOfCut }
 {}
 
-/// Proves that `list` of what `merge` wrote has the rows of each input in turn, with new codes.
+/// `list` of what `merge` wrote has the rows of each input in turn, with new codes.
 pub fn list_of_merge()
     ensures { ListOfMerge }
 {}
 
-/// Proves that `sample` of what `merge` wrote gives the values of each input, at scaled times and
-/// under its scope.
+/// `sample` of what `merge` wrote gives the values of each input, at scaled times and under its
+/// scope.
 pub fn sample_of_merge()
     ensures { SampleOfMerge }
 {}
 
-/// Proves that `edges` of what `merge` wrote gives the counts of each input, under its scope.
+/// `edges` of what `merge` wrote gives the counts of each input, under its scope.
 pub fn edges_of_merge()
     ensures { EdgesOfMerge }
 {}
 
-/// Proves that `sample` of what `merge` wrote gives the values of one input, at any times and for
-/// its scope.
+/// `sample` of what `merge` wrote gives the values of one input, at any times and for its scope.
 pub fn sample_of_one_merged()
     ensures { SampleOfOneMerged }
 {}
 
-/// Proves that `sample` of what `merge` wrote, without names, gives the values of all inputs at any
-/// times.
+/// `sample` of what `merge` wrote, without names, gives the values of all inputs at any times.
 pub fn sample_of_all_merged()
     ensures { SampleOfAllMerged }
 {}
 
-/// Proves that `edges` of what `merge` wrote gives the counts of one input, for its scope.
+/// `edges` of what `merge` wrote gives the counts of one input, for its scope.
 pub fn edges_of_one_merged()
     ensures { EdgesOfOneMerged }
 {}
 
-/// Proves that `edges` of what `merge` wrote, without names, gives the counts of all inputs.
+/// `edges` of what `merge` wrote, without names, gives the counts of all inputs.
 pub fn edges_of_all_merged()
     ensures { EdgesOfAllMerged }
 {}
 
-/// Proves that `sample` of what `merge` wrote gives the values of variables of any inputs, at any
-/// times.
+/// `sample` of what `merge` wrote gives the values of variables of any inputs, at any times.
 pub fn sample_of_any_merged()
     ensures { SampleOfAnyMerged }
 {}
 
-/// Proves that `edges` of what `merge` wrote gives the counts of variables of any inputs.
+/// `edges` of what `merge` wrote gives the counts of variables of any inputs.
 pub fn edges_of_any_merged()
     ensures { EdgesOfAnyMerged }
 {}
 
-/// Proves that `check` of what `pick` wrote counts the selected variables and what was kept of the
-/// body.
+/// `check` of what `pick` wrote counts the selected variables and what was kept of the body.
 pub fn check_of_pick()
     ensures { CheckOfPick }
 {}
 
-/// Proves that `check` of what `cut` wrote counts all variables, the start section and what was
-/// kept of the body.
+/// `check` of what `cut` wrote counts all variables, the start section and what was kept of the
+/// body.
 pub fn check_of_cut()
     ensures { CheckOfCut }
 {}
 
-/// Proves that `check` of what `merge` wrote counts what all inputs declare, a scope more for each,
-/// and the changes that were kept.
+/// `check` of what `merge` wrote counts what all inputs declare, a scope more for each, and the
+/// changes that were kept.
 pub fn check_of_merge()
     ensures { CheckOfMerge }
 {}
 
-/// Proves that if `check` ends well, every other command whose names and times fit the header ends
-/// well.
+/// If `check` ends well, every other command whose names and times fit the header ends well.
 pub fn checked_is_safe()
     ensures { CheckedIsSafe }
 {}
 
-/// Proves that if `check` names a fault, every other command whose names and times fit the header
-/// names it too, or ends well before it.
+/// If `check` names a fault, every other command whose names and times fit the header names it too,
+/// or ends well before it.
 pub fn check_names_the_fault()
     ensures { CheckNamesTheFault }
 {}
 
-/// Proves that if `pick` or `edges` ends well, so does `check`.
+/// If `pick` or `edges` ends well, so does `check`.
 pub fn clean_is_checked()
     ensures { CleanIsChecked }
 {}
 
-/// Proves that if `check` of each input ends well, their merge ends well, or names a timestamp that
-/// is too large.
+/// If `check` of each input ends well, their merge ends well, or names a timestamp that is too
+/// large.
 pub fn checked_merge_is_safe()
     ensures { CheckedMergeIsSafe }
 {}
 
-/// Proves that a merge ends well, or names what `check` names of one of its inputs, or a timestamp
-/// that is too large.
+/// A merge ends well, or names what `check` names of one of its inputs, or a timestamp that is too
+/// large.
 pub fn merge_names_the_fault()
     ensures { MergeNamesTheFault }
 {}
 
-/// Proves that the outcome of a run is the same whatever follows the first tokens that settle it.
+/// The outcome of a run is the same whatever follows the first tokens that settle it.
 pub fn settled_is_final()
     ensures { SettledIsFinal }
 {}
 
-/// Proves that the outcome of a merge is the same whatever follows the first tokens that settle one
-/// of its inputs.
+/// The outcome of a merge is the same whatever follows the first tokens that settle one of its
+/// inputs.
 pub fn settled_is_final_in_merge()
     ensures { SettledIsFinalInMerge }
 {}
 
-/// Proves that the outcome of a merge is the same whatever follows what is known of all its inputs
-/// and settles it.
+/// The outcome of a merge is the same whatever follows what is known of all its inputs and settles
+/// it.
 pub fn settled_merge_is_final()
     ensures { SettledMergeIsFinal }
 {}
 
-/// Proves that what settles each input of a merge by itself settles the merge.
+/// What settles each input of a merge by itself settles the merge.
 pub fn settled_alone_settles_merge()
     ensures { SettledAloneSettlesMerge }
 {}
 
-/// Proves that if first tokens do not settle a run, they leave it open: two inputs begin with them,
-/// and end in different ways.
+/// If first tokens do not settle a run, they leave it open: two inputs begin with them, and end in
+/// different ways.
 pub fn unsettled_is_open()
     ensures { UnsettledIsOpen }
 {}
 
-/// Proves that if what is known of inputs does not settle their merge, it leaves it open: two lists
-/// of inputs agree with it, and end in different ways.
+/// If what is known of inputs does not settle their merge, it leaves it open: two lists of inputs
+/// agree with it, and end in different ways.
 pub fn unsettled_merge_is_open()
     ensures { UnsettledMergeIsOpen }
 {}
 
-/// Proves that what is due with more tokens of an input begins with what is due with fewer.
+/// What is due with more tokens of an input begins with what is due with fewer.
 pub fn due_grows()
     ensures { DueGrows }
 {}
 
-/// Proves that the output over every input that begins with some tokens begins with what is due
-/// with them.
+/// The output over every input that begins with some tokens begins with what is due with them.
 pub fn due_is_never_revised()
     ensures { DueIsNeverRevised }
 {}
 
-/// Proves that if reading is halted after some tokens, the output is what is due with them.
+/// If reading is halted after some tokens, the output is what is due with them.
 pub fn due_is_left_at_a_halt()
     ensures { DueIsLeftAtAHalt }
 {}
 
-/// Proves that a text begins the output over every input that begins with some tokens if and only
-/// if it begins what is due with them.
+/// A text begins the output over every input that begins with some tokens if and only if it begins
+/// what is due with them.
 pub fn due_is_all_that_is_known()
     ensures { DueIsAllThatIsKnown }
 {}
 
-/// Proves that if some tokens settle a run, its output is what is due with them.
+/// If some tokens settle a run, its output is what is due with them.
 pub fn settled_due_is_all()
     ensures { SettledDueIsAll }
 {}
 
-/// Proves that what is due in a merge if more is known of its inputs begins with what is due if
-/// less is.
+/// What is due in a merge if more is known of its inputs begins with what is due if less is.
 pub fn merge_due_grows()
     ensures { MergeDueGrows }
 {}
 
-/// Proves that the output of a merge begins with what is due once something is known of its inputs.
+/// The output of a merge begins with what is due once something is known of its inputs.
 pub fn merge_due_is_never_revised()
     ensures { MergeDueIsNeverRevised }
 {}
 
-/// Proves that if no source of a merge gives more than is known of its input, the output is what is
-/// due.
+/// If no source of a merge gives more than is known of its input, the output is what is due.
 pub fn merge_due_is_left_at_halts()
     ensures { MergeDueIsLeftAtHalts }
 {}
 
-/// Proves that a text begins the output of every merge of inputs of which the same is known if and
-/// only if it begins what is due.
+/// A text begins the output of every merge of inputs of which the same is known if and only if it
+/// begins what is due.
 pub fn merge_due_is_all_that_is_known()
     ensures { MergeDueIsAllThatIsKnown }
 {}
 
-/// Proves that if what is known of the inputs settles a merge, its output is what is due.
+/// If what is known of the inputs settles a merge, its output is what is due.
 pub fn settled_merge_due_is_all()
     ensures { SettledMergeDueIsAll }
 {}
 
-/// Proves that if a source fails earlier, the output is a prefix of what it would have been.
+/// If a source fails earlier, the output is a prefix of what it would have been.
 pub fn cut_off_is_a_prefix()
     ensures { CutOffIsAPrefix }
 {}
 
-/// Proves that if some sources of a merge fail earlier, the output is a prefix of what it would
-/// have been.
+/// If some sources of a merge fail earlier, the output is a prefix of what it would have been.
 pub fn cut_off_merge_is_a_prefix()
     ensures { CutOffMergeIsAPrefix }
 {}
 
-/// Proves that a text begins the output over every input that begins with some bytes if and only if
-/// it begins the output over a source that gives only them and then fails.
+/// A text begins the output over every input that begins with some bytes if and only if it begins
+/// the output over a source that gives only them and then fails.
 pub fn cut_off_is_all_that_is_known()
     ensures { CutOffIsAllThatIsKnown }
 {}
 
-/// Proves that a text begins the output of every merge that these sources may turn out to be if and
-/// only if it begins the output over these, of which those fail that may go on.
+/// A text begins the output of every merge that these sources may turn out to be if and only if it
+/// begins the output over these, of which those fail that may go on.
 pub fn cut_off_merge_is_all_that_is_known()
     ensures { CutOffMergeIsAllThatIsKnown }
 {}
