@@ -19,6 +19,14 @@ class Dumps:
     def joined(self, words):
         return b"".join(word + self.white() for word in words)
 
+    def lined(self, words):
+        """The words as simulators write them: each item on a line of its own, with the same line
+        end nearly everywhere."""
+        end = self.r.choice([b"\n", b"\n", b"\r\n"])
+        return b"".join(word + (b" " if word[:1] in b"bBrR" else
+                                end if self.r.random() < 0.98 else self.white())
+                        for word in words)
+
     def header(self):
         r, words, depth, codes = self.r, [], 0, {}
         if r.random() < 0.3:
@@ -66,7 +74,7 @@ class Dumps:
 
     def body(self, codes):
         r, words, time, inside = self.r, [], 0, False
-        for _ in range(r.randrange(30)):
+        for _ in range(r.randrange(r.choice([30, 30, 200]))):
             kind = r.random()
             if kind < 0.3 and not inside:
                 time += r.choice([0, 1, 1, 2, 5, 10])
@@ -106,7 +114,7 @@ class Dumps:
             head = self.spoiled(head)
         elif spoil < self.faulty:
             body = self.spoiled(body)
-        text = self.joined(head) + self.joined(body)
+        text = self.joined(head) + (self.lined if self.r.random() < 0.5 else self.joined)(body)
         if self.r.random() < 0.1 * self.faulty:
             text = text[:self.r.randrange(len(text) + 1)]
         return text
