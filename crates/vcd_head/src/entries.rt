@@ -39,8 +39,9 @@ pub(crate) fn entries_of(
     Ok(entries)
 }
 
-/// Returns the greatest number (`code_number`) of these codes, if `in_order` says that they are in
-/// the order of their numbers: the number of the last. Otherwise, or if there is no code, 2^64 - 1.
+/// Returns the greatest number (`code_number`) of these codes, whose bytes lie in `text`, if
+/// `in_order` says that they are in the order of their numbers: the number of the last. Otherwise,
+/// or if there is no code, 2^64 - 1.
 fn greatest_of(text: &[u8], codes: &[Code], in_order: bool) -> usize
     ensures { in_order ≡ false → result ≡ 2 ^ 64 - 1 }
 {
@@ -50,10 +51,10 @@ fn greatest_of(text: &[u8], codes: &[Code], in_order: bool) -> usize
     }
 }
 
-/// Returns how many entries a table for this many codes gets; `greatest` is the greatest
-/// `code_number` of these codes. It is the least power of two that has one entry for each code, or
-/// twice as many if three for each code allow that. If `greatest` is less than that power, each
-/// code has an entry of its own, and no more are needed.
+/// Returns how many entries a table for this many codes, at least one, gets; `greatest` is the
+/// greatest `code_number` of these codes. It is the least power of two that has one entry for each
+/// code, or twice as many if three for each code allow that. If `greatest` is less than that power,
+/// each code has an entry of its own, and no more are needed.
 // With 1.5 to 3 entries for each code, the header of 184,002 codes in order takes 2 % more
 // instructions.
 fn count_for(codes: usize, greatest: usize) -> usize
