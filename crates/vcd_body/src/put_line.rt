@@ -22,8 +22,9 @@ fn put_end_under<W: Sink>(first: u8, id: Id<'_>, w: &mut W) -> Result<(), WriteF
     }
 }
 
-/// Writes the line of a vector change: `b`, the shortest digits that extend to the same value, a
-/// blank and the identifier code `id`. If a write fails, a prefix was written.
+/// Writes the line of a vector change: `b`, the shortest digits that extend to the same value as
+/// `digits`, of which there is at least one, a blank and the identifier code `id`. If a write
+/// fails, a prefix was written.
 #[inline(never)]
 fn put_shortened<W: Sink>(digits: &[u8], id: Id<'_>, w: &mut W) -> Result<(), WriteFailed>
     requires failures { (W.device w.old).failures < 2 ^ 64 - 1 }
@@ -36,8 +37,8 @@ fn put_shortened<W: Sink>(digits: &[u8], id: Id<'_>, w: &mut W) -> Result<(), Wr
 }
 
 /// Writes the line of a change of an event (as `1`, whatever the text is), of a real number, or of
-/// digits of a code of one bit, under the identifier code `id`. If a write fails, a prefix was
-/// written.
+/// digits of a code of one bit, under the identifier code `id`. `event` says whether it is of an
+/// event; if it is not, digits must not be empty. If a write fails, a prefix was written.
 #[inline(never)]
 fn put_other<W: Sink>(
     event: bool,
@@ -77,8 +78,9 @@ fn is_vector(size: usize, event: bool, form: Form) -> bool
 }
 
 /// Writes the line of a change under the identifier code `id`. The code of the change has this
-/// size, or is an event if `event` is true: that is written as `1`, whatever its text is. If a
-/// write fails, a prefix was written.
+/// size, or is an event if `event` is true: that is written as `1`, whatever its text is. For a
+/// change of digits that is no event `text` must not be empty. If a write fails, a prefix was
+/// written.
 #[inline(always)]
 pub(crate) fn put_line<W: Sink>(
     size: usize,
