@@ -118,9 +118,9 @@ impl<'r> Cut<'r> {
         self.started
     }
 
-    /// Handles a timestamp, and returns whether it is above `to`, which ends the run. Writes the
-    /// start section if it is not written yet and `time` is at least `from`, and at the end of the
-    /// run the line of `to`, unless it was written last. Fails if a write does.
+    /// Takes a timestamp of this time, and returns whether it is above `to`, which ends the run.
+    /// Writes the start section if it is not written yet and `time` is at least `from`, and at the
+    /// end of the run the line of `to`, unless it was written last. Fails if a write does.
     fn take_time<W: Sink>(
         &mut self,
         view: HeadView<'_>,
@@ -141,11 +141,11 @@ impl<'r> Cut<'r> {
         Ok(true)
     }
 
-    /// Handles an item that `next_item` returned, and returns whether it ends the run, as a
-    /// timestamp above `to` does. Until the start section is written, it sets the value that a
-    /// change gives; from then on it writes the item if `may_keep` allows it. `text` is a change's
-    /// text; for other items it may be anything. `regs` are the registers after the item. Fails if
-    /// a write does.
+    /// Takes an item that `next_item` returned, and returns whether it ends the run, as a timestamp
+    /// above `to` does. Until the start section is written, it sets the value that a change gives;
+    /// from then on it writes the item if `may_keep` allows it. `text` is a change's text; for
+    /// other items it may be anything. `regs` are the registers after the item. Fails if a write
+    /// does.
     #[inline(never)]
     pub(crate) fn take<W: Sink>(
         &mut self,
@@ -203,7 +203,8 @@ impl<'r> AheadTask<NoLine> for Cut<'r> {
 
     ghost is_left = { λ command time. nat_le command.from time };
 
-    /// Returns whether the start section is due at this time.
+    /// Returns whether the start section has to be written at a timestamp of this time: whether it
+    /// is at least `from`.
     #[inline(always)]
     fn leaves(&self, time: u64) -> bool {
         self.from <= time
