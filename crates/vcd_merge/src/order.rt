@@ -132,8 +132,8 @@ impl TurnOrder {
         }
     }
 
-    /// Returns the order of all inputs that have not finished, by the times in their seats. Each
-    /// turn ends at the time `until` at the latest.
+    /// Returns the order of all inputs that have not finished, by the times in their seats, at most
+    /// 64. Each turn ends at the time `until` at the latest.
     pub(crate) fn of(seats: &[Seat], until: u64) -> TurnOrder
         requires { length seats.now ≤ 64 }
         ensures order { AllWait seats.now result.inputs result.len }
