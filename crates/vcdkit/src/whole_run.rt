@@ -192,8 +192,8 @@ fn run_readers<S: Source, W: Sink, B: BuildHasher>(
 }
 
 /// Runs a job over the readers, and returns the exit status. `names` are the names of the readers
-/// in messages. A merge has 1 to 64 readers, any other job one. The output goes to `out`, which is
-/// not flushed, and the message to `err`, whose errors are ignored.
+/// in messages, one for each reader. A merge has 1 to 64 readers, any other job one. The output
+/// goes to `out`, which is not flushed, and the message to `err`, whose errors are ignored.
 ///
 /// The status is 0 if the job is done; 1 for a fault of an input, for a name that selects nothing,
 /// and for a unit without a time scale; 2 for times that are out of range or out of order in ticks;
@@ -286,8 +286,8 @@ pub fn run_within<S: Source, W: Sink, E: Sink, B: BuildHasher>(
 }
 
 /// Runs a job over the readers, and returns the exit status. `names` are the names of the readers
-/// in messages. A merge has 1 to 64 readers, any other job one. The output goes to `out`, which is
-/// not flushed, and the message to `err`, whose errors are ignored.
+/// in messages, one for each reader. A merge has 1 to 64 readers, any other job one. The output
+/// goes to `out`, which is not flushed, and the message to `err`, whose errors are ignored.
 ///
 /// The status is 0 if the job is done; 1 for a fault of an input, for a name that selects nothing,
 /// and for a unit without a time scale; 2 for times that are out of range or out of order in ticks;
