@@ -29,8 +29,8 @@ pub(crate) enum Filled {
 // How many bytes of an input may be looked at.
 const INPUT_LIMIT: u64 = (1 << 63) - 1;
 
-/// Moves `parked` past the white space that comes next in the chunk, and counts its line feeds, if
-/// no token has begun. Otherwise nothing changes.
+/// If no token has begun, moves `parked` past the white space that comes next in the chunk, counts
+/// its line feeds, and sets the line to that of the byte after it. Otherwise nothing changes.
 #[inline(always)]
 pub(crate) fn skip(chunk: &[u8], parked: &mut Parked)
     requires { MayGoOn (length chunk.now) parked.old }
