@@ -117,9 +117,9 @@ impl<'o> Open<'o> {
     }
 
     /// Enters the scopes around the variable at index `row` that were not entered yet, from the
-    /// outermost inwards: keeps in `self`, for each, the names that can select something inside it.
-    /// Sets the flags in `matched` of the names that select all of a scope that it enters, and
-    /// leaves the others as they are. `row` is the row that `take` was given.
+    /// outermost inwards: keeps in `self`, for each, the names of `group` that can select something
+    /// inside it. Sets the flags in `matched` of the names that select all of a scope that it
+    /// enters, and leaves the others as they are. `row` is the row that `take` was given.
     fn enter_around(
         &mut self,
         view: HeadView<'_>,
@@ -137,8 +137,8 @@ impl<'o> Open<'o> {
     }
 
     /// Enters the scope at index `row`, if it lies directly in the scope that was entered last:
-    /// keeps in `self` the names that can select something inside it, and sets the flags in
-    /// `matched` of the names that select all of it. Otherwise nothing changes.
+    /// keeps in `self` the names of `group` that can select something inside it, and sets the flags
+    /// in `matched` of the names that select all of it. Otherwise nothing changes.
     fn enter(
         &mut self,
         view: HeadView<'_>,
@@ -159,8 +159,9 @@ impl<'o> Open<'o> {
         });
     }
 
-    /// Keeps the names that can select something in one more scope, which is now the innermost one
-    /// entered. If 1,000 are entered, nothing changes, and `compare` looks at each name by itself.
+    /// Keeps `inner`, the names that can select something in one more scope, which is now the
+    /// innermost one entered. If 1,000 are entered, nothing changes, and `compare` looks at each
+    /// name by itself.
     fn hold(&mut self, inner: Inside)
         ensures { StaysOpen inner self.old self.new }
     {
