@@ -182,8 +182,9 @@ pub(crate) fn put_shortest<W: Sink>(w: &mut W, digits: &[u8]) -> Result<(), Writ
 }
 
 /// Writes the line of a change of an event (as `1`, whatever the text is), of a real number, or of
-/// digits of a code of one bit, under the identifier code `id`. `event` says whether it is of an
-/// event; if it is not, digits must not be empty. If a write fails, a prefix was written.
+/// digits of a code of one bit, by its form and text, under the identifier code `id`. `event` says
+/// whether it is of an event; if it is not, digits must not be empty. If a write fails, a prefix
+/// was written.
 pub(crate) fn put_rare<W: Sink>(
     event: bool,
     form: Form,

@@ -77,8 +77,9 @@ pub(crate) fn set_tag(slots: &mut [Slot], code: usize, tag: u8)
     }
 }
 
-/// Copies a text into the bytes of a share, which must be long enough: digits are packed, four to a
-/// byte, and the text of a real number is copied as it is. Returns the state that a slot has then.
+/// Copies a text of this form into the bytes of a share, which must be long enough: digits are
+/// packed, four to a byte, and the text of a real number is copied as it is. Returns the state that
+/// a slot has then.
 #[inline(always)]
 fn hold(bytes: &mut [u8], form: Form, text: &[u8]) -> State
     requires room { text_bytes form (length text.now) ≤ length bytes.old }
@@ -116,8 +117,8 @@ fn hold_text(slot: &mut Slot, share: &mut Share, state: State, len: usize)
     share.upper = (len / UPPER) as u32;
 }
 
-/// Returns how many bytes of a share a text of `len` bytes takes: `len` for a real number, a
-/// quarter for digits, rounded up.
+/// Returns how many bytes of a share a text of this form and `len` bytes takes: `len` for a real
+/// number, a quarter for digits, rounded up.
 #[inline(always)]
 fn text_bytes(form: Form, len: usize) -> usize
     ensures { result ≡ text_bytes form len }
