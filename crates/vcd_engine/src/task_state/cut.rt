@@ -50,8 +50,8 @@ fn put_section<W: Sink>(
 
 impl<'r> Cut<'r> {
     /// Begins the task `cut` from `from` to `to`, in ticks: writes the header, and the start
-    /// section if `from` is 0. `from` is at most `to`. Values are kept in memory of `room`. Fails
-    /// if a write does.
+    /// section if `from` is 0. `from` is at most `to`. Values are kept in memory of `room`, which
+    /// has the lengths that `Task::need` returns. Fails if a write does.
     pub(crate) fn start<W: Sink>(
         view: HeadView<'_>,
         room: Room<'r>,
@@ -214,7 +214,8 @@ impl<'r> AheadTask<NoLine> for Cut<'r> {
     #[inline(always)]
     fn note_time(&mut self, _time: u64) {}
 
-    /// Sets the value that a change gives. It writes nothing.
+    /// Sets the value that a change gives. Any other item changes nothing. It writes nothing, and
+    /// never fails.
     #[inline(always)]
     fn take_item<W: Sink>(
         &mut self,
@@ -251,7 +252,9 @@ impl<'r> AheadTask<KnownLine> for Cut<'r> {
     #[inline(always)]
     fn note_time(&mut self, _time: u64) {}
 
-    /// Adds the item to the output if `may_keep` allows it, after the line of its time.
+    /// Adds the item to the output, through `pending`, if `may_keep` allows it, after the line of
+    /// its time. `regs` are the registers after the item, and `line` says where the chunk has that
+    /// line, if that is known. Fails if a write does.
     #[inline(always)]
     fn take_item<W: Sink>(
         &mut self,

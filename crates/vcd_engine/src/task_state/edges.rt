@@ -23,7 +23,8 @@ pub(crate) struct Edges<'n, 'r> {
 
 impl<'n, 'r> Edges<'n, 'r> {
     /// Begins the task `edges` for the variables that the names select (all if there are no names):
-    /// marks them in memory of `room`. Writes nothing. Fails at a name that selects nothing.
+    /// marks them in memory of `room`, which has the lengths that `Task::need` returns. Writes
+    /// nothing. Fails at a name that selects nothing.
     pub(crate) fn start(
         view: HeadView<'_>,
         room: Room<'r>,
@@ -108,7 +109,8 @@ impl<'n, 'r> AheadTask<NoLine> for Edges<'n, 'r> {
     fn note_time(&mut self, _time: u64) {}
 
     /// Sets the value that a change gives, and counts the change if the value differs, or if it is
-    /// of an event outside a section. It writes nothing.
+    /// of an event outside a section. Any other item changes nothing. `regs` are the registers
+    /// after the item. It writes nothing, and never fails.
     #[inline(always)]
     fn take_item<W: Sink>(
         &mut self,

@@ -38,9 +38,9 @@ fn count_below(times: &[u64], time: u64) -> usize
 
 impl<'n, 'r> Sample<'n, 'r> {
     /// Begins the task `sample` at these times for the variables that the names select (all if
-    /// there are no names): marks them in memory of `room`. Writes nothing. `times` has at least
-    /// one time, in ticks, and each is above the one before it. Fails at a name that selects
-    /// nothing.
+    /// there are no names): marks them in memory of `room`, which has the lengths that `Task::need`
+    /// returns. Writes nothing. `times` has at least one time, in ticks, and each is above the one
+    /// before it. Fails at a name that selects nothing.
     pub(crate) fn start(
         view: HeadView<'_>,
         room: Room<'r>,
@@ -157,7 +157,8 @@ impl<'n, 'r> AheadTask<NoLine> for Sample<'n, 'r> {
     #[inline(always)]
     fn note_time(&mut self, _time: u64) {}
 
-    /// Sets the value that a change gives. It writes nothing.
+    /// Sets the value that a change gives. Any other item changes nothing. It writes nothing, and
+    /// never fails.
     #[inline(always)]
     fn take_item<W: Sink>(
         &mut self,
