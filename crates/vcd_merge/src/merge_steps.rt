@@ -87,9 +87,9 @@ fn run_turn<S: Source, W: Sink>(
 }
 
 impl<'h, 's> Merge<'h, 's> {
-    /// Begins a merge of at most 64 inputs with these headers, and writes its header. `seats` has
-    /// one seat for each header. The parked feed in each seat is right after the header of its
-    /// input, and stays there.
+    /// Begins a merge of at most 64 inputs with these headers, writes the header of the merged
+    /// dump, and returns the merge, before its first item. `seats` has one seat for each header.
+    /// The parked feed in each seat is right after the header of its input, and stays there.
     ///
     /// # Errors
     ///
@@ -146,11 +146,11 @@ fn close<W: Sink>(seats: &[Seat], written: Option<u64>, out: &mut W) -> Result<(
     }
 }
 
-/// Takes the next turn in `order` (`run_turn`), and puts its input back into the order unless it
-/// has finished. Returns `Again` if some input has not finished; otherwise writes the end of the
-/// merged dump and returns `Ended`. The seats then have what is kept of the inputs, and `written`
-/// is the time whose line was written last. Fails at a fault of the input whose turn it is, at a
-/// failed read of it, and at a failed write.
+/// Takes the next turn in `order`, with the arguments of `run_turn`, and puts its input back into
+/// the order unless it has finished. Returns `Again` if some input has not finished; otherwise
+/// writes the end of the merged dump and returns `Ended`. The seats then have what is kept of the
+/// inputs, and `written` is the time whose line was written last. Fails at a fault of the input
+/// whose turn it is, at a failed read of it, and at a failed write.
 #[inline(always)]
 fn run_next<S: Source, W: Sink>(
     heads: &[Head],
@@ -186,9 +186,10 @@ fn run_next<S: Source, W: Sink>(
 }
 
 /// Takes the next turn of a merge, by `order`, and writes to `out` what is due with its items.
-/// Returns `Again` if some input has not finished; otherwise writes the end of the merged dump and
-/// returns `Ended`. After any result except `Again` the merge is over. Fails at a fault of the
-/// input whose turn it is, at a failed read of it, and at a failed write.
+/// `sources` has one source for each input, and `windows` one part. Returns `Again` if some input
+/// has not finished; otherwise writes the end of the merged dump and returns `Ended`. After any
+/// result except `Again` the merge is over. Fails at a fault of the input whose turn it is, at a
+/// failed read of it, and at a failed write.
 #[inline(always)]
 fn run_step<S: Source, W: Sink>(
     merge: &mut Merge<'_, '_>,
