@@ -216,9 +216,9 @@ fn is_enough(status: u8, reading: Reading) -> bool
     (status != FAULT || reading.fault != TOKEN_TOO_LONG) && reading.place.offset.answer <= 1
 }
 
-/// Fills the rows with the changes of the variables with the identifier code `code`, from
-/// `reading.place` on, and returns the status: `DONE`, `FAULT`, `NO_CODE`, `NO_MEMORY`, `FULL` or
-/// `BAD_PLACE`. For the first call all numbers in `reading.place` are 0.
+/// Fills the rows with the changes of the variables of `dump`, a whole dump, with the identifier
+/// code `code`, from `reading.place` on, and returns the status: `DONE`, `FAULT`, `NO_CODE`,
+/// `NO_MEMORY`, `FULL` or `BAD_PLACE`. For the first call all numbers in `reading.place` are 0.
 ///
 /// Each call reads the header again, and then continues in the body. Identifier codes are hashed
 /// with numbers that the hasher gives; the rows do not depend on them. `reading.count` becomes the

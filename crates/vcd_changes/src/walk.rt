@@ -116,8 +116,9 @@ impl<'r> Visit<Rows<'r>> for Collecting {
         _extent: Extent<'_>,
     ) {}
 
-    /// Fills the next row with a change of the code, unless the rows are full. Any other change
-    /// does nothing. It writes nothing to the sink, and never fails.
+    /// Fills the next row with a change of the code, at the last time of `regs`, unless the rows
+    /// are full, and notes where the change ends (`extent`). Any other change does nothing. It
+    /// writes nothing to the sink, and never fails.
     #[inline(always)]
     fn take_change<W: Sink>(
         &mut self,
