@@ -36,9 +36,9 @@ fn merged(answer: Result<Done, Stop>) -> Result<Done, Failure>
     }
 }
 
-/// Runs the task over the body that follows the header of `view`, in this room, or writes the list
-/// of variables if `task` is `None`. Returns what ended it. Fails if the task or the list does. It
-/// gets no allocator, so it takes no memory.
+/// Runs the task over the body that follows the header of `view`, in this room, which has the
+/// lengths that `need_of` returns, or writes the list of variables if `task` is `None`. Returns
+/// what ended it. Fails if the task or the list does. It gets no allocator, so it takes no memory.
 fn run_in<S: Source, W: Sink>(
     task: Option<Task<'_>>,
     view: HeadView<'_>,
@@ -139,9 +139,9 @@ fn run_input<S: Source, W: Sink, B: BuildHasher>(
     run_want(alloc, &mut job.task, head.view(), &mut feed, out)
 }
 
-/// Runs a merge over these inputs: takes their buffers, reads their headers in order, and then
-/// merges. Returns what ended it. Fails at a fault of an input, if a read or a write fails, or if
-/// memory runs out.
+/// Runs the merge `job` over these inputs, 1 to 64: takes their buffers, reads their headers in
+/// order, and then merges. Returns what ended it. Fails at a fault of an input, if a read or a
+/// write fails, or if memory runs out.
 fn run_merge<S: Source, W: Sink, B: BuildHasher>(
     alloc: Global,
     job: &Job,
