@@ -62,6 +62,7 @@ pub(crate) fn copy(from: &[u8], to: &mut [u8])
 }
 
 /// Copies the first 64 bytes of `from` into `to` from offset `position` on. Both must have as many.
+/// The other bytes of `to` stay as they are.
 #[inline(always)]
 pub(crate) fn copy_short(to: &mut [u8], position: usize, from: &[u8])
     requires room { position + 64 ≤ length to.old }
@@ -81,7 +82,7 @@ fn as_word(bytes: [u8; 8]) -> [u8; 8]
 }
 
 /// Copies the 8 bytes of `from` into `to` from offset `position` on, in one step. `to` must have
-/// room for them.
+/// room for them, and its other bytes stay as they are.
 #[inline(always)]
 pub(crate) fn copy_eight(to: &mut [u8], position: usize, from: [u8; 8])
     requires room { position + 8 ≤ length to.old }
