@@ -92,7 +92,7 @@ impl<'a> Host for Memory<'a> {
         }
     }
 
-    /// Returns how many bytes of this input are left.
+    /// Returns how many bytes of this input are left. It never returns `None`.
     fn max_bytes_of(input: &Bytes<'a>) -> Option<usize> {
         Some(input.rest.len())
     }
