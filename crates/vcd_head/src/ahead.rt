@@ -116,8 +116,8 @@ fn take_scope(most: u64, draft: &mut Draft, scope: ScopePhrase<'_>) -> Result<bo
 
 /// Closes the innermost open scope of the draft, and returns whether a scope may be closed here. If
 /// not, the draft does not change; `read_upscope` reads the phrase again and says why. At most
-/// `most` declarations are allowed. Fails only with `OutOfMemory`; then the draft may have a part
-/// of it.
+/// `most` declarations are allowed. Fails only with `OutOfMemory`; then the scope is closed, but
+/// the `$upscope` not added.
 #[inline(always)]
 fn take_upscope(most: u64, draft: &mut Draft) -> Result<bool, HeadFault>
     ensures takes { TakesNext most IsUpscope draft.old draft.new result }
