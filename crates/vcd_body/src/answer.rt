@@ -57,6 +57,7 @@ impl Stop {
 impl From<WriteFailed> for Stop {
     ghost from_gives = { λ _ e. e ≡ Write };
 
+    /// Returns `Stop::Write`.
     fn from(_failed: WriteFailed) -> Stop {
         Stop::Write
     }

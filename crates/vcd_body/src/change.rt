@@ -42,9 +42,10 @@ fn same_as_first(bytes: &[u8]) -> usize
     last + clear_bits(others_32(bytes, last, first), 32)
 }
 
-/// Returns a shorter end of `digits` that extends to the same value, if that is easy to find: if
-/// there are at least 32 digits and the first is not `1`, it leaves out those on the left that
-/// equal the first, except one or two of them. Otherwise it returns all digits.
+/// Returns a shorter end of `digits`, of which there is at least one, that extends to the same
+/// value, if that is easy to find: if there are at least 32 digits and the first is not `1`, it
+/// leaves out those on the left that equal the first, except one or two of them. Otherwise it
+/// returns all digits.
 // Without it `pick` of all of a dump of Verilator's takes 2.8 times as many instructions.
 fn without_same(digits: &[u8]) -> &[u8]
     requires { 0 < length digits.now }
@@ -59,7 +60,8 @@ fn without_same(digits: &[u8]) -> &[u8]
     &digits[same_as_first(digits).saturating_sub(1)..]
 }
 
-/// Returns the shortest end of `digits` that extends to the same value: `0010` becomes `10`.
+/// Returns the shortest end of `digits`, of which there is at least one, that extends to the same
+/// value: `0010` becomes `10`.
 pub(crate) fn shortest(digits: &[u8]) -> &[u8]
     requires { 0 < length digits.now }
     ensures { (size : ℕ) → str_to_ascii_lowercase result.now ≡ short (extended digits.now size) }
@@ -88,7 +90,7 @@ pub(crate) fn may_have_capital(bytes: &[u8]) -> bool
 }
 
 /// Copies `bytes` to the first bytes of `to`, which has to be at least as long, and turns capital
-/// letters into small ones.
+/// letters into small ones. The other bytes of `to` stay as they are.
 fn lower_into(to: &mut [u8], bytes: &[u8])
     requires { length bytes.now ≤ length to.old }
     ensures { take (length bytes.now) to.new ≡ str_to_ascii_lowercase bytes.now }
@@ -98,8 +100,8 @@ fn lower_into(to: &mut [u8], bytes: &[u8])
     }
 }
 
-/// Writes the bytes with capital letters turned into small ones, 64 bytes in each write. If a write
-/// fails, it stops.
+/// Writes the bytes with capital letters turned into small ones, at most 64 bytes in each write. If
+/// a write fails, it stops.
 #[cold]
 #[inline(never)]
 fn put_lowered<W: Sink>(w: &mut W, bytes: &[u8]) -> Result<(), WriteFailed>
@@ -167,7 +169,7 @@ pub(crate) fn put_real<W: Sink>(w: &mut W, text: &[u8], id: &[u8]) -> Result<(),
 }
 
 /// Writes a `b` and the shortest digits, in lower case, that extend to the same value as `digits`.
-/// If a write fails, it stops.
+/// There has to be at least one digit. If a write fails, it stops.
 #[inline(always)]
 pub(crate) fn put_shortest<W: Sink>(w: &mut W, digits: &[u8]) -> Result<(), WriteFailed>
     requires failures { (W.device w.old).failures < 2 ^ 64 - 1 }
@@ -180,8 +182,9 @@ pub(crate) fn put_shortest<W: Sink>(w: &mut W, digits: &[u8]) -> Result<(), Writ
 }
 
 /// Writes the line of a change of an event (as `1`, whatever the text is), of a real number, or of
-/// digits of a code of one bit, under the identifier code `id`. If a write fails, a prefix was
-/// written.
+/// digits of a code of one bit, by its form and text, under the identifier code `id`. `event` says
+/// whether it is of an event; if it is not, digits must not be empty. If a write fails, a prefix
+/// was written.
 pub(crate) fn put_rare<W: Sink>(
     event: bool,
     form: Form,

@@ -36,7 +36,7 @@ fn text_digit(text: &[u8], size: usize, index: usize) -> u8
 }
 
 /// Returns the digit at `index`, counted from the left, of a held value that is extended to `size`
-/// digits. It is the byte 0 after the last.
+/// digits. It is the byte 0 after the last. The value has to be one of digits.
 #[inline(always)]
 fn shown_digit(held: HeldValue<'_>, size: usize, index: usize) -> u8
     requires digits { HasDigits held }
@@ -65,8 +65,8 @@ fn places_differ(held: HeldValue<'_>, text: &[u8]) -> bool
     false
 }
 
-/// Returns whether a held value and a text of digits are the same, both extended to `size` digits,
-/// which is at least their lengths.
+/// Returns whether a held value, which has to be one of digits, and a text of digits are the same,
+/// both extended to `size` digits, which is at least their lengths.
 fn are_same(held: HeldValue<'_>, text: &[u8], size: usize) -> bool
     requires digits { HasDigits held }
     requires held_fit { length (digits_of held) ≤ size }
@@ -86,9 +86,9 @@ fn are_same(held: HeldValue<'_>, text: &[u8], size: usize) -> bool
     true
 }
 
-/// Returns whether a text of digits gives a code of this size another value than the held one. It
-/// is for several digits, held or in the text, and its time grows with their number, not with the
-/// size.
+/// Returns whether a text of digits gives a code of this size another value than the held one,
+/// which has to be one of digits. It is for several digits, held or in the text, and its time grows
+/// with their number, not with the size.
 #[inline(never)]
 fn several_differ(held: HeldValue<'_>, size: usize, text: &[u8]) -> bool
     requires digits { HasDigits held }
@@ -104,7 +104,8 @@ fn several_differ(held: HeldValue<'_>, size: usize, text: &[u8]) -> bool
     }
 }
 
-/// Returns whether a text of digits gives a code of this size another value than the held digits.
+/// Returns whether a text of digits gives a code of this size another value than the held one,
+/// which has to be one of digits.
 #[inline(always)]
 fn digits_differ(held: HeldValue<'_>, size: usize, text: &[u8]) -> bool
     requires digits { HasDigits held }

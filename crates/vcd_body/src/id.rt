@@ -15,10 +15,10 @@ pub enum Id<'a> {
     Number(u64),
 }
 
-/// Writes the line of a change under the identifier code `id`. The code of the change has this
-/// size, or is an event if `event` is true: that is written as `1`, whatever its text is. `text` is
-/// as `change_text` returns it. For a change of digits that is no event it must not be empty. If a
-/// write fails, a prefix was written.
+/// Writes the line of a change of this form under the identifier code `id`. The code of the change
+/// has this size, or is an event if `event` is true: that is written as `1`, whatever its text is.
+/// `text` is as `change_text` returns it. For a change of digits that is no event it must not be
+/// empty. If a write fails, a prefix was written.
 #[inline(never)]
 pub fn put_change<W: Sink>(
     size: usize,

@@ -56,7 +56,7 @@ impl Regs {
     ghost use Rattle.std.specs.Prelude.{◌≡◌, [], false, None, MatchResult};
     ghost use Rattle.vcd_body.specs.Items.{AreRegsAfter, AreRegsWith, AcceptsTimestamp, RefusesTimestamp};
 
-    /// Returns the state before the first item of a body: no timestamp came, and no section is
+    /// Returns the registers before the first item of a body: no timestamp came, and no section is
     /// open.
     pub fn new() -> Regs
         ensures known { AreRegsAfter [] result }

@@ -35,8 +35,9 @@ pub(crate) fn read_timestamp(token: &[u8], regs: &mut Regs) -> Result<u64, BodyF
     Ok(time)
 }
 
-/// Returns the code that comes right after the digit in the token of a scalar change. Fails with
-/// `BadValue` if there is none, and with `UnknownCode` if the header does not declare it.
+/// Returns the index and the size of the code that comes right after the digit in the token of a
+/// scalar change. Fails with `BadValue` if there is none, and with `UnknownCode` if the header does
+/// not declare it.
 #[inline(always)]
 pub(crate) fn scalar_code(token: &[u8], view: HeadView<'_>) -> Result<Found, BodyFault>
     requires begins { IsScalar token.now }
@@ -111,8 +112,9 @@ pub(crate) fn skip_comment<S: Source>(feed: &mut Feed<'_, '_, '_, '_, S>) -> Res
     }
 }
 
-/// Keeps the feed's token as its `value`, reads the next token, and returns the code that this is.
-/// Fails if it cannot be read, and with `UnknownCode` if the header does not declare it.
+/// Keeps the feed's token as its `value`, reads the next token, and returns the index and the size
+/// of the code that this is. Fails if it cannot be read, and with `UnknownCode` if the header does
+/// not declare it.
 #[inline(always)]
 fn read_code<S: Source>(
     feed: &mut Feed<'_, '_, '_, '_, S>,
@@ -150,7 +152,7 @@ pub(crate) fn has_room(codes: &[Code], found: Found, digits: usize) -> bool
 /// Reads the rest of a vector change, whose first token (`b` and the digits) the feed has read, and
 /// returns the index of its code. After it the feed's `value` is that first token, and its `token`
 /// the code. Fails if there are no digits or bad ones, if they are more than the size of the code,
-/// or if the header does not declare it.
+/// if the header does not declare it, or if it cannot be read.
 #[inline(always)]
 pub(crate) fn read_vector<S: Source>(
     feed: &mut Feed<'_, '_, '_, '_, S>,
@@ -177,7 +179,7 @@ pub(crate) fn read_vector<S: Source>(
 /// Reads the rest of a change of a real number, whose first token (`r` and the text) the feed has
 /// read, and returns the index of its code. After it the feed's `value` is that first token, and
 /// its `token` the code. Fails if the text does not have 1 to 64 bytes, or if the header does not
-/// declare the code, which may have any size.
+/// declare the code, which may have any size, or it cannot be read.
 pub(crate) fn read_real<S: Source>(
     feed: &mut Feed<'_, '_, '_, '_, S>,
     view: HeadView<'_>,

@@ -22,8 +22,9 @@ fn put_end_under<W: Sink>(first: u8, id: Id<'_>, w: &mut W) -> Result<(), WriteF
     }
 }
 
-/// Writes the line of a vector change: `b`, the shortest digits that extend to the same value, a
-/// blank and the identifier code `id`. If a write fails, a prefix was written.
+/// Writes the line of a vector change: `b`, the shortest digits that extend to the same value as
+/// `digits`, of which there is at least one, a blank and the identifier code `id`. If a write
+/// fails, a prefix was written.
 #[inline(never)]
 fn put_shortened<W: Sink>(digits: &[u8], id: Id<'_>, w: &mut W) -> Result<(), WriteFailed>
     requires failures { (W.device w.old).failures < 2 ^ 64 - 1 }
@@ -36,8 +37,9 @@ fn put_shortened<W: Sink>(digits: &[u8], id: Id<'_>, w: &mut W) -> Result<(), Wr
 }
 
 /// Writes the line of a change of an event (as `1`, whatever the text is), of a real number, or of
-/// digits of a code of one bit, under the identifier code `id`. If a write fails, a prefix was
-/// written.
+/// digits of a code of one bit, by its form and text, under the identifier code `id`. `event` says
+/// whether it is of an event; if it is not, digits must not be empty. If a write fails, a prefix
+/// was written.
 #[inline(never)]
 fn put_other<W: Sink>(
     event: bool,
@@ -57,8 +59,8 @@ fn put_other<W: Sink>(
     }
 }
 
-/// Returns whether a change is scalar (a digit and its code) and of a code of one bit that is no
-/// event. `size` and `event` are those of its code.
+/// Returns whether a change of this form is scalar (a digit and its code) and of a code of one bit
+/// that is no event. `size` and `event` are those of its code.
 #[inline(always)]
 pub(crate) fn is_bit(size: usize, event: bool, form: Form) -> bool
     ensures { result ≡ true → (size ≡ 1) × (event ≡ false) × (form ≡ Form.Scalar) }
@@ -66,8 +68,8 @@ pub(crate) fn is_bit(size: usize, event: bool, form: Form) -> bool
     (size == 1) & !event & (form == Form::Scalar)
 }
 
-/// Returns whether a change gives digits to a code of several bits that is no event. `size` and
-/// `event` are those of its code.
+/// Returns whether a change of this form gives digits to a code of several bits that is no event.
+/// `size` and `event` are those of its code.
 #[inline(always)]
 fn is_vector(size: usize, event: bool, form: Form) -> bool
     ensures vector { result ≡ true → (size ≢ 1) × (event ≡ false) × (form ≢ Form.RealText) }
@@ -76,9 +78,10 @@ fn is_vector(size: usize, event: bool, form: Form) -> bool
     (size != 1) & !event & (form != Form::RealText)
 }
 
-/// Writes the line of a change under the identifier code `id`. The code of the change has this
-/// size, or is an event if `event` is true: that is written as `1`, whatever its text is. If a
-/// write fails, a prefix was written.
+/// Writes the line of a change of this form under the identifier code `id`. The code of the change
+/// has this size, or is an event if `event` is true: that is written as `1`, whatever its text is.
+/// For a change of digits that is no event `text` must not be empty. If a write fails, a prefix was
+/// written.
 #[inline(always)]
 pub(crate) fn put_line<W: Sink>(
     size: usize,

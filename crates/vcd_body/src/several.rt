@@ -43,7 +43,7 @@ impl<'a> Table<'a> {
 
     /// Sets the value of the code at index `code` to the digits of a text, and counts the change,
     /// if several digits are held and one of the last differs. Returns whether it did. If not,
-    /// nothing changes, also if there is no such code.
+    /// nothing changes, also if there is no such code. The text must not have exactly one digit.
     // Values that differ mostly do so in their last digits: without it `edges` of wide vectors
     // takes 45 % more.
     #[inline(never)]

@@ -77,8 +77,9 @@ pub(crate) fn set_tag(slots: &mut [Slot], code: usize, tag: u8)
     }
 }
 
-/// Copies a text into the bytes of a share, which must be long enough: digits are packed, four to a
-/// byte, and the text of a real number is copied as it is. Returns the state that a slot has then.
+/// Copies a text of this form into the bytes of a share, which must be long enough: digits are
+/// packed, four to a byte, and the text of a real number is copied as it is. Returns the state that
+/// a slot has then.
 #[inline(always)]
 fn hold(bytes: &mut [u8], form: Form, text: &[u8]) -> State
     requires room { text_bytes form (length text.now) ≤ length bytes.old }
@@ -105,7 +106,7 @@ fn copy_front(to: &mut [u8], from: &[u8])
 }
 
 /// Sets slot and share of a code to say that `len` digits, or bytes of a text, are held in the
-/// share, in this state.
+/// share, in this state, which is not `State::Bits`.
 #[inline(always)]
 fn hold_text(slot: &mut Slot, share: &mut Share, state: State, len: usize)
     requires text { state ≢ State.Bits }
@@ -116,8 +117,8 @@ fn hold_text(slot: &mut Slot, share: &mut Share, state: State, len: usize)
     share.upper = (len / UPPER) as u32;
 }
 
-/// Returns how many bytes of a share a text of `len` bytes takes: `len` for a real number, a
-/// quarter for digits, rounded up.
+/// Returns how many bytes of a share a text of this form and `len` bytes takes: `len` for a real
+/// number, a quarter for digits, rounded up.
 #[inline(always)]
 fn text_bytes(form: Form, len: usize) -> usize
     ensures { result ≡ text_bytes form len }
@@ -129,9 +130,9 @@ fn text_bytes(form: Form, len: usize) -> usize
 }
 
 impl<'a> Table<'a> {
-    /// Returns the offset in the values at which the share of the code at index `code` ends: where
-    /// the next one begins, or all values end. In a table that `Table::new` has not made it may be
-    /// any number.
+    /// Returns the offset in the values at which the share of the code at index `code`, which must
+    /// exist, ends: where the next one begins, or all values end. In a table that `Table::new` has
+    /// not made it may be any number.
     #[inline(always)]
     pub(crate) fn end_of(&self, code: usize) -> usize
         requires { code < length self.now.shares.now }
@@ -144,8 +145,9 @@ impl<'a> Table<'a> {
     }
 
     /// Sets the value of the code at index `code`, which must exist, to the text of a change. Its
-    /// share ends at offset `end` of the values. Nothing changes if the text is empty or does not
-    /// fit into the share, or if the share does not lie within the values.
+    /// share ends at offset `end` of the values (`end_of`). A text of digits must not have exactly
+    /// one. Nothing changes if the text is empty or does not fit into the share, or if the share
+    /// does not lie within the values.
     #[inline(always)]
     pub(crate) fn set_text_in(&mut self, code: usize, end: usize, form: Form, text: &[u8])
         requires several { form ≢ Form.RealText → length text.now ≢ 1 }
@@ -167,9 +169,9 @@ impl<'a> Table<'a> {
         hold_text(&mut slots[code], &mut shares[code], state, text.len());
     }
 
-    /// Sets the value of the code at index `code` to the text of a change of this form. Nothing
-    /// changes if there is no such code, or if the text is empty or does not fit into the code's
-    /// share.
+    /// Sets the value of the code at index `code` to the text of a change of this form. A text of
+    /// digits must not have exactly one. Nothing changes if there is no such code, or if the text
+    /// is empty or does not fit into the code's share.
     #[inline(never)]
     pub(crate) fn set_text(&mut self, code: usize, form: Form, text: &[u8])
         requires { form ≢ Form.RealText → length text.now ≢ 1 }
@@ -244,9 +246,11 @@ pub(crate) enum Stepped {
     Uncounted { rises: bool, falls: bool },
 }
 
-/// Sets the value of the code at index `code` to the digit `0` or `1`, if it holds one of these,
-/// and counts a change if it held the other one. It changes only the slot. Returns `Stepped::Not`,
-/// and changes nothing, if there is no such code, or if the held or the new digit is neither.
+/// Sets the value of the code at index `code` to the digit `0` or `1`, if it holds one of these. It
+/// changes only the slot. Returns `Stepped::Counted` if it held the same digit, or if the slot has
+/// counted the change; `Stepped::Uncounted` if the caller has to count 256 changes, for which the
+/// slot has no room. Returns `Stepped::Not`, and changes nothing, if there is no such code, or if
+/// the held or the new digit is neither `0` nor `1`.
 // A digit is a state of the slot, so no byte of values is touched: held as a number of one digit,
 // `edges` of scalars takes some 10 % more.
 #[inline(always)]
@@ -279,10 +283,11 @@ pub(crate) fn flip_at(slots: &mut [Slot], code: usize, digit: u8) -> Stepped
     }
 }
 
-/// Sets the value of the code at index `code` to these binary digits, if it holds binary digits,
-/// and counts a change if the two numbers differ. It changes only the slot. Returns `Stepped::Not`,
-/// and changes nothing, if there is no such code, if it holds no such digits, or if the held or the
-/// new ones are more than `size`.
+/// Sets the value of the code at index `code` to these binary digits, if it holds binary digits. It
+/// changes only the slot. Returns `Stepped::Counted` if the two numbers are the same, or if the
+/// slot has counted the change; `Stepped::Uncounted` if the caller has to count 256 changes, for
+/// which the slot has no room. Returns `Stepped::Not`, and changes nothing, if there is no such
+/// code, if it holds no such digits, or if the held or the new ones are more than `size`.
 #[inline(always)]
 pub(crate) fn step_at(slots: &mut [Slot], code: usize, size: usize, bits: Bits) -> Stepped
     ensures counted { result ≡ Stepped.Counted → StepsTo code size bits slots.old slots.new }

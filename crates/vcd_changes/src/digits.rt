@@ -37,8 +37,8 @@ fn extends_known(digits: &[u8]) -> bool
     }
 }
 
-/// Returns a mask for these digits, extended on the left to 64: bit k, from the last digit on, is 1
-/// if this digit was added and is `0` or `1`. The bits of the given digits are 0.
+/// Returns a mask for these digits, at most 64, extended on the left to 64: bit k, from the last
+/// digit on, is 1 if this digit was added and is `0` or `1`. The bits of the given digits are 0.
 fn known_before(digits: &[u8]) -> u64
     requires { length digits.now ≤ 64 }
     ensures { result ≡ cond (is_known (extension digits.now)) (2 ^ 64 - 2 ^ length digits.now) 0 }
@@ -50,7 +50,8 @@ fn known_before(digits: &[u8]) -> u64
     }
 }
 
-/// Returns twice the number, and 1 more if `digit` is true: it appends a binary digit.
+/// Returns twice the number, which is below 2^63, and 1 more if `digit` is true: it appends a
+/// binary digit.
 fn with_digit(number: u64, digit: bool) -> u64
     requires { number < 2 ^ 63 }
     ensures { result ≡ 2 * number + cond digit 1 0 }
@@ -58,8 +59,8 @@ fn with_digit(number: u64, digit: bool) -> u64
     if digit { 2 * number + 1 } else { 2 * number }
 }
 
-/// Returns a mask for these digits, extended on the left to 64: bit k, from the last digit on, is 1
-/// if this digit is `0` or `1`. `known` is the mask for the given digits.
+/// Returns a mask for these digits, at most 64, extended on the left to 64: bit k, from the last
+/// digit on, is 1 if this digit is `0` or `1`. `known` is the mask for the given digits.
 fn known_in_all(digits: &[u8], known: u64) -> u64
     requires most { length digits.now ≤ 64 }
     requires known { known ≡ number_where is_known digits.now }

@@ -56,8 +56,8 @@ pub const FULL: u8 = 4;
 /// The status if no call can have left this `Place`.
 pub const BAD_PLACE: u8 = 5;
 
-/// Returns the status of a call of `changes` that has met no fault: `FULL` if all rows were filled,
-/// otherwise `DONE`.
+/// Returns the status of a call of `changes` that has met no fault: `FULL` if all rows that its
+/// caller lent were filled, and `DONE` if the dump ended before that.
 fn status_of(filled: Filled) -> u8
     ensures { result ≡ status_of filled }
 {
@@ -136,10 +136,10 @@ fn refused(fault: HeadFault, line: u64, reading: &mut Reading) -> u8
     FAULT
 }
 
-/// Reads the header of a dump with this token limit, fills the rows with the changes of the
-/// identifier code `code` from `reading.place` on, sets `reading`, and returns the status: `DONE`,
-/// `FAULT`, `NO_CODE`, `NO_MEMORY`, `FULL` or `BAD_PLACE`. Fails if there is no memory for the
-/// buffers.
+/// Reads the header of a dump with this token limit, at least 1, fills the rows with the changes of
+/// the identifier code `code` from `reading.place` on, sets `reading`, whose `count` is 0 before,
+/// and returns the status: `DONE`, `FAULT`, `NO_CODE`, `NO_MEMORY`, `FULL` or `BAD_PLACE`. Fails if
+/// there is no memory for the buffers; then `reading` does not change.
 fn read_changes<B: BuildHasher>(
     alloc: Global,
     limit: usize,
@@ -182,9 +182,9 @@ fn read_changes<B: BuildHasher>(
     }
 }
 
-/// Reads the header of a dump with this token limit, fills the rows with the changes of the
-/// identifier code `code` from `reading.place` on, sets `reading`, and returns the status: `DONE`,
-/// `FAULT`, `NO_CODE`, `NO_MEMORY`, `FULL` or `BAD_PLACE`.
+/// Reads the header of a dump with this token limit, at least 1, fills the rows with the changes of
+/// the identifier code `code` from `reading.place` on, sets `reading`, and returns the status:
+/// `DONE`, `FAULT`, `NO_CODE`, `NO_MEMORY`, `FULL` or `BAD_PLACE`.
 fn read_under<B: BuildHasher>(
     alloc: Global,
     limit: usize,
@@ -216,9 +216,9 @@ fn is_enough(status: u8, reading: Reading) -> bool
     (status != FAULT || reading.fault != TOKEN_TOO_LONG) && reading.place.offset.answer <= 1
 }
 
-/// Fills the rows with the changes of the variables with the identifier code `code`, from
-/// `reading.place` on, and returns the status: `DONE`, `FAULT`, `NO_CODE`, `NO_MEMORY`, `FULL` or
-/// `BAD_PLACE`. For the first call all numbers in `reading.place` are 0.
+/// Fills the rows with the changes of the variables of `dump`, a whole dump, with the identifier
+/// code `code`, from `reading.place` on, and returns the status: `DONE`, `FAULT`, `NO_CODE`,
+/// `NO_MEMORY`, `FULL` or `BAD_PLACE`. For the first call all numbers in `reading.place` are 0.
 ///
 /// Each call reads the header again, and then continues in the body. Identifier codes are hashed
 /// with numbers that the hasher gives; the rows do not depend on them. `reading.count` becomes the

@@ -29,8 +29,8 @@ pub(crate) enum Filled {
 }
 
 /// Adds a row for `item`, which `next_item` returned last, after the first `count` rows, if it is a
-/// change of the code at `index`, and returns how many rows are filled then. Any other item changes
-/// nothing. `time` is the time of the item, in ticks.
+/// change of the code at `index`, and returns how many rows are filled then. `count` is less than
+/// the number of rows. Any other item changes nothing. `time` is the time of the item, in ticks.
 fn put_row<S: Source>(
     feed: &Feed<'_, '_, '_, '_, S>,
     item: Item,

@@ -89,7 +89,8 @@ impl<'r> Visit<Rows<'r>> for Collecting {
 
     ghost over = { λ _. false };
 
-    /// Returns whether the rows are full.
+    /// Returns whether the rows are full, which ends the walk before a timestamp or a section's
+    /// begin or end.
     #[inline(always)]
     fn ends_before(&self, _rows: &Rows<'r>, _time: u64) -> bool {
         self.is_full()
@@ -115,8 +116,9 @@ impl<'r> Visit<Rows<'r>> for Collecting {
         _extent: Extent<'_>,
     ) {}
 
-    /// Fills the next row with a change of the code, unless the rows are full. Any other change
-    /// does nothing.
+    /// Fills the next row with a change of the code, at the last time of `regs`, unless the rows
+    /// are full, and notes where the change ends (`extent`). Any other change does nothing. It
+    /// writes nothing to the sink, and never fails.
     #[inline(always)]
     fn take_change<W: Sink>(
         &mut self,
@@ -138,7 +140,7 @@ impl<'r> Visit<Rows<'r>> for Collecting {
         Ok(())
     }
 
-    /// Does nothing.
+    /// Does nothing, and never fails.
     #[inline(always)]
     fn take_section<W: Sink>(
         &mut self,
@@ -156,7 +158,8 @@ impl<'r> Visit<Rows<'r>> for Collecting {
 
 /// Fills the rows with the changes of one code among the items that lie completely in the chunk,
 /// from `ahead` on, until the rows are full, and returns how far it came. `collecting` says which
-/// code that is, and how many rows are filled before.
+/// code that is, and how many rows are filled before; they are not full then. `regs` are the
+/// registers before these items, and `ahead` has passed no byte.
 // Not inlined, so that the loop has all registers.
 #[inline(never)]
 fn walk_rows<'a>(
@@ -177,10 +180,10 @@ fn walk_rows<'a>(
     walk_ahead(rows, collecting, view, regs, ahead, &mut out)
 }
 
-/// Fills the rows after the first `count` with the changes of the code at `index` among the items
-/// that lie completely in the feed's chunk, until all rows are full, and returns how many are
-/// filled. Moves the feed past these items, and sets `regs` to the registers after them. If all
-/// rows are full already, nothing changes.
+/// Fills the rows after the first `count`, which is at most their number, with the changes of the
+/// code at `index` among the items that lie completely in the feed's chunk, until all rows are
+/// full, and returns how many are filled. Moves the feed past these items, and sets `regs` to the
+/// registers after them. If all rows are full already, nothing changes.
 pub(crate) fn take_ahead<S: Source>(
     feed: &mut Feed<'_, '_, '_, '_, S>,
     view: HeadView<'_>,

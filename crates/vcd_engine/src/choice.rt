@@ -10,8 +10,8 @@ pub(crate) fn choose_none(flags: &mut [u8])
     flags.fill(0);
 }
 
-/// Sets the flag of the code at index `code` to 1: it is chosen then. The flags of all other codes
-/// stay as they are.
+/// Sets the flag of the code at index `code`, which must exist, to 1: it is chosen then. The flags
+/// of all other codes stay as they are.
 pub(crate) fn choose(flags: &mut [u8], code: usize)
     requires { code < length flags.old }
     ensures codes { length flags.new ≡ length flags.old }

@@ -32,7 +32,7 @@ pub fn check<S: Source, W: Sink>(
 /// Writes a dump of the variables that the names select (all if there are no names): first the
 /// header of these and of the scopes around them. Then it reads the body that follows the header of
 /// `view`, writes its sections and the changes of these variables, each after the line of its time,
-/// and returns `Done::Whole`.
+/// and returns `Done::Whole`. `room` has the lengths that `Task::need` returns.
 ///
 /// A name that selects nothing is refused before anything is read or written. Fails at the first
 /// fault of the body, at a failed read, and at a failed write.
@@ -53,7 +53,7 @@ pub fn pick<S: Source, W: Sink>(
 
 /// Reads the body that follows the header of `view`, and then writes a line for each variable that
 /// the names select (all if there are no names): its path, and how often its value changes, rises
-/// and falls. Returns `Done::Whole`.
+/// and falls. Returns `Done::Whole`. `room` has the lengths that `Task::need` returns.
 ///
 /// A name that selects nothing is refused before anything is read. Fails at the first fault of the
 /// body, at a failed read, and at a failed write. At a fault nothing is written.
@@ -75,8 +75,9 @@ pub fn edges<S: Source, W: Sink>(
 /// Writes a dump of the time from `from` to `to`: the header of all variables; from the first
 /// timestamp of at least `from` on, a section with the values just before `from`; and the items
 /// from then up to `to`, each after the line of its time. Times are in ticks, and `from` is at most
-/// `to`. A timestamp above `to` ends the run: then the call returns `Done::Early`, otherwise
-/// `Done::Whole`. Fails at the first fault of the body, at a failed read, and at a failed write.
+/// `to`. `room` has the lengths that `Task::need` returns. A timestamp above `to` ends the run:
+/// then the call returns `Done::Early`, otherwise `Done::Whole`. Fails at the first fault of the
+/// body, at a failed read, and at a failed write.
 pub fn cut<S: Source, W: Sink>(
     view: HeadView<'_>,
     feed: &mut Feed<'_, '_, '_, '_, S>,
@@ -96,8 +97,9 @@ pub fn cut<S: Source, W: Sink>(
 
 /// Writes, for each of the times, the lines of the variables that the names select (all if there
 /// are no names): the time, the path and the value, in full. There is at least one time, in ticks,
-/// and each is above the one before it. A timestamp above the last of them ends the run: then the
-/// call returns `Done::Early`, otherwise `Done::Whole`.
+/// and each is above the one before it. `room` has the lengths that `Task::need` returns. A
+/// timestamp above the last of them ends the run: then the call returns `Done::Early`, otherwise
+/// `Done::Whole`.
 ///
 /// A name that selects nothing is refused before anything is read or written. Fails at the first
 /// fault of the body, at a failed read, and at a failed write.

@@ -106,10 +106,10 @@ impl<'v, 'n, 'r> Engine<'v, 'n, 'r> {
         self.going
     }
 
-    /// Handles the next item of the feed, and writes what is due with it or at the end of the body.
-    /// Returns `Again` if the run goes on, otherwise what ended it. `view` is the engine's own,
-    /// passed by the caller so that a loop over steps does not load it again. Fails at a fault of
-    /// the body, at a failed read, and at a failed write.
+    /// Takes the next item of the feed, and writes to `out` what is due with it or at the end of
+    /// the body. Returns `Again` if the run goes on, otherwise what ended it. `view` is the
+    /// engine's own, passed by the caller so that a loop over steps does not load it again. Fails
+    /// at a fault of the body, at a failed read, and at a failed write.
     #[inline(always)]
     fn step_with_view<S: Source, W: Sink>(
         &mut self,
@@ -149,9 +149,9 @@ impl<'v, 'n, 'r> Engine<'v, 'n, 'r> {
         }
     }
 
-    /// Handles the items that lie completely in the feed's chunk, writes what is due with each, and
-    /// moves the feed past them. It reads nothing from the source. Fails if a write does, which
-    /// ends the run.
+    /// Takes the items that lie completely in the feed's chunk, writes to `out` what is due with
+    /// each, and moves the feed past them. It reads nothing from the source, and `view` is the
+    /// engine's own. Fails if a write does, which ends the run.
     #[inline(never)]
     fn walk_ahead<S: Source, W: Sink>(
         &mut self,
@@ -188,10 +188,10 @@ impl<'v, 'n, 'r> Engine<'v, 'n, 'r> {
         }
     }
 
-    /// Handles the next item of the feed, and writes what is due with it or at the end of the body.
-    /// Returns `Again` if the run goes on, otherwise what ended it. It may wait for input, so `out`
-    /// must keep nothing back. Fails at a fault of the body, at a failed read, and at a failed
-    /// write.
+    /// Takes the next item of the feed, and writes to `out` what is due with it or at the end of
+    /// the body. Returns `Again` if the run goes on, otherwise what ended it. It may wait for
+    /// input, so `out` must keep nothing back. `view` is the engine's own. Fails at a fault of the
+    /// body, at a failed read, and at a failed write.
     #[inline(always)]
     fn read_on<S: Source, W: Sink>(
         &mut self,
@@ -209,10 +209,10 @@ impl<'v, 'n, 'r> Engine<'v, 'n, 'r> {
         self.step_with_view(view, feed, out)
     }
 
-    /// Handles the items that lie completely in the chunk, and then the next one, for which it may
-    /// wait for input: before that `out` passes on all that it keeps back. Returns `Again` if the
-    /// run goes on, otherwise what ended it. Fails at a fault of the body, at a failed read, and at
-    /// a failed write.
+    /// Takes the items that lie completely in the chunk, and then the next one, for which it may
+    /// wait for input: before that `out` passes on all that it keeps back. What is due with them
+    /// goes to `out`. Returns `Again` if the run goes on, otherwise what ended it. `view` is the
+    /// engine's own. Fails at a fault of the body, at a failed read, and at a failed write.
     #[inline(always)]
     fn advance<S: Source, W: Sink>(
         &mut self,
@@ -252,10 +252,10 @@ impl<'v, 'n, 'r> Engine<'v, 'n, 'r> {
         self.task_state.close(self.view, self.regs, out)
     }
 
-    /// Handles all items that are left, writes what is due with each and at the end, and returns
-    /// what ended the run: `Done::Whole` at the end of the body, or `Done::Early` at a timestamp
-    /// after which the task needs no items. Fails at a fault of the body, at a failed read, and at
-    /// a failed write.
+    /// Takes all items that are left, writes to `out` what is due with each and at the end, and
+    /// returns what ended the run: `Done::Whole` at the end of the body, or `Done::Early` at a
+    /// timestamp after which the task needs no items. Fails at a fault of the body, at a failed
+    /// read, and at a failed write.
     fn run_to_end<S: Source, W: Sink>(
         &mut self,
         feed: &mut Feed<'_, '_, '_, '_, S>,
@@ -281,9 +281,9 @@ impl<'v, 'n, 'r> Engine<'v, 'n, 'r> {
     }
 }
 
-/// Handles the next item of the feed, and writes what is due with it, or at the end of the body.
-/// Returns `Again` if the run goes on, otherwise what ended it. After any answer but `Again` do not
-/// call it again.
+/// Takes the next item of the feed, and writes to `out` what is due with it, or at the end of the
+/// body. Returns `Again` if the run goes on, otherwise what ended it. After any result but `Again`
+/// do not call it again.
 ///
 /// # Errors
 ///

@@ -5,8 +5,8 @@ ghost use Rattle.vcd_engine.specs.Names.{HaveNoLine, Header, IsSelectedAt, IsVie
 
 use vcd_view::{HeadView, Kind};
 
-/// Returns whether `sample` writes a line for the declaration at index `row`: `flag`, its mark, is
-/// 1 (selected), and it is a variable that is no event.
+/// Returns whether `sample` writes a line for the declaration at index `row`, which must exist:
+/// `flag`, its mark, is 1 (selected), and it is a variable that is no event.
 fn has_line(view: HeadView<'_>, row: usize, flag: u8) -> bool
     requires { row < length view.rows.now }
     ensures { (h : Header) (names : List (List ℕ)) → IsViewOf view.entry h
@@ -30,8 +30,8 @@ fn flag_over(count: usize) -> u8
     2 + count.ilog2() as u8
 }
 
-/// Returns how many rows to go on from a row with this flag: a power of two, which is 1 for the
-/// flags 0 to 2.
+/// Returns how many rows it is from a row with this flag to the next one to look at: a power of
+/// two, which is 1 for the flags 0 to 2.
 pub(crate) fn rows_on(flag: u8) -> usize
     ensures passes { result ≡ rows_on flag }
     ensures some { 0 < result }
@@ -39,9 +39,9 @@ pub(crate) fn rows_on(flag: u8) -> usize
     1 << flag.saturating_sub(2).min(63)
 }
 
-/// Turns `marks`, which has 1 for each selected row, into flags by which `sample` goes from row to
-/// row: 1 if it writes a line for the row, otherwise a flag for which `rows_on` returns how many
-/// rows without a line to skip.
+/// Turns `marks`, which has one byte for each row, 1 for each selected one, into flags by which
+/// `sample` goes from row to row: 1 if it writes a line for the row, otherwise a flag for which
+/// `rows_on` returns how many rows without a line to skip.
 // With a look at each row, a `sample` of one variable of 200,000 at 20,000 times took 100 times as
 // long.
 pub(crate) fn lead_on(view: HeadView<'_>, marks: &mut [u8])

@@ -38,8 +38,8 @@ fn put_line<W: Sink>(
 }
 
 /// Writes the lines of `sample` for one time: one for each row whose flag in `marks` is 1. By any
-/// other flag rows are skipped (`rows_on`). The table must have the values at `time`. Fails if a
-/// write does.
+/// other flag rows are skipped (`rows_on`). `marks` is as `lead_on` leaves it, and the table must
+/// have the values at `time`. Fails if a write does.
 fn put_lines<W: Sink>(
     table: &Table<'_>,
     view: HeadView<'_>,
@@ -64,8 +64,8 @@ fn put_lines<W: Sink>(
 }
 
 /// Writes the lines of `sample` for each of these times: one for each row whose flag in `marks` is
-/// 1. By any other flag rows are skipped (`rows_on`). The table must have the values at all of
-/// these times. Fails if a write does.
+/// 1. By any other flag rows are skipped (`rows_on`). `marks` is as `lead_on` leaves it, and the
+/// table must have the values at all of these times. Fails if a write does.
 pub(crate) fn put_samples<W: Sink>(
     table: &Table<'_>,
     view: HeadView<'_>,

@@ -14,8 +14,9 @@ pub(crate) fn is_marked(marks: &[u8], row: usize) -> bool
     marks.get(row).copied().unwrap_or(0) == 1
 }
 
-/// Sets to 1 the flags of the codes of the variables that are marked (have 1 in `marks`). The flags
-/// of all other codes stay as they are.
+/// Sets to 1 the flags of the codes of the variables that are marked (have 1 in `marks`, at the
+/// indexes of their rows). `flags` has at least one byte for each code. The flags of all other
+/// codes stay as they are.
 fn choose_marked(view: HeadView<'_>, marks: &[u8], flags: &mut [u8])
     requires codes { length view.codes.now ≤ length flags.old }
     ensures codes { length flags.new ≡ length flags.old }
@@ -30,10 +31,11 @@ fn choose_marked(view: HeadView<'_>, marks: &[u8], flags: &mut [u8])
     }
 }
 
-/// Selects variables by these names (all if there are no names): sets `marks` to 1 for these
-/// variables and the scopes around them and to 0 for all other rows, and `flags` to 1 for their
-/// codes and to 0 for all others. Fails with `Stop::Unmatched` at the first name that selects
-/// nothing; then `marks` and `flags` may have any values.
+/// Selects variables by these names (all if there are no names): sets `marks`, one byte for each
+/// row, to 1 for these variables and the scopes around them and to 0 for all other rows, and
+/// `flags`, at least one byte for each code, to 1 for their codes and to 0 for all others. Fails
+/// with `Stop::Unmatched` at the first name that selects nothing; then `marks` and `flags` may have
+/// any values.
 pub(crate) fn select_codes(
     view: HeadView<'_>,
     names: &[String],

@@ -11,7 +11,7 @@ use vcd_view::{HeadView, Kind};
 /// Sets the value of the code at index `code`, which is no event, in the table by a change of this
 /// form and text. If it differs from the value before, counts a change, and also a rise or fall if
 /// it is one. `size` is the size of the code, in bits; `bits` has the digits of the text as a
-/// number, if that is known.
+/// number, or is `None` if that is not known.
 #[inline(always)]
 pub(crate) fn take_value(
     table: &mut Table<'_>,

@@ -37,7 +37,8 @@ pub(crate) fn last_of(regs: Regs) -> Option<u64>
 
 impl<'n, 'r> TaskState<'n, 'r> {
     /// Begins a task over the body of this header, and writes what comes before all items: for
-    /// `pick` and `cut` a header.
+    /// `pick` and `cut` a header. The times of the task are in order, and `room` has the lengths
+    /// that `Task::need` returns.
     ///
     /// # Errors
     ///
@@ -70,9 +71,9 @@ impl<'n, 'r> TaskState<'n, 'r> {
         }
     }
 
-    /// Handles an item that `next_item` returned, writes what is due with it, and returns whether
-    /// it ends the run. `text` is a change's text; for other items it may be anything. `regs` are
-    /// the registers after the item. Fails if a write does.
+    /// Takes an item that `next_item` returned, writes to `out` what is due with it, and returns
+    /// whether it ends the run. `text` is a change's text; for other items it may be anything.
+    /// `regs` are the registers after the item. Fails if a write does.
     #[inline(always)]
     pub(crate) fn take<W: Sink>(
         &mut self,
@@ -106,9 +107,9 @@ impl<'n, 'r> TaskState<'n, 'r> {
         }
     }
 
-    /// Handles the items that lie completely in the chunk, from `ahead` on, writes what is due with
-    /// each, and returns how far it came, and whether a write failed. `regs` are the registers
-    /// before these items.
+    /// Takes the items that lie completely in the chunk, from `ahead` on, writes to `out` what is
+    /// due with each, and returns how far it came, and whether a write failed. `regs` are the
+    /// registers before these items.
     // A loop for each task, so that no loop asks for the task at each item.
     pub(crate) fn take_ahead<W: Sink>(
         &mut self,

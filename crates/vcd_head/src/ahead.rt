@@ -15,7 +15,7 @@ use vcd_text::{Ahead, Feed, Source};
 use vcd_view::Kind;
 
 /// Returns the next token ahead and passes it. `None` if it has to be read with `Feed::next`: it is
-/// too long, or does not lie completely in the chunk.
+/// too long, or does not lie completely in the chunk. Then nothing has changed.
 #[inline(always)]
 pub(crate) fn token_ahead<'a>(ahead: &mut Ahead<'a>) -> Option<&'a [u8]>
     ensures one { IfSome result (λ token. GivesToken ahead.old ahead.new token.now) }
@@ -26,7 +26,7 @@ pub(crate) fn token_ahead<'a>(ahead: &mut Ahead<'a>) -> Option<&'a [u8]>
 
 /// Returns the reference of a variable (its name, and maybe a range such as `[7:0]`) that comes
 /// next, and passes it and the `$end` after it. `None` if it has no token or more than two, or if
-/// it does not lie completely in the chunk.
+/// it does not lie completely in the chunk. Then some of its tokens may have been passed.
 #[inline(always)]
 fn reference_ahead<'a>(ahead: &mut Ahead<'a>) -> Option<Reference<'a>>
     ensures gives { Gives IsReference ahead.old ahead.new result }
@@ -83,7 +83,7 @@ fn variable_ahead<'a>(ahead: &mut Ahead<'a>) -> Option<VariablePhrase<'a>>
 
 /// Adds a variable to the draft, and returns whether it may be declared here. If it may not, the
 /// draft does not change; `read_variable` reads the phrase again and says why. At most `most`
-/// declarations are allowed. Fails only with `OutOfMemory`.
+/// declarations are allowed. Fails only with `OutOfMemory`; then the draft may have a part of it.
 fn take_variable(
     alloc: Global,
     most: u64,
@@ -101,7 +101,7 @@ fn take_variable(
 
 /// Opens a scope in the draft, and returns whether it may be opened here. If it may not, the draft
 /// does not change; `read_scope` reads the phrase again and says why. At most `most` declarations
-/// are allowed. Fails only with `OutOfMemory`.
+/// are allowed. Fails only with `OutOfMemory`; then the draft may have a part of it.
 #[inline(always)]
 fn take_scope(most: u64, draft: &mut Draft, scope: ScopePhrase<'_>) -> Result<bool, HeadFault>
     ensures takes { TakesNext most (λ more. IsScope more scope.entry) draft.old draft.new result }
@@ -116,7 +116,8 @@ fn take_scope(most: u64, draft: &mut Draft, scope: ScopePhrase<'_>) -> Result<bo
 
 /// Closes the innermost open scope of the draft, and returns whether a scope may be closed here. If
 /// not, the draft does not change; `read_upscope` reads the phrase again and says why. At most
-/// `most` declarations are allowed. Fails only with `OutOfMemory`.
+/// `most` declarations are allowed. Fails only with `OutOfMemory`; then the scope is closed, but
+/// the `$upscope` not added.
 #[inline(always)]
 fn take_upscope(most: u64, draft: &mut Draft) -> Result<bool, HeadFault>
     ensures takes { TakesNext most IsUpscope draft.old draft.new result }
@@ -132,7 +133,7 @@ fn take_upscope(most: u64, draft: &mut Draft) -> Result<bool, HeadFault>
 /// Passes the next phrase, and adds it to the draft if it is a correct `$var`, `$scope` or
 /// `$upscope` that lies completely in the chunk and may come here. Returns whether it was added. If
 /// it was not, the draft does not change, but tokens may have been passed. At most `most`
-/// declarations are allowed. Fails only with `OutOfMemory`.
+/// declarations are allowed. Fails only with `OutOfMemory`; then the draft may have a part of it.
 #[inline(always)]
 fn declare_next(
     alloc: Global,
@@ -165,8 +166,9 @@ fn declare_next(
 }
 
 /// Adds the phrases that come next to the draft, as long as they are correct `$var`, `$scope` or
-/// `$upscope` that lie completely in the chunk and may come here. Returns how many bytes of the
-/// chunk these take. At most `most` declarations are allowed. Fails only with `OutOfMemory`.
+/// `$upscope` that lie completely in the chunk and may come here. Returns how many bytes `ahead`
+/// has passed after these. At most `most` declarations are allowed. Fails only with `OutOfMemory`;
+/// then the draft may have a part of a phrase.
 fn declare_ahead(
     alloc: Global,
     ahead: Ahead<'_>,
@@ -190,7 +192,7 @@ fn declare_ahead(
 /// Reads the phrases that come next into the draft, as long as they are correct `$var`, `$scope` or
 /// `$upscope` that lie completely in the feed's chunk and may come here. Moves the feed past these;
 /// its `token` is then empty. At most `most` declarations are allowed. Fails only with
-/// `OutOfMemory`.
+/// `OutOfMemory`; then the draft may have a part of a phrase, and the feed has not moved.
 pub(crate) fn read_ahead<S: Source>(
     alloc: Global,
     feed: &mut Feed<'_, '_, '_, '_, S>,

@@ -33,8 +33,8 @@ pub(crate) fn scope_ahead<'a>(ahead: &mut Ahead<'a>) -> Option<ScopePhrase<'a>>
     Some(ScopePhrase { word, name })
 }
 
-/// Passes the next phrase, if it is `$upscope $end`. `None` if it is anything else, or does not lie
-/// completely in the chunk. Then some of its tokens may have been passed.
+/// Passes the next phrase and returns `Some`, if it is `$upscope $end`. `None` if it is anything
+/// else, or does not lie completely in the chunk. Then some of its tokens may have been passed.
 #[inline(always)]
 pub(crate) fn upscope_ahead(ahead: &mut Ahead<'_>) -> Option<()>
     ensures gives { Gives (λ more _. IsUpscope more) ahead.old ahead.new result }

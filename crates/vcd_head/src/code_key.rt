@@ -64,7 +64,7 @@ impl Hash for CodeKey {
 
     ghost respects_eq = { same_writes };
 
-    /// Feeds the key to a hasher: the number of a short code, or the bytes of a long one.
+    /// Feeds the key to the hasher `state`: the number of a short code, or the bytes of a long one.
     #[inline(always)]
     fn hash<H: Hasher>(&self, state: &mut H) {
         match self {

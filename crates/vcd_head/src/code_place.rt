@@ -12,8 +12,9 @@ use vcd_view::{Code, code_in, key_of};
 
 /// Returns the index in `known` of the code of a variable with this size, which is an event if
 /// `event` is true. A new code is added to `known`, and its bytes at the end of `text`. `None` if
-/// the code was declared before with another size, or if only one of the two is an event. Fails
-/// only with `OutOfMemory`, and only for a new code.
+/// the code was declared before with another size, or if only one of the two is an event; then
+/// nothing has changed. Fails only with `OutOfMemory`, and only for a new code, of which a part may
+/// be added then.
 #[inline(always)]
 pub(crate) fn enter_code(
     alloc: Global,
@@ -96,7 +97,7 @@ fn enter_in_set(alloc: Global, known: &mut Codes, bytes: &[u8]) -> Result<(usize
 }
 
 /// Appends the bytes of a code to `text`, and the code to `list`: with its `size`, and as that of
-/// an event if `event` is true. Fails only with `OutOfMemory`.
+/// an event if `event` is true. Fails only with `OutOfMemory`; then only the bytes may be appended.
 #[inline(always)]
 fn add(
     text: &mut Vec<u8>,

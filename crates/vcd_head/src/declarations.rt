@@ -70,8 +70,8 @@ pub(crate) fn check_start(draft: &Draft, most: u64, kind: Kind) -> Result<(), He
 }
 
 /// Adds a variable to the draft, and returns whether its code allows that. It does not if the code
-/// was declared before with another size, or if only one of the two variables is an event. Fails
-/// only with `OutOfMemory`.
+/// was declared before with another size, or if only one of the two variables is an event; then the
+/// draft does not change. Fails only with `OutOfMemory`; then the draft may have a part of it.
 #[inline(always)]
 pub(crate) fn declare(
     alloc: Global,
@@ -112,7 +112,7 @@ pub(crate) fn declare(
 }
 
 /// Appends the tokens of a reference to the text, with a space between, and returns how many bytes
-/// it appended. Fails only with `OutOfMemory`.
+/// it appended. Fails only with `OutOfMemory`; then some of the bytes may be appended.
 #[inline(always)]
 fn add_reference(text: &mut Vec<u8>, reference: Reference<'_>) -> Result<usize, HeadFault>
     ensures text { IfOk result (λ _. text.new.items ≡ text.old.items ++ whole reference.entry) }
@@ -129,7 +129,7 @@ fn add_reference(text: &mut Vec<u8>, reference: Reference<'_>) -> Result<usize, 
 }
 
 /// Adds the declaration of a scope to the draft, and makes it the innermost open one. Fails only
-/// with `OutOfMemory`.
+/// with `OutOfMemory`; then the draft may have a part of it.
 #[inline(always)]
 pub(crate) fn open_scope(draft: &mut Draft, scope: ScopePhrase<'_>) -> Result<(), HeadFault>
     ensures opens { IfOk result (λ _. TakesPhrase Kind.Scope
@@ -155,7 +155,8 @@ pub(crate) fn open_scope(draft: &mut Draft, scope: ScopePhrase<'_>) -> Result<()
 }
 
 /// Adds an `$upscope` to the draft, which closes its innermost open scope. There must be one
-/// (`check_start`). Fails only with `OutOfMemory`.
+/// (`check_start`). Fails only with `OutOfMemory`; then the scope is closed, but the `$upscope` not
+/// added.
 #[inline(always)]
 pub(crate) fn close_scope(draft: &mut Draft) -> Result<(), HeadFault>
     ensures closes { IfOk result (λ _. TakesPhrase Kind.Up Declaration.Up draft.old draft.new) }

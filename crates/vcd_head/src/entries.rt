@@ -39,8 +39,9 @@ pub(crate) fn entries_of(
     Ok(entries)
 }
 
-/// Returns the greatest number (`code_number`) of these codes, if `in_order` says that they are in
-/// the order of their numbers: the number of the last. Otherwise, or if there is no code, 2^64 - 1.
+/// Returns the greatest number (`code_number`) of these codes, whose bytes lie in `text`, if
+/// `in_order` says that they are in the order of their numbers: the number of the last. Otherwise,
+/// or if there is no code, 2^64 - 1.
 fn greatest_of(text: &[u8], codes: &[Code], in_order: bool) -> usize
     ensures { in_order ≡ false → result ≡ 2 ^ 64 - 1 }
 {
@@ -50,10 +51,10 @@ fn greatest_of(text: &[u8], codes: &[Code], in_order: bool) -> usize
     }
 }
 
-/// Returns how many entries a table for this many codes gets; `greatest` is the greatest
-/// `code_number` of these codes. It is the least power of two that has one entry for each code, or
-/// twice as many if three for each code allow that. If `greatest` is less than that power, each
-/// code has an entry of its own, and no more are needed.
+/// Returns how many entries a table for this many codes, at least one, gets; `greatest` is the
+/// greatest `code_number` of these codes. It is the least power of two that has one entry for each
+/// code, or twice as many if three for each code allow that. If `greatest` is less than that power,
+/// each code has an entry of its own, and no more are needed.
 // With 1.5 to 3 entries for each code, the header of 184,002 codes in order takes 2 % more
 // instructions.
 fn count_for(codes: usize, greatest: usize) -> usize
@@ -68,8 +69,8 @@ fn count_for(codes: usize, greatest: usize) -> usize
     }
 }
 
-/// Writes the entry of each code to the table. The bytes of the codes lie in `text`, and `seed`
-/// hashes them. A code for which `enter` finds no free entry gets none.
+/// Writes the entry of each code to the table `entries`. The bytes of the codes lie in `text`, and
+/// `seed` hashes them. A code for which `enter` finds no free entry gets none.
 fn fill(entries: &mut [Entry], text: &[u8], codes: &[Code], seed: CodeSeed)
     ensures right { KeepsRight text.now codes.now entries.old entries.new }
     ensures len { length entries.new ≡ length entries.old }
@@ -80,10 +81,10 @@ fn fill(entries: &mut [Entry], text: &[u8], codes: &[Code], seed: CodeSeed)
     }
 }
 
-/// Writes an entry for the code at index `position`, which has these bytes, to the table: to the
-/// one that its number leads to, to one of the three beside it, or to one that its hash leads to,
-/// whichever of these is free first. If none is free, the code gets no entry, and only a binary
-/// search finds it.
+/// Writes an entry for the code at index `position`, which has these bytes, to the table `entries`:
+/// to the one that its number leads to, to one of the three beside it, or to one that its hash by
+/// `seed` leads to, whichever of these is free first. If none is free, the code gets no entry, and
+/// only a binary search finds it.
 #[inline(always)]
 fn enter(entries: &mut [Entry], position: usize, code: Code, bytes: &[u8], seed: CodeSeed)
     ensures right { (text : List ℕ) (codes : List Code) → slice_get codes position ≡ Some code
@@ -103,8 +104,8 @@ fn enter(entries: &mut [Entry], position: usize, code: Code, bytes: &[u8], seed:
     }
 }
 
-/// Returns the index of the first free entry among the four at `own`, `own ^ 1`, `own ^ 2` and `own
-/// ^ 3`. `None` if each of the four is taken or out of range.
+/// Returns the index of the first free entry among the four of the table `entries` at `own`, `own ^
+/// 1`, `own ^ 2` and `own ^ 3`. `None` if each of the four is taken or out of range.
 #[inline(always)]
 fn free_near(entries: &[Entry], own: usize) -> Option<usize>
     ensures { IfSome result (λ at. at < length entries.now) }
@@ -117,8 +118,8 @@ fn free_near(entries: &[Entry], own: usize) -> Option<usize>
     None
 }
 
-/// Writes an entry to the first free place that `hash` leads to, in at most `MAX_LOOKS` looks. If
-/// all of these are taken, nothing changes.
+/// Writes an entry to the first free place of the table `entries` that `hash` leads to, in at most
+/// `MAX_LOOKS` looks. If all of these are taken, nothing changes.
 fn put_hashed(entries: &mut [Entry], hash: u64, entry: Entry)
     ensures right { (text : List ℕ) (codes : List Code) → is_right text codes entry ≡ true
         → KeepsRight text codes entries.old entries.new }
@@ -133,7 +134,7 @@ fn put_hashed(entries: &mut [Entry], hash: u64, entry: Entry)
     }
 }
 
-/// Returns whether index `at` is in range and no code has the entry there.
+/// Returns whether index `at` of the table `entries` is in range and no code has the entry there.
 #[inline(always)]
 fn is_free(entries: &[Entry], at: usize) -> bool
     ensures { result ≡ true → at < length entries.now }
@@ -163,7 +164,7 @@ fn entry_with(position: usize, code: Code, key: u64) -> Entry
     }
 }
 
-/// Writes the entry to index `at` of the table. If that is out of range, nothing changes.
+/// Writes the entry to index `at` of the table `entries`. If that is out of range, nothing changes.
 #[inline(always)]
 fn put(entries: &mut [Entry], at: usize, entry: Entry)
     ensures { entries.new ≡ set entries.old at entry }

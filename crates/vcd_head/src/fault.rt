@@ -49,6 +49,7 @@ impl HeadFault {
 impl From<AllocError> for HeadFault {
     ghost from_gives = { λ _ e. e ≡ OutOfMemory };
 
+    /// Returns `OutOfMemory`.
     fn from(_e: AllocError) -> HeadFault {
         HeadFault::OutOfMemory
     }
@@ -57,6 +58,7 @@ impl From<AllocError> for HeadFault {
 impl<T: Drop> From<AllocFailed<T>> for HeadFault {
     ghost from_gives = { λ _ e. e ≡ OutOfMemory };
 
+    /// Returns `OutOfMemory`.
     fn from(_e: AllocFailed<T>) -> HeadFault {
         HeadFault::OutOfMemory
     }

@@ -54,9 +54,9 @@ fn index_by_ranks(
     Ok(Some(index))
 }
 
-/// Returns for each code, in the order of `codes`, the number that `rank_of` makes of its bytes and
-/// its index. `None` if a code has more than 4 bytes, or if there are more than 16,777,216 codes.
-/// Fails if there is no memory.
+/// Returns for each code, in the order of `codes`, the number that `rank_of` makes of its bytes,
+/// which lie in `text`, and its index. `None` if a code has more than 4 bytes, or if there are more
+/// than 16,777,216 codes. Fails if there is no memory.
 fn ranks_of(alloc: Global, text: &[u8], codes: &[Code]) -> Result<Option<Vec<usize>>, AllocError>
     ensures { IfOk result (λ some. IfSome some (λ ranks. AreRanks text.now codes.now ranks.items)) }
 {
@@ -74,9 +74,9 @@ fn ranks_of(alloc: Global, text: &[u8], codes: &[Code]) -> Result<Option<Vec<usi
     Ok(Some(ranks))
 }
 
-/// Returns the bytes of a code (at most 4), how many they are, and its index `position` in one
-/// number. Such numbers are in the order of the codes' bytes, so that they can be sorted without a
-/// look at the codes.
+/// Returns the bytes of a code (at most 4), how many they are, and its index `position` (below
+/// 16,777,216) in one number. Such numbers are in the order of the codes' bytes, so that they can
+/// be sorted without a look at the codes.
 #[inline(always)]
 fn rank_of(bytes: &[u8], position: usize) -> usize
     requires short { length bytes.now ≤ 4 }
@@ -106,8 +106,8 @@ fn index_by_prefixes(alloc: Global, text: &[u8], codes: &[Code]) -> Result<Vec<u
     places_of(alloc, &prefixes)
 }
 
-/// Returns for each code, in the order of `codes`, its first 8 bytes as a number, and its index.
-/// Fails if there is no memory.
+/// Returns for each code, in the order of `codes`, its first 8 bytes, which lie in `text`, as a
+/// number (`prefix_of`), and its index. Fails if there is no memory.
 fn prefixes_of(alloc: Global, text: &[u8], codes: &[Code]) -> Result<Vec<Prefix>, AllocError>
     ensures { IfOk result (λ prefixes. ArePrefixes text.now codes.now prefixes.items) }
 {

@@ -46,8 +46,8 @@ pub(crate) struct Open<'o> {
 }
 
 impl<'o> Open<'o> {
-    /// Returns the state before the first row of a header: no scope is open, and all names of
-    /// `group` can select something. `inside` is its memory, and its elements need not be set
+    /// Returns the open scopes before the first row of a header: none, so that all names of `group`
+    /// can select something. `inside` is the memory for them, and its elements need not be set
     /// before.
     pub(crate) fn new(group: &Group<'_>, inside: &'o mut [Inside; MAX_OPEN]) -> Self
         ensures { (h : Header) (flags : List Bool) → IsOrder (names_of group.now) group.now.order.now
@@ -63,8 +63,8 @@ impl<'o> Open<'o> {
 
     /// Moves on to row `row`, the next one of the header, and returns whether it is a variable that
     /// some name of the group selects, or any variable if there are no names. Sets the flags in
-    /// `matched` of the names that select it, by their indexes, and leaves the other flags as they
-    /// are.
+    /// `matched` of the names that select it, by their indexes in the group, and leaves the other
+    /// flags as they are. If there is no such row, it returns false, and nothing changes.
     #[inline(always)]
     pub(crate) fn take(
         &mut self,
@@ -117,9 +117,9 @@ impl<'o> Open<'o> {
     }
 
     /// Enters the scopes around the variable at index `row` that were not entered yet, from the
-    /// outermost inwards: keeps in `self`, for each, the names that can select something inside it.
-    /// Sets the flags in `matched` of the names that select all of a scope that it enters, and
-    /// leaves the others as they are. `row` is the row that `take` was given.
+    /// outermost inwards: keeps in `self`, for each, the names of `group` that can select something
+    /// inside it. Sets the flags in `matched` of the names that select all of a scope that it
+    /// enters, and leaves the others as they are. `row` is the row that `take` was given.
     fn enter_around(
         &mut self,
         view: HeadView<'_>,
@@ -137,8 +137,8 @@ impl<'o> Open<'o> {
     }
 
     /// Enters the scope at index `row`, if it lies directly in the scope that was entered last:
-    /// keeps in `self` the names that can select something inside it, and sets the flags in
-    /// `matched` of the names that select all of it. Otherwise nothing changes.
+    /// keeps in `self` the names of `group` that can select something inside it, and sets the flags
+    /// in `matched` of the names that select all of it. Otherwise nothing changes.
     fn enter(
         &mut self,
         view: HeadView<'_>,
@@ -159,8 +159,9 @@ impl<'o> Open<'o> {
         });
     }
 
-    /// Keeps the names that can select something in one more scope, which is now the innermost one
-    /// entered. If 1,000 are entered, nothing changes, and `compare` looks at each name by itself.
+    /// Keeps `inner`, the names that can select something in one more scope, which is now the
+    /// innermost one entered. If 1,000 are entered, nothing changes, and `compare` looks at each
+    /// name by itself.
     fn hold(&mut self, inner: Inside)
         ensures { StaysOpen inner self.old self.new }
     {
@@ -207,8 +208,8 @@ impl<'o> Open<'o> {
     }
 }
 
-/// Returns whether one of these names selects the variable at index `row`, by a look at each name,
-/// and sets the flags in `matched` of those that do.
+/// Returns whether one of these names, at most 16,384, selects the variable at index `row`, by a
+/// look at each name, and sets the flags in `matched` of those that do.
 fn compare_each(
     view: HeadView<'_>,
     row: usize,

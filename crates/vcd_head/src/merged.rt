@@ -98,8 +98,8 @@ fn put_closings<W: Sink>(count: usize, w: &mut W) -> Result<(), WriteFailed>
 /// Writes the lines that a merged header has for the declaration at index `row` of an input. For a
 /// variable: the `$scope` lines of the scopes around it that are not written yet, and its own line
 /// with a new code; `first` is the number of the first new code of the input. For an `$upscope`:
-/// its line, if that of its scope was written. For a scope nothing. `scopes` says which scopes are
-/// open before the row.
+/// its line, if that of its scope was written. For a scope, and if there is no such row, nothing.
+/// `scopes` says which scopes are open before the row. If a write fails, it stops.
 fn put_input_row<W: Sink>(
     view: HeadView<'_>,
     row: usize,
@@ -126,9 +126,9 @@ fn put_input_row<W: Sink>(
     }
 }
 
-/// Writes the lines that a merged header has for all variables of an input, with new codes, and for
-/// the scopes around these. `first` is the number of the first new code of the input. If a write
-/// fails, it stops.
+/// Writes the lines that a merged header has for all variables of an input and for the scopes
+/// around these. The code at index k of the input becomes the new code with the number `first` + k.
+/// If a write fails, it stops.
 fn put_input_rows<W: Sink>(view: HeadView<'_>, first: u64, w: &mut W) -> Result<(), WriteFailed>
     requires failures { (W.device w.old).failures < 2 ^ 64 - 1 }
     ensures { PutsWhere W.device w.old w.new result (λ takes.
@@ -146,8 +146,9 @@ fn put_input_rows<W: Sink>(view: HeadView<'_>, first: u64, w: &mut W) -> Result<
 }
 
 /// Writes what the header of a merged dump has for one input: a scope `in1`, `in2`, .. with the
-/// input's `number`, and in it the input's variables with new codes and the scopes around these.
-/// `first` is the number of the input's first new code. If a write fails, it stops.
+/// input's `number`, counted from 1, and in it the input's variables and the scopes around these;
+/// scopes without variables are left out. The code at index k of the input becomes the new code
+/// with the number `first` + k. If a write fails, it stops.
 fn put_input_head<W: Sink>(
     view: HeadView<'_>,
     number: u64,
@@ -166,8 +167,9 @@ fn put_input_head<W: Sink>(
     put(w, b"$upscope $end\n")
 }
 
-/// Writes what the header of a merged dump has for each input, in order. The new codes are numbered
-/// from 0 on, those of an input after those of the inputs before it. If a write fails, it stops.
+/// Writes what the header of a merged dump has for each input, at most 64, in order. The new codes
+/// are numbered from 0 on, those of an input after those of the inputs before it. If a write fails,
+/// it stops.
 fn put_input_heads<W: Sink>(heads: &[Head], w: &mut W) -> Result<(), WriteFailed>
     requires heads { length heads.now ≤ 64 }
     requires failures { (W.device w.old).failures < 2 ^ 64 - 1 }

@@ -44,7 +44,7 @@ impl<'n> Group<'n> {
         Group { names, order }
     }
 
-    /// Returns the run of all names of the group, of whose path no byte was followed yet.
+    /// Returns the run of all names of the group, before any byte of a path was followed.
     pub(crate) fn all(&self) -> NameRun
         ensures { (flags : List Bool) → IsOrder (names_of self.now) self.now.order.now
             → AreSame (names_of self.now) flags → IsRun self.now flags [] result }
@@ -71,8 +71,8 @@ impl<'n> Group<'n> {
         }
     }
 
-    /// Returns 1 plus the byte after the first `passed` bytes of a name, or 0 if the name ends
-    /// before that. `at` is the place of the name in the order of bytes.
+    /// Returns 1 plus the byte after the first `passed` bytes of a name, or 0 if the name has no
+    /// more bytes than these. `at` is the place of the name in the order of bytes.
     #[inline(always)]
     fn next_at(&self, at: usize, passed: usize) -> usize
         ensures next { result ≡ next_in (names_of self.now) self.now.order.now passed at }
@@ -201,9 +201,9 @@ impl<'n> Group<'n> {
     }
 
     /// Follows one or more of `bytes`, the next ones of a path: all that every name of `run`
-    /// continues with, and one more if there is one. Returns the names that continue with all of
-    /// these, and how many bytes were followed. Sets the flags in `matched` of the names that end
-    /// just before a dot in them, and so select every such path.
+    /// continues with, and one more if there is one. Neither `run` nor `bytes` is empty. Returns
+    /// the names that continue with all of these, and how many bytes were followed. Sets the flags
+    /// in `matched` of the names that end just before a dot in them, and so select every such path.
     // Without this, 30,000 names with a dot each over 30,000 variables took eight times as long.
     #[inline(always)]
     fn hop(&self, run: NameRun, bytes: &[u8], matched: &mut [bool; GROUP_NAMES]) -> (NameRun, usize)
@@ -281,8 +281,8 @@ impl<'n> Group<'n> {
     }
 }
 
-/// Writes the indexes of the names, in the order of the names' bytes, to the first elements of
-/// `order`. The elements must be 0 before, and the other ones stay so.
+/// Writes the indexes of the names, at most 16,384, in the order of the names' bytes, to the first
+/// elements of `order`. The elements must be 0 before, and the other ones stay so.
 pub(crate) fn put_names(order: &mut [u16; GROUP_NAMES], names: &[String])
     requires few { length names.now ≤ 16384 }
     requires zeros { (i : ℕ) → get_or order.old i 0 ≡ 0 }
@@ -291,8 +291,8 @@ pub(crate) fn put_names(order: &mut [u16; GROUP_NAMES], names: &[String])
     put_order(&mut order[..names.len()], names);
 }
 
-/// Writes the indexes of the names, in the order of the names' bytes, to `positions`, which has as
-/// many elements.
+/// Writes the indexes of the names, at most 16,384, in the order of the names' bytes, to
+/// `positions`, which has as many elements.
 fn put_order(positions: &mut [u16], names: &[String])
     requires count { length positions.old ≡ length names.now }
     requires few { length names.now ≤ 16384 }
@@ -305,7 +305,7 @@ fn put_order(positions: &mut [u16], names: &[String])
     sort(positions, names);
 }
 
-/// Writes to each element its own index: 0, 1, 2, ..
+/// Writes to each element, of which there are at most 16,384, its own index: 0, 1, 2, ..
 fn number(positions: &mut [u16])
     requires { length positions.old ≤ 16384 }
     ensures len { length positions.new ≡ length positions.old }

@@ -23,8 +23,8 @@ fn put_scopes<W: Sink>(view: HeadView<'_>, row: usize, w: &mut W) -> Result<(), 
 
 /// Writes the path of the declaration with index `row`, such as `tb.cpu.clk`: the names of the
 /// scopes around it, outermost first, and its own (the first token of its reference), with dots
-/// between. If a write fails, a prefix was written. It takes little more than 1 KB of stack,
-/// however many scopes there are.
+/// between. Writes nothing if there is no such row. If a write fails, a prefix was written. It
+/// takes little more than 1 KB of stack, however many scopes there are.
 pub fn put_path<W: Sink>(view: HeadView<'_>, row: usize, w: &mut W) -> Result<(), WriteFailed>
     requires failures { (W.device w.old).failures < 2 ^ 64 - 1 }
     ensures takes { TakesRow view.entry row (W.device w.old) (W.device w.new)

@@ -37,7 +37,7 @@ fn in_32_bits(number: usize) -> u32
 }
 
 /// Appends a declaration to `rows`. Fails with `OutOfMemory` if there is no memory, or if its type
-/// or name has 4 GiB or more.
+/// or name has 4 GiB or more; then `rows` does not change.
 // With `Vec::push` the header of 184,002 codes takes 5 % more instructions.
 #[inline(always)]
 pub(crate) fn push(rows: &mut Vec<Row>, row: WideRow) -> Result<(), HeadFault>

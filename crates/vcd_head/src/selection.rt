@@ -77,9 +77,10 @@ fn mark(view: HeadView<'_>, row: usize, marks: &mut [u8])
     }
 }
 
-/// Sets the elements of the declaration at index `row` and of the scopes around it to 1 in `marks`.
-/// Returns 1 plus the index of the row of the scope directly around it, or 0 if there is none.
-/// `marked` is such a number of a scope that is already marked together with those around it.
+/// Sets the elements of the declaration at index `row` and of the scopes around it to 1 in `marks`,
+/// which has one byte for each row. Returns 1 plus the index of the row of the scope directly
+/// around it, or 0 if there is none. `marked` is such a number: of a scope that is already marked
+/// together with those around it, or 0.
 fn mark_row(view: HeadView<'_>, row: usize, marked: usize, marks: &mut [u8]) -> usize
     requires { row < length marks.old }
     ensures marks { AnyRow view.entry row (λ h. AllMarked (scopes_at h.declarations marked) marks.old
@@ -97,7 +98,8 @@ fn mark_row(view: HeadView<'_>, row: usize, marked: usize, marks: &mut [u8]) -> 
     parent
 }
 
-/// Returns 1 plus the index of the row of the scope directly around a row, or 0 if there is none.
+/// Returns 1 plus the index of the row of the scope directly around the declaration at index `row`,
+/// or 0 if there is no such scope or row.
 fn parent_of(view: HeadView<'_>, row: usize) -> usize
     ensures { (h : Header) → IsViewOf view.entry h → row < length h.declarations
         → result ≡ counted_from_one (parent (take row h.declarations)) }
@@ -108,8 +110,8 @@ fn parent_of(view: HeadView<'_>, row: usize) -> usize
     }
 }
 
-/// Sets the elements of all variables, and of the scopes around them, to 1 in `marks`. The other
-/// elements stay as they are.
+/// Sets the elements of all variables, and of the scopes around them, to 1 in `marks`, which has
+/// one byte for each row. The other elements stay as they are.
 // It needs no names in order, and so not their 88 KB of stack.
 fn mark_all(view: HeadView<'_>, marks: &mut [u8])
     requires { length marks.old ≡ length view.rows.now }
@@ -141,7 +143,8 @@ fn is_variable(view: HeadView<'_>, row: usize) -> bool
 }
 
 /// Sets the elements of the variables that some name selects, and of the scopes around them, to 1
-/// in `marks`. Returns the index of the first name that selects nothing; `None` if each name
+/// in `marks`, which has one byte for each row; the other elements stay as they are. There are at
+/// most 16,384 names. Returns the index of the first name that selects nothing; `None` if each name
 /// selects some variable.
 fn mark_selected(view: HeadView<'_>, names: &[String], marks: &mut [u8]) -> Option<usize>
     requires len { length marks.old ≡ length view.rows.now }

@@ -46,8 +46,8 @@ pub(crate) fn append_to_end<S: Source>(
 }
 
 /// Appends the tokens that come next and lie completely in the chunk to the text, up to the first
-/// `$end`, which is left; a space is put before each. Returns how many bytes of the chunk they
-/// take. Fails if there is no memory.
+/// `$end`, which is left; a space is put before each. Returns how many bytes `ahead` has passed
+/// after these tokens. Fails if there is no memory.
 // Without it, `check` of a date of tokens of one byte takes 2.2 times as many instructions.
 fn append_ahead(ahead: Ahead<'_>, text: &mut Vec<u8>) -> Result<usize, HeadFault>
     ensures appends { AppendsAhead ahead.entry text.old.items text.new.items result }

@@ -13,8 +13,8 @@ use std::alloc::Global;
 use vcd_text::{Feed, Source};
 use vcd_view::Kind;
 
-/// Reads the size of a variable, in bits. Fails with `BadVariable` if the next token is not the
-/// digits of a number from 1 to 16,777,215, and if it cannot be read.
+/// Reads the size of a variable, and returns it, in bits. Fails with `BadVariable` if the next
+/// token is not the digits of a number from 1 to 16,777,215, and if it cannot be read.
 fn read_size<S: Source>(feed: &mut Feed<'_, '_, '_, '_, S>) -> Result<usize, HeadFault>
     requires { S.failures (source_of feed.old) < 2 ^ 64 - 1 }
     ensures reads { ReadsSize feed.old feed.new result }

@@ -117,7 +117,7 @@ pub(crate) fn exponent_of(scale: &[u8]) -> Option<i8>
 }
 
 /// Returns the power of ten, in seconds, of a time scale: that of its unit plus `power`, the one of
-/// its number. `None` if no unit has this name.
+/// its number (0 to 2). `None` if no unit has this name.
 fn raised(unit: &[u8], power: i8) -> Option<i8>
     requires low { pos 0 ≤ℤ power }
     requires high { power ≤ℤ pos 2 }

@@ -62,6 +62,7 @@ pub(crate) fn copy(from: &[u8], to: &mut [u8])
 }
 
 /// Copies the first 64 bytes of `from` into `to` from offset `position` on. Both must have as many.
+/// The other bytes of `to` stay as they are.
 #[inline(always)]
 pub(crate) fn copy_short(to: &mut [u8], position: usize, from: &[u8])
     requires room { position + 64 ≤ length to.old }
@@ -81,7 +82,7 @@ fn as_word(bytes: [u8; 8]) -> [u8; 8]
 }
 
 /// Copies the 8 bytes of `from` into `to` from offset `position` on, in one step. `to` must have
-/// room for them.
+/// room for them, and its other bytes stay as they are.
 #[inline(always)]
 pub(crate) fn copy_eight(to: &mut [u8], position: usize, from: [u8; 8])
     requires room { position + 8 ≤ length to.old }
@@ -151,8 +152,8 @@ impl Buffer {
         self.len = end;
     }
 
-    /// Appends the first `n` of these bytes to the buffer, by one copy of all 8, for which it must
-    /// have room.
+    /// Appends the first `n` of these bytes, at most 8, to the buffer, by one copy of all 8, for
+    /// which it must have room.
     #[inline(always)]
     pub(crate) fn push_few(&mut self, bytes: [u8; 8], n: usize)
         requires few { n ≤ 8 }
@@ -177,7 +178,7 @@ impl Buffer {
     }
 
     /// Appends the first `n` bytes of `from` to the buffer, by one copy of 64, for which it must
-    /// have room. `n` is at most 64.
+    /// have room. `n` is at most 64, and `from` has at least 64 bytes.
     #[inline(always)]
     pub(crate) fn push_front(&mut self, from: &[u8], n: usize)
         requires few { n ≤ 64 }
@@ -191,8 +192,8 @@ impl Buffer {
     }
 
     /// Appends the byte `first`, the first `n` bytes of `from` and the first `m` of `end` to the
-    /// buffer, by copies of fixed lengths. `n` is at most 64, `m` at most 8, and the buffer must
-    /// have room for 73.
+    /// buffer, by copies of fixed lengths. `n` is at most 64, `m` at most 8, `from` has at least 64
+    /// bytes, and the buffer must have room for 73.
     #[inline(always)]
     pub(crate) fn push_parts(&mut self, first: u8, from: &[u8], n: usize, end: [u8; 8], m: usize)
         requires few { n ≤ 64 }
@@ -217,7 +218,7 @@ impl Buffer {
     }
 
     /// Removes the first `n` bytes from the buffer, which were written, and forgets that a write
-    /// failed before.
+    /// failed before. The buffer has at least `n` bytes.
     pub(crate) fn remove_front(&mut self, n: usize)
         requires { n ≤ self.old.len }
         ensures kept { kept self.new ≡ drop n (kept self.old) }

@@ -91,8 +91,8 @@ impl<D: Write + Drop> Buffered<D> {
         Ok(())
     }
 
-    /// Makes room in the buffer for `n` bytes: if it has too little, writes what is in it. Fails if
-    /// that write fails; it does not count the failure.
+    /// Makes room in the buffer for `n` bytes, at most 8,192: if it has too little, writes what is
+    /// in it. Fails if that write fails; it does not count the failure.
     fn make_room(&mut self, n: usize) -> Result<(), WriteFailed>
         requires { n ≤ 8192 }
         ensures room { OnOk result (self.new.buffer.len + n ≤ 8192) }
@@ -127,7 +127,8 @@ impl<D: Write + Drop> Buffered<D> {
     }
 
     /// Takes some of these bytes, from the first one on, and returns how many. It is for bytes that
-    /// fill the buffer or have no room in it. Returns 0 if a write failed, and counts that failure.
+    /// fill the buffer or have no room in it; there is at least one. Returns 0 if a write failed,
+    /// and counts that failure.
     // Not inlined, since most writes fit.
     #[cold]
     #[inline(never)]
@@ -164,7 +165,9 @@ impl<D: Write + Drop> Sink for Buffered<D> {
 
     ghost kept_back = { λ sink. sink.buffer.len };
 
-    /// Takes bytes into the buffer, or writes to the device if they fill it or have no room.
+    /// Takes bytes from the front of `from` into the buffer, or writes to the device if they fill
+    /// it or have no room, and returns how many it took. Fails, and counts it, if a write of the
+    /// device fails; then it takes none of these bytes.
     #[inline(always)]
     fn write(&mut self, from: &[u8]) -> Result<usize, WriteFailed> {
         if from.is_empty() || from.len() < ROOM - self.buffer.len {
@@ -177,8 +180,8 @@ impl<D: Write + Drop> Sink for Buffered<D> {
         }
     }
 
-    /// Takes the first `n` of these bytes into the buffer. Returns false, and takes none, if it has
-    /// no room for all 8.
+    /// Takes the first `n` of these bytes into the buffer, and returns true. Returns false, and
+    /// takes none, if it has no room for all 8.
     #[inline(always)]
     fn write_few(&mut self, bytes: [u8; 8], n: usize) -> bool {
         if self.buffer.len > ROOM - FEW {
@@ -188,8 +191,9 @@ impl<D: Write + Drop> Sink for Buffered<D> {
         true
     }
 
-    /// Takes the first `n` bytes of `from` into the buffer. Returns false, and takes none, if `n`
-    /// is above 64, if `from` has fewer than 64 bytes, or if the buffer is nearly full.
+    /// Takes the first `n` bytes of `from` into the buffer, and returns true. Returns false, and
+    /// takes none, if `n` is above 64, if `from` has fewer than 64 bytes, or if the buffer has no
+    /// room for 73 bytes.
     #[inline(always)]
     fn write_front(&mut self, from: &[u8], n: usize) -> bool {
         if !self.buffer.has_room(from, n) {
@@ -199,9 +203,9 @@ impl<D: Write + Drop> Sink for Buffered<D> {
         true
     }
 
-    /// Takes `first`, the first `n` bytes of `from` and the first `m` of `end` into the buffer.
-    /// Returns false, and takes none, if `n` is above 64, if `from` has fewer than 64 bytes, or if
-    /// the buffer is nearly full.
+    /// Takes `first`, the first `n` bytes of `from` and the first `m` of `end` into the buffer, and
+    /// returns true. Returns false, and takes none, if `n` is above 64, if `from` has fewer than 64
+    /// bytes, or if the buffer has no room for 73 bytes.
     #[inline(always)]
     fn write_parts(&mut self, first: u8, from: &[u8], n: usize, end: [u8; 8], m: usize) -> bool {
         if !self.buffer.has_room(from, n) {
@@ -211,7 +215,8 @@ impl<D: Write + Drop> Sink for Buffered<D> {
         true
     }
 
-    /// Writes what is in the buffer to the device. Fails if a write fails, and counts that failure.
+    /// Writes what is in the buffer to the device. Fails if a write fails, and counts that failure;
+    /// then the bytes that the device did not take stay in the buffer.
     fn pass_on(&mut self) -> Result<(), WriteFailed> {
         match self.write_kept() {
             Ok(()) => Ok(()),

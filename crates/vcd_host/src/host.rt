@@ -55,7 +55,7 @@ pub trait Output: Sink {
 impl Output for Watch<Vec<u8>> {
     ghost flushes = { λ old done new. (done ≡ true) × (new ≡ old) };
 
-    /// Does nothing: a vector needs no flush.
+    /// Does nothing and succeeds: a vector needs no flush.
     fn flush(&mut self) -> Result<(), WriteFailed> {
         Ok(())
     }

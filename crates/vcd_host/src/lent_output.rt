@@ -88,8 +88,8 @@ impl Sink for LentOutput<'_> {
 
     ghost kept_back = { λ _. 0 };
 
-    /// Writes bytes into the slice as far as it has room. Once it is full, bytes are counted and
-    /// dropped.
+    /// Takes bytes from the front of `from`, and returns how many: as many as the slice has room
+    /// for. Once it is full, all of them are counted and dropped. It never fails.
     #[inline(always)]
     fn write(&mut self, from: &[u8]) -> Result<usize, WriteFailed> {
         if from.len() >= self.bytes.len() - self.used {
@@ -101,8 +101,8 @@ impl Sink for LentOutput<'_> {
         Ok(from.len())
     }
 
-    /// Writes the first `n` of these bytes. Returns false, and writes none, if the slice has no
-    /// room for more than 8.
+    /// Writes the first `n` of these bytes, and returns true. Returns false, and writes none, if
+    /// the slice has no room for more than 8.
     #[inline(always)]
     fn write_few(&mut self, bytes: [u8; 8], n: usize) -> bool {
         if self.bytes.len() - self.used <= FEW {
@@ -113,8 +113,9 @@ impl Sink for LentOutput<'_> {
         true
     }
 
-    /// Writes the first `n` bytes of `from`. Returns false, and writes none, if `n` is above 64, if
-    /// `from` has fewer than 64 bytes, or if the slice has no room for more than 64.
+    /// Writes the first `n` bytes of `from`, and returns true. Returns false, and writes none, if
+    /// `n` is above 64, if `from` has fewer than 64 bytes, or if the slice has no room for more
+    /// than 64.
     #[inline(always)]
     fn write_front(&mut self, from: &[u8], n: usize) -> bool {
         if n > SHORT || from.len() < SHORT || self.bytes.len() - self.used <= SHORT {
@@ -125,9 +126,9 @@ impl Sink for LentOutput<'_> {
         true
     }
 
-    /// Writes `first`, the first `n` bytes of `from` and the first `m` of `end`. Returns false, and
-    /// writes none, if `n` is above 64, if `from` has fewer than 64 bytes, or if the slice has no
-    /// room for more than 73.
+    /// Writes `first`, the first `n` bytes of `from` and the first `m` of `end`, and returns true.
+    /// Returns false, and writes none, if `n` is above 64, if `from` has fewer than 64 bytes, or if
+    /// the slice has no room for more than 73.
     #[inline(always)]
     fn write_parts(&mut self, first: u8, from: &[u8], n: usize, end: [u8; 8], m: usize) -> bool {
         if n > SHORT || from.len() < SHORT || self.bytes.len() - self.used <= PARTS {
@@ -138,7 +139,7 @@ impl Sink for LentOutput<'_> {
         true
     }
 
-    /// Does nothing, since no bytes are kept back.
+    /// Does nothing and succeeds, since no bytes are kept back.
     #[inline(always)]
     fn pass_on(&mut self) -> Result<(), WriteFailed> {
         Ok(())
@@ -154,7 +155,7 @@ impl Sink for LentOutput<'_> {
 impl Output for LentOutput<'_> {
     ghost flushes = { λ old done new. (done ≡ true) × (new ≡ old) };
 
-    /// Does nothing, since no bytes are kept back.
+    /// Does nothing and succeeds, since no bytes are kept back.
     fn flush(&mut self) -> Result<(), WriteFailed> {
         Ok(())
     }

@@ -51,6 +51,7 @@ pub enum OpenStop<'a> {
 impl<'a> From<AllocError> for OpenStop<'a> {
     ghost from_gives = { λ _ stop. stop ≡ OpenStop.OutOfMemory };
 
+    /// Returns `OutOfMemory`.
     fn from(_error: AllocError) -> OpenStop<'a> {
         OpenStop::OutOfMemory
     }

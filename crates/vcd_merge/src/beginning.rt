@@ -16,9 +16,9 @@ fn factor_of(view: HeadView<'_>, least: i8) -> u64
     10u64.checked_pow(u32::from(power)).unwrap_or(u64::MAX)
 }
 
-/// Sets what a merge of inputs with these headers needs in each seat: the factor of its times, the
-/// number of the first code that the merged dump has for it, time 0, and that the input has not
-/// finished. Feeds and registers do not change.
+/// Sets what a merge of inputs with these headers, at most 64, needs in each seat, of which there
+/// is one for each input: the factor of its times, the number of the first code that the merged
+/// dump has for it, time 0, and that the input has not finished. Feeds and registers do not change.
 pub(crate) fn set_seats(heads: &[Head], seats: &mut [Seat])
     requires many { length heads.now ≤ 64 }
     requires heads { length heads.now ≡ length seats.old }

@@ -29,10 +29,12 @@ fn greatest_time(seats: &[Seat]) -> Option<u64>
     greatest
 }
 
-/// Handles the items of a turn: of the input `turn.input`, until its time reaches `turn.before`,
-/// with its source and its parts of the windows. Its seat has its state after these items, and
-/// `written` the time whose line was written last, as it had before. Nothing of other inputs
-/// changes. Fails at a fault of the input, at a failed read of it, and at a failed write.
+/// Takes the turn of the input at index `turn.input`: reads its next item, and those after it while
+/// its time is below `turn.before`, and writes to `out` what is due with them. `heads`, `seats` and
+/// `sources` have one element for each input, and `windows` one part; only those at this index are
+/// used. The seat then has the time and the registers of the input, and whether it has finished;
+/// `written` is the time whose line was written last, before the call and after it. Fails at a
+/// fault of the input, at a failed read of it, and at a failed write.
 #[inline(always)]
 fn run_turn<S: Source, W: Sink>(
     heads: &[Head],
@@ -85,8 +87,9 @@ fn run_turn<S: Source, W: Sink>(
 }
 
 impl<'h, 's> Merge<'h, 's> {
-    /// Begins a merge of at most 64 inputs with these headers, and writes its header. The parked
-    /// feed in each seat is right after the header of its input, and stays there.
+    /// Begins a merge of at most 64 inputs with these headers, writes the header of the merged
+    /// dump, and returns the merge, before its first item. `seats` has one seat for each header.
+    /// The parked feed in each seat is right after the header of its input, and stays there.
     ///
     /// # Errors
     ///
@@ -143,11 +146,11 @@ fn close<W: Sink>(seats: &[Seat], written: Option<u64>, out: &mut W) -> Result<(
     }
 }
 
-/// Handles the items of the next turn, and puts its input back into the order. Returns `Again` if
-/// some input has not finished; otherwise writes the end of the merged dump and returns `Ended`.
-/// The seats have the states of the inputs after that, and `written` the time whose line was
-/// written last. Fails at a fault of the input whose turn it is, at a failed read of it, and at a
-/// failed write.
+/// Takes the next turn in `order`, with the arguments of `run_turn`, and puts its input back into
+/// the order unless it has finished. Returns `Again` if some input has not finished; otherwise
+/// writes the end of the merged dump and returns `Ended`. The seats then have what is kept of the
+/// inputs, and `written` is the time whose line was written last. Fails at a fault of the input
+/// whose turn it is, at a failed read of it, and at a failed write.
 #[inline(always)]
 fn run_next<S: Source, W: Sink>(
     heads: &[Head],
@@ -182,10 +185,11 @@ fn run_next<S: Source, W: Sink>(
     Ok(More::Ended(Done::Whole))
 }
 
-/// Handles the items of the next turn of a merge. Returns `Again` if some input has not finished;
-/// otherwise writes the end of the merged dump and returns `Ended`. After any answer except `Again`
-/// the merge is over. Fails at a fault of the input whose turn it is, at a failed read of it, and
-/// at a failed write.
+/// Takes the next turn of a merge, by `order`, and writes to `out` what is due with its items.
+/// `sources` has one source for each input, and `windows` one part. Returns `Again` if some input
+/// has not finished; otherwise writes the end of the merged dump and returns `Ended`. After any
+/// result except `Again` the merge is over. Fails at a fault of the input whose turn it is, at a
+/// failed read of it, and at a failed write.
 #[inline(always)]
 fn run_step<S: Source, W: Sink>(
     merge: &mut Merge<'_, '_>,
@@ -221,8 +225,8 @@ fn run_step<S: Source, W: Sink>(
     answer
 }
 
-/// Returns the order in which the inputs that have not finished take their turns. Each turn ends at
-/// the time `until` at the latest. The seats do not change.
+/// Returns the order in which the inputs that have not finished, of at most 64, take their turns.
+/// Each turn ends at the time `until` at the latest. The seats do not change.
 // They come as a `&mut`, since a proof learns nothing of what a shared borrow of a field reads.
 fn order_of(seats: &mut [Seat], until: u64) -> TurnOrder
     requires { length seats.old ≤ 64 }
@@ -233,11 +237,11 @@ fn order_of(seats: &mut [Seat], until: u64) -> TurnOrder
     TurnOrder::of(seats, until)
 }
 
-/// Handles the next item of the input whose turn it is, and writes what is due with it, or at the
-/// end of all inputs. At the end of one input while others have items, nothing is written, and the
-/// input counts as finished. Before a read `out` passes on what it keeps back; if that fails,
-/// nothing is read. Returns `Again` if some input has not finished. After any other answer do not
-/// call it again.
+/// Takes the next item of the input whose turn it is, and writes to `out` what is due with it, or
+/// at the end of all inputs. `sources` has one source for each input, and `windows` one part. At
+/// the end of one input while others have items, nothing is written, and the input counts as
+/// finished. Before a read `out` passes on what it keeps back; if that fails, nothing is read.
+/// Returns `Again` if some input has not finished. After any other result do not call it again.
 ///
 /// # Errors
 ///
@@ -287,8 +291,10 @@ pub fn merge_step<S: Source, W: Sink>(
 }
 
 impl<'h, 's> Merge<'h, 's> {
-    /// Handles all items that are left, to the end of the merge, writes what is due with them, and
-    /// returns how it ended. Fails at a fault of an input, at a failed read, and at a failed write.
+    /// Takes all items that are left, to the end of the merge, writes to `out` what is due with
+    /// them, and returns `Done::Whole`. `sources` has one source for each input, and `windows` one
+    /// part. `going` has to be true. Fails at a fault of an input, at a failed read, and at a
+    /// failed write.
     pub fn finish<S: Source, W: Sink>(
         &mut self,
         sources: &mut [S],

@@ -13,8 +13,8 @@ pub(crate) struct Turn {
     pub(crate) before: u64,
 }
 
-/// Returns whether `input` comes before `other` in a merge: if its time is less, or the times are
-/// equal and its index is less.
+/// Returns whether `input` comes before `other` in a merge: if its time in `seats` is less, or the
+/// times are equal and its index is less.
 #[inline(always)]
 fn comes_before(seats: &[Seat], input: usize, other: usize) -> bool
     requires input { input < length seats.now }
@@ -29,8 +29,8 @@ fn comes_before(seats: &[Seat], input: usize, other: usize) -> bool
     time < other_time || (time == other_time && input < other)
 }
 
-/// Returns the time below which `input` comes before `other` in a merge: the time of `other`, or
-/// one more if the index of `input` is less.
+/// Returns the time below which `input` comes before `other` in a merge: the time of `other` in
+/// `seats`, or one more if the index of `input` is less.
 #[inline(always)]
 fn end_before(seats: &[Seat], input: usize, other: usize) -> u64
     requires { other < length seats.now }
@@ -60,8 +60,9 @@ pub(crate) struct TurnOrder {
 impl TurnOrder {
     ghost use Rattle.std.specs.Prelude.{◌≤◌};
 
-    /// Returns the index in `inputs` at which to insert `input`, so that they stay in order. The
-    /// inputs from there on come before it in the merge, and those below do not.
+    /// Returns the index in `inputs` at which to insert `input`, so that they stay in order, by the
+    /// times in `seats`. The inputs from there on come before it in the merge, and those below do
+    /// not.
     #[inline(always)]
     fn index_for(&self, input: usize, seats: &[Seat]) -> usize
         requires input { input < length seats.now }
@@ -86,7 +87,8 @@ impl TurnOrder {
         low
     }
 
-    /// Inserts an input at its place in the order. It must not be there already or have finished.
+    /// Inserts an input at its place in the order, by the times in `seats`. Fewer than 64 inputs
+    /// wait before. It must not be there already or have finished.
     #[inline(always)]
     fn insert(&mut self, input: usize, seats: &[Seat])
         requires input { input < length seats.now }
@@ -112,8 +114,8 @@ impl TurnOrder {
         self.len += 1;
     }
 
-    /// Inserts an input at its place in the order, unless it has finished. It must not be there
-    /// already.
+    /// Inserts an input at its place in the order, by the times in `seats`, unless it has finished.
+    /// Fewer than 64 inputs wait before. It must not be there already.
     #[inline(always)]
     pub(crate) fn put(&mut self, input: usize, seats: &[Seat])
         requires input { input < length seats.now }
@@ -132,8 +134,8 @@ impl TurnOrder {
         }
     }
 
-    /// Returns the order of all inputs that have not finished, by the times in their seats. Each
-    /// turn ends at the time `until` at the latest.
+    /// Returns the order of all inputs that have not finished, by the times in their seats, at most
+    /// 64. Each turn ends at the time `until` at the latest.
     pub(crate) fn of(seats: &[Seat], until: u64) -> TurnOrder
         requires { length seats.now ≤ 64 }
         ensures order { AllWait seats.now result.inputs result.len }
@@ -160,7 +162,7 @@ impl TurnOrder {
     }
 
     /// Returns the time below which `input` comes before all of the first `count` inputs in the
-    /// order, or `u64::MAX` if `count` is 0.
+    /// order, which has at least as many, by the times in `seats`; `u64::MAX` if `count` is 0.
     #[inline(always)]
     fn end_of(&self, input: usize, count: usize, seats: &[Seat]) -> u64
         requires count { count ≤ self.now.len }

@@ -10,8 +10,9 @@ use vcd_head::Head;
 use vcd_text::{Sink, Source};
 
 /// Writes the merge of 1 to 64 inputs, whose headers were read: their changes in one order of time,
-/// under one header. Each seat is `Seat::new` of the input's feed, parked after its header. Each of
-/// the slices in `windows` has one equal part for each input.
+/// under one header. Returns `Done::Whole`. `heads`, `sources` and `seats` have one element for
+/// each input. Each seat is `Seat::new` of the input's feed, parked after its header. Each of the
+/// slices in `windows` has one equal part for each input.
 ///
 /// # Errors
 ///

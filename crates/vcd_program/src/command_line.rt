@@ -10,9 +10,10 @@ use vcd_text::{Sink, put};
 use vcd_words::{Job, UseFault, answer_text, command_of, job_of, parse_status};
 use vcdkit::{open_fault, run_within, use_fault, write_fault};
 
-/// Runs a job, which the parsed command line `matches` asks for: opens its inputs, runs it over
-/// them, and returns the exit status. Output goes to `out`, which is not flushed, and messages go
-/// to `err`. If memory runs out or an input cannot be opened, nothing is written to `out`.
+/// Runs a job, which the parsed command line `matches` asks for: has `host` open its inputs, runs
+/// it over them, and returns the exit status. Output goes to `out`, which is not flushed, and
+/// messages go to `err`. If memory runs out or an input cannot be opened, nothing is written to
+/// `out`.
 fn run_job<H: Host, W: Sink, E: Sink, B: BuildHasher>(
     alloc: Global,
     job: Job,
@@ -51,9 +52,9 @@ fn run_job<H: Host, W: Sink, E: Sink, B: BuildHasher>(
     }
 }
 
-/// Does what a parsed command line asks for, and returns the exit status. Output goes to `out`,
-/// which is not flushed, and messages go to `err`. If it asks for no valid job, no input is opened,
-/// and only a line is written to `err`.
+/// Does what a parsed command line asks for, and returns the exit status. `host` opens the inputs,
+/// output goes to `out`, which is not flushed, and messages go to `err`. If it asks for no valid
+/// job, no input is opened, and only a line is written to `err`.
 fn run_matches<H: Host, W: Sink, E: Sink, B: BuildHasher>(
     alloc: Global,
     matches: &ArgMatches<'_>,
@@ -73,10 +74,10 @@ fn run_matches<H: Host, W: Sink, E: Sink, B: BuildHasher>(
     }
 }
 
-/// Writes the text for a command line that `clap` did not accept, or that asks for help or the
-/// version, and returns the exit status. Help and the version go to `out`, all else to `err`. The
-/// status is 0 if help or the version was written, 3 if memory runs out or `out` cannot be written,
-/// otherwise 2.
+/// Writes the text for a command line for which `clap` returned `error`: it was not accepted, or
+/// asks for help or the version. Returns the exit status. Help and the version go to `out`, all
+/// else to `err`. The status is 0 if help or the version was written, 3 if memory runs out or `out`
+/// cannot be written, otherwise 2.
 fn answer<W: Sink, E: Sink>(alloc: Global, error: &Error, out: &mut W, err: &mut E) -> u8
     requires sinks { MayFailOnce W.Sink E.Sink out.old err.old }
     ensures answers { Answers (kind_of error.now)
@@ -101,7 +102,8 @@ fn answer<W: Sink, E: Sink>(alloc: Global, error: &Error, out: &mut W, err: &mut
 }
 
 /// Parses these arguments, the program's name first among them, does what they ask for, and returns
-/// the exit status. Output goes to `out`, which is not flushed, and messages go to `err`.
+/// the exit status. `host` opens the inputs, output goes to `out`, which is not flushed, and
+/// messages go to `err`.
 fn run_words<H: Host, W: Sink, E: Sink, B: BuildHasher>(
     alloc: Global,
     words: &[String],

@@ -35,8 +35,8 @@ impl<R: Read> Measured<R> {
         }
     }
 
-    /// Returns a number of bytes that the reads to come do not exceed. `None` if there is no limit,
-    /// or if it does not fit into a `usize`.
+    /// Returns how many bytes are left up to the limit, which the reads to come do not exceed.
+    /// `None` if there is no limit, or if the number does not fit into a `usize`.
     fn max_bytes(&self) -> Option<usize>
         ensures { GivesAtMost (measured_left R.remaining self.now) result }
     {
@@ -50,7 +50,8 @@ impl<R: Read> Measured<R> {
 impl<R: Read> Read for Measured<R> {
     ghost remaining = { λ bytes. measured_left R.remaining bytes };
 
-    /// Reads from the reader, up to its limit if it has one.
+    /// Reads from the reader to the front of `into`, up to its limit if it has one, and returns how
+    /// many bytes. Fails if the reader does.
     fn read(&mut self, into: &mut [u8]) -> io::Result<usize> {
         match self {
             Measured::AtMost(reader) => reader.read(into),
@@ -94,7 +95,7 @@ trait Machine {
     // What `input` may return.
     ghost gives: { Self → Self.Input → Type 0 };
 
-    /// Opens the file of this name for reading, and returns it.
+    /// Opens the file of this name for reading, and returns it. Fails if it cannot be opened.
     fn open(&self, name: &str) -> io::Result<Self::File>
         ensures { opens self.now name.now result };
 
@@ -125,8 +126,8 @@ impl Machine for HostRuntime {
 
     ghost gives = { λ _ _. ⊤ };
 
-    /// Opens the file of this name. If it is short, it is read only up to the length that it has
-    /// now.
+    /// Opens the file of this name, and returns it. If it is short, it is read only up to the
+    /// length that it has now. Fails if it cannot be opened.
     fn open(&self, name: &str) -> io::Result<Measured<File>> {
         let file = File::open(self, name)?;
         let len = short_len(file.metadata());
@@ -140,13 +141,13 @@ impl Machine for HostRuntime {
         Measured::new(self.stdin(), len)
     }
 
-    /// Returns the length up to which a short file is read; `None` for any other.
+    /// Returns how many bytes of a short file are left to read; `None` for any other.
     fn max_bytes_of_file(file: &Measured<File>) -> Option<usize> {
         file.max_bytes()
     }
 
-    /// Returns the length up to which standard input is read if it is a short file; `None` for any
-    /// other.
+    /// Returns how many bytes of standard input are left to read if it is a short file; `None` for
+    /// any other.
     fn max_bytes_of_input(input: &Measured<Stdin>) -> Option<usize> {
         input.max_bytes()
     }
@@ -167,7 +168,8 @@ pub enum Stream<F, I> {
 impl<F: Read, I: Read> Read for Stream<F, I> {
     ghost remaining = { λ stream. bytes_left F.remaining I.remaining stream };
 
-    /// Reads from the file or from standard input. Each read of `Refused` fails.
+    /// Reads from the file or from standard input to the front of `into`, and returns how many
+    /// bytes. Fails if that fails; each read of `Refused` does.
     fn read(&mut self, into: &mut [u8]) -> io::Result<usize> {
         match self {
             Stream::File(file) => file.read(into),

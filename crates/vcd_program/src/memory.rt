@@ -92,7 +92,7 @@ impl<'a> Host for Memory<'a> {
         }
     }
 
-    /// Returns how many bytes of this input are left.
+    /// Returns how many bytes of this input are left. It never returns `None`.
     fn max_bytes_of(input: &Bytes<'a>) -> Option<usize> {
         Some(input.rest.len())
     }
@@ -158,8 +158,8 @@ pub struct Filled {
 }
 
 /// Runs the program with these arguments, its own name first among them, over the files in
-/// `memory`, and returns its exit status. Output goes to `out`, and messages go to `err`, to which
-/// nothing was written yet.
+/// `memory`, which has opened no input yet, and returns its exit status. Output goes to `out`, and
+/// messages go to `err`. Nothing was written to either before.
 fn run_into_lent<B: BuildHasher>(
     alloc: Global,
     words: &[String],
@@ -181,8 +181,8 @@ fn run_into_lent<B: BuildHasher>(
 
 /// Runs the program with these arguments, its own name first among them, over files in memory, and
 /// returns its status and the lengths of output and message. The output is written to `out` and the
-/// message to `err`, from the first byte on, as far as there is room. `None` if 2^63 bytes or more
-/// of one of them found no room.
+/// message to `err`, from the first byte on, as far as there is room; the bytes after them may get
+/// any values. `None` if 2^63 bytes or more of one of them found no room.
 ///
 /// `input` is standard input. Identifier codes are hashed with numbers that the hasher gives; what
 /// is written does not depend on them.

@@ -6,9 +6,9 @@ ghost use Rattle.vcd_text.specs.Calls.{Fits, parked_answer, parked_seen};
 use crate::registers::Parked;
 use std::io;
 
-/// Returns a parked feed that counts this many bytes as read, without a line feed, and shows no
-/// token. With it a test reaches the greatest length that an input may have, without a reader of
-/// that many bytes.
+/// Returns a parked feed that counts this many bytes (fewer than 2^63) as read, without a line
+/// feed, and shows no token. With it a test reaches the greatest length that an input may have,
+/// without a reader of that many bytes.
 pub fn parked_after(bytes: u64) -> Parked
     requires { bytes < 2 ^ 63 }
     ensures seen { parked_seen result ≡ bytes }
@@ -55,8 +55,9 @@ impl<'a> Pieces<'a> {
 }
 
 impl io::Read for Pieces<'_> {
-    /// Gives at most `size` of the bytes that are left. Fails at call number `fails_at`, and at the
-    /// end of the bytes if `broken` is true.
+    /// Copies at most `size` of the bytes that are left to the front of `into`, and returns how
+    /// many: 0 at their end. Fails at call number `fails_at`, and at the end of the bytes if
+    /// `broken` is true; then it gives no byte.
     fn read(&mut self, into: &mut [u8]) -> io::Result<usize> {
         self.calls = self.calls.saturating_add(1);
         if self.calls == self.fails_at || self.broken && self.bytes.is_empty() {
@@ -86,7 +87,8 @@ pub struct Narrow {
 impl Narrow {
     ghost use Rattle.vcd_text.specs.Doubles.{held_by};
 
-    /// Returns a writer that takes this many bytes before it is full, and has taken none yet.
+    /// Returns a writer that takes this many bytes (at most 1,024) before it is full, and has taken
+    /// none yet.
     pub fn new(room: usize) -> Self
         requires { room ≤ 1024 }
         ensures { held_by result ≡ [] }
@@ -107,8 +109,8 @@ impl Narrow {
 }
 
 impl io::Write for Narrow {
-    /// Takes at most three bytes, as far as there is room. Fails if there is no room left and `buf`
-    /// is not empty.
+    /// Takes bytes from the front of `buf`, at most three, as far as there is room, and returns how
+    /// many. Fails if there is no room left and `buf` is not empty; then it takes none.
     fn write(&mut self, buf: &[u8]) -> io::Result<usize> {
         let n = buf.len().min(3).min(self.room - self.len);
         if n == 0 && !buf.is_empty() {
@@ -119,7 +121,7 @@ impl io::Write for Narrow {
         Ok(n)
     }
 
-    /// Fails if the writer is full.
+    /// Does nothing. Fails if the writer is full.
     fn flush(&mut self) -> io::Result<()> {
         if self.len == self.room {
             return Err(io::Error::from(io::ErrorKind::StorageFull));

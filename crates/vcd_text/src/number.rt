@@ -13,7 +13,8 @@ const KEPT: [u8; 16] = [
 ];
 
 /// Returns the number that the `n` decimal digits before offset `to` spell, by a look at the eight
-/// bytes before `to`; `n` is at most 8. `None` if one of the `n` bytes is no digit.
+/// bytes before `to`, which have to be there; `n` is at most 8. `None` if one of the `n` bytes is
+/// no digit.
 #[inline(always)]
 fn few_digits(bytes: &[u8], to: usize, n: usize) -> Option<u64>
     requires within { (8 ≤ to) × (to ≤ length bytes.now) }

@@ -21,8 +21,8 @@ pub struct Offset {
     pub answer: u64,
 }
 
-/// Returns the number that `Offset::answer` has for this phase: 0 if more may come, 1 at the end,
-/// and after a halt 1 more than the number of its fault.
+/// Returns the number that `Offset::answer` has for this phase: 0 if more tokens may come, 1 at the
+/// end, and after a halt 1 more than the number of its fault.
 fn answer_number(phase: Phase) -> u64
     ensures { result ≡ answer_number phase }
 {
@@ -64,8 +64,8 @@ pub(crate) fn offset_of(parked: Parked) -> Offset
 }
 
 /// Returns the registers of a feed that has come to this offset, with an empty chunk. `None` if the
-/// offset is 2^63 bytes or more, has more line feeds than bytes, or has an answer that does not
-/// exist.
+/// offset is 2^63 bytes or more, has more line feeds than bytes, or an `answer` that
+/// `answer_number` never returns.
 pub(crate) fn registers_at(offset: Offset) -> Option<Parked>
     ensures registers { MatchOption result ⊤ (λ p. p ≡ registers_at offset) }
     ensures counted { MatchOption result ⊤

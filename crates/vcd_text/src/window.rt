@@ -29,8 +29,8 @@ pub(crate) enum Filled {
 // How many bytes of an input may be looked at.
 const INPUT_LIMIT: u64 = (1 << 63) - 1;
 
-/// Moves `parked` past the white space that comes next in the chunk, and counts its line feeds, if
-/// no token has begun. Otherwise nothing changes.
+/// If no token has begun, moves `parked` past the white space that comes next in the chunk, counts
+/// its line feeds, and sets the line to that of the byte after it. Otherwise nothing changes.
 #[inline(always)]
 pub(crate) fn skip(chunk: &[u8], parked: &mut Parked)
     requires { MayGoOn (length chunk.now) parked.old }
@@ -53,7 +53,7 @@ pub(crate) fn skip(chunk: &[u8], parked: &mut Parked)
 ///
 /// Returns `Whole` if the chunk has the end of the token; then the white byte there is passed too.
 /// Returns `Part` if the bytes that may be looked at end first, and `TooLong` if the token has more
-/// bytes than `token`; then nothing is copied.
+/// bytes than `token`; then nothing changes.
 #[inline(always)]
 pub(crate) fn collect(chunk: &[u8], token: &mut [u8], parked: &mut Parked) -> Collected
     requires registers { MayGoOn (length chunk.now) parked.old }
@@ -117,8 +117,9 @@ fn token_len(bytes: &[u8]) -> usize
     run_len(bytes)
 }
 
-/// Copies `n` bytes of the chunk from `at` on into `token`, after its first `size` bytes. The bytes
-/// of `token` after these may change too.
+/// Copies `n` bytes of the chunk from offset `at` on into `token`, after its first `size` bytes.
+/// The chunk has to have them, and `token` room for them. The bytes of `token` after these may
+/// change too.
 // A short token is one copy of 16 bytes, if both slices have 16: a copy of an unknown length is a
 // call.
 #[inline(always)]
@@ -134,9 +135,9 @@ fn append(token: &mut [u8], size: usize, chunk: &[u8], at: usize, n: usize)
     }
 }
 
-/// Reads the next bytes of the source into the chunk, and returns whether there were some, the
-/// source has ended, or the read failed. `parked` changes only if there were some: then it is at
-/// the first of them.
+/// Reads the next bytes of the source into the front of the chunk. Returns `More` if there were
+/// some, `End` if the source has ended, and `Failed` if the read failed. `parked` changes only with
+/// `More`: then it is at the first of these bytes. The bytes of the chunk may change in each case.
 pub(crate) fn fill<S: Source>(source: &mut S, chunk: &mut [u8], parked: &mut Parked) -> Filled
     requires failures { S.failures source.old < 2 ^ 64 - 1 }
     requires some { 0 < length chunk.old }
@@ -166,8 +167,9 @@ pub(crate) fn fill<S: Source>(source: &mut S, chunk: &mut [u8], parked: &mut Par
     Filled::More
 }
 
-/// Halts the feed with these registers for good, and returns `halt`. The line of this answer is 1
-/// plus the line feeds that were looked at; for `TokenTooLong` the line does not change.
+/// Halts the feed with these registers for good, and returns `halt`, with which each later call of
+/// `Feed::next` fails. The feed has no token then. `Feed::line` becomes 1 plus the line feeds that
+/// were looked at; for `TokenTooLong` it stays the line of that token.
 pub(crate) fn halted(parked: &mut Parked, halt: Halt) -> Halt
     requires line_feeds { parked.old.line_feeds < 2 ^ 63 }
     ensures result { result ≡ halt }
@@ -183,8 +185,9 @@ pub(crate) fn halted(parked: &mut Parked, halt: Halt) -> Halt
     halt
 }
 
-/// Ends the feed with these registers at the end of its source. Returns `Token` if a token has
-/// begun, which the end then closes, otherwise `Finish`.
+/// Ends the feed with these registers at the end of its source, so that later calls of `Feed::next`
+/// return `Finish`. Returns `Token` if a token has begun, which the end then closes. Otherwise
+/// returns `Finish`, and `Feed::line` becomes 1 plus the line feeds of the source.
 pub(crate) fn finish(parked: &mut Parked) -> Next
     requires { parked.old.line_feeds < 2 ^ 63 }
     ensures kept { parked.new.kept ≡ parked.old.kept }

@@ -112,7 +112,8 @@ pub fn long_key(hash: u64) -> u64
 
 /// Returns the index of a code in `codes`, if its entry is the third or fourth of the four beside
 /// each other that its number leads to, or one that its hash leads to. `None` if it has none of
-/// these; then it may still be in `codes`. `probes` counts the comparisons of codes.
+/// these; then it may still be in `codes`. `text` has the bytes of the codes, `entries` are their
+/// entries, and `seed` hashes them, as in a `HeadView`. `probes` counts the comparisons of codes.
 // For codes of 8 bytes or more, and codes crafted to share entries: `check` of 100,000 takes 1.5 to
 // 2.6 times as long as for ordinary codes, and with only the binary search 8 to 13 times.
 pub(crate) fn index_by_hash(
@@ -142,9 +143,9 @@ pub(crate) fn index_by_hash(
     }
 }
 
-/// Returns the index of the code with this key, if the entry at `own ^ 2` or `own ^ 3` has the key;
-/// otherwise `None`. The four entries from `own` to `own ^ 3` have 64 bytes, so a look at them
-/// reads at most one cache line more than a look at the first.
+/// Returns the index of the code with this key, if the entry at `own ^ 2` or `own ^ 3` of the table
+/// `entries` has the key; otherwise `None`. The four entries from `own` to `own ^ 3` have 64 bytes,
+/// so a look at them reads at most one cache line more than a look at the first.
 fn index_beside(entries: &[Entry], own: usize, key: u64) -> Option<usize>
     ensures { IfSome result (λ position. HasEntry entries.now key position) }
 {
@@ -157,8 +158,8 @@ fn index_beside(entries: &[Entry], own: usize, key: u64) -> Option<usize>
     None
 }
 
-/// Returns the index of the code with this key, if a look-up by `hash` comes to its entry in at
-/// most `MAX_LOOKS` looks, and to no empty entry before it; otherwise `None`.
+/// Returns the index of the code with this key, if a look-up by `hash` in the table `entries` comes
+/// to its entry in at most `MAX_LOOKS` looks, and to no empty entry before it; otherwise `None`.
 fn index_of_key(entries: &[Entry], hash: u64, key: u64) -> Option<usize>
     ensures { IfSome result (λ position. HasEntry entries.now key position) }
 {
@@ -175,8 +176,9 @@ fn index_of_key(entries: &[Entry], hash: u64, key: u64) -> Option<usize>
 }
 
 /// Returns the index in `codes` of this code of 8 bytes or more, if `hash`, the hash of the code,
-/// leads to its entry; otherwise `None`. As another code may have the same key, the bytes are
-/// compared, at most once, and `probes` counts that.
+/// leads to its entry in the table `entries`; otherwise `None`. The bytes of `codes` lie in `text`.
+/// As another code may have the same key, the bytes are compared, at most once, and `probes` counts
+/// that.
 fn index_of_long(
     text: &[u8],
     codes: &[Code],

@@ -30,7 +30,7 @@ pub fn key_of(code: &[u8]) -> u64
 }
 
 /// Returns the key of the code that has `byte` first and then the bytes of the code with the key
-/// `key`.
+/// `key`, at most 6.
 #[inline(always)]
 fn prepended(key: u64, byte: u8) -> u64
     requires { key < 2 ^ 56 }
@@ -39,7 +39,8 @@ fn prepended(key: u64, byte: u8) -> u64
     key * 256 + u64::from(byte)
 }
 
-/// Returns the bytes of a code, and a blank after them, as a number: the first byte is the lowest.
+/// Returns the bytes of a code, at most 7, and a blank after them, as a number: the first byte is
+/// the lowest.
 fn packed_of(code: &[u8]) -> u64
     requires { length code.now ≤ 7 }
     ensures { result ≡ packed code.now }

@@ -84,8 +84,8 @@ fn word_ahead<'a>(ahead: &mut Ahead<'a>) -> Option<&'a [u8]>
 }
 
 /// Returns how many bytes of the chunk the tokens before the next `$end` take, with the white space
-/// before each and one white byte after the last. It also stops at a token that does not lie
-/// completely in the chunk, where `Ahead::next` returns `None`.
+/// before each and one white byte after the last. `ahead` has passed no token yet. It also stops at
+/// a token that does not lie completely in the chunk, where `Ahead::next` returns `None`.
 fn words_len(ahead: Ahead<'_>) -> usize
     requires { passed_of ahead ≡ 0 }
     ensures { PassesWordsTo ahead.entry result }

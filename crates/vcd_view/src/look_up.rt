@@ -144,7 +144,8 @@ fn find_in_entry(view: HeadView<'_>, code: &[u8], other: usize) -> Option<Found>
 
 /// Returns the index in `codes` of a code that the first two entries to look at do not have: by a
 /// look at the other two beside them, by its hash, or else by a binary search. `None` if the code
-/// is not in `codes`. `probes` counts the comparisons of codes.
+/// is not in `codes`. `text`, `codes`, `index`, `entries` and `seed` are those of a `HeadView`.
+/// `probes` counts the comparisons of codes.
 ///
 /// It takes no view, so that a look-up by one entry need not make one ready, and it returns only a
 /// number, which needs no memory.
@@ -174,9 +175,10 @@ fn find_slowly(
     }
 }
 
-/// Returns the index of a code in `codes`, by a binary search in `index`, which has the indexes of
-/// all codes in the order of their bytes; `None` if the code is not in `codes`. `probes` counts the
-/// comparisons. It takes single slices, so that no view has to be made ready for it.
+/// Returns the index of a code in `codes`, whose bytes lie in `text`, by a binary search in
+/// `index`, which has the indexes of all codes in the order of their bytes; `None` if the code is
+/// not in `codes`. `probes` counts the comparisons. It takes single slices, so that no view has to
+/// be made ready for it.
 #[inline(never)]
 fn search(
     text: &[u8],

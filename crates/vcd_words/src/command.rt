@@ -29,8 +29,8 @@ fn new_command<'a>(alloc: Global, name: &'a str, help: Help<'a>) -> Command<'a>
         .after_help(help.after)
 }
 
-/// Returns the definition of a command that reads one input for `clap`, with its options `-i` and
-/// `--token-limit`. Fails if memory runs out.
+/// Returns the definition of a command that reads one input for `clap`, with this name, these help
+/// texts, and its options `-i` and `--token-limit`. Fails if memory runs out.
 fn one_input<'a>(alloc: Global, name: &'a str, help: Help<'a>) -> Result<Command<'a>, AllocError>
     ensures { IfOk result (λ command. IsWhole command (one_input_app name.entry.now)) }
 {
@@ -43,7 +43,8 @@ fn one_input<'a>(alloc: Global, name: &'a str, help: Help<'a>) -> Result<Command
 }
 
 /// Returns the definition of a command that reads one input and takes no names of variables, for
-/// `clap`. Its file may come without `-i`. Fails if memory runs out.
+/// `clap`, with this name and these help texts. Its file may come without `-i`. Fails if memory
+/// runs out.
 // Both forms have one id, so they are one argument, which may be given once. `conflicts_with` would
 // refuse both forms together too, but then `clap` does not say which words it accepts.
 fn with_file<'a>(alloc: Global, name: &'a str, help: Help<'a>) -> Result<Command<'a>, AllocError>
@@ -56,8 +57,9 @@ fn with_file<'a>(alloc: Global, name: &'a str, help: Help<'a>) -> Result<Command
 }
 
 /// Returns the definition of a command that reads one input and takes names of variables, for
-/// `clap`. If `required` is true, the parse fails without names. An argument without an option is a
-/// name here, so the file comes after `-i`. Fails if memory runs out.
+/// `clap`, with this name and these help texts. If `required` is true, the parse fails without
+/// names. An argument without an option is a name here, so the file comes after `-i`. Fails if
+/// memory runs out.
 fn named<'a>(
     alloc: Global,
     name: &'a str,
@@ -74,8 +76,8 @@ fn named<'a>(
     one_input(alloc, name, help)?.arg(names)
 }
 
-/// Returns the definition of the option `--NAME`, where NAME is `name`, for `clap`. Its value is
-/// one or more times, which its help text calls `value_name`.
+/// Returns the definition of the option `--NAME`, where NAME is `name`, for `clap`, with the help
+/// text `help`. Its value is one or more times, which its help text calls `value_name`.
 fn time<'a>(alloc: Global, name: &'a str, value_name: &'a str, help: &'a str) -> Arg<'a>
     ensures { IsLocal result (time_rule name.entry.now) }
 {

@@ -34,10 +34,10 @@ pub enum Want {
 }
 
 impl Want {
-    /// Converts the times of a sample to ticks of the time scale of this header, in place. For any
-    /// other want nothing changes. Fails with the reason if a time has a unit but the header no
-    /// time scale, if it is 2^64 ticks or more, or if the times do not increase in ticks; then the
-    /// times may have any values.
+    /// Converts the times of a sample to ticks of the time scale of this header, rounded down, in
+    /// place. For any other want nothing changes. Fails with the reason if a time has a unit but
+    /// the header no time scale, if it is 2^64 ticks or more, or if the times do not increase in
+    /// ticks; then the times may have any values.
     pub fn write_ticks(&mut self, view: HeadView<'_>) -> Result<(), Refusal>
         requires { is_asked self.old ≡ true }
         ensures same { KeepsRequest view.entry (model_want self.old) (model_want self.new) result }
@@ -114,6 +114,7 @@ pub enum UseFault<'a> {
 impl<'a> From<AllocError> for UseFault<'a> {
     ghost from_gives = { λ _ fault. fault ≡ UseFault.OutOfMemory };
 
+    /// Returns `OutOfMemory`.
     fn from(_error: AllocError) -> UseFault<'a> {
         UseFault::OutOfMemory
     }
@@ -142,7 +143,7 @@ fn limit_in(word: &str) -> Option<usize>
     Some(limit as usize)
 }
 
-/// Returns the token limit, in bytes, that the value of `--token-limit` asks for, or the default if
+/// Returns the token limit, in bytes, that the value of `--token-limit` asks for, or 1,048,576 if
 /// there is none. Fails with `BadLimit` if the word is not 1 to 20 digits, or if the number is
 /// below 64 or above 16,777,216.
 fn limit_of<'a>(word: Option<&'a str>) -> Result<usize, UseFault<'a>>

@@ -20,6 +20,7 @@ pub enum Refusal {
 impl From<TickFault> for Refusal {
     ghost from_gives = { λ fault refusal. refusal ≡ tick_refusal fault };
 
+    /// Returns the refusal for this fault, which has the same name.
     fn from(fault: TickFault) -> Refusal {
         match fault {
             TickFault::NoTimescale => Refusal::NoTimescale,

@@ -28,8 +28,8 @@ impl<D> Again<D> {
 impl<D: Read> Read for Again<D> {
     ghost remaining = { λ again. D.remaining again.device };
 
-    /// Reads from the device, again as long as the call was interrupted, and returns its first
-    /// other result.
+    /// Reads from the device into `into`, again as long as the call was interrupted, and returns
+    /// its first other result.
     fn read(&mut self, into: &mut [u8]) -> io::Result<usize> {
         for _ in 0..u64::MAX {
             match self.device.read(into) {
@@ -44,8 +44,8 @@ impl<D: Read> Read for Again<D> {
 impl<D: Write> Write for Again<D> {
     ghost contents = { λ again. D.contents again.device };
 
-    /// Writes to the device, again as long as the call was interrupted, and returns its first other
-    /// result.
+    /// Writes `from` to the device, again as long as the call was interrupted, and returns its
+    /// first other result.
     fn write(&mut self, from: &[u8]) -> io::Result<usize> {
         for _ in 0..u64::MAX {
             match self.device.write(from) {

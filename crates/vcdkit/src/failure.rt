@@ -52,6 +52,7 @@ impl Failure {
 impl From<Refusal> for Failure {
     ghost from_gives = { λ refusal failure. failure ≡ Refused refusal };
 
+    /// Returns `Failure::Refused` with this refusal.
     fn from(refusal: Refusal) -> Failure {
         Failure::Refused(refusal)
     }
@@ -60,6 +61,7 @@ impl From<Refusal> for Failure {
 impl From<AllocError> for Failure {
     ghost from_gives = { λ _ failure. failure ≡ OutOfMemory };
 
+    /// Returns `OutOfMemory`.
     fn from(_error: AllocError) -> Failure {
         Failure::OutOfMemory
     }

@@ -55,7 +55,8 @@ pub(crate) struct Reading<'h, B> {
     ghost within: { most ≤ 16777216 },
 }
 
-/// Reads the header of the input at index `input` of all, and returns it. `feed` is at the
+/// Reads the header of the input at index `input` of all, and returns it. `reading` has the
+/// allocator, the hasher of codes, and how many declarations are allowed. `feed` is at the
 /// beginning of that input; after it, it is right after the header. Fails at a fault of the header,
 /// if a read fails, or if memory runs out.
 pub(crate) fn open_input<S: Source, B: BuildHasher>(
@@ -89,8 +90,9 @@ pub(crate) struct BegunInput {
 }
 
 /// Reads the header of the input at index `input` of all with its own reader and its parts of the
-/// windows, and returns the header and the parked feed. Fails at a fault of the header, if a read
-/// fails, or if memory runs out.
+/// windows, and returns the header and the parked feed. `reading` has the allocator, the hasher of
+/// codes, and how many declarations are allowed. Fails at a fault of the header, if a read fails,
+/// or if memory runs out.
 fn begin<S: Source, B: BuildHasher>(
     reading: &Reading<'_, B>,
     input: usize,
@@ -115,8 +117,9 @@ fn begin<S: Source, B: BuildHasher>(
 }
 
 /// Reads the header of the input at index `input` of `readers`, and returns the header and the
-/// parked feed. It uses only the parts of the windows at that index. Fails at a fault of the
-/// header, if a read fails, or if memory runs out.
+/// parked feed. `reading` has the allocator, the hasher of codes, and how many declarations are
+/// allowed. Each of the slices in `windows` has one equal part for each reader; only the parts at
+/// that index are used. Fails at a fault of the header, if a read fails, or if memory runs out.
 fn begin_at<S: Source, B: BuildHasher>(
     reading: &Reading<'_, B>,
     input: usize,
@@ -156,7 +159,8 @@ pub(crate) struct Inputs {
 }
 
 impl Inputs {
-    /// Adds an input, whose header was read, after the others. Fails if memory runs out.
+    /// Adds an input, whose header was read, after the others. Fails if memory runs out; then its
+    /// seat was not added.
     fn push(&mut self, begun: BegunInput) -> Result<(), AllocError>
         ensures { IfOk result (λ _. AddsBegun begun self.old self.new) }
     {
@@ -166,8 +170,9 @@ impl Inputs {
     }
 }
 
-/// Reads the headers of all inputs in order, and returns them with the parked feeds. Fails at the
-/// first header with a fault, at a failed read, or if memory runs out.
+/// Reads the headers of all inputs in order, and returns them with the parked feeds. Each of the
+/// slices in `windows` has one equal part for each reader. All headers together may have 16,777,216
+/// declarations. Fails at the first header with a fault, at a failed read, or if memory runs out.
 pub(crate) fn open_inputs<S: Source, B: BuildHasher>(
     alloc: Global,
     readers: &mut [S],

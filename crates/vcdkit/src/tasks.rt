@@ -77,7 +77,8 @@ pub(crate) struct RoomMemory {
     pub marks: Vec<u8>,
 }
 
-/// Returns new memory for the slices of a `Room` with these lengths. Fails if there is none.
+/// Returns new memory for the slices of a `Room` with these lengths, and as many shares as slots.
+/// Fails if there is none.
 pub(crate) fn room_for(alloc: Global, need: Need) -> Result<RoomMemory, AllocError>
     ensures { IfOk result (λ memory. (vec_len memory.values ≡ need.values)
         × (vec_len memory.slots ≡ need.slots)

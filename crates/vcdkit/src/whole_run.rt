@@ -36,9 +36,9 @@ fn merged(answer: Result<Done, Stop>) -> Result<Done, Failure>
     }
 }
 
-/// Runs the task over the body that follows the header of `view`, in this room, or writes the list
-/// of variables if `task` is `None`. Returns what ended it. Fails if the task or the list does. It
-/// gets no allocator, so it takes no memory.
+/// Runs the task over the body that follows the header of `view`, in this room, which has the
+/// lengths that `need_of` returns, or writes the list of variables if `task` is `None`. Returns
+/// what ended it. Fails if the task or the list does. It gets no allocator, so it takes no memory.
 fn run_in<S: Source, W: Sink>(
     task: Option<Task<'_>>,
     view: HeadView<'_>,
@@ -139,9 +139,9 @@ fn run_input<S: Source, W: Sink, B: BuildHasher>(
     run_want(alloc, &mut job.task, head.view(), &mut feed, out)
 }
 
-/// Runs a merge over these inputs: takes their buffers, reads their headers in order, and then
-/// merges. Returns what ended it. Fails at a fault of an input, if a read or a write fails, or if
-/// memory runs out.
+/// Runs the merge `job` over these inputs, 1 to 64: takes their buffers, reads their headers in
+/// order, and then merges. Returns what ended it. Fails at a fault of an input, if a read or a
+/// write fails, or if memory runs out.
 fn run_merge<S: Source, W: Sink, B: BuildHasher>(
     alloc: Global,
     job: &Job,
@@ -192,8 +192,8 @@ fn run_readers<S: Source, W: Sink, B: BuildHasher>(
 }
 
 /// Runs a job over the readers, and returns the exit status. `names` are the names of the readers
-/// in messages. A merge has 1 to 64 readers, any other job one. The output goes to `out`, which is
-/// not flushed, and the message to `err`, whose errors are ignored.
+/// in messages, one for each reader. A merge has 1 to 64 readers, any other job one. The output
+/// goes to `out`, which is not flushed, and the message to `err`, whose errors are ignored.
 ///
 /// The status is 0 if the job is done; 1 for a fault of an input, for a name that selects nothing,
 /// and for a unit without a time scale; 2 for times that are out of range or out of order in ticks;
@@ -286,8 +286,8 @@ pub fn run_within<S: Source, W: Sink, E: Sink, B: BuildHasher>(
 }
 
 /// Runs a job over the readers, and returns the exit status. `names` are the names of the readers
-/// in messages. A merge has 1 to 64 readers, any other job one. The output goes to `out`, which is
-/// not flushed, and the message to `err`, whose errors are ignored.
+/// in messages, one for each reader. A merge has 1 to 64 readers, any other job one. The output
+/// goes to `out`, which is not flushed, and the message to `err`, whose errors are ignored.
 ///
 /// The status is 0 if the job is done; 1 for a fault of an input, for a name that selects nothing,
 /// and for a unit without a time scale; 2 for times that are out of range or out of order in ticks;

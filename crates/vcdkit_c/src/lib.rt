@@ -73,10 +73,10 @@ pub extern "C" fn vcdkit_run(
     }
 }
 
-/// Fills `rows` with the changes of the variables with the identifier code `code`, from
-/// `reading.place` on, as far as there are rows, and returns the status, as `changes` of
-/// `vcd_changes` does. `reading` says how many rows were filled, and where the next call continues.
-/// Identifier codes are hashed with `seed`; the rows do not depend on it.
+/// Fills `rows` with the changes of the variables of `dump`, a whole dump, with the identifier code
+/// `code`, from `reading.place` on, as far as there are rows, and returns the status, as `changes`
+/// of `vcd_changes` does. `reading` says how many rows were filled, and where the next call
+/// continues. Identifier codes are hashed with `seed`; the rows do not depend on it.
 #[unsafe(no_mangle)]
 pub extern "C" fn vcdkit_changes(
     alloc: Global,

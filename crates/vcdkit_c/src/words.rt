@@ -18,12 +18,13 @@ pub(crate) enum Refused {
 impl From<AllocError> for Refused {
     ghost from_gives = { λ _ refused. refused ≡ Refused.OutOfMemory };
 
+    /// Returns `OutOfMemory`.
     fn from(_error: AllocError) -> Refused {
         Refused::OutOfMemory
     }
 }
 
-/// Appends a copy of `word` to `all`. Fails if memory runs out.
+/// Appends a copy of `word` to `all`. Fails if memory runs out; then `all` does not change.
 fn push(alloc: Global, word: &str, all: &mut Vec<String>) -> Result<(), AllocError>
     ensures { OnOk result (map string_bytes all.new.items
         ≡ map string_bytes all.old.items ++ word.now ∷ []) }

@@ -79,7 +79,8 @@ impl AheadTask<NoLine> for Check {
         self.times = self.times.wrapping_add(1);
     }
 
-    /// Counts a value change, or a section at its begin. It writes nothing.
+    /// Counts a value change, or a section at its begin. Any other item changes nothing. It writes
+    /// nothing, and never fails.
     #[inline(always)]
     fn take_item<W: Sink>(
         &mut self,

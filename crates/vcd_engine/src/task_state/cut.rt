@@ -50,8 +50,8 @@ fn put_section<W: Sink>(
 
 impl<'r> Cut<'r> {
     /// Begins the task `cut` from `from` to `to`, in ticks: writes the header, and the start
-    /// section if `from` is 0. `from` is at most `to`. Values are kept in memory of `room`. Fails
-    /// if a write does.
+    /// section if `from` is 0. `from` is at most `to`. Values are kept in memory of `room`, which
+    /// has the lengths that `Task::need` returns. Fails if a write does.
     pub(crate) fn start<W: Sink>(
         view: HeadView<'_>,
         room: Room<'r>,
@@ -118,9 +118,9 @@ impl<'r> Cut<'r> {
         self.started
     }
 
-    /// Handles a timestamp, and returns whether it is above `to`, which ends the run. Writes the
-    /// start section if it is not written yet and `time` is at least `from`, and at the end of the
-    /// run the line of `to`, unless it was written last. Fails if a write does.
+    /// Takes a timestamp of this time, and returns whether it is above `to`, which ends the run.
+    /// Writes the start section if it is not written yet and `time` is at least `from`, and at the
+    /// end of the run the line of `to`, unless it was written last. Fails if a write does.
     fn take_time<W: Sink>(
         &mut self,
         view: HeadView<'_>,
@@ -141,11 +141,11 @@ impl<'r> Cut<'r> {
         Ok(true)
     }
 
-    /// Handles an item that `next_item` returned, and returns whether it ends the run, as a
-    /// timestamp above `to` does. Until the start section is written, it sets the value that a
-    /// change gives; from then on it writes the item if `may_keep` allows it. `text` is a change's
-    /// text; for other items it may be anything. `regs` are the registers after the item. Fails if
-    /// a write does.
+    /// Takes an item that `next_item` returned, and returns whether it ends the run, as a timestamp
+    /// above `to` does. Until the start section is written, it sets the value that a change gives;
+    /// from then on it writes the item if `may_keep` allows it. `text` is a change's text; for
+    /// other items it may be anything. `regs` are the registers after the item. Fails if a write
+    /// does.
     #[inline(never)]
     pub(crate) fn take<W: Sink>(
         &mut self,
@@ -203,7 +203,8 @@ impl<'r> AheadTask<NoLine> for Cut<'r> {
 
     ghost is_left = { λ command time. nat_le command.from time };
 
-    /// Returns whether the start section is due at this time.
+    /// Returns whether the start section has to be written at a timestamp of this time: whether it
+    /// is at least `from`.
     #[inline(always)]
     fn leaves(&self, time: u64) -> bool {
         self.from <= time
@@ -213,7 +214,8 @@ impl<'r> AheadTask<NoLine> for Cut<'r> {
     #[inline(always)]
     fn note_time(&mut self, _time: u64) {}
 
-    /// Sets the value that a change gives. It writes nothing.
+    /// Sets the value that a change gives. Any other item changes nothing. It writes nothing, and
+    /// never fails.
     #[inline(always)]
     fn take_item<W: Sink>(
         &mut self,
@@ -250,7 +252,9 @@ impl<'r> AheadTask<KnownLine> for Cut<'r> {
     #[inline(always)]
     fn note_time(&mut self, _time: u64) {}
 
-    /// Adds the item to the output if `may_keep` allows it, after the line of its time.
+    /// Adds the item to the output, through `pending`, if `may_keep` allows it, after the line of
+    /// its time. `regs` are the registers after the item, and `line` says where the chunk has that
+    /// line, if that is known. Fails if a write does.
     #[inline(always)]
     fn take_item<W: Sink>(
         &mut self,

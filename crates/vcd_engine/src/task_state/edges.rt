@@ -23,7 +23,8 @@ pub(crate) struct Edges<'n, 'r> {
 
 impl<'n, 'r> Edges<'n, 'r> {
     /// Begins the task `edges` for the variables that the names select (all if there are no names):
-    /// marks them in memory of `room`. Writes nothing. Fails at a name that selects nothing.
+    /// marks them in memory of `room`, which has the lengths that `Task::need` returns. Writes
+    /// nothing. Fails at a name that selects nothing.
     pub(crate) fn start(
         view: HeadView<'_>,
         room: Room<'r>,
@@ -50,10 +51,10 @@ impl<'n, 'r> Edges<'n, 'r> {
         })
     }
 
-    /// Handles a change of the code at index `code`, whose size the look-up did not return. For an
-    /// event it counts the change, unless `inside` says that a section is open. For any other code
-    /// it sets the value by this form and text, and counts a change if it differs. An index without
-    /// a code changes nothing.
+    /// Takes a change of the code at index `code` of `codes`, whose size the look-up did not
+    /// return. For an event it counts the change, unless `inside` says that a section is open. For
+    /// any other code it sets the value by this form and text, and counts a change if it differs.
+    /// An index without a code changes nothing.
     // It takes no view: with one, `edges` of 27,505 codes takes 7 % more.
     #[cold]
     #[inline(never)]
@@ -108,7 +109,8 @@ impl<'n, 'r> AheadTask<NoLine> for Edges<'n, 'r> {
     fn note_time(&mut self, _time: u64) {}
 
     /// Sets the value that a change gives, and counts the change if the value differs, or if it is
-    /// of an event outside a section. It writes nothing.
+    /// of an event outside a section. Any other item changes nothing. `regs` are the registers
+    /// after the item. It writes nothing, and never fails.
     #[inline(always)]
     fn take_item<W: Sink>(
         &mut self,

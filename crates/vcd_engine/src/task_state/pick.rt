@@ -26,8 +26,9 @@ pub(crate) struct Pick<'n, 'r> {
 
 impl<'n, 'r> Pick<'n, 'r> {
     /// Begins the task `pick` for the variables that the names select (all if there are no names):
-    /// marks them in memory of `room`, and writes their header. Fails at a name that selects
-    /// nothing, before anything is written, and at a failed write.
+    /// marks them in memory of `room`, which has the lengths that `Task::need` returns, and writes
+    /// their header. Fails at a name that selects nothing, before anything is written, and at a
+    /// failed write.
     pub(crate) fn start<W: Sink>(
         view: HeadView<'_>,
         room: Room<'r>,
@@ -104,7 +105,9 @@ impl<'n, 'r> AheadTask<KnownLine> for Pick<'n, 'r> {
     #[inline(always)]
     fn note_time(&mut self, _time: u64) {}
 
-    /// Adds the item to the output if `keeps` allows it, after the line of its time.
+    /// Adds the item to the output, through `pending`, if `keeps` allows it, after the line of its
+    /// time. `regs` are the registers after the item, and `line` says where the chunk has that
+    /// line, if that is known. Fails if a write does.
     #[inline(always)]
     fn take_item<W: Sink>(
         &mut self,

@@ -38,9 +38,9 @@ fn count_below(times: &[u64], time: u64) -> usize
 
 impl<'n, 'r> Sample<'n, 'r> {
     /// Begins the task `sample` at these times for the variables that the names select (all if
-    /// there are no names): marks them in memory of `room`. Writes nothing. `times` has at least
-    /// one time, in ticks, and each is above the one before it. Fails at a name that selects
-    /// nothing.
+    /// there are no names): marks them in memory of `room`, which has the lengths that `Task::need`
+    /// returns. Writes nothing. `times` has at least one time, in ticks, and each is above the one
+    /// before it. Fails at a name that selects nothing.
     pub(crate) fn start(
         view: HeadView<'_>,
         room: Room<'r>,
@@ -73,8 +73,9 @@ impl<'n, 'r> Sample<'n, 'r> {
         })
     }
 
-    /// Handles a timestamp, and returns whether it is above all times asked for, which ends the
-    /// run. Writes the lines of those below it that are not written yet. Fails if a write does.
+    /// Takes a timestamp of this time, and returns whether it is above all times asked for, which
+    /// ends the run. Writes the lines of those below it that are not written yet. Fails if a write
+    /// does.
     fn take_time<W: Sink>(
         &mut self,
         view: HeadView<'_>,
@@ -93,11 +94,11 @@ impl<'n, 'r> Sample<'n, 'r> {
         Ok(rest.is_empty())
     }
 
-    /// Handles an item that `next_item` returned, and returns whether it ends the run, as a
-    /// timestamp above all times asked for does. Sets the value that a change gives; at a timestamp
-    /// writes the lines of the times below it that are not written yet. `text` is a change's text;
-    /// for other items it may be anything. `regs` are the registers after the item. Fails if a
-    /// write does.
+    /// Takes an item that `next_item` returned, and returns whether it ends the run, as a timestamp
+    /// above all times asked for does. Sets the value that a change gives; at a timestamp writes
+    /// the lines of the times below it that are not written yet. `text` is a change's text; for
+    /// other items it may be anything. `regs` are the registers after the item. Fails if a write
+    /// does.
     #[inline(always)]
     pub(crate) fn take<W: Sink>(
         &mut self,
@@ -141,7 +142,9 @@ impl<'n, 'r> AheadTask<NoLine> for Sample<'n, 'r> {
 
     ghost is_left = { λ command time. is_due command.rest.now time };
 
-    /// Returns whether lines are due before a timestamp of this time, or no time is left.
+    /// Returns whether lines have to be written before a timestamp of this time: whether it is
+    /// above a time asked for whose lines are not written yet. It is true too if no such time is
+    /// left.
     #[inline(always)]
     fn leaves(&self, time: u64) -> bool {
         match self.rest {
@@ -154,7 +157,8 @@ impl<'n, 'r> AheadTask<NoLine> for Sample<'n, 'r> {
     #[inline(always)]
     fn note_time(&mut self, _time: u64) {}
 
-    /// Sets the value that a change gives. It writes nothing.
+    /// Sets the value that a change gives. Any other item changes nothing. It writes nothing, and
+    /// never fails.
     #[inline(always)]
     fn take_item<W: Sink>(
         &mut self,
