@@ -15,10 +15,12 @@ pub enum Id<'a> {
     Number(u64),
 }
 
-/// Writes the line of a change of this form under the identifier code `id`. The code of the change
-/// has this size, or is an event if `event` is true: that is written as `1`, whatever its text is.
-/// `text` is as `change_text` returns it. For a change of digits that is no event it must not be
-/// empty. If a write fails, a prefix was written.
+/// Writes the line of a change of this form under the identifier code `id`. `size` and `event` are
+/// those of the change's code in the header. An event is written as `1`, whatever its text is. The
+/// digits of a code of one bit are written as a scalar (`1!`), and those of any other size as a
+/// vector (`b101 !`), with the shortest digits that extend to the same value. `text` is as
+/// `change_text` returns it. For a change of digits that is no event it must not be empty. If a
+/// write fails, a prefix was written.
 #[inline(never)]
 pub fn put_change<W: Sink>(
     size: usize,

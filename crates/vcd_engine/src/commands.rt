@@ -72,12 +72,12 @@ pub fn edges<S: Source, W: Sink>(
     run_task(Task::Edges(names), view, feed, room, out)
 }
 
-/// Writes a dump of the time from `from` to `to`: the header of all variables; from the first
-/// timestamp of at least `from` on, a section with the values just before `from`; and the items
-/// from then up to `to`, each after the line of its time. Times are in ticks, and `from` is at most
-/// `to`. `room` has the lengths that `Task::need` returns. A timestamp above `to` ends the run:
-/// then the call returns `Done::Early`, otherwise `Done::Whole`. Fails at the first fault of the
-/// body, at a failed read, and at a failed write.
+/// Writes a dump of the time from `from` to `to`: the header of all variables, the timestamp `from`
+/// and one section with the values just before it, and then the sections and changes up to `to`,
+/// each after the line of its time. Times are in ticks, and `from` is at most `to`. `room` has the
+/// lengths that `Task::need` returns. A timestamp above `to` ends the run: then the call returns
+/// `Done::Early`, otherwise `Done::Whole`. Fails at the first fault of the body, at a failed read,
+/// and at a failed write.
 pub fn cut<S: Source, W: Sink>(
     view: HeadView<'_>,
     feed: &mut Feed<'_, '_, '_, '_, S>,

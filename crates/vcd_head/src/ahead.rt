@@ -165,10 +165,11 @@ fn declare_next(
     Ok(false)
 }
 
-/// Adds the phrases that come next to the draft, as long as they are correct `$var`, `$scope` or
-/// `$upscope` that lie completely in the chunk and may come here. Returns how many bytes `ahead`
-/// has passed after these. At most `most` declarations are allowed. Fails only with `OutOfMemory`;
-/// then the draft may have a part of a phrase.
+/// Adds the declarations that come next in `ahead` to the draft: each correct `$var`, `$scope` or
+/// `$upscope` up to its `$end`. It ends before the first one that is not correct, that does not lie
+/// completely in the chunk, that may not come here, or with which the draft would have more than
+/// `most` declarations. Returns how many bytes of the chunk come before that place. Fails only with
+/// `OutOfMemory`; then the draft may have a part of a declaration.
 fn declare_ahead(
     alloc: Global,
     ahead: Ahead<'_>,

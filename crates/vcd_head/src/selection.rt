@@ -143,9 +143,10 @@ fn is_variable(view: HeadView<'_>, row: usize) -> bool
 }
 
 /// Sets the elements of the variables that some name selects, and of the scopes around them, to 1
-/// in `marks`, which has one byte for each row; the other elements stay as they are. There are at
-/// most 16,384 names. Returns the index of the first name that selects nothing; `None` if each name
-/// selects some variable.
+/// in `marks`, which has one byte for each row; the other elements stay as they are. A name is the
+/// path of a variable, or of a scope, which selects all variables inside it. There are at most
+/// 16,384 names. Returns the index of the first name that selects nothing, although the elements of
+/// the other names are set; `None` if each name selects some variable.
 fn mark_selected(view: HeadView<'_>, names: &[String], marks: &mut [u8]) -> Option<usize>
     requires len { length marks.old ≡ length view.rows.now }
     requires few { length names.now ≤ 16384 }

@@ -206,8 +206,9 @@ fn put_closing<W: Sink>(view: HeadView<'_>, marks: &[u8], w: &mut W) -> Result<(
     Ok(())
 }
 
-/// Writes the lines of the marked declarations (those with 1 in `marks`) in order, and an
-/// `$upscope` for each marked scope that is still open at the end. If a write fails, it stops.
+/// Writes the lines of the marked declarations, in order: those with 1 in `marks`, which has one
+/// byte for each row. Each marked scope gets its `$upscope` where it closes in the header, or at
+/// the end if it is still open there. If a write fails, a prefix was written.
 fn put_declarations<W: Sink>(view: HeadView<'_>, marks: &[u8], w: &mut W) -> Result<(), WriteFailed>
     requires failures { (W.device w.old).failures < 2 ^ 64 - 1 }
     ensures { PutsWhere W.device w.old w.new result (λ takes. AnyHeader view.entry (λ h.

@@ -88,7 +88,8 @@ impl TimesOrder {
         }
     }
 
-    /// Returns what is known of the same times with `time` after them.
+    /// Returns the order of the same times and of `time` after them: whether a time has a unit,
+    /// whether the numbers increase, and the last number.
     fn with(self, time: Moment) -> TimesOrder
         ensures { (times : List ModelMoment) → IsOrderOf times self
             → IsOrderOf (times ++ asked time ∷ []) result }
