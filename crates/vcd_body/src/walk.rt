@@ -481,44 +481,20 @@ fn take_lines<'a, C, V: Visit<C>, W: Sink>(
     }
 }
 
-/// Has the visitor handle items by `take_lines`, if the visitor has not ended the walk and two
-/// lines of two bytes come next; otherwise none. Returns the state after the last of them.
-#[inline(always)]
-fn take_first_lines<'a, C, V: Visit<C>, W: Sink>(
-    command: &mut C,
-    visit: V,
-    view: HeadView<'_>,
-    regs: Regs,
-    ahead: Ahead<'a>,
-    out: &mut W,
-) -> Walked<'a, V>
-    requires failures { (W.device out.old).failures < 2 ^ 64 - 1 }
-    requires stands { V.stands visit command.old (bytes_of ahead) regs }
-    requires within { passed_of ahead ≤ length (bytes_of ahead) }
-    ensures { Walks V.takes V.stands V.over view.entry
-        (stage_at ahead.entry regs visit command.old (W.device out.old))
-        (stage_at result.ahead result.regs result.visit command.new (W.device out.new)) result.ended }
-{
-    if !visit.is_over() && two_short_lines_come(ahead) {
-        return take_lines(command, visit, view, regs, ahead, out);
-    }
-    Walked::until(ahead, regs, visit, Ok(false))
-}
-
-/// Has the visitor handle the items ahead, one after the other, up to the next comment, and returns
-/// the state after the last of them. It also ends if the visitor ends the walk, if a write fails,
-/// or at an item that is bad or does not lie completely in the chunk. The first item is tried even
-/// if the visitor has already ended the walk.
+/// Has the visitor handle the items ahead, one after the other, up to a comment, or up to two lines
+/// for `take_lines`, and returns the state after the last of them. It also ends if the visitor ends
+/// the walk, if a write fails, or at an item that is bad or does not lie completely in the chunk.
+/// The first item is tried even if the visitor has already ended the walk.
 // In each arm of an item the compiler knows whether it was a change. At its end, the walk forgets
 // the white space that it has seen: otherwise this is saved before each item, and `check` of 27,505
 // codes takes 5 % more.
 #[inline(always)]
 fn walk_items<'a, C, V: Visit<C>, W: Sink>(
     command: &mut C,
-    visit: V,
+    mut visit: V,
     view: HeadView<'_>,
-    regs: Regs,
-    ahead: Ahead<'a>,
+    mut regs: Regs,
+    mut ahead: Ahead<'a>,
     out: &mut W,
 ) -> Walked<'a, V>
     requires failures { (W.device out.old).failures < 2 ^ 64 - 1 }
@@ -528,13 +504,6 @@ fn walk_items<'a, C, V: Visit<C>, W: Sink>(
         (stage_at ahead.entry regs visit command.old (W.device out.old))
         (stage_at result.ahead result.regs result.visit command.new (W.device out.new)) result.ended }
 {
-    let lines = take_first_lines(command, visit, view, regs, ahead, out);
-    if !lines.can_go_on() {
-        return lines;
-    }
-    let mut ahead = lines.ahead;
-    let mut regs = lines.regs;
-    let mut visit = lines.visit;
     'items: loop {
         let Some(taken) = take_next(command, &mut visit, view, &mut regs, &mut ahead, out) else {
             ahead.forget();
@@ -548,13 +517,7 @@ fn walk_items<'a, C, V: Visit<C>, W: Sink>(
             return Walked::until(ahead, regs, visit, Ok(true));
         }
         if was_no_change && two_short_lines_come(ahead) {
-            let more = take_lines(command, visit, view, regs, ahead, out);
-            if !more.can_go_on() {
-                return more;
-            }
-            ahead = more.ahead;
-            regs = more.regs;
-            visit = more.visit;
+            return Walked::until(ahead, regs, visit, Ok(false));
         }
     }
 }
@@ -564,7 +527,8 @@ fn walk_items<'a, C, V: Visit<C>, W: Sink>(
 /// visitor ends it, if a write fails, or at an item that is bad or does not lie completely in the
 /// chunk. The first item is tried even if the visitor has already ended the walk.
 // Registers, offset and visit come and go by value, so that the loop over items keeps them out of
-// memory: in a struct that is kept there they cost `check` of scalars 11 %.
+// memory: in a struct that is kept there they cost `check` of scalars 11 %. `take_lines` is called
+// in one place: a second call costs `merge` of scalars 3 %, also in walks that do not make it.
 #[inline(always)]
 pub fn walk_ahead<'a, C, V: Visit<C>, W: Sink>(
     command: &mut C,
@@ -581,13 +545,23 @@ pub fn walk_ahead<'a, C, V: Visit<C>, W: Sink>(
         (stage_at ahead.entry regs visit command.old (W.device out.old))
         (stage_at result.ahead result.regs result.visit command.new (W.device out.new)) result.ended }
 {
-    'comments: loop {
+    'parts: loop {
+        let from = ahead.passed();
+        if !visit.is_over() && two_short_lines_come(ahead) {
+            let lines = take_lines(command, visit, view, regs, ahead, out);
+            if !lines.can_go_on() {
+                return lines;
+            }
+            ahead = lines.ahead;
+            regs = lines.regs;
+            visit = lines.visit;
+        }
         let items = walk_items(command, visit, view, regs, ahead, out);
         if !items.can_go_on() {
             return items;
         }
         let past = after_comments(items.ahead);
-        if past.passed() == items.ahead.passed() {
+        if past.passed() == from {
             return items;
         }
         ahead = past;

@@ -3,10 +3,10 @@ use Rattle.vcd_text.specs.Ahead.{bytes_of, passed_of}
 use Rattle.vcd_body.specs.Walk.{HasCome, stage_at}
 use Rattle.vcd_body.proofs.walk.walk_ahead.Given as goal
 
-abbrev pub invariant-comments : goal.invariant-comments
-invariant-comments g l = record {
+abbrev pub invariant-parts : goal.invariant-parts
+invariant-parts g l = record {
   come : HasCome g.V.Visit.takes g.V.Visit.stands g.V.Visit.over l.fn.view (stage_at l.fn.ahead l.fn.regs l.fn.visit l.fn.command (g.W.Sink.device l.fn.out)) (stage_at l.ahead l.regs l.visit l.command (g.W.Sink.device l.out));
 }
 
-abbrev pub decreases-comments : goal.decreases-comments
-decreases-comments g l = length (bytes_of l.ahead) - passed_of l.ahead
+abbrev pub decreases-parts : goal.decreases-parts
+decreases-parts g l = length (bytes_of l.ahead) - passed_of l.ahead

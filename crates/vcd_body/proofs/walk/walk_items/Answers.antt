@@ -1,13 +1,11 @@
-use Rattle.std.proofs.Common.{◌≡◌, ◌∙◌, Ok, false, rules, sym}
+use Rattle.std.proofs.Common.{◌≡◌, ◌∙◌, false, sym}
 use Rattle.vcd_body.specs.Walk.{HasCome, stage_at}
 use Rattle.vcd_body.proofs.CommentLemmas.{same_place}
-use Rattle.vcd_body.proofs.WalkLemmas.{come_on, come_past, walks_further}
+use Rattle.vcd_body.proofs.WalkLemmas.{come_begins, come_on, come_past}
 use Rattle.vcd_body.proofs.walk.walk_items.Goals as goal
 
 pub items-init : goal.items-init
-items-init g c =
-    let ended : c.take_first_lines-lines.result.ended ≡ Ok false = search rules in
-    record { come = rw ended at c.take_first_lines-lines.ensures }
+items-init g c = record { come = come_begins _ _ _ _ _ c.requires.stands c.requires.within }
 
 pub returns-in_default : goal.returns-in_default
 returns-in_default g c =
@@ -20,16 +18,8 @@ returns-in-Err g c = rw c.until-in-Err.ensures (_, c.items.invariant.come, rw c.
 pub returns-then-is_over : goal.returns-then-is_over
 returns-then-is_over g c = rw c.until-then-is_over.ensures (_, c.items.invariant.come, (rw c.in-Ok.is at c.in-Some.ensures.next), sym c.is_over.ensures ∙ c.if-is_over.true)
 
+pub returns-then-two_short_lines_come : goal.returns-then-two_short_lines_come
+returns-then-two_short_lines_come g c = rw c.until-then-two_short_lines_come.ensures (come_on _ _ _ _ _ _ _ c.items.invariant.come (rw c.in-Ok.is at c.in-Some.ensures.next) (sym c.is_over.ensures ∙ c.if-is_over.false))
+
 pub items-preserved : goal.items-preserved
 items-preserved g c = record { come = come_on _ _ _ _ _ _ _ c.items.invariant.come (rw c.in-Ok.is at c.in-Some.ensures.next) (sym c.is_over.ensures ∙ c.if-is_over.false) }
-
-pub returns-then-not-can_go_on-2 : goal.returns-then-not-can_go_on-2
-returns-then-not-can_go_on-2 g c =
-    let w = come_on _ _ _ _ _ _ _ c.items.invariant.come (rw c.in-Ok.is at c.in-Some.ensures.next) (sym c.is_over.ensures ∙ c.if-is_over.false) in
-    walks_further _ _ _ _ _ _ _ _ w c.take_lines-more.ensures
-
-pub items-preserved-then-two_short_lines_come : goal.items-preserved-then-two_short_lines_come
-items-preserved-then-two_short_lines_come g c =
-    let w = come_on _ _ _ _ _ _ _ c.items.invariant.come (rw c.in-Ok.is at c.in-Some.ensures.next) (sym c.is_over.ensures ∙ c.if-is_over.false) in
-    let ended : c.take_lines-more.result.ended ≡ Ok false = search rules in
-    record { come = walks_further _ _ _ _ _ _ _ (Ok false) w (rw ended at c.take_lines-more.ensures) }
