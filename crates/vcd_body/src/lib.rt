@@ -119,7 +119,7 @@ pub use id::{Id, put_change};
 pub use item::{Form, Item, Regs, Section};
 pub use lines::{is_timestamp_line, left_out};
 pub use read::{change_text, next_item};
-pub use renamed::{put_renamed, put_renamed_ahead};
+pub use renamed::{bit_of, put_code_line, put_renamed, put_renamed_ahead};
 pub use slot::{Share, Shown, Slot};
 pub use step::Step;
 pub use table::Table;

@@ -79,7 +79,7 @@ fn put_any_code<W: Sink>(first: u8, number: u64, w: &mut W) -> Result<(), WriteF
 /// Writes the byte `first`, the code that a merged dump has for this number, and a line feed: in
 /// one write if the code has up to three bytes. If a write fails, a prefix was written.
 #[inline(always)]
-pub(crate) fn put_code_line<W: Sink>(first: u8, number: u64, w: &mut W) -> Result<(), WriteFailed>
+pub fn put_code_line<W: Sink>(first: u8, number: u64, w: &mut W) -> Result<(), WriteFailed>
     requires { (W.device w.old).failures < 2 ^ 64 - 1 }
     ensures { Puts (W.device w.old) (W.device w.new) (first ∷ new_code number ++ 10 ∷ []) result }
 {
@@ -186,6 +186,21 @@ fn put_renamed_text<W: Sink>(
     put_renamed(size, false, form, text, number, w)
 }
 
+/// Returns the digit of a change of this form that was taken ahead, if its line is only this digit,
+/// a code and a line feed: its code has one bit, and the digit is in lower case. Otherwise `None`.
+#[inline(always)]
+pub fn bit_of(scanned: ScannedItem<'_>, form: Form) -> Option<u8>
+    ensures size { IfSome result (λ _. scanned.entry.size_or_zero ≡ 1) }
+    ensures line { IfSome result (λ digit. (id : List ℕ)
+        → line_under id scanned.entry.size_or_zero false form scanned.entry.text.now
+        ≡ digit ∷ id ++ 10 ∷ []) }
+{
+    match scanned.text {
+        [digit] if is_bit(scanned.size_or_zero, false, form) && is_lower(*digit) => Some(*digit),
+        _ => None,
+    }
+}
+
 /// Writes the line of a change under the code that a merged dump has for this number. `scanned` is
 /// the change, of this form, in the bytes from `from` up to `to` (exclusive), and is no event. If
 /// it is known that its line begins with these bytes, or with all but some needless digits, they
@@ -211,9 +226,6 @@ pub fn put_renamed_ahead<W: Sink>(
         (line_under (new_code number) scanned.entry.size_or_zero false form scanned.entry.text.now) result }
 {
     let size = scanned.size_or_zero;
-    if is_bit(size, false, form) && is_lower(bytes[scanned.at]) {
-        return put_code_line(bytes[scanned.at], number, w);
-    }
     match left_out_of_front(scanned, form, bytes, from, to) {
         Some(k) => put_copied(bytes, from, scanned.code_at - 1, k, number, w),
         None => put_renamed_text(size, form, scanned.text, number, w),

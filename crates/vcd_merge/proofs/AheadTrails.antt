@@ -49,7 +49,7 @@ none_due written scale first h items text Finish x is at = absurd is
 
 module _ (v : HeadView) (s t : MergeStage) (p : ScannedItem) (item : TakesItem v s.ahead t.ahead s.regs p) (same : SameMerging s.visit t.visit) where
   pub change_taken : (place : ℕ) (f : Form) (result : Result (Unit {0}) WriteFailed) → p.item ≡ Change place f → t.regs ≡ s.regs → t.visit.time ≡ s.visit.time
-      → PutsDue v.codes.now p.text.now p.item s.regs s.visit.time s.visit.first s.visit.written t.visit.written s.out t.out result → TakesNext v s t result
+      → PutsDue v.codes.now p.text.now p.item s.regs s.visit.time s.visit.first s.command t.command s.out t.out result → TakesNext v s t result
   change_taken place f result e regs time_is puts = record {
     scanned = p;
     item = item;
@@ -60,7 +60,7 @@ module _ (v : HeadView) (s t : MergeStage) (p : ScannedItem) (item : TakesItem v
     puts = puts;
   }
 
-  pub mark_taken : (time : ℕ) → p.item ≡ Time time → time * s.visit.factor < 2 ^ 64 → t.regs ≡ regs_after s.regs p.item → t.visit.time ≡ time * s.visit.factor → t.visit.written ≡ s.visit.written → t.out ≡ s.out → TakesNext v s t (Ok tt)
+  pub mark_taken : (time : ℕ) → p.item ≡ Time time → time * s.visit.factor < 2 ^ 64 → t.regs ≡ regs_after s.regs p.item → t.visit.time ≡ time * s.visit.factor → t.command ≡ s.command → t.out ≡ s.out → TakesNext v s t (Ok tt)
   mark_taken time e fits regs is written out = record {
     scanned = p;
     item = item;
@@ -71,7 +71,7 @@ module _ (v : HeadView) (s t : MergeStage) (p : ScannedItem) (item : TakesItem v
     puts = λ w scale first h items x same views known now number few at. let y : x ≡ BodyItem.Time time = subst (λ (i : Item). IsItem h.codes p.text.now i x) e at in rw (y, written, out) (appends-none s.out.held, refl);
   }
 
-  pub section_taken : IsSection p.item → t.regs ≡ regs_after s.regs p.item → t.visit.time ≡ s.visit.time → t.visit.written ≡ s.visit.written → t.out ≡ s.out → TakesNext v s t (Ok tt)
+  pub section_taken : IsSection p.item → t.regs ≡ regs_after s.regs p.item → t.visit.time ≡ s.visit.time → t.command ≡ s.command → t.out ≡ s.out → TakesNext v s t (Ok tt)
   section_taken is regs time_is written out = record {
     scanned = p;
     item = item;
@@ -79,7 +79,7 @@ module _ (v : HeadView) (s t : MergeStage) (p : ScannedItem) (item : TakesItem v
     same = same;
     time = λ scale factor time. time_is ∙ time ∙ ap (λ n. scale * n) (sym (ap (λ (r : Regs). r.time) regs ∙ section_time s.regs p.item is));
     small = λ codes text x at. small_section s.visit.factor codes text p.item x is at;
-    puts = λ w scale first h items x same views known now number few at. let none = none_due s.visit.written scale first h items p.text.now p.item x is at in rw (none.0, none.1, written, out) (appends-none s.out.held, refl);
+    puts = λ w scale first h items x same views known now number few at. let none = none_due s.command scale first h items p.text.now p.item x is at in rw (none.0, none.1, written, out) (appends-none s.out.held, refl);
   }
 
 -- ---- one item more after others
@@ -92,7 +92,7 @@ module _ (scale first : ℕ) (h : Header) (limit lines : ℕ) (bytes : List ℕ)
   next_item = one.0
 
   abbrev pub stage : StageAhead
-  stage = record { at = passed_of s.ahead; items = items; regs = s.regs; time = s.visit.time; written = s.visit.written; out = s.out }
+  stage = record { at = passed_of s.ahead; items = items; regs = s.regs; time = s.visit.time; written = s.command; out = s.out }
 
   pub ahead_next : IsAhead scale h limit lines bytes behind (passed_of t.ahead) (items ++ next_item ∷ []) t.regs t.visit.time
   ahead_next =
@@ -103,32 +103,32 @@ module _ (scale first : ℕ) (h : Header) (limit lines : ℕ) (bytes : List ℕ)
         time_is = n.time scale factor at.time_is;
       }
 
-  put : Takes s.out t.out (due_with s.visit.written (entry_for scale first h (behind ++ items) next_item)) result × IfOk result (λ _. t.visit.written ≡ written_with s.visit.written (entry_for scale first h (behind ++ items) next_item))
+  put : Takes s.out t.out (due_with s.command (entry_for scale first h (behind ++ items) next_item)) result × IfOk result (λ _. t.command ≡ written_with s.command (entry_for scale first h (behind ++ items) next_item))
   put = n.puts v scale first h (behind ++ items) next_item refl views at.known (at.time_is ∙ ap (λ m. scale * m) at.known.time_is) first_is few one.1
 
   -- what is due with it was written
-  pub one_next : result ≡ Ok tt → Counts s.out t.out result → OneAhead scale first h limit lines bytes behind stage next_item (passed_of t.ahead) t.regs t.visit.time t.visit.written t.out
+  pub one_next : result ≡ Ok tt → Counts s.out t.out result → OneAhead scale first h limit lines bytes behind stage next_item (passed_of t.ahead) t.regs t.visit.time t.command t.out
   one_next e counts = record {
     ahead = ahead_next;
-    written_is = subst (λ (r : Result (Unit {0}) WriteFailed). IfOk r (λ _. t.visit.written ≡ written_with s.visit.written (entry_for scale first h (behind ++ items) next_item))) e put.1;
-    writes = (subst (λ (r : Result (Unit {0}) WriteFailed). Takes s.out t.out (due_with s.visit.written (entry_for scale first h (behind ++ items) next_item)) r) e put.0, subst (λ (r : Result (Unit {0}) WriteFailed). Counts s.out t.out r) e counts);
+    written_is = subst (λ (r : Result (Unit {0}) WriteFailed). IfOk r (λ _. t.command ≡ written_with s.command (entry_for scale first h (behind ++ items) next_item))) e put.1;
+    writes = (subst (λ (r : Result (Unit {0}) WriteFailed). Takes s.out t.out (due_with s.command (entry_for scale first h (behind ++ items) next_item)) r) e put.0, subst (λ (r : Result (Unit {0}) WriteFailed). Counts s.out t.out r) e counts);
   }
 
   -- or a prefix of that
-  pub some_next : (e : WriteFailed) → result ≡ Err e → Counts s.out t.out result → WritesSome s.out t.out (due_with s.visit.written (entry_for scale first h (behind ++ items) next_item))
-  some_next f e counts = (subst (λ (r : Result (Unit {0}) WriteFailed). Takes s.out t.out (due_with s.visit.written (entry_for scale first h (behind ++ items) next_item)) r) e put.0, subst (λ (r : Result (Unit {0}) WriteFailed). Counts s.out t.out r) e counts)
+  pub some_next : (e : WriteFailed) → result ≡ Err e → Counts s.out t.out result → WritesSome s.out t.out (due_with s.command (entry_for scale first h (behind ++ items) next_item))
+  some_next f e counts = (subst (λ (r : Result (Unit {0}) WriteFailed). Takes s.out t.out (due_with s.command (entry_for scale first h (behind ++ items) next_item)) r) e put.0, subst (λ (r : Result (Unit {0}) WriteFailed). Counts s.out t.out r) e counts)
 
 -- ---- a run of items, one of which is the next
 
 module _ (scale first : ℕ) (h : Header) (limit lines : ℕ) (bytes : List ℕ) (behind : List BodyItem) (few : first + length h.codes < 2 ^ 64) (v : HeadView) (views : IsViewOf v h) (s t : MergeStage) (result : Result (Unit {0}) WriteFailed) (n : TakesNext v s t result) (counts : Counts s.out t.out result) (over : LooksOver limit bytes s.ahead) (factor : s.visit.factor ≡ scale) (first_is : s.visit.first ≡ first) (before : ℕ) (start : StageAhead) where
   abbrev RunsTo : MergeStage → Result Bool WriteFailed → Type 0
-  RunsTo z ended = RunsAhead scale first h limit lines bytes behind {E = WriteFailed} before start (passed_of z.ahead) z.regs z.visit.time z.visit.written z.out ended
+  RunsTo z ended = RunsAhead scale first h limit lines bytes behind {E = WriteFailed} before start (passed_of z.ahead) z.regs z.visit.time z.command z.out ended
 
   module _ (r : RunsTo s (Ok false)) where
     next : BodyItem
     next = next_item scale first h limit lines bytes behind few v views s t result n over factor first_is r.mid.items r.ends.0
 
-    one_more : result ≡ Ok tt → OneAhead scale first h limit lines bytes behind r.mid next (passed_of t.ahead) t.regs t.visit.time t.visit.written t.out
+    one_more : result ≡ Ok tt → OneAhead scale first h limit lines bytes behind r.mid next (passed_of t.ahead) t.regs t.visit.time t.command t.out
     unfolding next
     one_more e =
         let m = r.mid in
@@ -136,7 +136,7 @@ module _ (scale first : ℕ) (h : Header) (limit lines : ℕ) (bytes : List ℕ)
         let o = one_next scale first h limit lines bytes behind few v views s t result n over factor first_is m.items at e counts in record {
           ahead = o.ahead;
           written_is = o.written_is ∙ ap (λ w. written_with w (entry_for scale first h (behind ++ m.items) next)) same;
-          writes = subst (λ w. Writes m.out t.out (due_with w (entry_for scale first h (behind ++ m.items) next))) same (subst (λ d. Writes d t.out (due_with s.visit.written (entry_for scale first h (behind ++ m.items) next))) out_is o.writes);
+          writes = subst (λ w. Writes m.out t.out (due_with w (entry_for scale first h (behind ++ m.items) next))) same (subst (λ d. Writes d t.out (due_with s.command (entry_for scale first h (behind ++ m.items) next))) out_is o.writes);
         }
 
     -- the run continues with it
@@ -144,7 +144,7 @@ module _ (scale first : ℕ) (h : Header) (limit lines : ℕ) (bytes : List ℕ)
     runs_on e early =
         let m = r.mid in
         let o = one_more e in
-        let c : StageAhead = record { at = passed_of t.ahead; items = m.items ++ next ∷ []; regs = t.regs; time = t.visit.time; written = t.visit.written; out = t.out } in
+        let c : StageAhead = record { at = passed_of t.ahead; items = m.items ++ next ∷ []; regs = t.regs; time = t.visit.time; written = t.command; out = t.out } in
         record { mid = c; trail = Further m c next r.trail refl o early; ends = (o.ahead, refl, refl) }
 
     -- it is the last one
@@ -158,20 +158,20 @@ module _ (scale first : ℕ) (h : Header) (limit lines : ℕ) (bytes : List ℕ)
         let m = r.mid in
         let (at, same, out_is) = r.ends in
         let some = some_next scale first h limit lines bytes behind few v views s t result n over factor first_is m.items at f e counts in
-        let due = subst (λ w. WritesSome m.out t.out (due_with w (entry_for scale first h (behind ++ m.items) next))) same (subst (λ d. WritesSome d t.out (due_with s.visit.written (entry_for scale first h (behind ++ m.items) next))) out_is some) in
+        let due = subst (λ w. WritesSome m.out t.out (due_with w (entry_for scale first h (behind ++ m.items) next))) same (subst (λ d. WritesSome d t.out (due_with s.command (entry_for scale first h (behind ++ m.items) next))) out_is some) in
         record { mid = m; trail = r.trail; ends = (next, ahead_next scale first h limit lines bytes behind few v views s t result n over factor first_is m.items at, due) }
 
 -- ---- a walk
 
-module _ (v : HeadView) (stands : Merging → Unit {0} → List ℕ → Regs → Type 0) (s : MergeStage) where
+module _ (v : HeadView) (stands : Merging → Option ℕ → List ℕ → Regs → Type 0) (s : MergeStage) where
   abbrev pub is_out : Merging → Bool
   is_out m = nat_le m.before m.time
 
   -- where a run continues, the walk takes more items, and it continues after them or ends
   abbrev pub Runs : MergeStage → Result Bool WriteFailed → Type 0
   Runs z ended = (scale first lines : ℕ) (h : Header) (behind : List BodyItem) (start : StageAhead) → IsViewOf v h → s.visit.factor ≡ scale → s.visit.first ≡ first → first + length h.codes < 2 ^ 64
-      → RunsAhead scale first h (longest_of s.ahead) lines (bytes_of s.ahead) behind {E = WriteFailed} s.visit.before start (passed_of s.ahead) s.regs s.visit.time s.visit.written s.out (Ok false)
-      → RunsAhead scale first h (longest_of s.ahead) lines (bytes_of s.ahead) behind {E = WriteFailed} s.visit.before start (passed_of z.ahead) z.regs z.visit.time z.visit.written z.out ended
+      → RunsAhead scale first h (longest_of s.ahead) lines (bytes_of s.ahead) behind {E = WriteFailed} s.visit.before start (passed_of s.ahead) s.regs s.visit.time s.command s.out (Ok false)
+      → RunsAhead scale first h (longest_of s.ahead) lines (bytes_of s.ahead) behind {E = WriteFailed} s.visit.before start (passed_of z.ahead) z.regs z.visit.time z.command z.out ended
 
   -- over the same bytes, and for the same input
   record Comes (z : MergeStage) : Type 0 where

@@ -1,5 +1,6 @@
 pub mod MergeItem
 pub mod AheadTrails
+pub mod DueLine
 pub mod Dumps
 pub mod SeatAhead
 pub mod SeatLemmas

@@ -31,9 +31,9 @@ abbrev pub PutsDue : {A E : Type 0} → List Code → List ℕ → Item → Regs
 PutsDue codes text item r time number written written' out out' result = (v : HeadView) (scale first : ℕ) (h : Header) (items : List BodyItem) (x : BodyItem) → v.codes.now ≡ codes → IsViewOf v h → AreRegsAfter items r → time ≡ scale * time_after items → number ≡ first → first + length h.codes < 2 ^ 64 → IsItem h.codes text item x
     → Takes out out' (due_with written (entry_for scale first h items x)) result × IfOk result (λ _. written' ≡ written_with written (entry_for scale first h items x))
 
--- where a walk over the items of an input is
+-- where a walk over the items of an input is; it works on the time whose line was written last
 abbrev pub MergeStage : Type 0
-MergeStage = Stage Merging (Unit {0})
+MergeStage = Stage Merging (Option ℕ)
 
 -- the seat of the same input, in the same turn
 pub record SameMerging (m m' : Merging) : Type 0 where
@@ -49,7 +49,7 @@ pub record TakesNext (v : HeadView) (s t : MergeStage) (result : Result (Unit {0
   pub same : SameMerging s.visit t.visit
   pub time : (scale : ℕ) → s.visit.factor ≡ scale → s.visit.time ≡ scale * s.regs.time → t.visit.time ≡ scale * t.regs.time
   pub small : (codes : List IdCode) (text : List ℕ) (x : BodyItem) → IsItem codes text scanned.item x → is_too_large s.visit.factor x ≡ false
-  pub puts : PutsDue v.codes.now scanned.text.now scanned.item s.regs s.visit.time s.visit.first s.visit.written t.visit.written s.out t.out result
+  pub puts : PutsDue v.codes.now scanned.text.now scanned.item s.regs s.visit.time s.visit.first s.command t.command s.out t.out result
 
 -- after some of the items ahead: the bytes in which they lie, what is known after them, the time of
 -- the input, and the output

@@ -32,7 +32,7 @@ returns-clause-turns g c = λ k scale first l items views at.
     let view = subst (λ (y : HeadShown). Views y l.header) (sym c.view-view.ensures) views in
     let stage : StageAhead = record { at = 0; items = []; regs = s.regs; time = s.time; written = c.args.written.now; out = out0 } in
     let runs = gives scale first (lines_of f) l.header items stage view at.factor_is at.first_is at.few (record { mid = stage; trail = Stands; ends = (begins, refl, refl) }) in
-    ahead_turns scale first l items s f at c.requires.unfinished g.S.Source.failures k c.args.before c.args.written.now out0 c.requires.open new _ t.regs t.visit.time t.visit.written out c.pass_items.ensures.source c.pass_items.ensures.advances.limit c.pass_items.ensures.advances.chunk
+    ahead_turns scale first l items s f at c.requires.unfinished g.S.Source.failures k c.args.before c.args.written.now out0 c.requires.open new _ t.regs t.visit.time c.walk_ahead-walked.new.command out c.pass_items.ensures.source c.pass_items.ensures.advances.limit c.pass_items.ensures.advances.chunk
     (λ more lies known. c.pass_items.ensures.gives l.header.codes l.input l.front items more s.regs t.regs gave lies known)
     (λ more x lies known. c.pass_items.ensures.ends l.header.codes l.input l.front items more x s.regs t.regs gave lies known) t.ended (rw c.passed-passed.ensures.passed runs)
 
