@@ -1,6 +1,6 @@
 // Items whose tokens are whole ahead in the chunk: most cost no change of the feed.
 ghost use Rattle.std.specs.Prelude.{◌≡◌, ◌⊎◌, ℕ, ◌+◌, ◌-◌, ◌^◌, ◌<◌, ◌≤◌, List, [], drop, length, slice_range, false, true, is_some, None, Some, IfOk, IfSome};
-ghost use Rattle.vcd_body.specs.Names.{Advances, AreBinaryIf, Begins, CallEnd, GivesAhead, GivesNoItem, GivesToLast, HasTimestamp, HasTime, HoldsItem, IsChangeBy, IsFound, IsFoundScalar, IsPrompt, IsRun, IsScalar, IsSection, LeavesRegs, MayBe, Opens, OpensVector, Passed, PassesNoItem, Puts, TakesItem, TakesOpened, TakesOpenedAfter, Token, ahead_of, binary_digits, bytes_of, limit_of, lines_of, longest_of, passed_of, seen, source_of};
+ghost use Rattle.vcd_body.specs.Names.{Advances, AreBinaryIf, AreWhite, Begins, CallEnd, GivesAhead, GivesNoItem, GivesToLast, HasTimestamp, HasTime, HoldsItem, IsChangeBy, IsFound, IsFoundScalar, IsPrompt, IsRun, IsScalar, IsSection, LeavesRegs, MayBe, Opens, OpensVector, Passed, PassesNoItem, Puts, TakesItem, TakesOpened, TakesOpenedAfter, Token, ahead_of, binary_digits, bytes_of, limit_of, lines_of, longest_of, passed_of, seen, source_of};
 ghost use Rattle.vcd_body.specs.declared.item.Form.TheVariants as form;
 ghost use Rattle.vcd_body.specs.declared.item.Item.TheVariants as item;
 ghost use Rattle.vcd_body.specs.declared.words.PhraseKind.TheVariants as kind;
@@ -178,15 +178,15 @@ pub(crate) fn opening_ahead<'a>(ahead: &mut Ahead<'a>) -> Option<Opening<'a>>
     })
 }
 
-/// Returns the next token ahead and the kind of item that it begins, and passes it, if it begins at
-/// the next byte and has two bytes and a line feed after them. Otherwise `None`, and nothing has
-/// changed.
+/// Returns the next token ahead and the kind of item that it begins, and passes it, if it is a line
+/// of exactly two bytes: `Ahead::next_short` says which bytes have to come before and after it.
+/// Otherwise `None`, and nothing has changed.
 #[inline(always)]
-fn short_opening<'a>(ahead: &mut Ahead<'a>) -> Option<Opening<'a>>
+fn short_opening<'a, const CR_LF: bool>(ahead: &mut Ahead<'a>) -> Option<Opening<'a>>
     ensures opens { IfSome result (λ o. Opens ahead.old ahead.new o) }
     ensures stays { result ≡ None → ahead.new ≡ ahead.old }
 {
-    let token = ahead.next_short()?;
+    let token = ahead.next_short::<CR_LF>()?;
     Some(Opening {
         kind: kind_by(token[0]),
         token,
@@ -194,17 +194,17 @@ fn short_opening<'a>(ahead: &mut Ahead<'a>) -> Option<Opening<'a>>
     })
 }
 
-/// Returns the next token ahead and passes it, if it begins with `#`, begins at the next byte, and
-/// has at most 15 bytes and a line feed after them. Otherwise `None`, and nothing has changed; then
-/// `opening_ahead` may return one.
+/// Returns the next token ahead and passes it, if it begins with `#`, has at most 15 bytes, and is
+/// a line of its own: `Ahead::next_in_16` says which bytes have to come before and after it.
+/// Otherwise `None`, and nothing has changed; then `opening_ahead` may return one.
 #[inline(always)]
-pub(crate) fn line_timestamp<'a>(ahead: &mut Ahead<'a>) -> Option<Opening<'a>>
+pub(crate) fn line_timestamp<'a, const CR_LF: bool>(ahead: &mut Ahead<'a>) -> Option<Opening<'a>>
     ensures opens { IfSome result (λ o. Opens ahead.old ahead.new o) }
     ensures kind { IfSome result (λ o. o.kind ≡ kind.Timestamp) }
     ensures stays { result ≡ None → ahead.new ≡ ahead.old }
 {
     let mut next = *ahead;
-    let token = next.next_in_16()?;
+    let token = next.next_in_16::<CR_LF>()?;
     let kind = kind_by(token[0]);
     let PhraseKind::Timestamp = kind else {
         return None;
@@ -269,18 +269,21 @@ fn short_code(token: &[u8], view: HeadView<'_>) -> Option<Found>
 }
 
 /// Returns the change that comes next and passes it, if it is a `0` or a `1` with a code of one
-/// byte and a line feed after that, begins at the next byte, and a look at one entry finds its
+/// byte on a line of its own, as `Ahead::next_short` returns it, and a look at one entry finds its
 /// code. `None` for any other item; then nothing has changed.
 // No call is made, so that a loop over such changes keeps all that it needs in registers.
 #[inline(always)]
-pub(crate) fn short_ahead<'a>(ahead: &mut Ahead<'a>, view: HeadView<'_>) -> Option<ScannedItem<'a>>
+pub(crate) fn short_ahead<'a, const CR_LF: bool>(
+    ahead: &mut Ahead<'a>,
+    view: HeadView<'_>,
+) -> Option<ScannedItem<'a>>
     ensures takes { IfSome result
         (λ scanned. (r : Regs) → TakesItem view.entry ahead.old ahead.new r scanned) }
     ensures form { IfSome result (IsChangeBy form.Scalar) }
     ensures stays { result ≡ None → ahead.new ≡ ahead.old }
 {
     let mut next = *ahead;
-    let opening = short_opening(&mut next)?;
+    let opening = short_opening::<CR_LF>(&mut next)?;
     let PhraseKind::Bit = opening.kind else {
         return None;
     };
@@ -297,19 +300,35 @@ pub(crate) fn short_ahead<'a>(ahead: &mut Ahead<'a>, view: HeadView<'_>) -> Opti
     Some(change_of(found, Form::Scalar, text, places))
 }
 
-/// Returns whether two lines of two bytes each come next. Then it pays to try `short_ahead` in a
-/// loop.
+/// Returns whether two lines of two bytes come next, both with CR LF or both with LF.
 #[inline(always)]
-pub(crate) fn two_short_lines_come(ahead: Ahead<'_>) -> bool
-    ensures { result ≡ true
-        → IsRun (longest_of ahead.entry) (bytes_of ahead.entry) (passed_of ahead.entry) 2 }
+fn two_lines_come<const CR_LF: bool>(ahead: Ahead<'_>) -> bool
+    ensures { result ≡ true → (start : ℕ)
+        × AreWhite (bytes_of ahead.entry) (passed_of ahead.entry) start
+        × IsRun (longest_of ahead.entry) (bytes_of ahead.entry) start 2 }
 {
-    if !ahead.two_byte_line_comes() {
+    if !ahead.two_byte_line_comes::<CR_LF>() {
         return false;
     }
     let mut next = ahead;
-    let _ = next.next_short();
-    next.two_byte_line_comes()
+    let _ = next.next_short::<CR_LF>();
+    next.two_byte_line_comes::<CR_LF>()
+}
+
+/// Returns whether two lines of two bytes each come next, both with LF or both with CR LF. Then it
+/// pays to try `short_ahead` in a loop.
+#[inline(always)]
+pub(crate) fn two_short_lines_come(ahead: Ahead<'_>) -> bool
+    ensures { result ≡ true → (start : ℕ)
+        × AreWhite (bytes_of ahead.entry) (passed_of ahead.entry) start
+        × IsRun (longest_of ahead.entry) (bytes_of ahead.entry) start 2 }
+{
+    let bytes = ahead.bytes();
+    let at = ahead.passed();
+    if at < bytes.len() && bytes[at] == b'\n' {
+        return two_lines_come::<true>(ahead);
+    }
+    two_lines_come::<false>(ahead)
 }
 
 /// Returns whether the next item lies completely in the chunk, so that `next_item` reads nothing

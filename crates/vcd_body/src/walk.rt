@@ -362,7 +362,7 @@ fn take_next<C, V: Visit<C>, W: Sink>(
 /// byte, on a line of its own, whose code a look at one entry finds. Then it passes it and returns
 /// false, since it was a change, or that a write failed. Otherwise `None`, and nothing has changed.
 #[inline(always)]
-fn take_short<C, V: Visit<C>, W: Sink>(
+fn take_short<C, V: Visit<C>, W: Sink, const CR_LF: bool>(
     command: &mut C,
     visit: &mut V,
     view: HeadView<'_>,
@@ -379,7 +379,7 @@ fn take_short<C, V: Visit<C>, W: Sink>(
 {
     let from = *ahead;
     let mut to = from;
-    let change = short_ahead(&mut to, view)?;
+    let change = short_ahead::<CR_LF>(&mut to, view)?;
     let extent = Extent { from, to };
     let taken = take_change(command, visit, view, regs, change, extent, out);
     *ahead = to;
@@ -389,7 +389,7 @@ fn take_short<C, V: Visit<C>, W: Sink>(
 /// Has the visitor handle the next changes, as long as each is one that `take_short` takes, and
 /// returns the state after the last of them: also whether a write failed, which ends the loop.
 #[inline(always)]
-fn take_shorts<'a, C, V: Visit<C>, W: Sink>(
+fn take_shorts<'a, C, V: Visit<C>, W: Sink, const CR_LF: bool>(
     command: &mut C,
     mut visit: V,
     view: HeadView<'_>,
@@ -406,7 +406,9 @@ fn take_shorts<'a, C, V: Visit<C>, W: Sink>(
         (stage_at result.ahead result.regs result.visit command.new (W.device out.new)) result.ended }
 {
     'items: loop {
-        let Some(taken) = take_short(command, &mut visit, view, regs, &mut ahead, out) else {
+        let Some(taken) = take_short::<C, V, W, CR_LF>(
+            command, &mut visit, view, regs, &mut ahead, out,
+        ) else {
             return Walked::until(ahead, regs, visit, Ok(false));
         };
         match taken {
@@ -421,7 +423,7 @@ fn take_shorts<'a, C, V: Visit<C>, W: Sink>(
 /// not, if its time may not come here, or if the visitor ends the walk before it; then nothing has
 /// changed.
 #[inline(always)]
-fn take_timestamp_line<C, V: Visit<C>>(
+fn take_timestamp_line<C, V: Visit<C>, const CR_LF: bool>(
     command: &mut C,
     visit: &mut V,
     view: HeadView<'_>,
@@ -434,16 +436,17 @@ fn take_timestamp_line<C, V: Visit<C>>(
         (stage_at ahead.new regs.new visit.new command.new) result }
 {
     let mut to = *ahead;
-    let opening = line_timestamp(&mut to)?;
+    let opening = line_timestamp::<CR_LF>(&mut to)?;
     take_timestamp(command, visit, view, opening, regs, ahead, to)
 }
 
 /// Has the visitor handle the items that come next, as long as each is a change of two bytes or a
-/// short timestamp on a line of its own, and returns the state after the last of them. It also ends
-/// if the visitor ends the walk, or if a write fails.
+/// short timestamp on a line of its own, and returns the state after the last of them. The lines
+/// end with CR LF if `CR_LF` is true, otherwise with LF. It also ends if the visitor ends the walk,
+/// or if a write fails.
 // Without this loop `check` of scalars takes 55 % more, and of other dumps 1 to 2 % less.
 #[inline(never)]
-fn take_lines<'a, C, V: Visit<C>, W: Sink>(
+fn take_lines_with_end<'a, C, V: Visit<C>, W: Sink, const CR_LF: bool>(
     command: &mut C,
     mut visit: V,
     view: HeadView<'_>,
@@ -460,25 +463,52 @@ fn take_lines<'a, C, V: Visit<C>, W: Sink>(
         (stage_at result.ahead result.regs result.visit command.new (W.device out.new)) result.ended }
 {
     // What is known from here on is not asked again for each line.
-    if view.entries.is_empty() || !ahead.two_byte_line_comes() {
+    if view.entries.is_empty() || !ahead.two_byte_line_comes::<CR_LF>() {
         return Walked::until(ahead, regs, visit, Ok(false));
     }
     ahead.forget();
     'lines: loop {
-        let shorts = take_shorts(command, visit, view, regs, ahead, out);
+        let shorts = take_shorts::<C, V, W, CR_LF>(command, visit, view, regs, ahead, out);
         if !shorts.can_go_on() {
             return shorts;
         }
         ahead = shorts.ahead;
         regs = shorts.regs;
         visit = shorts.visit;
-        let Some(()) = take_timestamp_line(command, &mut visit, view, &mut regs, &mut ahead) else {
+        let Some(()) = take_timestamp_line::<C, V, CR_LF>(
+            command, &mut visit, view, &mut regs, &mut ahead,
+        ) else {
             return Walked::until(ahead, regs, visit, Ok(false));
         };
         if visit.is_over() {
             return Walked::until(ahead, regs, visit, Ok(true));
         }
     }
+}
+
+/// Has the visitor handle the items that come next, as `take_lines_with_end` does, with the line end
+/// that comes first.
+#[inline(always)]
+fn take_lines<'a, C, V: Visit<C>, W: Sink>(
+    command: &mut C,
+    visit: V,
+    view: HeadView<'_>,
+    regs: Regs,
+    ahead: Ahead<'a>,
+    out: &mut W,
+) -> Walked<'a, V>
+    requires failures { (W.device out.old).failures < 2 ^ 64 - 1 }
+    requires stands { V.stands visit command.old (bytes_of ahead) regs }
+    requires within { passed_of ahead ≤ length (bytes_of ahead) }
+    requires on { V.over visit ≡ false }
+    ensures { Walks V.takes V.stands V.over view.entry
+        (stage_at ahead.entry regs visit command.old (W.device out.old))
+        (stage_at result.ahead result.regs result.visit command.new (W.device out.new)) result.ended }
+{
+    if ahead.two_byte_line_comes::<true>() {
+        return take_lines_with_end::<C, V, W, true>(command, visit, view, regs, ahead, out);
+    }
+    take_lines_with_end::<C, V, W, false>(command, visit, view, regs, ahead, out)
 }
 
 /// Has the visitor handle the items ahead, one after the other, up to a comment, or up to two lines

@@ -343,7 +343,7 @@ const COMMENT: &[u8] =
 // left to the reader that names the fault, and so are the begin of a section inside another one,
 // the end of none, and a real number without digits. Comments are passed, except one that does not
 // end in the chunk before its last 64 bytes.
-const TAKEN: [(&[u8], &str); 7] = [
+const TAKEN: [(&[u8], &str); 8] = [
     (
         b"#0\n1!\nb101 \"\n#05 Z! bx \"\n#4\n",
         "#0 0:Scalar:1 1:Vector:101 #5 0:Scalar:Z 1:Vector:x then fault 14 at 11",
@@ -367,6 +367,11 @@ const TAKEN: [(&[u8], &str); 7] = [
         "#0 Vars 0:Scalar:1 1:Vector:1 End #5 0:Scalar:0 then Finish",
     ),
     (b"$comment a $end\n$comment b $end\n", "then Finish"),
+    (
+        b"#0\r\n0!\r\n1!\r\n0!\r\n#5\r\n1!\r\nx!\r\n#7\r\n0!\r\n1!\n0!\r\n#8\n0!\n1!\n",
+        "#0 0:Scalar:0 0:Scalar:1 0:Scalar:0 #5 0:Scalar:1 0:Scalar:x #7 0:Scalar:0 0:Scalar:1 \
+            0:Scalar:0 #8 0:Scalar:0 0:Scalar:1 then Finish",
+    ),
 ];
 
 #[test]

@@ -289,3 +289,20 @@ before_bits bytes start w m stops k set = elim (cases_lt (start + 64) (w.next + 
 -- the white space that is left from a later offset on
 pub white_rest : (bytes : List ℕ) (from at start : ℕ) → from ≤ at → at ≤ start → AreWhite bytes from start → AreWhite bytes at start
 white_rest bytes from at start le far w = record { order = far; white = λ k h lt. w.white k (omega arith) lt }
+
+-- of the bytes up to the white one after a run, only that one is white
+pub run_bits : (limit : ℕ) (bytes : List ℕ) (start n : ℕ) (w : White) → IsRun limit bytes start n → w.next ≡ start + n + 1
+    → ((k : ℕ) → bit_at w.bits k ≡ 1 → k ≡ 63) → bit_at w.bits 63 ≡ 1 → BitsAreWhite bytes start (length bytes) w
+run_bits limit bytes start n w run next bit set = record {
+  within = let within = run.within in omega (arith, next, within);
+  ahead = λ k one. omega (arith, bit k one, next);
+  inside = λ k one. omega (arith, bit k one);
+  white = λ k one. let here : start + n ≡ w.next + k - 64 = omega (arith, bit k one, next) in subst (λ j. is_white_space (slice_index bytes j) ≡ true) here run.white;
+  other = λ j from below none. elim (cases_lt j (start + n)) [
+    | inl lt ↦ (let here : start + (j - start) ≡ j = omega arith in
+        subst (λ i. is_white_space (slice_index bytes i) ≡ false) here (run.other (j - start) (omega (arith, lt))))
+    | inr le ↦ (let last : j + 64 - w.next ≡ 63 = omega (arith, next) in
+        let clear = none (omega (arith, next)) in
+        absurd (omega (arith, sym (ap (λ i. bit_at w.bits i) last) ∙ clear, set)))
+  ];
+}

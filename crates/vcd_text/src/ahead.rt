@@ -156,53 +156,59 @@ impl<'a> Ahead<'a> {
         self.take(start, white)
     }
 
-    /// Returns the next token, if it begins at the next byte and has two bytes and a line feed
-    /// after them, and passes these three bytes.
+    /// Returns the next token, if it has two bytes, begins at the next byte, and is followed by a
+    /// line feed, and passes these three bytes. If `CR_LF` is true, a line feed has to come before
+    /// the token and a carriage return after it, and these four bytes are passed.
     ///
     /// Otherwise `None`, also if the token has a byte below the space (32) or the limit is less
-    /// than 2; then nothing has changed, and `next` may return one. It looks only at these three
-    /// bytes. If it returns a token, it forgets which white bytes were seen ahead. It is for a run
-    /// of such tokens.
+    /// than 2; then nothing has changed, and `next` may return one. It looks only at these bytes.
+    /// If it returns a token, it forgets which white bytes were seen ahead. It is for a run of such
+    /// tokens.
     #[inline(always)]
-    pub fn next_short(&mut self) -> Option<&'a [u8]>
+    pub fn next_short<const CR_LF: bool>(&mut self) -> Option<&'a [u8]>
         ensures takes { IfSome result (λ token. TakesToken self.old self.new token.now) }
         ensures within { passed_of self.new ≤ length (bytes_of self.old) }
         ensures none { result ≡ None → self.new ≡ self.old }
     {
         let at = self.at;
-        if !is_two_byte_line(self.bytes, at) {
+        if !is_two_byte_line::<CR_LF>(self.bytes, at) {
             return None;
+        }
+        if CR_LF {
+            return self.take(at + 1, White::before(at + 4));
         }
         self.take(at, White::before(at + 3))
     }
 
-    /// Returns the next token, if it begins at the next byte and has at most 15 bytes and a line
-    /// feed after them, and passes it and the line feed.
+    /// Returns the next token, if it begins at the next byte, has at most 15 bytes, and is followed
+    /// by a line feed, and passes it and the line feed. If `CR_LF` is true, a line feed has to come
+    /// before the token and a carriage return after it, and all of these are passed.
     ///
-    /// Otherwise `None`, also if fewer than 16 bytes are left, if the token has a byte below the
-    /// space (32), or if it is longer than the limit; then nothing has changed, and `next` may
-    /// return one. It looks at 16 bytes in one step. If it returns a token, it forgets which white
-    /// bytes were seen ahead. It is for a run of lines.
+    /// Otherwise `None`, also if fewer than 16 bytes are left from the first byte of the token on,
+    /// if the token has a byte below the space (32), or if it is longer than the limit; then nothing
+    /// has changed, and `next` may return one. It looks at 16 bytes in one step. If it returns a
+    /// token, it forgets which white bytes were seen ahead. It is for a run of lines.
     #[inline(always)]
-    pub fn next_in_16(&mut self) -> Option<&'a [u8]>
+    pub fn next_in_16<const CR_LF: bool>(&mut self) -> Option<&'a [u8]>
         ensures takes { IfSome result (λ token. TakesToken self.old self.new token.now) }
         ensures within { passed_of self.new ≤ length (bytes_of self.old) }
-        ensures start { IfSome result (λ token. start_of self.new token.now ≡ passed_of self.old) }
+        ensures start { CR_LF ≡ false
+            → IfSome result (λ token. start_of self.new token.now ≡ passed_of self.old) }
         ensures none { result ≡ None → self.new ≡ self.old }
     {
-        let at = self.at;
-        if self.bytes.len() - at < 16 {
+        let start = line_start::<CR_LF>(self.bytes, self.at)?;
+        if self.bytes.len() - start < 16 {
             return None;
         }
-        let low = low_16(self.bytes, at);
+        let low = low_16(self.bytes, start);
         if low == 0 {
             return None;
         }
         let len = lowest(low);
-        if len == 0 || self.bytes[at + len] != b'\n' {
+        if len == 0 || self.bytes[start + len] != end_of_token::<CR_LF>() {
             return None;
         }
-        self.take(at, White::before(at + len + 1))
+        self.take(start, White::before(start + len + 1))
     }
 
     /// Returns the next token, also near the end of the chunk, and passes it, the white bytes
@@ -223,17 +229,18 @@ impl<'a> Ahead<'a> {
         self.take(start, White::before(end + 1))
     }
 
-    /// Returns whether the next token begins at the next byte and has two bytes and a line feed
-    /// after them, and the limit allows two bytes.
+    /// Returns whether `next_short` would return a token.
     ///
-    /// It is false for a token with a byte below the space (32). Once it is true, the limit is 2 or
-    /// more, so a loop need not ask for it again.
+    /// Once it is true, the limit is 2 or more, so a loop need not ask for that again.
     #[inline(always)]
-    pub fn two_byte_line_comes(&self) -> bool
-        ensures { result ≡ true
+    pub fn two_byte_line_comes<const CR_LF: bool>(&self) -> bool
+        ensures line_feed { result ≡ true → CR_LF ≡ false
             → IsRun (longest_of self.now) (bytes_of self.now) (passed_of self.now) 2 }
+        ensures cr_lf { result ≡ true → CR_LF ≡ true
+            → AreWhite (bytes_of self.now) (passed_of self.now) (passed_of self.now + 1)
+            × IsRun (longest_of self.now) (bytes_of self.now) (passed_of self.now + 1) 2 }
     {
-        self.limit >= 2 && is_two_byte_line(self.bytes, self.at)
+        self.limit >= 2 && is_two_byte_line::<CR_LF>(self.bytes, self.at)
     }
 
     /// Forgets which white bytes were seen ahead. It passes no byte. Call it before a loop over
@@ -288,16 +295,53 @@ impl<'a> Ahead<'a> {
     }
 }
 
-/// Returns whether the three bytes from `at` on are two bytes above the space (32) and a line feed.
-/// It is false if fewer than three bytes are left.
+/// Returns the byte that comes right after the last token of a line: a line feed, or a carriage
+/// return if `CR_LF` is true.
 #[inline(always)]
-fn is_two_byte_line(bytes: &[u8], at: usize) -> bool
-    requires { at ≤ length bytes.now }
-    ensures within { result ≡ true → at + 3 ≤ length bytes.now }
-    ensures first { result ≡ true → is_white_space (slice_index bytes.now at) ≡ false }
-    ensures second { result ≡ true → is_white_space (slice_index bytes.now (at + 1)) ≡ false }
-    ensures white { result ≡ true → is_white_space (slice_index bytes.now (at + 2)) ≡ true }
+fn end_of_token<const CR_LF: bool>() -> u8
+    ensures { is_white_space result ≡ true }
 {
+    if CR_LF {
+        return b'\r';
+    }
+    b'\n'
+}
+
+/// Returns the offset of the first byte of the line that comes next at `at`. That is `at`; or, if
+/// `CR_LF` is true, the offset after the line feed at `at`, and `None` if there is none.
+#[inline(always)]
+fn line_start<const CR_LF: bool>(bytes: &[u8], at: usize) -> Option<usize>
+    requires { at ≤ length bytes.now }
+    ensures within { IfSome result (λ start. start ≤ length bytes.now) }
+    ensures white { IfSome result (λ start. AreWhite bytes.now at start) }
+    ensures start { CR_LF ≡ false → IfSome result (λ start. start ≡ at) }
+{
+    if !CR_LF {
+        return Some(at);
+    }
+    if at < bytes.len() && bytes[at] == b'\n' {
+        return Some(at + 1);
+    }
+    None
+}
+
+/// Returns whether two bytes above the space (32) and a line feed come at offset `at`; or, if
+/// `CR_LF` is true, a line feed, two such bytes and a carriage return. It is false if fewer bytes
+/// are left.
+#[inline(always)]
+fn is_two_byte_line<const CR_LF: bool>(bytes: &[u8], at: usize) -> bool
+    requires { at ≤ length bytes.now }
+    ensures line_feed { result ≡ true → CR_LF ≡ false → IsRun 2 bytes.now at 2 }
+    ensures cr_lf { result ≡ true → CR_LF ≡ true
+        → AreWhite bytes.now at (at + 1) × IsRun 2 bytes.now (at + 1) 2 }
+{
+    if CR_LF {
+        return bytes.len() - at >= 4
+            && bytes[at + 3] == b'\r'
+            && bytes[at] == b'\n'
+            && bytes[at + 1] > b' '
+            && bytes[at + 2] > b' ';
+    }
     bytes.len() - at >= 3 && bytes[at + 2] == b'\n' && bytes[at] > b' ' && bytes[at + 1] > b' '
 }
 

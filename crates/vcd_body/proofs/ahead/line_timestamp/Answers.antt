@@ -4,7 +4,7 @@ use Rattle.vcd_body.proofs.WordLemmas.{first_rest}
 use Rattle.vcd_body.proofs.ahead.line_timestamp.Goals as goal
 
 pub returns-clause-opens : goal.returns-clause-opens
-returns-clause-opens c =
+returns-clause-opens g c =
     let n = c.in_ok-token.ensures in
     let token = c.in_ok-token.token.now in
     record {

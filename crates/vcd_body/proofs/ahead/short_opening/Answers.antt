@@ -4,7 +4,7 @@ use Rattle.vcd_body.proofs.WordLemmas.{first_rest}
 use Rattle.vcd_body.proofs.ahead.short_opening.Goals as goal
 
 pub returns-clause-opens : goal.returns-clause-opens
-returns-clause-opens c =
+returns-clause-opens g c =
     let t = c.in_ok-token.ensures.takes in
     let token = c.in_ok-token.token.now in
     record {
