@@ -19,17 +19,19 @@ fn digit_of(code: u8) -> u8
     }
 }
 
+// For each value of a byte's lowest four bits, the digit with these bits as two bits: 0 for `0`, 1
+// for `1`, 3 for an x, and 2 for a z and all others.
+const CODES: [u8; 16] = [0, 1, 2, 2, 2, 2, 2, 2, 3, 2, 2, 2, 2, 2, 2, 2];
+
 /// Returns each of the 16 digits from `at` on as two bits: 0 for `0`, 1 for `1`, 3 for an x, and 2
-/// for any other byte. All 16 bytes have to be there.
+/// for a z. All 16 bytes have to be there.
 #[inline(always)]
 fn codes_16(bytes: &[u8], at: usize) -> u8x16
     requires { at + 16 ≤ length bytes.now }
     ensures { result ≡ map code_of (chunk at 16 bytes.now) }
 {
     let v = u8x16::from_slice(&bytes[at..]);
-    let is_x = (v & u8x16::splat(0xdf)).simd_eq(u8x16::splat(b'X'));
-    let at_most_2 = (v ^ u8x16::splat(b'0')).simd_min(u8x16::splat(2));
-    at_most_2 + is_x.select(u8x16::splat(1), u8x16::splat(0))
+    u8x16::from_array(CODES).swizzle_dyn(v & u8x16::splat(15))
 }
 
 /// Returns whether 16 bytes differ from 16 others: true if they do at one place or more.
@@ -51,19 +53,12 @@ fn last_codes_16(bytes: &[u8], at: usize) -> u8x16
     u8x16::from_slice(&bytes[at..]) >> u8x16::splat(6)
 }
 
-/// Returns a digit as two bits, without a branch: 0 for `0`, 1 for `1`, 3 for an x, and 2 for any
-/// other byte.
+/// Returns a digit as two bits, without a branch: 0 for `0`, 1 for `1`, 3 for an x, and 2 for a z.
 #[inline(always)]
 fn code_of(digit: u8) -> u8
     ensures { result ≡ code_of digit }
 {
-    let x_or_z = if (digit == b'x') | (digit == b'X') {
-        3
-    } else {
-        2
-    };
-    let all_but_0 = if digit == b'1' { 1 } else { x_or_z };
-    if digit == b'0' { 0 } else { all_but_0 }
+    CODES[usize::from(digit % 16)]
 }
 
 /// Returns true if one of the last of `len` packed digits differs from that of a text at the same
@@ -282,81 +277,10 @@ pub(crate) fn holds_packed(bytes: &[u8], text: &[u8]) -> bool
     are_all_digits(text)
 }
 
-/// Returns the 16 bytes from `at` on without the bits that `0` and `1` have in common: 0 for `0`, 1
-/// for `1`, and more than 1 for all others.
-#[inline(always)]
-fn bits_16(bytes: &[u8], at: usize) -> u8x16
-    requires { at + 16 ≤ length bytes.now }
-    ensures long { length result ≡ 16 }
-    ensures codes { (k : ℕ) → k < 16 → get_or result k 0 < 2
-        → get_or result k 0 ≡ code_of (get_or bytes.now (at + k) 0) }
-{
-    u8x16::from_slice(&bytes[at..]) ^ u8x16::splat(b'0')
-}
-
-/// Returns, for each of 16 bytes, the bits that are set in one or the other. The result is 0 or 1
-/// only if both bytes are.
-#[inline(always)]
-fn either(first: u8x16, second: u8x16) -> u8x16
-    requires { (length first ≡ 16) × (length second ≡ 16) }
-    ensures long { length result ≡ 16 }
-    ensures each { (k : ℕ) → k < 16 → get_or result k 0 < 2
-        → (get_or first k 0 < 2) × (get_or second k 0 < 2) }
-{
-    first | second
-}
-
-/// Returns whether all of these 16 digits, as `bits_16` returns them, are 0 and 1.
-#[inline(always)]
-fn are_bits(seen: u8x16) -> bool
-    requires { length seen ≡ 16 }
-    ensures { result ≡ true → (k : ℕ) → k < 16 → get_or seen k 0 < 2 }
-{
-    seen.simd_gt(u8x16::splat(1)).to_bitmask() == 0
-}
-
-/// Packs 16 digits of each quarter of a text, from the index `at` of each, into the 16 bytes from
-/// `at` on, as if they were 0 and 1. Returns what `are_bits` takes to say whether they were. The
-/// bytes before `at` stay as they are.
-#[inline(always)]
-fn pack_bits_16(bytes: &mut [u8], text: &[u8], quarter: usize, at: usize) -> u8x16
-    requires within { at + 16 ≤ quarter }
-    requires room { quarter ≤ length bytes.old }
-    requires quarter { 3 * quarter ≤ length text.now }
-    ensures long { length result ≡ 16 }
-    ensures packed { (k : ℕ) → k < 16 → get_or result k 0 < 2
-        → HasFour bytes.new text.now quarter (at + k) }
-    ensures before { (index : ℕ) → index < at → get_or bytes.new index 0 ≡ get_or bytes.old index 0 }
-{
-    let first = bits_16(text, at);
-    let second = bits_16(text, at + quarter);
-    let third = bits_16(text, at + 2 * quarter);
-    let last = bits_16(text, at + (text.len() - quarter));
-    let both = with_4_times(second, with_4_times(third, last));
-    with_4_times(first, both).copy_to_slice(&mut bytes[at..]);
-    either(either(first, second), either(third, last))
-}
-
-/// Packs the digits of each quarter of a text, 16 at a time, if all digits are 0 and 1. Returns
-/// whether they are. If not, the bytes that it wrote have no meaning. Of the last 16 some may have
-/// been packed before.
-fn pack_bits(bytes: &mut [u8], text: &[u8], quarter: usize) -> bool
-    requires { MayPack bytes.old text.now quarter }
-    ensures { result ≡ true → ArePacked bytes.new text.now quarter }
-{
-    let last = quarter - 16;
-    let mut seen = u8x16::splat(0);
-    let mut at = 0;
-    while at < last {
-        seen = either(seen, pack_bits_16(bytes, text, quarter, at));
-        at += 16;
-    }
-    are_bits(either(seen, pack_bits_16(bytes, text, quarter, last)))
-}
-
-/// Packs the digits of each quarter, 16 at a time, whatever digits they are.
-#[inline(never)]
-fn pack_any(bytes: &mut [u8], text: &[u8], quarter: usize)
+/// Packs the digits of each quarter of a text into the first bytes of a share. A quarter has
+/// `quarter` digits, which have to be at least 16. It packs 16 of each at a time, and some of the
+/// last 16 twice.
+fn pack_many(bytes: &mut [u8], text: &[u8], quarter: usize)
     requires { MayPack bytes.old text.now quarter }
     ensures { ArePacked bytes.new text.now quarter }
 {
@@ -367,16 +291,6 @@ fn pack_any(bytes: &mut [u8], text: &[u8], quarter: usize)
         at += 16;
     }
     pack_16(bytes, text, quarter, last);
-}
-
-/// Packs the digits of each quarter, which has to have 16 or more. In most texts all are 0 and 1.
-fn pack_many(bytes: &mut [u8], text: &[u8], quarter: usize)
-    requires { MayPack bytes.old text.now quarter }
-    ensures { ArePacked bytes.new text.now quarter }
-{
-    if !pack_bits(bytes, text, quarter) {
-        pack_any(bytes, text, quarter);
-    }
 }
 
 /// Packs the digits of a text into the first bytes of a share, four to a byte: a byte for each

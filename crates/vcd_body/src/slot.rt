@@ -226,31 +226,16 @@ pub(crate) fn holding_of(slot: Slot, share: Share) -> Holding
     }
 }
 
-/// Returns the number of the state that holds a digit: that of z for a byte other than `0`, `1`,
-/// `x` and `X`. Most are 0 or 1; between these it takes no branch.
+// For each value of a byte's lowest four bits, the number of the state that holds the digit with
+// these bits.
+const NUMBERS: [u8; 16] = [2, 1, 4, 4, 4, 4, 4, 4, 3, 4, 4, 4, 4, 4, 4, 4];
+
+/// Returns the number of the state that holds a digit.
 #[inline(always)]
 pub(crate) fn number_of_digit(digit: u8) -> u8
     ensures { one_digit (state_in result) ≡ Some (held_digit digit) }
 {
-    if is_bit(digit) {
-        return number_of_bit(digit);
-    }
-    number_of_other(digit)
-}
-
-/// Returns the number of the state that holds a digit other than 0 and 1: that of x for `x` and
-/// `X`, and that of z for any other byte.
-#[cold]
-#[inline(never)]
-fn number_of_other(digit: u8) -> u8
-    requires { (digit ≢ 48) × (digit ≢ 49) }
-    ensures { one_digit (state_in result) ≡ Some (held_digit digit) }
-{
-    if digit == b'x' || digit == b'X' {
-        number_of(State::Unknown)
-    } else {
-        number_of(State::High)
-    }
+    NUMBERS[usize::from(digit % 16)]
 }
 
 /// Returns the digit of a state that holds one digit, in lower case. `None` for `Unset`, `Packed`,
