@@ -308,25 +308,11 @@ pub(crate) fn pack(bytes: &mut [u8], text: &[u8])
     }
 }
 
-/// Returns the byte at an index. `None` after the last.
-#[inline(always)]
-fn byte_at(bytes: &[u8], index: usize) -> Option<u8>
-    ensures { result ≡ slice_get bytes.now index }
-{
-    bytes.get(index).copied()
-}
-
-/// Returns the byte at an index, 0 if there is none.
-#[inline(always)]
-fn byte_or(bytes: &[u8], index: usize) -> u8
-    ensures { result ≡ get_or bytes.now index 0 }
-{
-    byte_at(bytes, index).unwrap_or(0)
-}
-
-/// Returns the digit at an index of `len` digits in a share. `None` after the last.
+/// Returns the digit at an index of `len` digits in a share, which has to have all of them. `None`
+/// after the last.
 #[inline(always)]
 pub(crate) fn digit_at(bytes: &[u8], len: usize, index: usize) -> Option<u8>
+    requires { quarter_of len ≤ length bytes.now }
     ensures { result ≡ slice_get (digits_in len bytes.now) index }
 {
     if index >= len {
@@ -349,19 +335,20 @@ pub(crate) fn last_packed(bytes: &[u8], len: usize) -> u8
 /// where the digits do, so it may hold some of the third one again.
 #[inline(always)]
 fn code_among(bytes: &[u8], len: usize, index: usize) -> u8
-    requires { index < len }
+    requires there { index < len }
+    requires room { quarter_of len ≤ length bytes.now }
     ensures { result ≡ code_among len bytes.now index }
 {
     let quarter = len.div_ceil(4);
     let last = len - quarter;
     if index >= last {
-        return byte_or(bytes, index - last) / 64;
+        return bytes[index - last] / 64;
     }
     if index < quarter {
-        return byte_or(bytes, index) % 4;
+        return bytes[index] % 4;
     }
     if index - quarter < quarter {
-        return byte_or(bytes, index - quarter) / 4 % 4;
+        return bytes[index - quarter] / 4 % 4;
     }
-    byte_or(bytes, index - quarter - quarter) / 16 % 4
+    bytes[index - quarter - quarter] / 16 % 4
 }
