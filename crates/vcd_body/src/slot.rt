@@ -163,22 +163,14 @@ pub(crate) fn is_bit(digit: u8) -> bool
     digit.wrapping_sub(b'0') < 2
 }
 
-/// Returns the number that encodes the state of the digit 0 or 1. It takes no branches.
-#[inline(always)]
-pub(crate) fn number_of_bit(digit: u8) -> u8
-    requires { (digit ≡ 48) ⊎ (digit ≡ 49) }
-    ensures { result ≡ number_of (cond (digit == 49) State.One State.Zero) }
-{
-    b'2' - digit
-}
-
-/// Returns the number that encodes the state of 1 if the digit is 0, and of 0 if it is 1.
+/// Returns the number that encodes the state of 1 if the digit is 0, and of 0 if it is 1. It takes
+/// no branches.
 #[inline(always)]
 pub(crate) fn number_of_flipped(digit: u8) -> u8
     requires { (digit ≡ 48) ⊎ (digit ≡ 49) }
     ensures { result ≡ number_of (cond (digit == 49) State.Zero State.One) }
 {
-    number_of_bit(b'0' + b'1' - digit)
+    digit - b'0' + 1
 }
 
 /// Returns the number that encodes the state of 0 for that of 1, and of 1 for that of 0. For any

@@ -7,8 +7,8 @@ use crate::counters::{count_step, count_steps};
 use crate::item::Form;
 use crate::packed::pack;
 use crate::slot::{
-    HeldValue, Holding, Share, Slot, State, UPPER, flipped, holding_of, is_bit, number_of,
-    number_of_bit, number_of_flipped,
+    HeldValue, Holding, Share, Slot, State, UPPER, digit_of_state, flipped, holding_of, is_bit,
+    number_of, number_of_flipped, state_in,
 };
 use crate::step::{way_between, way_to};
 use crate::table::Table;
@@ -241,9 +241,10 @@ pub(crate) enum Stepped {
     Uncounted { rises: bool, falls: bool },
 }
 
-/// Sets the value of the code at an index to the digit 0 or 1 over such a digit, and counts the
-/// step if it is another one. Most changes are of this kind, and change only one slot. Returns
-/// `Stepped::Not`, and nothing changes, if there is no such code, or if one of both is no 0 or 1.
+/// Sets the value of the code at an index to the digit 0 or 1 over the other of these, and counts
+/// the step; or to one digit over the same one. Most changes are of this kind, and change only one
+/// slot. Returns `Stepped::Not`, and nothing changes, if there is no such code, or if the digits
+/// are others.
 // A digit is a state of the slot, so no byte of values is touched: held as a number of one digit,
 // `edges` of scalars takes some 10 % more.
 #[inline(always)]
@@ -254,12 +255,12 @@ pub(crate) fn flip_at(slots: &mut [Slot], code: usize, digit: u8) -> Stepped
     ensures same { result ≡ Stepped.Not → slots.new ≡ slots.old }
     ensures laid { SlotsKeepLaid slots.old slots.new }
 {
-    if code >= slots.len() || !is_bit(digit) {
+    if code >= slots.len() {
         return Stepped::Not;
     }
     let before = slots[code].tag;
-    if before != number_of_flipped(digit) {
-        return if before == number_of_bit(digit) {
+    if !is_bit(digit) || before != number_of_flipped(digit) {
+        return if digit_of_state(state_in(before)) == Some(digit.to_ascii_lowercase()) {
             Stepped::Counted
         } else {
             Stepped::Not
