@@ -177,28 +177,6 @@ fn packed_few(text: &[u8], quarter: usize) -> [u8; 16]
     packed_from(&block, 0, quarter, 2 * quarter, last).to_array()
 }
 
-/// Packs the digits of each quarter of a text into the first bytes of a share. A quarter has
-/// `quarter` digits, which have to be fewer than 16.
-fn pack_few(bytes: &mut [u8], text: &[u8], quarter: usize)
-    requires few { quarter < 16 }
-    requires room { quarter ≤ length bytes.old }
-    requires quarter { quarter ≡ quarter_of (length text.now) }
-    ensures { ArePacked bytes.new text.now quarter }
-{
-    bytes[..quarter].copy_from_slice(&packed_few(text, quarter)[..quarter]);
-}
-
-/// Returns true only if a share holds the digits of each quarter of a text. A quarter has `quarter`
-/// digits, which have to be fewer than 16.
-fn are_few_packed(bytes: &[u8], text: &[u8], quarter: usize) -> bool
-    requires few { quarter < 16 }
-    requires room { quarter ≤ length bytes.now }
-    requires quarter { quarter ≡ quarter_of (length text.now) }
-    ensures { result ≡ true → ArePacked bytes.now text.now quarter }
-{
-    bytes[..quarter] == packed_few(text, quarter)[..quarter]
-}
-
 /// Packs 16 digits of each quarter of a text, from the index `at` of each, into the 16 bytes from
 /// `at` on. The bytes before them stay as they are.
 #[inline(always)]
@@ -254,7 +232,7 @@ fn are_packed(bytes: &[u8], text: &[u8], quarter: usize) -> bool
     ensures { result ≡ true → ArePacked bytes.now text.now quarter }
 {
     if quarter < 16 {
-        are_few_packed(bytes, text, quarter)
+        bytes[..quarter] == packed_few(text, quarter)[..quarter]
     } else {
         are_many_packed(bytes, text, quarter)
     }
@@ -302,7 +280,7 @@ pub(crate) fn pack(bytes: &mut [u8], text: &[u8])
 {
     let quarter = text.len().div_ceil(4);
     if quarter < 16 {
-        pack_few(bytes, text, quarter);
+        bytes[..quarter].copy_from_slice(&packed_few(text, quarter)[..quarter]);
     } else {
         pack_many(bytes, text, quarter);
     }
