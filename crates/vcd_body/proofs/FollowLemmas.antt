@@ -1,8 +1,10 @@
 -- What a table keeps of a code whose value was set and whose step was counted.
-use Rattle.std.proofs.Common.{◌≡◌, ◌≢◌, ◌⊎◌, inl, inr, ℕ, ◌+◌, ◌<◌, ◌≤◌, ◌==◌, ◌%◌, ◌^◌, max, not, Bool, true, false, cond, List, [], ◌∷◌, length, take, drop, slice_get, Option, Some, None, refl, subst, sym, ap, ◌∙◌, arith}
+use Rattle.std.proofs.Common.{◌≡◌, ◌≢◌, ◌⊎◌, inl, inr, ℕ, ◌+◌, ◌<◌, ◌≤◌, ◌==◌, ◌||◌, ◌%◌, ◌^◌, max, not, Bool, true, false, cond, List, [], ◌∷◌, length, take, drop, slice_get, Option, Some, None, refl, subst, sym, ap, ◌∙◌, arith}
 use Rattle.std.specs.Prelude.{option_map, unwrap_or}
 use Rattle.std.specs.Char.{to_ascii_lowercase}
-use Rattle.std.proofs.lemmas.Bool.{eq-eqb, lt-ltb, ne_eqb}
+use Rattle.std.specs.Option.{option_eq}
+use Rattle.std.proofs.lemmas.Bool.{agree_below_at, eq-eqb, eqb-true, lt-ltb, ne_eqb}
+use Rattle.std.proofs.lemmas.Bool.Decides.{nat_tests}
 use Rattle.vcd_model.specs.Values.{Value, value_with}
 use Rattle.vcd_view.specs.declared.view.Code.{Code}
 use Rattle.vcd_body.specs.Contents.{ChangesCode, GivesValue, IsLaidOut, KeepsTable, SetsCode, held_at, kept_at}
@@ -113,17 +115,44 @@ bit_turned w false e f digits size end values =
     ap (with_step false true) (sym (one_text f 48 (kept_with values end w) digits))
     ∙ sym (told w state.Zero 48 (record { differs = true; rises = false; falls = true }) 49 (ap one_digit e) refl refl (rw e refl) (rw e refl) f digits size end values)
 
+-- the test whether there is this digit
+pub digit_there : (o : Option ℕ) (d : ℕ) → option_eq (λ a b. a == b) o (Some d) ≡ true → o ≡ Some d
+digit_there None d e = cc
+digit_there (Some x) d e = ap (λ y. Some y) (eqb-true x d e)
+
+-- a digit of a state, in lower case, is held as it is
+abbrev is_one : ℕ → Bool
+is_one d = (d == 48) || ((d == 49) || ((d == 120) || (d == 122)))
+
+one_of_state : (st : State) (d : ℕ) → one_digit st ≡ Some d → is_one d ≡ true
+one_of_state state.Unset d e = cc
+one_of_state state.Zero d e = let is : 48 ≡ d = cc in ap is_one (sym is)
+one_of_state state.One d e = let is : 49 ≡ d = cc in ap is_one (sym is)
+one_of_state state.Unknown d e = let is : 120 ≡ d = cc in ap is_one (sym is)
+one_of_state state.High d e = let is : 122 ≡ d = cc in ap is_one (sym is)
+one_of_state state.Packed d e = cc
+one_of_state state.Real d e = cc
+one_of_state state.Bits d e = cc
+
+held_lower : (digit : ℕ) → digit < 256 → is_one (to_ascii_lowercase digit) ≡ true → to_ascii_lowercase digit ≡ held_digit digit
+held_lower digit fit one = eqb-true _ _ (by_test one (agree_below_at (λ x. cond (is_one (to_ascii_lowercase x)) (to_ascii_lowercase x == held_digit x) true) (λ _. true) 256 digit refl fit))
+  where
+    by_test : is_one (to_ascii_lowercase digit) ≡ true → cond (is_one (to_ascii_lowercase digit)) (to_ascii_lowercase digit == held_digit digit) true ≡ true → (to_ascii_lowercase digit == held_digit digit) ≡ true
+    by_test t h = sym (ap (λ b. cond b (to_ascii_lowercase digit == held_digit digit) true) t) ∙ h
+
+no_edge : (d : ℕ) → (false ≡ goes_from 48 49 (Some d) (Some d)) × (false ≡ goes_from 49 48 (Some d) (Some d))
+no_edge d = (grind (arith, nat_tests), grind (arith, nat_tests))
+
 -- the same digit over itself
-pub bit_stays : (w : Whole) (one : Bool) → w.state ≡ cond one state.One state.Zero → (f : Form) → f ≢ form.RealText → (size end : ℕ) (values : List ℕ)
-    → kept_with values end w ≡ with_change size f (cond one 49 48 ∷ []) (kept_with values end w)
-bit_stays w true e f digits size end values =
-    ap (λ (st : State). with_held (held_by st w.len (take (used_by w.state w.len) (drop w.start values))) (kept_with values end w)) e
-    ∙ sym (one_text f 49 (kept_with values end w) digits)
-    ∙ sym (told w state.One 49 (record { differs = false; rises = false; falls = false }) 49 (ap one_digit e) refl refl (rw e refl) (rw e refl) f digits size end values)
-bit_stays w false e f digits size end values =
-    ap (λ (st : State). with_held (held_by st w.len (take (used_by w.state w.len) (drop w.start values))) (kept_with values end w)) e
-    ∙ sym (one_text f 48 (kept_with values end w) digits)
-    ∙ sym (told w state.Zero 48 (record { differs = false; rises = false; falls = false }) 48 (ap one_digit e) refl refl (rw e refl) (rw e refl) f digits size end values)
+pub digit_stays : (w : Whole) (digit : ℕ) → digit < 256 → one_digit w.state ≡ Some (to_ascii_lowercase digit) → (f : Form) → f ≢ form.RealText → (size end : ℕ) (values : List ℕ)
+    → kept_with values end w ≡ with_change size f (digit ∷ []) (kept_with values end w)
+digit_stays w digit fit one f digits size end values =
+    let d = to_ascii_lowercase digit in
+    let same = held_lower digit fit (one_of_state w.state d one) in
+    ap (λ (h : Held). with_held h (kept_with values end w)) (held_one w.state w.len d (take (used_by w.state w.len) (drop w.start values)) one ∙ ap (λ x. Held.Digits (x ∷ [])) same)
+    ∙ sym (one_text f digit (kept_with values end w) digits)
+    ∙ sym (told w w.state digit (record { differs = false; rises = false; falls = false }) d one (one ∙ ap (λ x. Some x) same) (sym (ap not (eq-eqb d d refl)))
+    ((no_edge d).0 ∙ ap (λ o. goes_from 48 49 o (Some d)) (sym one)) ((no_edge d).1 ∙ ap (λ o. goes_from 49 48 o (Some d)) (sym one)) f digits size end values)
 
 pub bit_digit : (one : Bool) (tag : ℕ) → tag ≡ number_of (cond one state.One state.Zero) → one_digit (state_in tag) ≡ Some (cond one 49 48)
 bit_digit true tag is = ap (λ n. one_digit (state_in n)) is
@@ -134,14 +163,10 @@ pub way_flips : (one : Bool) (way : ℕ) → way ≡ cond one 2 0 → ((way == 2
 way_flips true way e = rw e (refl, refl)
 way_flips false way e = rw e (refl, refl)
 
--- a slot that holds the other digit of 0 and 1, or the same
+-- a slot that holds the other digit of 0 and 1
 pub other_bit : (tag : ℕ) (one : Bool) → tag ≡ number_of (cond one state.Zero state.One) → state_in tag ≡ cond one state.Zero state.One
 other_bit tag true other = ap state_in other
 other_bit tag false other = ap state_in other
-
-pub same_bit : (tag : ℕ) (one : Bool) → tag ≡ number_of (cond one state.One state.Zero) → state_in tag ≡ cond one state.One state.Zero
-same_bit tag true same = ap state_in same
-same_bit tag false same = ap state_in same
 
 -- one of binary digits, and others of as many
 pub number_told : (w : Whole) (l n size : ℕ) (s : Step) → w.state ≡ state.Bits → 1 ≤ l → n < 2 ^ l → max size (count_in w.len) ≡ max size l → is_proper w.len ≡ true
@@ -163,9 +188,9 @@ module _ (values : List ℕ) (slots : List Slot) (shares : List Share) (code : �
   kept_flips one is f digits size = by_slot (λ x. with_step one (not one) (with_held (Held.Digits (cond one 49 48 ∷ [])) x) ≡ with_change size f (cond one 49 48 ∷ []) x)
       (λ h there. bit_turned (whole slot h) one is f digits size (end_at shares (length values) code) values)
 
-  pub kept_stays : (one : Bool) → state_in slot.tag ≡ cond one state.One state.Zero → (f : Form) → f ≢ form.RealText → (size : ℕ) → k ≡ with_change size f (cond one 49 48 ∷ []) k
-  kept_stays one is f digits size = by_slot (λ x. x ≡ with_change size f (cond one 49 48 ∷ []) x)
-      (λ h there. bit_stays (whole slot h) one is f digits size (end_at shares (length values) code) values)
+  pub kept_stays : (digit : ℕ) → digit < 256 → one_digit (state_in slot.tag) ≡ Some (to_ascii_lowercase digit) → (f : Form) → f ≢ form.RealText → (size : ℕ) → k ≡ with_change size f (digit ∷ []) k
+  kept_stays digit fit one f digits size = by_slot (λ x. x ≡ with_change size f (digit ∷ []) x)
+      (λ h there. digit_stays (whole slot h) digit fit one f digits size (end_at shares (length values) code) values)
 
   pub kept_steps : AreLaidOut slots shares (length values) → (l n size : ℕ) (s : Step) → state_in slot.tag ≡ state.Bits → 1 ≤ l → n < 2 ^ l → ((upper : ℕ) → max size (count_in (len_in slot.tag slot.number upper)) ≡ max size l)
       → s.differs ≡ not (number_in slot.number == n) → s.rises ≡ goes_from 48 49 (Some (48 + number_in slot.number % 2)) (Some (48 + n % 2)) → s.falls ≡ goes_from 49 48 (Some (48 + number_in slot.number % 2)) (Some (48 + n % 2))

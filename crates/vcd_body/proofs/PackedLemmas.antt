@@ -1,56 +1,24 @@
 -- Packed digits are the digits again, as they are held; the digit at an index of a share.
-use Rattle.std.proofs.Common.{◌≡◌, ℕ, ◌+◌, ◌-◌, ◌*◌, ◌/◌, ◌%◌, ◌<◌, ◌≤◌, Bool, true, false, cond, ◌||◌, ◌==◌, nat_lt, List, [], ◌∷◌, ◌++◌, length, drop, map, replicate, refl, sym, ap, subst, ◌∙◌, arith, ◌⊎◌, inl, inr, slice_get, Some, None}
+use Rattle.std.proofs.Common.{◌≡◌, ℕ, ◌+◌, ◌-◌, ◌*◌, ◌/◌, ◌%◌, ◌<◌, ◌≤◌, Bool, true, false, cond, ◌==◌, nat_lt, List, [], ◌∷◌, ◌++◌, length, drop, map, replicate, refl, sym, ap, subst, ◌∙◌, arith, ◌⊎◌, inl, inr, slice_get, Some, None}
 use Rattle.std.specs.Prelude.{get_or}
 use Rattle.std.specs.List.{list_all}
-use Rattle.std.specs.Str.{byte, str_to_ascii_lowercase}
+use Rattle.std.specs.Str.{str_to_ascii_lowercase}
 use Rattle.std.specs.Char.{to_ascii_lowercase}
-use Rattle.std.proofs.lemmas.Bool.{or_cases, and_parts, cases_lt, eqb-true, lt-ltb, le-ltb}
+use Rattle.std.proofs.lemmas.Bool.{and_parts, cases_lt, lt-ltb, le-ltb}
 use Rattle.std.proofs.lemmas.Grind.{div_ceil_times, same_number_lists}
 use Rattle.std.proofs.lemmas.List.{get_or-append_right, get_or-drop, get_or-map, get_or-replicate, get_or_append_left, length-append, length-drop, length-map, length-replicate}
 use Rattle.std.proofs.lemmas.List.FromFn.{get_or-map-range_with_len, length-map-range_with_len}
 use Rattle.std.proofs.lemmas.Option.{slice_get-get_or, slice_get_past}
 use Rattle.vcd_model.specs.BodyPhrases.{is_value_digit}
+use Rattle.vcd_model.proofs.BodyGrammar.{any_of}
 use Rattle.vcd_body.specs.Packed.{code_among, code_of, code_or, digit_of, digits_in, four_codes, held_digit, quarter_of}
 
 -- ---- one digit
 
--- one of the six digits
-abbrev IsDigit : ℕ → Type 0
-IsDigit d = (d ≡ 48) ⊎ ((d ≡ 49) ⊎ ((d ≡ 120) ⊎ ((d ≡ 88) ⊎ ((d ≡ 122) ⊎ (d ≡ 90)))))
-
-which : (d : ℕ) → is_value_digit d ≡ true → IsDigit d
-unfolding is_value_digit
-which d h = elim (or_cases (d == 48) _ h) [
-  | inl e ↦ inl (eqb-true d 48 e)
-  | inr h1 ↦ elim (or_cases (d == 49) _ h1) [
-    | inl e ↦ inr (inl (eqb-true d 49 e))
-    | inr h2 ↦ elim (or_cases (d == 120) _ h2) [
-      | inl e ↦ inr (inr (inl (eqb-true d 120 e)))
-      | inr h3 ↦ elim (or_cases (d == 88) _ h3) [
-        | inl e ↦ inr (inr (inr (inl (eqb-true d 88 e))))
-        | inr h4 ↦ elim (or_cases (d == 122) _ h4) [
-          | inl e ↦ inr (inr (inr (inr (inl (eqb-true d 122 e)))))
-          | inr h5 ↦ elim (or_cases (d == 90) _ h5) [
-            | inl e ↦ inr (inr (inr (inr (inr (eqb-true d 90 e)))))
-            | inr e ↦ absurd (let f : false ≡ true = e in cc)
-          ]
-        ]
-      ]
-    ]
-  ]
-]
-
 -- a digit of a value is held in lower case
 lower_digit : (d : ℕ) → is_value_digit d ≡ true → held_digit d ≡ to_ascii_lowercase d
-lower_digit d h = by_digit (which d h)
-  where
-    by_digit : IsDigit d → held_digit d ≡ to_ascii_lowercase d
-    by_digit (inl e) = rw e refl
-    by_digit (inr (inl e)) = rw e refl
-    by_digit (inr (inr (inl e))) = rw e refl
-    by_digit (inr (inr (inr (inl e)))) = rw e refl
-    by_digit (inr (inr (inr (inr (inl e))))) = rw e refl
-    by_digit (inr (inr (inr (inr (inr e))))) = rw e refl
+unfolding is_value_digit
+lower_digit d h = any_of [] d (48 ∷ 49 ∷ 120 ∷ 88 ∷ 122 ∷ 90 ∷ []) (λ x. held_digit x ≡ to_ascii_lowercase x) h (refl, (refl, (refl, (refl, (refl, (refl, tt))))))
 
 -- so are the digits of a change
 pub lower_digits : (text : List ℕ) → list_all is_value_digit text ≡ true → map held_digit text ≡ str_to_ascii_lowercase text
@@ -61,17 +29,8 @@ lower_digits (d ∷ text) h =
     let es = lower_digits text p.1 in
     rw (e, es) refl
 
-pub digit_again : (d : ℕ) → digit_of (code_of d) ≡ held_digit d
-digit_again d = by_tests (d == byte "0") (d == byte "1") ((d == byte "x") || (d == byte "X"))
-  where
-    by_tests : (a b c : Bool) → digit_of (cond a 0 (cond b 1 (cond c 3 2))) ≡ cond a (byte "0") (cond b (byte "1") (cond c (byte "x") (byte "z")))
-    by_tests true b c = refl
-    by_tests false true c = refl
-    by_tests false false true = refl
-    by_tests false false false = refl
-
-pub code_small : (d : ℕ) → code_of d < 4
-code_small d = by_tests (d == byte "0") (d == byte "1") ((d == byte "x") || (d == byte "X"))
+code_small : (d : ℕ) → code_of d < 4
+code_small d = by_tests (d % 16 == 0) (d % 16 == 1) (d % 16 == 8)
   where
     by_tests : (a b c : Bool) → cond a 0 (cond b 1 (cond c 3 2)) < 4
     by_tests true b c = omega arith
@@ -169,7 +128,6 @@ packs_again text bytes packs =
     let less : p < n = omega (arith, t, h) in
     digit_there n bytes p less
     ∙ ap digit_of (code_again text bytes p packs less)
-    ∙ digit_again (get_or text p 0)
     ∙ sym (get_or-map held_digit text p 0 0 less))
 
 pub packs_by : (text bytes : List ℕ) (q : ℕ) → q ≡ quarter_of (length text) → ((j : ℕ) → j < q → get_or bytes j 0 ≡ four_codes text q j) → digits_in (length text) bytes ≡ map held_digit text

@@ -1,5 +1,5 @@
 -- A value of one digit, and another digit that is set instead.
-use Rattle.std.proofs.Common.{◌≡◌, ◌≢◌, ◌⊎◌, inl, inr, ℕ, ◌-◌, ◌≤◌, slice_get, ◌<◌, ◌==◌, not, List, [], ◌∷◌, length, get_or, Option, Some, None, refl, sym, ap, ◌∙◌, arith}
+use Rattle.std.proofs.Common.{◌≡◌, ◌≢◌, ◌⊎◌, inl, inr, ℕ, ◌-◌, ◌≤◌, slice_get, ◌<◌, ◌==◌, true, not, List, [], ◌∷◌, length, get_or, Option, Some, None, refl, sym, ap, ◌∙◌, arith}
 use Rattle.std.specs.Char.{to_ascii_lowercase}
 use Rattle.std.specs.List.{last_or}
 use Rattle.std.specs.Str.{bytes_eq, str_to_ascii_lowercase}
@@ -11,9 +11,9 @@ use Rattle.vcd_body.specs.Kept.{Held, IsStep, differs, goes_from, last_digit_in,
 use Rattle.vcd_body.specs.declared.item.Form.{Form}
 use Rattle.vcd_body.specs.declared.item.Form.TheVariants as form
 use Rattle.vcd_body.specs.declared.step.Step.{Step}
-use Rattle.vcd_body.proofs.CompareLemmas.{differ_in_digit, last_at, last_extended, one_lower}
+use Rattle.vcd_body.proofs.CompareLemmas.{differ_for, differ_in_digit, last_at, last_extended, one_lower}
 use Rattle.std.specs.Prelude.{option_map}
-use Rattle.std.proofs.lemmas.Option.{slice_get-map}
+use Rattle.std.proofs.lemmas.Option.{same_Some, slice_get-map}
 
 -- the test of two digits tells whether the values differ
 pub digit_differs : (f : Form) (text : List ℕ) (d size : ℕ) (h : Held) → f ≢ form.RealText → 1 ≤ length text → length text < 2 → h ≡ Held.Digits (d ∷ [])
@@ -74,3 +74,9 @@ last_is f text d size bits some there = by_form bits
     by_form : (f ≡ form.Scalar) ⊎ (f ≡ form.Vector) → Some (to_ascii_lowercase d) ≡ last_digit_in (Some (value_with size (model_form f) text))
     by_form (inl e) = last ∙ sym (ap (λ (g : Form). last_digit_in (Some (value_with size (model_form g) text))) e)
     by_form (inr e) = last ∙ sym (ap (λ (g : Form). last_digit_in (Some (value_with size (model_form g) text))) e)
+
+-- values whose last digits differ are two
+pub ends_two : (ds text : List ℕ) (own d size : ℕ) → Some own ≡ last_digit_in (Some (Value.Bits (extend ds size))) → 0 < length text → Some d ≡ slice_get text (length text - 1) → own ≢ to_ascii_lowercase d
+    → true ≡ not (bytes_eq (extend ds size) (extend (str_to_ascii_lowercase text) size))
+ends_two ds text own d size held some there other =
+    differ_for ds (str_to_ascii_lowercase text) size (λ same. other (same_Some _ _ (held ∙ ap (last_or None) same ∙ sym (last_is form.Vector text d size (inr refl) some there))))

@@ -21,7 +21,6 @@ use Rattle.vcd_body.specs.declared.slot.State.{State}
 use Rattle.vcd_body.specs.declared.slot.State.TheVariants as state
 use Rattle.vcd_body.proofs.PackedLemmas.{digits_of_first}
 use Rattle.vcd_view.proofs.ListLemmas.{there}
-use Rattle.vcd_body.proofs.WordLemmas.{some_bytes}
 
 -- ---- elements
 

@@ -1,20 +1,20 @@
 -- Digits, four to a byte: one of each quarter of the text, that of the first quarter in the lowest
 -- bits. The last quarter ends where the text does: it may begin with digits of the third one.
-use Rattle.std.specs.Prelude.{◌≡◌, ◌<◌, ◌≤◌, ℕ, ◌/◌, ◌%◌, ◌+◌, ◌-◌, ◌*◌, ◌==◌, ◌||◌, nat_lt, min, cond, List, length, map, get_or}
+use Rattle.std.specs.Prelude.{◌≡◌, ◌<◌, ◌≤◌, ℕ, ◌/◌, ◌%◌, ◌+◌, ◌-◌, ◌*◌, ◌==◌, nat_lt, min, cond, List, length, map, get_or}
 use Rattle.std.specs.List.{range_with_len}
 use Rattle.std.specs.Str.{byte}
 
--- a digit as it is held: in lower case; any byte that is no digit counts as z
-abbrev pub held_digit : ℕ → ℕ
-held_digit d = cond (d == byte "0") (byte "0") (cond (d == byte "1") (byte "1") (cond ((d == byte "x") || (d == byte "X")) (byte "x") (byte "z")))
-
--- a digit as a number below 4
+-- a digit as a number below 4; any other byte counts as the digit with its lowest four bits, or as z
 abbrev pub code_of : ℕ → ℕ
-code_of d = cond (d == byte "0") 0 (cond (d == byte "1") 1 (cond ((d == byte "x") || (d == byte "X")) 3 2))
+code_of d = cond (d % 16 == 0) 0 (cond (d % 16 == 1) 1 (cond (d % 16 == 8) 3 2))
 
 -- the digit with this number, in lower case
 abbrev pub digit_of : ℕ → ℕ
 digit_of c = cond (c == 0) (byte "0") (cond (c == 1) (byte "1") (cond (c == 3) (byte "x") (byte "z")))
+
+-- a digit as it is held: in lower case
+abbrev pub held_digit : ℕ → ℕ
+held_digit d = digit_of (code_of d)
 
 -- the code of the digit at an index, 0 after the last
 abbrev pub code_or : List ℕ → ℕ → ℕ

@@ -3,10 +3,10 @@ ghost use Rattle.std.specs.Prelude.{◌≡◌, ◌≤◌, ◌<◌, length, true,
 ghost use Rattle.vcd_body.specs.Names.{AreTwo, Decides, HasDigits, are_two, differs, digits_of, extend, extended, extension, held_in, model_form, str_to_ascii_lowercase, value_at_size, value_with};
 
 use crate::change::extended_by;
-use crate::held::{count_of, digit_held, digit_shown};
+use crate::held::{count_of, digit_held, digit_shown, last_held};
 use crate::item::Form;
 use crate::packed::holds_packed;
-use crate::slot::{HeldValue, State, digit_of_state};
+use crate::slot::{HeldValue, State};
 
 /// Returns the digit, in lower case, by which a text of digits is extended on the left. It is `0`
 /// if the text is empty.
@@ -106,13 +106,14 @@ fn several_differ(held: HeldValue<'_>, size: usize, text: &[u8]) -> bool
 
 /// Returns whether a text of digits gives a code of this size another value than the held one,
 /// which has to be one of digits.
+// The last digits come first, since nearly all values that differ do so there.
 #[inline(always)]
 fn digits_differ(held: HeldValue<'_>, size: usize, text: &[u8]) -> bool
     requires digits { HasDigits held }
     ensures { result ≡ are_two size (digits_of held.entry) text.now }
 {
-    match (text, digit_of_state(held.holding.state)) {
-        ([digit], Some(own)) => own != digit.to_ascii_lowercase(),
+    match (last_held(held), text.last()) {
+        (Some(own), Some(digit)) if own != digit.to_ascii_lowercase() => true,
         _ => several_differ(held, size, text),
     }
 }
@@ -125,7 +126,6 @@ pub(crate) fn value_differs(held: HeldValue<'_>, size: usize, form: Form, text: 
         (value_with size (model_form form) text.now) }
 {
     match held.holding.state {
-        State::Packed => form == Form::RealText || several_differ(held, size, text),
         State::Unset => false,
         State::Real => form != Form::RealText || held.bytes != text,
         _ => form == Form::RealText || digits_differ(held, size, text),

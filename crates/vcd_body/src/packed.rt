@@ -19,17 +19,19 @@ fn digit_of(code: u8) -> u8
     }
 }
 
+// For each value of a byte's lowest four bits, the digit with these bits as two bits: 0 for `0`, 1
+// for `1`, 3 for an x, and 2 for a z and all others.
+const CODES: [u8; 16] = [0, 1, 2, 2, 2, 2, 2, 2, 3, 2, 2, 2, 2, 2, 2, 2];
+
 /// Returns the two bits of each of the 16 digits from offset `at` on: 0 for `0`, 1 for `1`, 3 for
-/// `x` and `X`, and 2 for any other byte. All 16 bytes have to be there.
+/// `x` and `X`, and 2 for `z` and `Z`. All 16 bytes have to be there.
 #[inline(always)]
 fn codes_16(bytes: &[u8], at: usize) -> u8x16
     requires { at + 16 ≤ length bytes.now }
     ensures { result ≡ map code_of (chunk at 16 bytes.now) }
 {
     let v = u8x16::from_slice(&bytes[at..]);
-    let is_x = (v & u8x16::splat(0xdf)).simd_eq(u8x16::splat(b'X'));
-    let at_most_2 = (v ^ u8x16::splat(b'0')).simd_min(u8x16::splat(2));
-    at_most_2 + is_x.select(u8x16::splat(1), u8x16::splat(0))
+    u8x16::from_array(CODES).swizzle_dyn(v & u8x16::splat(15))
 }
 
 /// Returns whether `first` and `second` differ in at least one of their 16 bytes.
@@ -51,19 +53,13 @@ fn last_codes_16(bytes: &[u8], at: usize) -> u8x16
     u8x16::from_slice(&bytes[at..]) >> u8x16::splat(6)
 }
 
-/// Returns the two bits of a digit: 0 for `0`, 1 for `1`, 3 for `x` and `X`, and 2 for any other
-/// byte. It takes no branch.
+/// Returns the two bits of a digit: 0 for `0`, 1 for `1`, 3 for `x` and `X`, and 2 for `z` and `Z`.
+/// It takes no branch.
 #[inline(always)]
 fn code_of(digit: u8) -> u8
     ensures { result ≡ code_of digit }
 {
-    let x_or_z = if (digit == b'x') | (digit == b'X') {
-        3
-    } else {
-        2
-    };
-    let all_but_0 = if digit == b'1' { 1 } else { x_or_z };
-    if digit == b'0' { 0 } else { all_but_0 }
+    CODES[usize::from(digit % 16)]
 }
 
 /// Returns whether one of the last digits of `bytes`, which are `len` digits packed by `pack`,
@@ -183,28 +179,6 @@ fn packed_few(text: &[u8], quarter: usize) -> [u8; 16]
     packed_from(&block, 0, quarter, 2 * quarter, last).to_array()
 }
 
-/// Packs the digits of a text into the first bytes of `bytes`, as `pack` says. The quarters of the
-/// text have `quarter` digits, fewer than 16.
-fn pack_few(bytes: &mut [u8], text: &[u8], quarter: usize)
-    requires few { quarter < 16 }
-    requires room { quarter ≤ length bytes.old }
-    requires quarter { quarter ≡ quarter_of (length text.now) }
-    ensures { ArePacked bytes.new text.now quarter }
-{
-    bytes[..quarter].copy_from_slice(&packed_few(text, quarter)[..quarter]);
-}
-
-/// Returns whether the first bytes of `bytes` are what `pack` writes for this text. The quarters of
-/// the text have `quarter` digits, fewer than 16.
-fn are_few_packed(bytes: &[u8], text: &[u8], quarter: usize) -> bool
-    requires few { quarter < 16 }
-    requires room { quarter ≤ length bytes.now }
-    requires quarter { quarter ≡ quarter_of (length text.now) }
-    ensures { result ≡ true → ArePacked bytes.now text.now quarter }
-{
-    bytes[..quarter] == packed_few(text, quarter)[..quarter]
-}
-
 /// Packs 16 digits of each quarter of a text, those from index `at` of the quarter on, four to a
 /// byte into the 16 bytes from `at` on. The bytes before these stay as they are.
 #[inline(always)]
@@ -260,7 +234,7 @@ fn are_packed(bytes: &[u8], text: &[u8], quarter: usize) -> bool
     ensures { result ≡ true → ArePacked bytes.now text.now quarter }
 {
     if quarter < 16 {
-        are_few_packed(bytes, text, quarter)
+        bytes[..quarter] == packed_few(text, quarter)[..quarter]
     } else {
         are_many_packed(bytes, text, quarter)
     }
@@ -283,83 +257,10 @@ pub(crate) fn holds_packed(bytes: &[u8], text: &[u8]) -> bool
     are_all_digits(text)
 }
 
-/// Returns each of the 16 bytes from `at` on as a number: 0 for `0`, 1 for `1`, and more than 1 for
-/// any other byte.
-#[inline(always)]
-fn bits_16(bytes: &[u8], at: usize) -> u8x16
-    requires { at + 16 ≤ length bytes.now }
-    ensures long { length result ≡ 16 }
-    ensures codes { (k : ℕ) → k < 16 → get_or result k 0 < 2
-        → get_or result k 0 ≡ code_of (get_or bytes.now (at + k) 0) }
-{
-    u8x16::from_slice(&bytes[at..]) ^ u8x16::splat(b'0')
-}
-
-/// Returns the bitwise or of the two, for each of 16 bytes. A byte of the result is 0 or 1 only if
-/// both are.
-#[inline(always)]
-fn either(first: u8x16, second: u8x16) -> u8x16
-    requires { (length first ≡ 16) × (length second ≡ 16) }
-    ensures long { length result ≡ 16 }
-    ensures each { (k : ℕ) → k < 16 → get_or result k 0 < 2
-        → (get_or first k 0 < 2) × (get_or second k 0 < 2) }
-{
-    first | second
-}
-
-/// Returns whether all of these 16 numbers are 0 or 1. `bits_16` returns them, or `either` of
-/// several such.
-#[inline(always)]
-fn are_bits(seen: u8x16) -> bool
-    requires { length seen ≡ 16 }
-    ensures { result ≡ true → (k : ℕ) → k < 16 → get_or seen k 0 < 2 }
-{
-    seen.simd_gt(u8x16::splat(1)).to_bitmask() == 0
-}
-
-/// Packs 16 digits of each quarter of a text, those from index `at` of the quarter on, four to a
-/// byte into the 16 bytes from `at` on, as if all were `0` and `1`. Returns numbers for which
-/// `are_bits` says whether they were. The bytes before `at` stay as they are.
-#[inline(always)]
-fn pack_bits_16(bytes: &mut [u8], text: &[u8], quarter: usize, at: usize) -> u8x16
-    requires within { at + 16 ≤ quarter }
-    requires room { quarter ≤ length bytes.old }
-    requires quarter { 3 * quarter ≤ length text.now }
-    ensures long { length result ≡ 16 }
-    ensures packed { (k : ℕ) → k < 16 → get_or result k 0 < 2
-        → HasFour bytes.new text.now quarter (at + k) }
-    ensures before { (index : ℕ) → index < at → get_or bytes.new index 0 ≡ get_or bytes.old index 0 }
-{
-    let first = bits_16(text, at);
-    let second = bits_16(text, at + quarter);
-    let third = bits_16(text, at + 2 * quarter);
-    let last = bits_16(text, at + (text.len() - quarter));
-    let both = with_4_times(second, with_4_times(third, last));
-    with_4_times(first, both).copy_to_slice(&mut bytes[at..]);
-    either(either(first, second), either(third, last))
-}
-
-/// Packs the digits of a text into the first bytes of `bytes`, as `pack` says, if all are `0` and
-/// `1`, and returns whether they are. If not, these bytes have no meaning. The quarters of the text
-/// have `quarter` digits, at least 16.
-fn pack_bits(bytes: &mut [u8], text: &[u8], quarter: usize) -> bool
-    requires { MayPack bytes.old text.now quarter }
-    ensures { result ≡ true → ArePacked bytes.new text.now quarter }
-{
-    let last = quarter - 16;
-    let mut seen = u8x16::splat(0);
-    let mut at = 0;
-    while at < last {
-        seen = either(seen, pack_bits_16(bytes, text, quarter, at));
-        at += 16;
-    }
-    are_bits(either(seen, pack_bits_16(bytes, text, quarter, last)))
-}
-
-/// Packs the digits of a text, whatever digits they are, into the first bytes of `bytes`, as `pack`
-/// says. The quarters of the text have `quarter` digits, at least 16.
-#[inline(never)]
-fn pack_any(bytes: &mut [u8], text: &[u8], quarter: usize)
+/// Packs the digits of a text into the first bytes of `bytes`, as `pack` says. The quarters of the
+/// text have `quarter` digits, at least 16. It packs 16 of each at a time, some of the last 16
+/// twice.
+fn pack_many(bytes: &mut [u8], text: &[u8], quarter: usize)
     requires { MayPack bytes.old text.now quarter }
     ensures { ArePacked bytes.new text.now quarter }
 {
@@ -372,17 +273,6 @@ fn pack_any(bytes: &mut [u8], text: &[u8], quarter: usize)
     pack_16(bytes, text, quarter, last);
 }
 
-/// Packs the digits of a text into the first bytes of `bytes`, as `pack` says. The quarters of the
-/// text have `quarter` digits, at least 16.
-fn pack_many(bytes: &mut [u8], text: &[u8], quarter: usize)
-    requires { MayPack bytes.old text.now quarter }
-    ensures { ArePacked bytes.new text.now quarter }
-{
-    if !pack_bits(bytes, text, quarter) {
-        pack_any(bytes, text, quarter);
-    }
-}
-
 /// Packs the digits of a text into the first bytes of `bytes`, four to a byte, by two bits each:
 /// byte k has digit k of each quarter of the text. `bytes` must have as many bytes as a quarter has
 /// digits.
@@ -393,32 +283,17 @@ pub(crate) fn pack(bytes: &mut [u8], text: &[u8])
 {
     let quarter = text.len().div_ceil(4);
     if quarter < 16 {
-        pack_few(bytes, text, quarter);
+        bytes[..quarter].copy_from_slice(&packed_few(text, quarter)[..quarter]);
     } else {
         pack_many(bytes, text, quarter);
     }
-}
-
-/// Returns the byte at `index`, or `None` if there is none.
-#[inline(always)]
-fn byte_at(bytes: &[u8], index: usize) -> Option<u8>
-    ensures { result ≡ slice_get bytes.now index }
-{
-    bytes.get(index).copied()
-}
-
-/// Returns the byte at `index`, or 0 if there is none.
-#[inline(always)]
-fn byte_or(bytes: &[u8], index: usize) -> u8
-    ensures { result ≡ get_or bytes.now index 0 }
-{
-    byte_at(bytes, index).unwrap_or(0)
 }
 
 /// Returns the digit at `index`, counted from the left, in lower case, of `bytes`, which are `len`
 /// digits packed by `pack`. `None` after the last.
 #[inline(always)]
 pub(crate) fn digit_at(bytes: &[u8], len: usize, index: usize) -> Option<u8>
+    requires { quarter_of len ≤ length bytes.now }
     ensures { result ≡ slice_get (digits_in len bytes.now) index }
 {
     if index >= len {
@@ -443,19 +318,20 @@ pub(crate) fn last_packed(bytes: &[u8], len: usize) -> u8
 /// of the third one again.
 #[inline(always)]
 fn code_among(bytes: &[u8], len: usize, index: usize) -> u8
-    requires { index < len }
+    requires there { index < len }
+    requires room { quarter_of len ≤ length bytes.now }
     ensures { result ≡ code_among len bytes.now index }
 {
     let quarter = len.div_ceil(4);
     let last = len - quarter;
     if index >= last {
-        return byte_or(bytes, index - last) / 64;
+        return bytes[index - last] / 64;
     }
     if index < quarter {
-        return byte_or(bytes, index) % 4;
+        return bytes[index] % 4;
     }
     if index - quarter < quarter {
-        return byte_or(bytes, index - quarter) / 4 % 4;
+        return bytes[index - quarter] / 4 % 4;
     }
-    byte_or(bytes, index - quarter - quarter) / 16 % 4
+    bytes[index - quarter - quarter] / 16 % 4
 }

@@ -166,23 +166,14 @@ pub(crate) fn is_bit(digit: u8) -> bool
     digit.wrapping_sub(b'0') < 2
 }
 
-/// Returns the `tag` of a slot whose value is this digit, `0` or `1`. It takes no branch.
-#[inline(always)]
-pub(crate) fn number_of_bit(digit: u8) -> u8
-    requires { (digit ≡ 48) ⊎ (digit ≡ 49) }
-    ensures { result ≡ number_of (cond (digit == 49) State.One State.Zero) }
-{
-    b'2' - digit
-}
-
 /// Returns the `tag` of a slot whose value is the other digit: `1` if the digit is `0`, and `0` if
-/// it is `1`.
+/// it is `1`. It takes no branch.
 #[inline(always)]
 pub(crate) fn number_of_flipped(digit: u8) -> u8
     requires { (digit ≡ 48) ⊎ (digit ≡ 49) }
     ensures { result ≡ number_of (cond (digit == 49) State.Zero State.One) }
 {
-    number_of_bit(b'0' + b'1' - digit)
+    digit - b'0' + 1
 }
 
 /// Returns the `tag` of a slot with the value `0` if `tag` is that of one with `1`, and the other
@@ -230,31 +221,16 @@ pub(crate) fn holding_of(slot: Slot, share: Share) -> Holding
     }
 }
 
-/// Returns the `tag` of a slot whose value is this one digit: z for any byte other than `0`, `1`,
-/// `x` and `X`. It takes no branch between `0` and `1`, which are the most frequent.
+// For each value of a byte's lowest four bits, the number of the state that holds the digit with
+// these bits.
+const NUMBERS: [u8; 16] = [2, 1, 4, 4, 4, 4, 4, 4, 3, 4, 4, 4, 4, 4, 4, 4];
+
+/// Returns the `tag` of a slot whose value is this one digit.
 #[inline(always)]
 pub(crate) fn number_of_digit(digit: u8) -> u8
     ensures { one_digit (state_in result) ≡ Some (held_digit digit) }
 {
-    if is_bit(digit) {
-        return number_of_bit(digit);
-    }
-    number_of_other(digit)
-}
-
-/// Returns the `tag` of a slot whose value is this one digit, which is neither `0` nor `1`: x for
-/// `x` and `X`, and z for any other byte.
-#[cold]
-#[inline(never)]
-fn number_of_other(digit: u8) -> u8
-    requires { (digit ≢ 48) × (digit ≢ 49) }
-    ensures { one_digit (state_in result) ≡ Some (held_digit digit) }
-{
-    if digit == b'x' || digit == b'X' {
-        number_of(State::Unknown)
-    } else {
-        number_of(State::High)
-    }
+    NUMBERS[usize::from(digit % 16)]
 }
 
 /// Returns the digit that a state holds, in lower case. `None` for the states that do not hold

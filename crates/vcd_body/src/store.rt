@@ -7,8 +7,8 @@ use crate::counters::{count_step, count_steps};
 use crate::item::Form;
 use crate::packed::pack;
 use crate::slot::{
-    HeldValue, Holding, Share, Slot, State, UPPER, flipped, holding_of, is_bit, number_of,
-    number_of_bit, number_of_flipped,
+    HeldValue, Holding, Share, Slot, State, UPPER, digit_of_state, flipped, holding_of, is_bit,
+    number_of, number_of_flipped, state_in,
 };
 use crate::step::{way_between, way_to};
 use crate::table::Table;
@@ -246,11 +246,11 @@ pub(crate) enum Stepped {
     Uncounted { rises: bool, falls: bool },
 }
 
-/// Sets the value of the code at index `code` to the digit `0` or `1`, if it holds one of these. It
-/// changes only the slot. Returns `Stepped::Counted` if it held the same digit, or if the slot has
-/// counted the change; `Stepped::Uncounted` if the caller has to count 256 changes, for which the
-/// slot has no room. Returns `Stepped::Not`, and changes nothing, if there is no such code, or if
-/// the held or the new digit is neither `0` nor `1`.
+/// Sets the value of the code at index `code` to a digit, if it holds the same digit, or if the two
+/// are `0` and `1`. It changes only the slot. Returns `Stepped::Counted` if it held the same digit,
+/// or if the slot has counted the change; `Stepped::Uncounted` if the caller has to count 256
+/// changes, for which the slot has no room. Returns `Stepped::Not`, and changes nothing, if there is
+/// no such code, or if it holds anything else.
 // A digit is a state of the slot, so no byte of values is touched: held as a number of one digit,
 // `edges` of scalars takes some 10 % more.
 #[inline(always)]
@@ -261,12 +261,12 @@ pub(crate) fn flip_at(slots: &mut [Slot], code: usize, digit: u8) -> Stepped
     ensures same { result ≡ Stepped.Not → slots.new ≡ slots.old }
     ensures laid { SlotsKeepLaid slots.old slots.new }
 {
-    if code >= slots.len() || !is_bit(digit) {
+    if code >= slots.len() {
         return Stepped::Not;
     }
     let before = slots[code].tag;
-    if before != number_of_flipped(digit) {
-        return if before == number_of_bit(digit) {
+    if !is_bit(digit) || before != number_of_flipped(digit) {
+        return if digit_of_state(state_in(before)) == Some(digit.to_ascii_lowercase()) {
             Stepped::Counted
         } else {
             Stepped::Not

@@ -80,11 +80,7 @@ impl<'a> Table<'a> {
     {
         match value {
             Value::Digits(text) => match text {
-                // The number comes first, so that nothing is kept over the call for a rare digit.
-                [digit] => {
-                    let tag = number_of_digit(*digit);
-                    set_tag(self.slots, code, tag);
-                }
+                [digit] => set_tag(self.slots, code, number_of_digit(*digit)),
                 _ => self.set_text(code, Form::Vector, text),
             },
             Value::Real(text) => self.set_text(code, Form::RealText, text),

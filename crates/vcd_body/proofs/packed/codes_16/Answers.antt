@@ -1,8 +1,14 @@
 use Rattle.std.proofs.Common.{w8}
 use Rattle.std.proofs.lemmas.Simd.{length-chunk, chunk-fits}
 use lib.Lanes.{chunk}
-use Rattle.vcd_body.proofs.CodeLanes.{codes_of_lanes}
+use Rattle.vcd_body.proofs.CodeLanes.{codes_of_lanes, places_of_lanes}
 use Rattle.vcd_body.proofs.packed.codes_16.Goals as goal
+
+pub swizzle : goal.swizzle
+swizzle c =
+    let bytes = c.args.bytes.now in
+    let at = c.args.at in
+    places_of_lanes (chunk at 16 bytes) (length-chunk at 16 bytes c.requires) (chunk-fits w8 at 16 bytes c.type_inv.bytes)
 
 pub returns : goal.returns
 returns c =

@@ -1,25 +1,23 @@
-use Rattle.std.proofs.Common.{◌≡◌, ◌∷◌, [], ◌==◌, Bool, cond, get_or, not, refl, subst, sym, ◌∙◌}
+use Rattle.std.proofs.Common.{◌≡◌, ◌∷◌, [], ◌==◌, ℕ, Some, Bool, cond, get_or, not, refl, subst, sym, ap, ◌∙◌}
 use Rattle.std.proofs.lemmas.Option.{slice_get-get_or}
 use Rattle.vcd_body.specs.Kept.{Held, Kept, with_change, with_held, with_step}
 use Rattle.vcd_body.specs.Steps.{with_steps}
-use Rattle.vcd_body.specs.Stored.{ChangesAt}
-use Rattle.vcd_body.proofs.FollowLemmas.{bit_digit, bit_is, change_as, change_twice, kept_stays, kept_flips, nothing_changes, other_bit, same_bit, way_flips}
+use Rattle.vcd_body.specs.Stored.{ChangesAt, one_digit}
+use Rattle.vcd_body.proofs.FollowLemmas.{bit_digit, bit_is, change_as, change_twice, digit_there, kept_stays, kept_flips, nothing_changes, other_bit, way_flips}
 use Rattle.vcd_body.proofs.StoreLemmas.{blank}
 use Rattle.vcd_body.proofs.store.flip_at.Goals as goal
 
 -- the same digit
-pub returns-then-before-number_of_bit-clause-counted : goal.returns-then-before-number_of_bit-clause-counted
-returns-then-before-number_of_bit-clause-counted c = λ _ form digits size shares values.
+pub returns-then-eq-clause-counted : goal.returns-then-eq-clause-counted
+returns-then-eq-clause-counted c = λ _ form digits size shares values.
     let slots = c.args.slots.now in
     let code = c.args.code in
     let slot = get_or slots code blank in
     let at = slice_get-get_or slots code blank c.if-code-slots.false in
-    let one = c.args.digit == 49 in
-    let bit = bit_is c.args.digit (c.if-not-is_bit.ensures.yes refl) in
-    subst (λ d. ChangesAt code (with_change size form (d ∷ [])) values slots shares values slots shares) bit
-    (change_as code (λ (k : Kept). k) (with_change size form (cond one 49 48 ∷ [])) values values slots slots shares shares
-    (λ k kept. kept_stays values slots shares code slot at k kept one (same_bit slot.tag one (c.if-before-number_of_bit.true ∙ c.number_of_bit.ensures)) form digits size)
-    (nothing_changes code values slots shares))
+    let there = ap one_digit (sym c.state_in.ensures) ∙ sym c.digit_of_state.ensures ∙ digit_there c.digit_of_state.result c.to_ascii_lowercase.result (sym c.eq.ensures ∙ c.if-eq.true) ∙ ap (λ (d : ℕ). Some d) c.to_ascii_lowercase.ensures.value in
+    change_as code (λ (k : Kept). k) (with_change size form (c.args.digit ∷ [])) values values slots slots shares shares
+    (λ k kept. kept_stays values slots shares code slot at k kept c.args.digit c.ranges.digit.fits there form digits size)
+    (nothing_changes code values slots shares)
 
 -- the other digit, with its step
 pub returns-then-count_in_slot-clause-counted : goal.returns-then-count_in_slot-clause-counted

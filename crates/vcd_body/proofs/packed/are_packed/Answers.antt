@@ -1,10 +1,10 @@
 use Rattle.std.proofs.Common.{List, ℕ, take, get_or, sym, ap, ◌∙◌}
 use Rattle.std.proofs.lemmas.List.{get_or-take}
 use Rattle.std.proofs.lemmas.Slice.Eq.{bytes_eq-Decides}
-use Rattle.vcd_body.proofs.packed.are_few_packed.Goals as goal
+use Rattle.vcd_body.proofs.packed.are_packed.Goals as goal
 
-pub returns : goal.returns
-returns c = λ yes j less.
+pub returns-then-quarter-lt16 : goal.returns-then-quarter-lt16
+returns-then-quarter-lt16 c = λ yes j less.
     let q = c.args.quarter in
     let bytes = c.args.bytes.now in
     let few = c.packed_few.result in
