@@ -118,9 +118,10 @@ fn without_text<'a>(item: Item, begin: usize) -> ScannedItem<'a>
     }
 }
 
-/// Returns the code of a vector change, looked up by the token `code`. `None` if `token` (`b` and
-/// digits) has bad digits or none, if the header does not declare the code, or if its size is less
-/// than the number of digits. `binary` says that all digits are known to be `0` and `1`.
+/// Returns the index and the size of the code of a vector change, looked up by the token `code`.
+/// `None` if `token` (`b` and digits) has bad digits or none, if the header does not declare the
+/// code, or if its size is less than the number of digits. `binary` says that all digits are known
+/// to be `0` and `1`.
 #[inline(always)]
 fn vector_code(token: &[u8], code: &[u8], view: HeadView<'_>, binary: bool) -> Option<Found>
     requires begins { Begins token.now kind.Vector }
@@ -137,9 +138,9 @@ fn vector_code(token: &[u8], code: &[u8], view: HeadView<'_>, binary: bool) -> O
     None
 }
 
-/// Returns the code of a change of a real number, looked up by the token `code`. `None` if the text
-/// in `token` (`r` and the text) does not have 1 to 64 bytes, or if the header does not declare the
-/// code.
+/// Returns the index and the size of the code of a change of a real number, looked up by the token
+/// `code`. `None` if the text in `token` (`r` and the text) does not have 1 to 64 bytes, or if the
+/// header does not declare the code.
 // Not inlined, since real numbers are rare.
 #[inline(never)]
 fn real_code(token: &[u8], code: &[u8], view: HeadView<'_>) -> Option<Found>
@@ -162,7 +163,8 @@ pub(crate) struct Opening<'a> {
     pub(crate) from_lines: bool,
 }
 
-/// Returns the next token ahead and the kind of item that it begins, and passes it. `None` if
+/// Returns the next token ahead and the kind of item that it begins, and passes it. The kind is
+/// `PhraseKind::Other` for a section, a comment, and a token that begins no item. `None` if
 /// `Ahead::next` returns `None`; then nothing has changed.
 // Inlined into each arm of `take_next`, where the compiler knows what the token begins.
 #[inline(always)]
@@ -253,8 +255,9 @@ pub(crate) fn scalar_ahead<'a>(
     Some(change_of(found, Form::Scalar, text, places))
 }
 
-/// Returns the code after the first byte of the token, by a look at one entry of the header's
-/// table. `None` if there is no code, or if that entry is not the code's.
+/// Returns the index and the size of the code after the first byte of the token, by a look at one
+/// entry of the header's table. `None` if there is no code, or if that entry is not the code's. The
+/// token is not empty.
 #[inline(always)]
 fn short_code(token: &[u8], view: HeadView<'_>) -> Option<Found>
     requires begins { IsScalar token.now }
@@ -333,7 +336,7 @@ pub(crate) fn two_short_lines_come(ahead: Ahead<'_>) -> bool
 
 /// Returns whether the next item lies completely in the chunk, so that `next_item` reads nothing
 /// from the source for it. Before a comment it returns false, since the item comes after the
-/// comment.
+/// comment. `ahead` has passed no byte.
 // It looks at one byte after the other: it is asked at the end of a chunk, and at comments.
 #[inline(never)]
 pub fn item_comes(ahead: Ahead<'_>) -> bool
@@ -491,9 +494,9 @@ pub(crate) fn time_ahead<'a>(opening: Opening<'a>, ahead: Ahead<'a>) -> Option<u
     decimal_at(ahead.bytes(), at, ahead.passed() - 1)
 }
 
-/// Returns the timestamp with this time, and sets the last time of `regs` to it; `opening` has its
-/// token, and `ahead` gave it last. `None` if it may not come here: inside a section, or if the
-/// time is less than the last one. Then nothing has changed.
+/// Returns the timestamp with this time, which its token spells, and sets the last time of `regs`
+/// to it; `opening` has the token, and `ahead` gave it last. `None` if it may not come here: inside
+/// a section, or if the time is less than the last one. Then nothing has changed.
 #[inline(always)]
 pub(crate) fn timestamp_ahead<'a>(
     opening: Opening<'a>,
@@ -621,8 +624,9 @@ pub(crate) fn pass_comments<S: Source>(feed: &mut Feed<'_, '_, '_, '_, S>)
     pass_items(feed, bytes);
 }
 
-/// Moves the feed past the next `bytes` bytes of its chunk: the items that a caller has handled
-/// ahead. It reads nothing from the source. After it the feed's `token` is empty.
+/// Moves the feed past the next `bytes` bytes of its chunk: the tokens that an `Ahead` of this feed
+/// gave; `bytes` is what its `passed` returned. It reads nothing from the source. After it the
+/// feed's `token` is empty.
 pub fn pass_items<S: Source>(feed: &mut Feed<'_, '_, '_, '_, S>, bytes: usize)
     requires { (ts : List Token) × Passed (limit_of feed.old) (lines_of feed.old)
         (ahead_of feed.old) bytes ts }

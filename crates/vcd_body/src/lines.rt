@@ -35,8 +35,8 @@ fn is_bit_line(bytes: &[u8], from: usize, to: usize, code_at: usize) -> bool
 }
 
 /// Returns whether a change in the bytes from `from` up to `to` (exclusive) begins with the byte
-/// `first`, and has exactly one blank between its text and its code, which begins at offset
-/// `code_at`.
+/// `first`, and has exactly one blank between its text, which is `text`, and its code, which begins
+/// at offset `code_at`.
 #[inline(always)]
 fn has_one_blank(
     bytes: &[u8],
@@ -231,8 +231,10 @@ pub(crate) fn left_out_of_front(
     left_out_of_text(scanned, form, scanned.size_or_zero, bytes, from, to)
 }
 
-/// Returns whether a timestamp in these bytes is already as it would be written: a `#` and the
-/// digits without leading zeros. The digits begin at offset `at`, and end one byte before `to`.
+/// Returns whether a timestamp in these bytes is already as it would be written: whether the byte
+/// before offset `at` is `#`, and the digits, from `at` up to `to - 1` (exclusive), have no leading
+/// zeros. It does not check that they are digits, and does not look at the byte at `to - 1`, the
+/// one after the token.
 #[inline(always)]
 pub fn is_timestamp_line(bytes: &[u8], at: usize, to: usize) -> bool
     requires { (from time : ℕ) × HasTimestamp bytes.now from to at time }

@@ -137,7 +137,8 @@ fn packed_from(text: &[u8], first: usize, second: usize, third: usize, last: usi
 }
 
 /// Returns 16 bytes of packed digits (`pack`): byte k has those at index `at + k` of each quarter
-/// of the text. A quarter has `quarter` digits, and the last one ends where the text ends.
+/// of the text. A quarter has `quarter` digits, at least `at + 16`, and the last one ends where the
+/// text ends.
 #[inline(always)]
 fn packed_16(text: &[u8], quarter: usize, at: usize) -> u8x16
     requires within { at + 16 ≤ quarter }
@@ -179,8 +180,9 @@ fn packed_few(text: &[u8], quarter: usize) -> [u8; 16]
     packed_from(&block, 0, quarter, 2 * quarter, last).to_array()
 }
 
-/// Packs 16 digits of each quarter of a text, those from index `at` of the quarter on, four to a
-/// byte into the 16 bytes from `at` on. The bytes before these stay as they are.
+/// Packs 16 digits of each quarter of a text, those at the indexes `at` to `at + 15` of the
+/// quarter, four to a byte, into the 16 bytes from offset `at` on. A quarter has `quarter` digits,
+/// at least `at + 16`. The other bytes stay as they are.
 #[inline(always)]
 fn pack_16(bytes: &mut [u8], text: &[u8], quarter: usize, at: usize)
     requires within { at + 16 ≤ quarter }
@@ -192,8 +194,9 @@ fn pack_16(bytes: &mut [u8], text: &[u8], quarter: usize, at: usize)
     packed_16(text, quarter, at).copy_to_slice(&mut bytes[at..]);
 }
 
-/// Returns whether the 16 bytes from `at` on are what `pack_16` writes there: the packed digits
-/// from index `at` on of each quarter of the text. A quarter has `quarter` digits.
+/// Returns whether the 16 bytes from offset `at` on are what `pack_16` writes there: the packed
+/// digits at the indexes `at` to `at + 15` of each quarter of the text. A quarter has `quarter`
+/// digits, at least `at + 16`.
 #[inline(always)]
 fn are_packed_16(bytes: &[u8], text: &[u8], quarter: usize, at: usize) -> bool
     requires within { at + 16 ≤ quarter }
@@ -274,8 +277,8 @@ fn pack_many(bytes: &mut [u8], text: &[u8], quarter: usize)
 }
 
 /// Packs the digits of a text into the first bytes of `bytes`, four to a byte, by two bits each:
-/// byte k has digit k of each quarter of the text. `bytes` must have as many bytes as a quarter has
-/// digits.
+/// byte k has digit k of each quarter of the text. `bytes` must have at least as many bytes as a
+/// quarter, rounded up, has digits; those after these stay as they are.
 #[inline(always)]
 pub(crate) fn pack(bytes: &mut [u8], text: &[u8])
     requires room { length text.now ≤ 4 * length bytes.old }
@@ -313,9 +316,9 @@ pub(crate) fn last_packed(bytes: &[u8], len: usize) -> u8
     digit_of(bytes[len.div_ceil(4) - 1] / 64)
 }
 
-/// Returns the two bits of the digit at `index`, counted from the left, of `bytes`, which are `len`
-/// digits packed by `pack`. The last quarter ends where the digits do, so it may have some digits
-/// of the third one again.
+/// Returns the two bits of the digit at `index`, counted from the left and less than `len`, of
+/// `bytes`, which are `len` digits packed by `pack`. The last quarter ends where the digits do, so
+/// it may have some digits of the third one again.
 #[inline(always)]
 fn code_among(bytes: &[u8], len: usize, index: usize) -> u8
     requires there { index < len }

@@ -90,8 +90,8 @@ pub fn put_code_line<W: Sink>(first: u8, number: u64, w: &mut W) -> Result<(), W
 }
 
 /// Writes the line of a change under the code that a merged dump has for this number. `size` and
-/// `event` are those of the change's own code, and `text` is as `change_text` returns it. If a
-/// write fails, a prefix was written.
+/// `event` are those of the change's own code, and `text` is as `change_text` returns it. For a
+/// change of digits that is no event it must not be empty. If a write fails, a prefix was written.
 #[inline(always)]
 pub fn put_renamed<W: Sink>(
     size: usize,

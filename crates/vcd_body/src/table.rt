@@ -180,7 +180,8 @@ impl<'a> Table<'a> {
     }
 
     /// Returns how the value of the code at index `code` would change by a change of this form and
-    /// text, both values taken at `size` bits. If there is no value yet, it does not differ.
+    /// text, which is not empty, both values taken at `size` bits. If there is no value yet, it
+    /// does not differ.
     #[inline(always)]
     fn step_to(&self, code: usize, size: usize, form: Form, text: &[u8]) -> Step
         ensures { IsLaidOut self.now → 0 < length text.now

@@ -59,8 +59,8 @@ pub trait Visit<C>: Drop {
     fn is_over(&self) -> bool
         ensures { result ≡ over self.now };
 
-    /// Handles a timestamp with this time, which lies at `extent`. `regs` are the registers before
-    /// it.
+    /// Does what this visitor does with a timestamp of this time, which lies at `extent`. `regs`
+    /// are the registers before it.
     fn take_timestamp(
         &mut self,
         command: &mut C,
@@ -81,8 +81,9 @@ pub trait Visit<C>: Drop {
         ensures stands { stands self.new command.new (bytes_of extent.entry.to)
             (regs_after regs timestamp.entry.item) };
 
-    /// Handles a value change, which lies at `extent`, and writes what is due with it. `regs` are
-    /// the registers, which a change leaves as they are. Fails if a write fails.
+    /// Does what this visitor does with a value change, which lies at `extent`, and writes to `out`
+    /// what is due with it. `regs` are the registers, which a change leaves as they are. Fails if a
+    /// write fails.
     fn take_change<W: Sink>(
         &mut self,
         command: &mut C,
@@ -104,9 +105,9 @@ pub trait Visit<C>: Drop {
             (λ _. stands self.new command.new (bytes_of extent.entry.to) regs) }
         ensures over { over self.new ≡ over self.old };
 
-    /// Handles the begin or the end of a section, which lies at `extent`, and writes what is due
-    /// with it. `before` are the registers before it, `after` those after it. Fails if a write
-    /// fails.
+    /// Does what this visitor does with the begin or the end of a section, which lies at `extent`,
+    /// and writes to `out` what is due with it. `before` are the registers before it, `after` those
+    /// after it. Fails if a write fails.
     fn take_section<W: Sink>(
         &mut self,
         command: &mut C,
@@ -387,7 +388,8 @@ fn take_short<C, V: Visit<C>, W: Sink, const CR_LF: bool>(
 }
 
 /// Has the visitor handle the next changes, as long as each is one that `take_short` takes, and
-/// returns the state after the last of them: also whether a write failed, which ends the loop.
+/// returns the look-ahead, the registers and the visitor after the last of them, and how the walk
+/// ended: also whether a write failed, which ends the loop.
 #[inline(always)]
 fn take_shorts<'a, C, V: Visit<C>, W: Sink, const CR_LF: bool>(
     command: &mut C,
@@ -441,9 +443,9 @@ fn take_timestamp_line<C, V: Visit<C>, const CR_LF: bool>(
 }
 
 /// Has the visitor handle the items that come next, as long as each is a change of two bytes or a
-/// short timestamp on a line of its own, and returns the state after the last of them. The lines
-/// end with CR LF if `CR_LF` is true, otherwise with LF. It also ends if the visitor ends the walk,
-/// or if a write fails.
+/// short timestamp on a line of its own, and returns the look-ahead, the registers and the visitor
+/// after the last of them, and how the walk ended. The lines end with CR LF if `CR_LF` is true,
+/// otherwise with LF. It also ends if the visitor ends the walk, or if a write fails.
 // Without this loop `check` of scalars takes 55 % more, and of other dumps 1 to 2 % less.
 #[inline(never)]
 fn take_lines_with_end<'a, C, V: Visit<C>, W: Sink, const CR_LF: bool>(
@@ -512,9 +514,10 @@ fn take_lines<'a, C, V: Visit<C>, W: Sink>(
 }
 
 /// Has the visitor handle the items ahead, one after the other, up to a comment, or up to two lines
-/// for `take_lines`, and returns the state after the last of them. It also ends if the visitor ends
-/// the walk, if a write fails, or at an item that is bad or does not lie completely in the chunk.
-/// The first item is tried even if the visitor has already ended the walk.
+/// for `take_lines`, and returns the look-ahead, the registers and the visitor after the last of
+/// them, and how the walk ended. It also ends if the visitor ends the walk, if a write fails, or at
+/// an item that is bad or does not lie completely in the chunk. The first item is tried even if the
+/// visitor has already ended the walk.
 // In each arm of an item the compiler knows whether it was a change. At its end, the walk forgets
 // the white space that it has seen: otherwise this is saved before each item, and `check` of 27,505
 // codes takes 5 % more.
@@ -552,10 +555,11 @@ fn walk_items<'a, C, V: Visit<C>, W: Sink>(
     }
 }
 
-/// Has the visitor `visit` handle the items ahead, one after the other, and returns the state after
-/// the last of them. Comments are passed, and the visitor gets none of them. The walk ends if the
-/// visitor ends it, if a write fails, or at an item that is bad or does not lie completely in the
-/// chunk. The first item is tried even if the visitor has already ended the walk.
+/// Has the visitor `visit` handle the items ahead, one after the other, and returns the look-ahead,
+/// the registers and the visitor after the last of them, and how the walk ended. Comments are
+/// passed, and the visitor gets none of them. The walk ends if the visitor ends it, if a write
+/// fails, or at an item that is bad or does not lie completely in the chunk. The first item is
+/// tried even if the visitor has already ended the walk.
 // Registers, offset and visit come and go by value, so that the loop over items keeps them out of
 // memory: in a struct that is kept there they cost `check` of scalars 11 %. `take_lines` is called
 // in one place: a second call costs `merge` of scalars 3 %, also in walks that do not make it.

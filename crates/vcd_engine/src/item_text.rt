@@ -70,14 +70,14 @@ pub(crate) fn may_keep(view: HeadView<'_>, regs: Regs, item: Item) -> bool
 }
 
 impl ItemText {
-    /// Returns the state before all items: no line of a time was written.
+    /// Returns what is kept of the written text before all items: no line of a time was written.
     pub(crate) fn new() -> ItemText
         ensures { HasWritten [] [] result }
     {
         ItemText { written: None }
     }
 
-    /// Returns the state in which the line of `time` was written last.
+    /// Returns what is kept of the written text once the line of `time` was written last.
     pub(crate) fn after(time: u64) -> ItemText
         ensures { HasWritten (time ∷ []) [] result }
     {

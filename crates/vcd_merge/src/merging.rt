@@ -227,10 +227,11 @@ impl Visit<Option<u64>> for Merging {
     }
 }
 
-/// Handles the items of an input that lie completely in its feed's chunk, while the input's time is
-/// below `before`, and moves the feed past these. Returns whether the time has reached `before`.
-/// After it `seat` has the time and the registers of the input, and `written` the time whose line
-/// was written last. Fails if a write does.
+/// Takes the items of an input that lie completely in its feed's chunk: the first one, and those
+/// after it while the input's time is below `before`. Writes to `out` what is due with them, and
+/// moves the feed past them. Returns whether the time has reached `before`. After it `seat` has the
+/// time and the registers of the input, and `written` is the time whose line was written last, as
+/// before the call. Fails if a write does.
 #[inline(never)]
 fn take_ahead<S: Source, W: Sink>(
     head: &Head,
@@ -288,10 +289,10 @@ fn time_too_large(input: usize, line: u64) -> Stop
     }
 }
 
-/// Handles the next item of the input at index `input`, and writes what is due with it. After it
-/// `seat` has the time and the registers of the input, and whether it has finished; `written` has
-/// the time whose line was written last. It may wait for input, so `out` must keep nothing back.
-/// The caller parks the feed.
+/// Takes the next item of the input at index `input`, and writes to `out` what is due with it.
+/// After it `seat` has the time and the registers of the input, and whether it has finished;
+/// `written` has the time whose line was written last. It may wait for input, so `out` must keep
+/// nothing back. The caller parks the feed.
 ///
 /// # Errors
 ///
@@ -345,11 +346,11 @@ fn take_item<S: Source, W: Sink>(
     Ok(())
 }
 
-/// Handles the items of a turn with its input's feed: one, and those after it while the input's
-/// time is below `turn.before`. After it `seat` has the time and the registers of the input, and
-/// whether it has finished; `written` has the time whose line was written last. Before a read `out`
-/// passes on what it keeps back. Fails at a fault of the input, at a failed read, and at a failed
-/// write.
+/// Takes the items of a turn with its input's feed, one and those after it while the input's time
+/// is below `turn.before`, and writes to `out` what is due with them. After it `seat` has the time
+/// and the registers of the input, and whether it has finished; `written` has the time whose line
+/// was written last. Before a read `out` passes on what it keeps back. Fails at a fault of the
+/// input, at a failed read, and at a failed write.
 // So most items cost no look at the seats and no new feed.
 #[inline(always)]
 fn take_turn<S: Source, W: Sink>(
@@ -387,10 +388,11 @@ fn take_turn<S: Source, W: Sink>(
     }
 }
 
-/// Handles the items of a turn with its input's own source, seat and parts of the windows: resumes
-/// its feed, handles the items, and parks the feed in the seat. After it `seat` has the state of
-/// the input, and `written` the time whose line was written last. Fails at a fault of the input, at
-/// a failed read, and at a failed write.
+/// Takes the items of a turn with its input's own source, seat and parts of the windows: resumes
+/// its feed, takes the items as `take_turn` does, and parks the feed in the seat. After it `seat`
+/// has the parked feed, the time and the registers of the input, and whether it has finished;
+/// `written` is the time whose line was written last. Fails at a fault of the input, at a failed
+/// read, and at a failed write.
 #[inline(always)]
 pub(crate) fn resume_turn<S: Source, W: Sink>(
     head: &Head,

@@ -15,7 +15,8 @@ pub(crate) struct White {
 }
 
 impl White {
-    /// Returns the state in which no byte of a chunk was looked at yet, so no white byte is known.
+    /// Returns what is known of the white bytes of a chunk before any byte was looked at: no white
+    /// byte.
     #[inline(always)]
     pub(crate) fn unknown() -> Self
         ensures { (chunk : List ℕ) (at stop : ℕ) → BitsAreWhite chunk at stop result }
@@ -24,7 +25,7 @@ impl White {
     }
 
     /// Returns whether the first white byte that was seen and not yet passed is the one at offset
-    /// `at` of the chunk.
+    /// `at` of the chunk. Some white byte has to be known (`bits` is not 0).
     #[inline(always)]
     fn begins_at(self, at: usize) -> bool
         requires some { self.bits ≢ 0 }
@@ -40,7 +41,7 @@ impl White {
 
     /// Returns what is known of the white bytes from offset `start` of the chunk on: this `White`
     /// without the earlier ones. If no byte from `start` on was looked at, no white byte is known,
-    /// and `next` is `start`.
+    /// and `next` is `start`. `start` is at least `next - 64`.
     #[inline(always)]
     fn not_before(self, start: usize) -> White
         requires near { self.next ≤ start + 64 }
@@ -63,8 +64,8 @@ impl White {
         }
     }
 
-    /// Returns the state in which only one white byte is known: the one just before offset `next`
-    /// of the chunk.
+    /// Returns a `White` that knows only one white byte: the one just before offset `next` of the
+    /// chunk.
     #[inline(always)]
     fn before(next: usize) -> Self
         ensures next { result.next ≡ next }
@@ -262,8 +263,9 @@ impl<'a> Ahead<'a> {
     }
 
     /// Returns the token from offset `start` up to the first byte that `white` knows, and passes
-    /// the token and that byte. All bytes before `start` that were not passed are white. `None` if
-    /// the token is longer than the limit; then nothing has changed.
+    /// the token and that byte. `white` knows at least one byte, and the first is after `start`.
+    /// All bytes before `start` that were not passed are white. `None` if the token is longer than
+    /// the limit; then nothing has changed.
     #[inline(always)]
     fn take(&mut self, start: usize, white: White) -> Option<&'a [u8]>
         requires order { start ≤ white.next }
@@ -345,8 +347,8 @@ fn is_two_byte_line<const CR_LF: bool>(bytes: &[u8], at: usize) -> bool
     bytes.len() - at >= 3 && bytes[at + 2] == b'\n' && bytes[at] > b' ' && bytes[at + 1] > b' '
 }
 
-/// Returns the offset of the first byte from `from` on that is not white, or the length if there is
-/// none.
+/// Returns the offset of the first byte from offset `from` on, which is at most the length, that is
+/// not white, or the length if there is none.
 // Not inlined, and returns only a number, like `look_ahead`.
 #[inline(never)]
 fn past_white(bytes: &[u8], from: usize) -> usize
@@ -363,8 +365,8 @@ fn past_white(bytes: &[u8], from: usize) -> usize
     at
 }
 
-/// Returns the offset of the first byte after the white one at `at` that is not white, or the
-/// length if there is none.
+/// Returns the offset of the first byte after the one at offset `at`, which has to be white, that
+/// is not white, or the length if there is none.
 // Mostly that is the next byte, also after the LF of CR LF. Then no call is made.
 #[inline(always)]
 fn white_end(bytes: &[u8], at: usize) -> usize
@@ -381,11 +383,10 @@ fn white_end(bytes: &[u8], at: usize) -> usize
     past_white(bytes, at)
 }
 
-/// Returns `known` if it knows a white byte, otherwise the white bytes that come next from offset
-/// `known.next` on.
+/// Returns `known` if it knows a white byte. Otherwise it looks at the bytes from offset
+/// `known.next` on, 64 at a time, and returns all white bytes of the first 64 that have any.
 ///
-/// `None` if `known` knows none and no complete 64 bytes from `known.next` on have any. The last
-/// bytes, fewer than 64, may have some.
+/// `None` if no complete 64 bytes have any; the last bytes, fewer than 64, may still have some.
 // Most tokens end at a white byte that is already known. Then no bytes are looked at.
 #[inline(always)]
 fn white_ahead(bytes: &[u8], known: White) -> Option<White>
@@ -410,9 +411,9 @@ fn white_ahead(bytes: &[u8], known: White) -> Option<White>
     Some(white)
 }
 
-/// Returns the white bytes of the first 64 bytes that have any, in steps of 64 from offset `from`
-/// on. Its `bits` are 0 if no complete 64 bytes have any; the last bytes, fewer than 64, may have
-/// some.
+/// Looks at the bytes from offset `from` on, 64 at a time, and returns all white bytes of the first
+/// 64 that have any. Its `bits` are 0 if no complete 64 bytes have any; the last bytes, fewer than
+/// 64, may still have some. `from` is at most the length.
 #[inline(never)]
 fn look_ahead(bytes: &[u8], from: usize) -> White
     requires { from ≤ length bytes.now }

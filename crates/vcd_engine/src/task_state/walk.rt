@@ -52,12 +52,12 @@ pub(crate) trait LineMemory: Copy {
     // white byte than the line feed. An empty part says nothing.
     ghost line: { Self → ℕ × ℕ };
 
-    /// Returns the state before all items of a chunk, in which no line of a timestamp is known.
+    /// Returns what is remembered before all items of a chunk: no line of a timestamp.
     fn new() -> Self
         ensures { (bytes : List ℕ) (time : ℕ) → IsLine bytes (line result) time };
 
-    /// Returns the state after a timestamp in the chunk `bytes`, whose digits are at the offsets
-    /// from `at` up to `to - 1` (exclusive).
+    /// Returns what is remembered after a timestamp in the chunk `bytes`, whose digits are at the
+    /// offsets from `at` up to `to - 1` (exclusive).
     fn after_timestamp(bytes: &[u8], at: usize, to: usize) -> Self
         requires { (from time : ℕ) × HasTimestamp bytes.now from to at time }
         ensures { (from time : ℕ) → HasTimestamp bytes.now from to at time
@@ -99,15 +99,16 @@ pub(crate) struct KnownLine {
 impl LineMemory for KnownLine {
     ghost line = { λ kind. (kind.from, kind.to) };
 
-    /// Returns the state in which the chunk is not known to have the line of a timestamp.
+    /// Returns a `KnownLine` that says nothing: the chunk is not known to have the line of a
+    /// timestamp.
     #[inline(always)]
     fn new() -> KnownLine {
         KnownLine { from: 0, to: 0 }
     }
 
-    /// Returns the state after a timestamp whose digits are at the offsets from `at` up to `to - 1`
-    /// (exclusive). If they are not as they would be written, the chunk is not known to have its
-    /// line.
+    /// Returns where the chunk has the line of a timestamp whose digits are at the offsets from
+    /// `at` up to `to - 1` (exclusive). If they are not as they would be written, the chunk is not
+    /// known to have its line.
     #[inline(always)]
     fn after_timestamp(bytes: &[u8], at: usize, to: usize) -> KnownLine {
         if is_timestamp_line(bytes, at, to) {
@@ -135,7 +136,8 @@ pub(crate) trait AheadTask<L: LineMemory> {
     fn leaves(&self, time: u64) -> bool
         ensures { result ≡ is_left self.now time };
 
-    /// Handles a timestamp of this time that ends nothing, and with which no output is due.
+    /// Does what the task does with a timestamp of this time that ends nothing, and with which no
+    /// output is due.
     fn note_time(&mut self, time: u64)
         requires ready { is_ready self.old ≡ true }
         requires left { is_left self.old time ≡ false }
@@ -143,9 +145,10 @@ pub(crate) trait AheadTask<L: LineMemory> {
         ensures ready { is_ready self.new ≡ true }
         ensures same { SameTask (task_state self.old) (task_state self.new) };
 
-    /// Handles an item that is no timestamp. Its output is added to `pending`, or written to `out`
-    /// after all that is pending. `regs` are the registers after the item; `line` says where the
-    /// chunk has the last timestamp's line, if that is known. Fails if a write does.
+    /// Does what the task does with an item that is no timestamp. Its output is added to `pending`,
+    /// or written to `out` after all that is pending. `regs` are the registers after the item;
+    /// `line` says where the chunk has the last timestamp's line, if that is known. Fails if a
+    /// write does.
     fn take_item<W: Sink>(
         &mut self,
         view: HeadView<'_>,
@@ -247,8 +250,8 @@ impl<L: LineMemory, C: AheadTask<L>> Visit<C> for WalkState<L> {
     }
 }
 
-/// Has the task `command` handle the items that lie completely in the chunk, from `ahead` on,
-/// writes what is due with them, and returns how far it came, and whether a write failed. `regs`
+/// Has the task `command` take the items that lie completely in the chunk, from `ahead` on, writes
+/// to `out` what is due with them, and returns how far it came, and whether a write failed. `regs`
 /// are the registers before these items.
 // The loop of each task is a function of its own, so that it has all registers.
 #[inline(never)]
