@@ -249,8 +249,8 @@ pub(crate) enum Stepped {
 /// Sets the value of the code at index `code` to a digit, if it holds the same digit, or if the two
 /// are `0` and `1`. It changes only the slot. Returns `Stepped::Counted` if it held the same digit,
 /// or if the slot has counted the change; `Stepped::Uncounted` if the caller has to count 256
-/// changes, for which the slot has no room. Returns `Stepped::Not`, and changes nothing, if there is
-/// no such code, or if it holds anything else.
+/// changes, for which the slot has no room. Returns `Stepped::Not`, and changes nothing, if there
+/// is no such code, or if it holds anything else.
 // A digit is a state of the slot, so no byte of values is touched: held as a number of one digit,
 // `edges` of scalars takes some 10 % more.
 #[inline(always)]

@@ -488,8 +488,8 @@ fn take_lines_with_end<'a, C, V: Visit<C>, W: Sink, const CR_LF: bool>(
     }
 }
 
-/// Has the visitor handle the items that come next, as `take_lines_with_end` does, with the line end
-/// that comes first.
+/// Has the visitor handle the items that come next, as `take_lines_with_end` does, with the line
+/// end that comes first.
 #[inline(always)]
 fn take_lines<'a, C, V: Visit<C>, W: Sink>(
     command: &mut C,

@@ -41,8 +41,8 @@ pub(crate) fn rows_on(flag: u8) -> usize
 
 /// Turns `marks`, which has one byte for each row, 1 for each selected one, into flags by which
 /// `sample` goes from row to row. The flag of a selected variable is 1, unless it is an event:
-/// `sample` writes a line for it. For the flag of any other row, `rows_on` returns how many rows may
-/// be skipped, this one included: none of them has a line.
+/// `sample` writes a line for it. For the flag of any other row, `rows_on` returns how many rows
+/// may be skipped, this one included: none of them has a line.
 // With a look at each row, a `sample` of one variable of 200,000 at 20,000 times took 100 times as
 // long.
 pub(crate) fn lead_on(view: HeadView<'_>, marks: &mut [u8])

@@ -186,9 +186,9 @@ impl<'a> Ahead<'a> {
     /// before the token and a carriage return after it, and all of these are passed.
     ///
     /// Otherwise `None`, also if fewer than 16 bytes are left from the first byte of the token on,
-    /// if the token has a byte below the space (32), or if it is longer than the limit; then nothing
-    /// has changed, and `next` may return one. It looks at 16 bytes in one step. If it returns a
-    /// token, it forgets which white bytes were seen ahead. It is for a run of lines.
+    /// if the token has a byte below the space (32), or if it is longer than the limit; then
+    /// nothing has changed, and `next` may return one. It looks at 16 bytes in one step. If it
+    /// returns a token, it forgets which white bytes were seen ahead. It is for a run of lines.
     #[inline(always)]
     pub fn next_in_16<const CR_LF: bool>(&mut self) -> Option<&'a [u8]>
         ensures takes { IfSome result (λ token. TakesToken self.old self.new token.now) }
