@@ -5,7 +5,6 @@
 #     `sample` of one variable at 1000 and at 20000 times
 #     `pick` of one name, given once and 30000 times; the same with another name among each 64
 #     `pick` of 3000 and 30000 names with a dot inside the last component
-#     `check` of 4000000 lines `$dumpon` and `$end` in turn, beside as many timestamps
 #     `check` of 4000000 tokens of one byte in a comment, and in a date, beside as many timestamps
 #
 # TMPDIR needs 100 MB.
@@ -49,7 +48,7 @@ write_body() {
 # This keyword, tokens of one byte, and `$end`.
 write_words() {
     echo "$1"
-    yes 'a b c d' | head -n 1000000
+    awk 'BEGIN { for (n = 0; n < 1000000; n++) print "a b c d" }'
     echo '$end'
 }
 
@@ -81,10 +80,7 @@ for count in 3000 30000; do
     mapfile -t names < <(seq -f u.a.%.0f 0 $((count - 1)))
     measure "pick of $count names with a dot" "$work/dots" pick -- "${names[@]}"
 done
-awk 'BEGIN { for (n = 0; n < 2000000; n++) print "$dumpon\n$end" }' | write_body > "$work/sections"
 seq -f '#%.0f' 1000000 4999999 | write_body > "$work/marks"
-print_times 'check of 4,000,000 section keywords, and marks' \
-    "$(best_of check "$work/sections")" "$(best_of check "$work/marks")"
 write_words '$comment' | write_body > "$work/comment"
 { write_words '$date'; write_body < /dev/null; } > "$work/date"
 for text in comment date; do
