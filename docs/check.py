@@ -7,8 +7,9 @@ command, have to be what it prints, standard output and standard error together.
 command ends in `\\`, the command continues in the next line; if it contains << 'END', the command
 ends with the line END. The variable T names an empty folder for the files that a page writes; it is
 removed at the end. If a block begins with ```console PROGRAM .. and one of these programs (or
-modules of Python) is missing, the block is skipped, and the last line of the output says so. VCDKIT
-is the ./vcdkit that `make` leaves; extras/ is on the PATH, and python/ on PYTHONPATH.
+modules of Python) is missing, the block is skipped, and the last line of the output says so. As the
+pages say, the top folder and extras/ are on the PATH, and python/ is on PYTHONPATH; so `vcdkit` is
+the ./vcdkit that `make` leaves.
 
 The exit status is 0 if everything is as written, 1 if some output differs, and 2 if there is no
 ./vcdkit."""
@@ -22,7 +23,7 @@ import tempfile
 
 TOP = os.path.dirname(os.path.dirname(os.path.abspath(__file__)))
 DOCUMENTS = ["README.md", "docs/TUTORIAL.md", "docs/FAQ.md", "docs/MANUAL.md", "docs/RECIPES.md",
-             "docs/PRODUCERS.md", "extras/README.md"]
+             "docs/MANY_DUMPS.md", "docs/PYTHON.md", "docs/PRODUCERS.md", "extras/README.md"]
 SECONDS = 60
 
 
@@ -52,9 +53,9 @@ def printed_by(command, folder):
     """The lines that a command prints."""
     words = {name: word
              for name, word in os.environ.items()
-             if name not in ("MAKELEVEL", "MAKEFLAGS", "MFLAGS")}
-    words.update(LC_ALL="C", T=folder, VCDKIT="./vcdkit", PYTHONDONTWRITEBYTECODE="1",
-                 PATH=os.path.join(TOP, "extras") + os.pathsep + words["PATH"],
+             if name not in ("MAKELEVEL", "MAKEFLAGS", "MFLAGS", "VCDKIT")}
+    words.update(LC_ALL="C", T=folder, PYTHONDONTWRITEBYTECODE="1",
+                 PATH=os.pathsep.join((TOP, os.path.join(TOP, "extras"), words["PATH"])),
                  PYTHONPATH=os.path.join(TOP, "python"))
     try:
         done = subprocess.run(["bash", "-c", command], cwd=TOP, env=words, timeout=SECONDS,

@@ -11,8 +11,8 @@ import evaluator
 
 COMMANDS = ["check", "list", "pick", "cut", "sample", "edges", "merge"]
 
-# About these lengths reading changes: the shortest window, a chunk, and the longest file that is
-# read only up to the length that it had when it was opened.
+# About these lengths reading changes: the shortest window, a chunk, and the longest file whose
+# windows are no longer than the file.
 LENGTHS = [64, 64, 65_536, 1_048_576]
 
 

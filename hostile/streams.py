@@ -264,11 +264,9 @@ def one_fifo(program):
 
 def growing(program):
     """A file gets more text after it was opened, and before it is read: while the program waits to
-    open a FIFO that comes later. A small file is read as it was when it was opened, a large one to
-    its end."""
-    small, more = CLOCK, b"#9\n0!\n"
-    large = CLOCK + LARGE_COMMENT
-    for text, is_read in ((small, small), (large, CLOCK + more)):
+    open a FIFO that comes later. It is read to its end, whether it is small or large."""
+    more = b"#9\n0!\n"
+    for text in (CLOCK, CLOCK + LARGE_COMMENT):
         for first in "a.vcd", "-":
             with files_with({"a.vcd": text}) as folder:
                 at = os.path.join(folder, "a.vcd")
@@ -286,7 +284,7 @@ def growing(program):
                 for writer in writers:
                     os.write(writer, ON_B)
                     os.close(writer)
-                case = Case("growing", "merge", [is_read, ON_B, ON_B])
+                case = Case("growing", "merge", [CLOCK + more, ON_B, ON_B])
                 names = ["(stdin)" if first == "-" else first] + fifos
                 yield ("%s of %d bytes grows" % (first, len(text)),
                        [wanted(case, names, case.inputs)], outcome_of(process))

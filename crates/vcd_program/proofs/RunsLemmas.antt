@@ -1,6 +1,6 @@
 -- What a program leaves, from what its calls do.
 use Rattle.std.proofs.Common.{◌≡◌, ◌≤◌, ◌+◌, ◌⊎◌, ℕ, Bool, true, false, List, [], length, map, refl, sym, subst, ap, ◌∙◌, inl, inr, arith, codes, cond, ◌==◌}
-use Rattle.std.specs.Prelude.{Option, Some, Result, Ok, Err}
+use Rattle.std.specs.Prelude.{All, IfSome, Option, None, Some, Result, Ok, Err}
 use Rattle.clap.specs.Words.{Text, is_simple_and_free}
 use Rattle.clap.specs.declared.error.kind.ErrorKind.{ErrorKind}
 use Rattle.clap.specs.declared.error.kind.ErrorKind.TheVariants as kind
@@ -18,6 +18,7 @@ use Rattle.vcd_words.specs.declared.job.UseFault.{UseFault}
 use Rattle.vcd_words.specs.declared.job.UseFault.TheVariants as use_fault
 use Rattle.vcd_words.specs.declared.job.Want.TheVariants as asked
 use Rattle.vcd_words.specs.declared.job.Want as job
+use Rattle.vcdkit.specs.Calls.{AreWithin, IsLimitFor}
 use Rattle.vcdkit.specs.Message.{Shows, unopened_outcome, use_outcome}
 use Rattle.vcdkit.specs.Run.{HasRun, IsOutcome}
 use Rattle.vcdkit.specs.Run.IsOutcome.{Whole, Part}
@@ -84,12 +85,12 @@ command-is : (words : Option Words) (want : Want) (limit : ℕ) (names : List Te
 unfolding command_outcome
 command-is words want limit names inputs e = rw (e, command_outcome) refl
 
--- a job that was run leaves the outcome of its words
-pub leaves-of : (words : Option Words) (want : Want) (limit : ℕ) (names texts : List Text) (old new : List Supply) (out out' err err' : Device) (status : ℕ) → job_of words ≡ Ok (record { want = want; limit = limit })
-    → HasRun want limit 65536 names texts old new out out' err err' status → Leaves words want limit names texts old new out out' err err' status
-leaves-of words want limit names texts old new out out' err err' status e (HasRun.WithOutcome inputs read needed turns left) =
-    Leaves.WithOutcome inputs read needed turns (subst (λ o. IsOutcome o out out' err err' status) (sym (command-is words want limit names inputs e)) left)
-leaves-of words want limit names texts old new out out' err err' status e (HasRun.NoMemory inputs read written shown is) = Leaves.NoMemory inputs read (written, shown, is)
+-- a job that was run leaves what is due
+pub leaves-of : (due : List Input → Outcome) (want : Want) (limit : ℕ) (names texts : List Text) (old new : List Supply) (out out' err err' : Device) (status : ℕ) → ((inputs : List Input) → due inputs ≡ outcome want limit names inputs)
+    → HasRun want limit 65536 names texts old new out out' err err' status → Leaves due want limit texts old new out out' err err' status
+leaves-of due want limit names texts old new out out' err err' status is (HasRun.WithOutcome inputs read needed turns left) =
+    Leaves.WithOutcome inputs read needed turns (subst (λ o. IsOutcome o out out' err err' status) (sym (is inputs)) left)
+leaves-of due want limit names texts old new out out' err err' status is (HasRun.NoMemory inputs read written shown status_is) = Leaves.NoMemory inputs read (written, shown, status_is)
 
 -- ---- before a job is run
 
@@ -106,19 +107,19 @@ pub without-output : (o : Outcome) (out err err' : Device) (status : ℕ) → o.
 without-output o out err err' status none shown is = Whole (subst (λ l. Writes out out l) (sym none) (writes-none out)) shown is
 
 -- memory ran out before an input was opened
-pub no-memory : {H I : Type 0} (opens : H → Option Text → Result I OpenFault → H → Type 0) (rest : I → Option (List ℕ)) (failures : I → ℕ) (last_failed : I → Bool) (words : Option Words) (names : List (Option Text)) (host : H) (out err err' : Device) (status : ℕ) (j : Job)
-    → job_of words ≡ Ok j → Shows err err' (program_line (codes "out of memory")) → status ≡ 3 → Runs opens rest failures last_failed words names host host out out err err' status
-no-memory opens rest failures last_failed words names host out err err' status j e shown is = Runs.NoMemory j e ([], names, refl, [], host, refl, inl refl) (writes-none out, shown, is)
+pub no-memory : {H I : Type 0} (opens : H → Option Text → Result I OpenFault → H → Type 0) (knows : I → Type 0) (rest : I → Option (List ℕ)) (failures : I → ℕ) (last_failed : I → Bool) (words : Option Words) (names : List (Option Text)) (host : H) (out err err' : Device) (status : ℕ) (j : Job)
+    → job_of words ≡ Ok j → Shows err err' (program_line (codes "out of memory")) → status ≡ 3 → Runs opens knows rest failures last_failed words names host host out out err err' status
+no-memory opens knows rest failures last_failed words names host out err err' status j e shown is = Runs.NoMemory j e ([], names, refl, [], host, refl, inl refl) (writes-none out, shown, is)
 
 -- words that ask for no job
-pub refused : {H I : Type 0} (opens : H → Option Text → Result I OpenFault → H → Type 0) (rest : I → Option (List ℕ)) (failures : I → ℕ) (last_failed : I → Bool) (words : Option Words) (names : List (Option Text)) (host : H) (out err err' : Device) (status : ℕ) (f : UseFault)
-    → IsFaultOf f (job_of words) → Shows err err' (use_outcome f).message → status ≡ (use_outcome f).status → Runs opens rest failures last_failed words names host host out out err err' status
-refused {H} {I} opens rest failures last_failed words names host out err err' status f e shown is = by_fault f e shown is
+pub refused : {H I : Type 0} (opens : H → Option Text → Result I OpenFault → H → Type 0) (knows : I → Type 0) (rest : I → Option (List ℕ)) (failures : I → ℕ) (last_failed : I → Bool) (words : Option Words) (names : List (Option Text)) (host : H) (out err err' : Device) (status : ℕ) (f : UseFault)
+    → IsFaultOf f (job_of words) → Shows err err' (use_outcome f).message → status ≡ (use_outcome f).status → Runs opens knows rest failures last_failed words names host host out out err err' status
+refused {H} {I} opens knows rest failures last_failed words names host out err err' status f e shown is = by_fault f e shown is
   where
-    said : (g : model.UseFault) → job_of words ≡ Err g → Shows err err' (model.use_outcome g).message → status ≡ 2 → Runs opens rest failures last_failed words names host host out out err err' status
+    said : (g : model.UseFault) → job_of words ≡ Err g → Shows err err' (model.use_outcome g).message → status ≡ 2 → Runs opens knows rest failures last_failed words names host host out out err err' status
     said g e shown is = Runs.Refused g e refl (subst (λ o. IsOutcome o out out err err' status) (sym (command-refused words g e)) (Whole (writes-none out) shown is))
 
-    by_fault : (f : UseFault) → IsFaultOf f (job_of words) → Shows err err' (use_outcome f).message → status ≡ (use_outcome f).status → Runs opens rest failures last_failed words names host host out out err err' status
+    by_fault : (f : UseFault) → IsFaultOf f (job_of words) → Shows err err' (use_outcome f).message → status ≡ (use_outcome f).status → Runs opens knows rest failures last_failed words names host host out out err err' status
     by_fault use_fault.BadWords e shown is = said model.UseFault.BadWords e shown is
     by_fault (use_fault.BadLimit word) e shown is = said (model.UseFault.BadLimit word.now) e shown is
     by_fault (use_fault.BadTime word) e shown is = said (model.UseFault.BadTime word.now) e shown is
@@ -126,21 +127,21 @@ refused {H} {I} opens rest failures last_failed words names host out err err' st
     by_fault use_fault.NotRising e shown is = said model.UseFault.NotRising e shown is
     by_fault use_fault.TooManyFiles e shown is = said model.UseFault.TooManyFiles e shown is
     by_fault use_fault.InputTwice e shown is = said model.UseFault.InputTwice e shown is
-    by_fault use_fault.OutOfMemory e shown is = no-memory opens rest failures last_failed words names host out err err' status e.0 e.1 (memory-shown err err' shown) is
+    by_fault use_fault.OutOfMemory e shown is = no-memory opens knows rest failures last_failed words names host out err err' status e.0 e.1 (memory-shown err err' shown) is
 
 -- an input that cannot be opened
-pub stopped : {H I : Type 0} (opens : H → Option Text → Result I OpenFault → H → Type 0) (rest : I → Option (List ℕ)) (failures : I → ℕ) (last_failed : I → Bool) (words : Option Words) (asked names : List (Option Text)) (host host' : H) (out err err' : Device) (status : ℕ)
+pub stopped : {H I : Type 0} (opens : H → Option Text → Result I OpenFault → H → Type 0) (knows : I → Type 0) (rest : I → Option (List ℕ)) (failures : I → ℕ) (last_failed : I → Bool) (words : Option Words) (asked names : List (Option Text)) (host host' : H) (out err err' : Device) (status : ℕ)
     (j : Job) (why : OpenStop) (said : Option (Bor Text)) → job_of words ≡ Ok j → names ≡ asked → why ≡ stop.Unopened said → StopsAmong opens names host host' why → Shows err err' (unopened_outcome (called (text_of said))).message → status ≡ 3
-    → Runs opens rest failures last_failed words asked host host' out out err err' status
-stopped opens rest failures last_failed words asked names host host' out err err' status j why said e named is at shown three =
+    → Runs opens knows rest failures last_failed words asked host host' out out err err' status
+stopped opens knows rest failures last_failed words asked names host host' out err err' status j why said e named is at shown three =
     Runs.Stopped j e (text_of said) (subst (λ l. OpensUpTo opens l (text_of said) host host') named (subst (λ w. StopsAmong opens names host host' w) is at))
     (without-output (unopened_outcome (called (text_of said))) out err err' status refl shown three)
 
 -- memory ran out while inputs were opened
-pub memory-stopped : {H I : Type 0} (opens : H → Option Text → Result I OpenFault → H → Type 0) (rest : I → Option (List ℕ)) (failures : I → ℕ) (last_failed : I → Bool) (words : Option Words) (asked names : List (Option Text)) (host host' : H) (out err err' : Device) (status : ℕ)
+pub memory-stopped : {H I : Type 0} (opens : H → Option Text → Result I OpenFault → H → Type 0) (knows : I → Type 0) (rest : I → Option (List ℕ)) (failures : I → ℕ) (last_failed : I → Bool) (words : Option Words) (asked names : List (Option Text)) (host host' : H) (out err err' : Device) (status : ℕ)
     (j : Job) (why : OpenStop) → job_of words ≡ Ok j → names ≡ asked → why ≡ stop.OutOfMemory → StopsAmong opens names host host' why → Shows err err' (program_line (codes "out of memory")) → status ≡ 3
-    → Runs opens rest failures last_failed words asked host host' out out err err' status
-memory-stopped opens rest failures last_failed words asked names host host' out err err' status j why e named is at shown three =
+    → Runs opens knows rest failures last_failed words asked host host' out out err err' status
+memory-stopped opens knows rest failures last_failed words asked names host host' out err err' status j why e named is at shown three =
     Runs.NoMemory j e (subst (λ l. OpensSome opens l host host') named (subst (λ w. StopsAmong opens names host host' w) is at)) (writes-none out, shown, three)
 
 -- ---- answers of a parse
@@ -198,19 +199,37 @@ answer-failed why text out out' err err' e written shown = answered why 0 text o
 pub names-many : {A : Type 0} (bytes : A → Text) (names : List A) (asked : List (Option Text)) → map bytes names ≡ map called asked → length names ≡ length asked
 names-many bytes names asked e = sym (length-map names bytes) ∙ ap length e ∙ length-map asked called
 
+-- inputs about whose lengths a host is right give at most as many bytes as it says
+pub within-known : {I : Type 0} (knows : I → Type 0) (rest : I → Option (List ℕ)) (longest : Option ℕ) (readers now : List I) → now ≡ readers → IfSome longest (λ most. All (λ r. knows r → IfSome (rest r) (λ text. length text ≤ most)) readers) → All knows now
+    → AreWithin rest longest now
+within-known knows rest None readers now same said known = tt
+within-known knows rest (Some most) readers now same said known = rw same (λ k d less. said k d less (subst (All knows) same known k d less))
+
+-- such a limit is no larger
+pub below-limit : (longest : Option ℕ) (wide narrow : ℕ) → IsLimitFor longest wide narrow → narrow ≤ wide
+below-limit longest wide narrow (inl same) = omega (arith, same)
+below-limit longest wide narrow (inr less) = less.0
+
 -- the job was run over the inputs that the words ask for
-pub ran : {H I : Type 0} (opens : H → Option Text → Result I OpenFault → H → Type 0) (rest : I → Option (List ℕ)) (failures : I → ℕ) (last_failed : I → Bool) (words : Option Words) (asked : List (Option Text)) (host host' : H) (out out' err err' : Device) (status : ℕ)
-    (want : Want) (limit chunk : ℕ) (names wanted : List Text) (readers after : List I)
+pub ran : {H I : Type 0} (opens : H → Option Text → Result I OpenFault → H → Type 0) (knows : I → Type 0) (rest : I → Option (List ℕ)) (failures : I → ℕ) (last_failed : I → Bool) (words : Option Words) (asked : List (Option Text)) (host host' : H) (out out' err err' : Device) (status : ℕ)
+    (want : Want) (limit lower chunk : ℕ) (names wanted : List Text) (readers after : List I)
     → job_of words ≡ Ok (record { want = want; limit = limit }) → chunk ≡ 65536 → names ≡ map called asked → wanted ≡ names_wanted want → Opens opens host asked readers host'
     → EndsSo names wanted (map failures readers) (map failures after) (map last_failed after) out out' err err' status
-    → ((texts : List Text) → map rest readers ≡ map (λ text. Some text) texts → HasRun want limit chunk names texts (map (supply rest failures) readers) (map (supply rest failures) after) out out' err err' status)
-    → Runs opens rest failures last_failed words asked host host' out out' err err' status
-ran opens rest failures last_failed words asked host host' out out' err err' status want limit chunk names wanted readers after e at named wants opened ends gives =
+    → (All knows readers → (texts : List Text) → map rest readers ≡ map (λ text. Some text) texts → HasRun want limit chunk names texts (map (supply rest failures) readers) (map (supply rest failures) after) out out' err err' status)
+    → lower ≤ limit → ((texts : List Text) → map rest readers ≡ map (λ text. Some text) texts → HasRun want lower chunk names texts (map (supply rest failures) readers) (map (supply rest failures) after) out out' err err' status)
+    → Runs opens knows rest failures last_failed words asked host host' out out' err err' status
+ran opens knows rest failures last_failed words asked host host' out out' err err' status want limit lower chunk names wanted readers after e at named wants opened ends gives below under =
     Runs.Ran want limit e readers after opened
     (subst (λ l. EndsSo l (names_wanted want) (map failures readers) (map failures after) (map last_failed after) out out' err err' status) named (subst (λ l. EndsSo names l (map failures readers) (map failures after) (map last_failed after) out out' err err' status) wants ends))
-    (λ texts h. subst (λ l. Leaves words want limit l texts (map (supply rest failures) readers) (map (supply rest failures) after) out out' err err' status) named
-    (leaves-of words want limit names texts (map (supply rest failures) readers) (map (supply rest failures) after) out out' err err' status e
-    (subst (λ n. HasRun want limit n names texts (map (supply rest failures) readers) (map (supply rest failures) after) out out' err err' status) at (gives texts h))))
+    (λ known texts h. leaves (command_outcome words (map called asked)) limit texts (λ inputs. command-is words want limit (map called asked) inputs e) (gives known texts h)) lower below
+    (λ texts h. leaves (outcome want lower (map called asked)) lower texts (λ inputs. refl) (under texts h))
+  where
+    leaves : (due : List Input → Outcome) (n : ℕ) (texts : List Text) → ((inputs : List Input) → due inputs ≡ outcome want n (map called asked) inputs) → HasRun want n chunk names texts (map (supply rest failures) readers) (map (supply rest failures) after) out out' err err' status
+        → Leaves due want n texts (map (supply rest failures) readers) (map (supply rest failures) after) out out' err err' status
+    leaves due n texts is has =
+        leaves-of due want n (map called asked) texts (map (supply rest failures) readers) (map (supply rest failures) after) out out' err err' status is
+        (subst (λ l. HasRun want n 65536 l texts (map (supply rest failures) readers) (map (supply rest failures) after) out out' err err' status) named
+        (subst (λ c. HasRun want n c names texts (map (supply rest failures) readers) (map (supply rest failures) after) out out' err err' status) at has))
 
 -- ---- the flush
 

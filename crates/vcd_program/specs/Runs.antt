@@ -1,5 +1,5 @@
 -- What a program leaves that is run on words over a host.
-use Rattle.std.specs.Prelude.{◌≡◌, ◌≢◌, ◌⊎◌, ◌==◌, ◌+◌, ◌<◌, ◌≤◌, ℕ, Bool, true, false, cond, List, [], map, codes, Option, Some, Result, Ok, Err}
+use Rattle.std.specs.Prelude.{◌≡◌, ◌≢◌, ◌⊎◌, ◌==◌, ◌+◌, ◌<◌, ◌≤◌, ℕ, All, Bool, true, false, cond, List, [], map, codes, Option, Some, Result, Ok, Err}
 use Rattle.std.specs.Io.KnownBytes.{Keeps}
 use Rattle.clap.specs.Words.{HasMatchesOf, IsAmong, Text, fault_of, takes}
 use Rattle.clap.specs.declared.error.kind.ErrorKind.{ErrorKind}
@@ -9,7 +9,7 @@ use Rattle.vcd_model.specs.Input.{Input}
 use Rattle.vcd_model.specs.Outcome.{Outcome, clean_outcome, program_line}
 use Rattle.vcd_model.specs.Settled.{is_header_over, is_settled}
 use Rattle.vcd_model.specs.Words.{Job, Words, UseFault, command_outcome, job_of}
-use Rattle.vcd_model.specs.Job.{Want}
+use Rattle.vcd_model.specs.Job.{Want, outcome}
 use Rattle.vcd_text.specs.Device.{Device, Supply, Writes, failures_then, supply}
 use Rattle.vcd_text.specs.declared.device.Sink.{Ghosts as Sinks}
 use Rattle.vcd_text.specs.declared.device.Source.{Ghosts}
@@ -41,33 +41,37 @@ EndsSo names asked before after last_failed out out' err err' status =
     (why : _) × CountsReads before after why × (failures_then (writes_failed why) out' ≡ out.failures + writes_failed why) × (status ≡ end_status why) × Shows err err' (end_message names asked why)
     × EndsAtReadOf last_failed why
 
--- over inputs with these names and texts: the outcome of the words and of what was read of each; no
--- more was read than what settles it, and of a merge none before its turn; or nothing if memory ran
--- out
-pub data Leaves (words : Option Words) (want : Want) (limit : ℕ) (names texts : List Text) (old new : List Supply) (out out' err err' : Device) (status : ℕ) : Type 0 where
-  WithOutcome : (inputs : List Input) (read : AreRead (is_settled want) limit 65536 [] texts old new inputs) (needed : AreNeeded want limit 65536 old new inputs) (in_turn : AreInTurn want limit 65536 texts old new inputs out out') (leaves : IsOutcome (command_outcome words names inputs) out out' err err' status)
-      → Leaves words want limit names texts old new out out' err err' status
+-- over inputs with these texts: the outcome that is due for what was read of each; no more was read
+-- than what settles it, and of a merge none before its turn; or nothing if memory ran out
+pub data Leaves (due : List Input → Outcome) (want : Want) (limit : ℕ) (texts : List Text) (old new : List Supply) (out out' err err' : Device) (status : ℕ) : Type 0 where
+  WithOutcome : (inputs : List Input) (read : AreRead (is_settled want) limit 65536 [] texts old new inputs) (needed : AreNeeded want limit 65536 old new inputs) (in_turn : AreInTurn want limit 65536 texts old new inputs out out') (leaves : IsOutcome (due inputs) out out' err err' status)
+      → Leaves due want limit texts old new out out' err err' status
   NoMemory : (inputs : List Input) (read : AreRead is_header_over limit 65536 [] texts old new inputs) (fails : Fails (codes "out of memory") out out' err err' status)
-      → Leaves words want limit names texts old new out out' err err' status
+      → Leaves due want limit texts old new out out' err err' status
 
 -- ---- what words leave that were parsed
 
 -- what a program leaves whose words ask for these inputs, before it flushes
-pub data Runs {H I : Type 0} (opens : H → Option Text → Result I OpenFault → H → Type 0) (rest : I → Option (List ℕ)) (failures : I → ℕ) (last_failed : I → Bool) (words : Option Words) (asked : List (Option Text)) (host host' : H) (out out' err err' : Device) (status : ℕ) : Type 0 where
+pub data Runs {H I : Type 0} (opens : H → Option Text → Result I OpenFault → H → Type 0) (knows : I → Type 0) (rest : I → Option (List ℕ)) (failures : I → ℕ) (last_failed : I → Bool) (words : Option Words) (asked : List (Option Text)) (host host' : H) (out out' err err' : Device) (status : ℕ) : Type 0 where
   -- the words ask for no job: no input is opened
   Refused : (fault : UseFault) (is : job_of words ≡ Err fault) (same : host' ≡ host) (leaves : IsOutcome (command_outcome words [] []) out out' err err' status)
-      → Runs opens rest failures last_failed words asked host host' out out' err err' status
-  -- all inputs were opened, and the job was run over them
+      → Runs opens knows rest failures last_failed words asked host host' out out' err err' status
+  -- all inputs were opened, and the job was run over them: it leaves the outcome of the words if the
+  -- host is right about the lengths of all inputs; whatever their lengths, it leaves the outcome
+  -- under a token limit that may be lower, so that no input is cut short
   Ran : (want : Want) (limit : ℕ) (is : job_of words ≡ Ok (record { want = want; limit = limit })) (readers after : List I) (opened : Opens opens host asked readers host')
       (ends : EndsSo (map called asked) (names_wanted want) (map failures readers) (map failures after) (map last_failed after) out out' err err' status)
-      (leaves : (texts : List Text) → map rest readers ≡ map (λ text. Some text) texts → Leaves words want limit (map called asked) texts (map (supply rest failures) readers) (map (supply rest failures) after) out out' err err' status)
-      → Runs opens rest failures last_failed words asked host host' out out' err err' status
+      (leaves : All knows readers → (texts : List Text) → map rest readers ≡ map (λ text. Some text) texts
+      → Leaves (command_outcome words (map called asked)) want limit texts (map (supply rest failures) readers) (map (supply rest failures) after) out out' err err' status)
+      (lower : ℕ) (below : lower ≤ limit) (under : (texts : List Text) → map rest readers ≡ map (λ text. Some text) texts
+      → Leaves (outcome want lower (map called asked)) want lower texts (map (supply rest failures) readers) (map (supply rest failures) after) out out' err err' status)
+      → Runs opens knows rest failures last_failed words asked host host' out out' err err' status
   -- one of them cannot be opened
   Stopped : (job : Job) (is : job_of words ≡ Ok job) (name : Option Text) (opened : OpensUpTo opens asked name host host') (leaves : IsOutcome (unopened_outcome (called name)) out out' err err' status)
-      → Runs opens rest failures last_failed words asked host host' out out' err err' status
+      → Runs opens knows rest failures last_failed words asked host host' out out' err err' status
   -- memory ran out before the job was run
   NoMemory : (job : Job) (is : job_of words ≡ Ok job) (opened : OpensSome opens asked host host') (fails : Fails (codes "out of memory") out out' err err' status)
-      → Runs opens rest failures last_failed words asked host host' out out' err err' status
+      → Runs opens knows rest failures last_failed words asked host host' out out' err err' status
 
 -- ---- what any words leave
 
@@ -82,21 +86,21 @@ abbrev pub Answers : ErrorKind → (out out' err err' : Device) → ℕ → Type
 Answers why out out' err err' status = ((why ≢ kind.OutOfMemory) × (text : Text) × IsOutcome (answer_outcome why text) out out' err err' status) ⊎ Fails (codes "out of memory") out out' err err' status
 
 -- what a program leaves that is run on these words, its name first, before it flushes
-pub data RunsOn {H I : Type 0} (words : List Text) (opens : H → Option Text → Result I OpenFault → H → Type 0) (rest : I → Option (List ℕ)) (failures : I → ℕ) (last_failed : I → Bool) (host host' : H) (out out' err err' : Device) (status : ℕ) : Type 0 where
+pub data RunsOn {H I : Type 0} (words : List Text) (opens : H → Option Text → Result I OpenFault → H → Type 0) (knows : I → Type 0) (rest : I → Option (List ℕ)) (failures : I → ℕ) (last_failed : I → Bool) (host host' : H) (out out' err err' : Device) (status : ℕ) : Type 0 where
   -- what their matches ask for
-  Parsed : (matches : ArgMatches) (is : HasMatchesOf program_app words matches) (runs : Runs opens rest failures last_failed (words_used matches) (inputs_asked matches) host host' out out' err err' status)
-      → RunsOn words opens rest failures last_failed host host' out out' err err' status
+  Parsed : (matches : ArgMatches) (is : HasMatchesOf program_app words matches) (runs : Runs opens knows rest failures last_failed (words_used matches) (inputs_asked matches) host host' out out' err err' status)
+      → RunsOn words opens knows rest failures last_failed host host' out out' err err' status
   -- they have no matches, for the reason that the command line has for them: no input is opened
   NoMatches : (why : ErrorKind) (is : (why ≡ kind.OutOfMemory) ⊎ IsAmong why (fault_of program_app words)) (only : takes program_app words ≡ true → why ≡ kind.OutOfMemory) (same : host' ≡ host)
-      (answers : Answers why out out' err err' status) → RunsOn words opens rest failures last_failed host host' out out' err err' status
+      (answers : Answers why out out' err err' status) → RunsOn words opens knows rest failures last_failed host host' out out' err err' status
 
 -- ---- runs, by what inputs, the output and the error stream say of themselves
 
-abbrev pub RunsMatches : {H I W E : Type 0} → (H → Option Text → Result I OpenFault → H → Type 0) → Ghosts I → Sinks W → Sinks E → ArgMatches → (host host' : H) → (out out' : W) → (err err' : E) → ℕ → Type 0
-RunsMatches opens g w e matches host host' out out' err err' status = Runs opens g.rest g.failures g.last_failed (words_used matches) (inputs_asked matches) host host' (w.device out) (w.device out') (e.device err) (e.device err') status
+abbrev pub RunsMatches : {H I W E : Type 0} → (H → Option Text → Result I OpenFault → H → Type 0) → (I → Type 0) → Ghosts I → Sinks W → Sinks E → ArgMatches → (host host' : H) → (out out' : W) → (err err' : E) → ℕ → Type 0
+RunsMatches opens knows g w e matches host host' out out' err err' status = Runs opens knows g.rest g.failures g.last_failed (words_used matches) (inputs_asked matches) host host' (w.device out) (w.device out') (e.device err) (e.device err') status
 
-abbrev pub RunsWords : {H I W E : Type 0} → List Text → (H → Option Text → Result I OpenFault → H → Type 0) → Ghosts I → Sinks W → Sinks E → (host host' : H) → (out out' : W) → (err err' : E) → ℕ → Type 0
-RunsWords words opens g w e host host' out out' err err' status = RunsOn words opens g.rest g.failures g.last_failed host host' (w.device out) (w.device out') (e.device err) (e.device err') status
+abbrev pub RunsWords : {H I W E : Type 0} → List Text → (H → Option Text → Result I OpenFault → H → Type 0) → (I → Type 0) → Ghosts I → Sinks W → Sinks E → (host host' : H) → (out out' : W) → (err err' : E) → ℕ → Type 0
+RunsWords words opens knows g w e host host' out out' err err' status = RunsOn words opens knows g.rest g.failures g.last_failed host host' (w.device out) (w.device out') (e.device err) (e.device err') status
 
 -- ---- what is left in the end
 

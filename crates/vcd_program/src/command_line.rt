@@ -26,8 +26,8 @@ fn run_job<H: Host, W: Sink, E: Sink, B: BuildHasher>(
     requires sinks { MayFailOnce W.Sink E.Sink out.old err.old }
     requires chunk { job.chunk ≡ 65536 }
     requires job { AsksFor matches.now job.task job.limit }
-    ensures runs { RunsMatches H.opens H.Input.Source W.Sink E.Sink matches.now
-        host.old host.new out.old out.new err.old err.new result }
+    ensures runs { RunsMatches H.opens H.knows_length H.Input.Source W.Sink E.Sink
+        matches.now host.old host.new out.old out.new err.old err.new result }
     ensures failures { (E.device err.new).failures ≤ (E.device err.old).failures + 1 }
 {
     let Ok(asked) = inputs_of(alloc, job.task.is_merge(), matches) else {
@@ -35,7 +35,7 @@ fn run_job<H: Host, W: Sink, E: Sink, B: BuildHasher>(
     };
     match open_inputs(alloc, asked.as_slice(), host) {
         Ok(mut inputs) => {
-            let longest = max_bytes_of_all::<H>(&inputs.readers);
+            let longest = max_bytes_of_all(host, &inputs.readers);
             run_within(
                 alloc,
                 job,
@@ -64,8 +64,8 @@ fn run_matches<H: Host, W: Sink, E: Sink, B: BuildHasher>(
     hasher: &B,
 ) -> u8
     requires sinks { MayFailOnce W.Sink E.Sink out.old err.old }
-    ensures runs { RunsMatches H.opens H.Input.Source W.Sink E.Sink matches.now
-        host.old host.new out.old out.new err.old err.new result }
+    ensures runs { RunsMatches H.opens H.knows_length H.Input.Source W.Sink E.Sink
+        matches.now host.old host.new out.old out.new err.old err.new result }
     ensures failures { (E.device err.new).failures ≤ (E.device err.old).failures + 1 }
 {
     match job_of(alloc, matches) {
@@ -113,8 +113,8 @@ fn run_words<H: Host, W: Sink, E: Sink, B: BuildHasher>(
     hasher: &B,
 ) -> u8
     requires sinks { MayFailOnce W.Sink E.Sink out.old err.old }
-    ensures runs { RunsWords (map string_bytes words.now) H.opens H.Input.Source W.Sink E.Sink
-        host.old host.new out.old out.new err.old err.new result }
+    ensures runs { RunsWords (map string_bytes words.now) H.opens H.knows_length
+        H.Input.Source W.Sink E.Sink host.old host.new out.old out.new err.old err.new result }
     ensures failures { (E.device err.new).failures ≤ (E.device err.old).failures + 1 }
 {
     let Ok(command) = command_of(alloc) else {
@@ -146,8 +146,8 @@ pub fn run_program<H: Host, W: Output, E: Sink, B: BuildHasher>(
     requires out_failures { (W.device out.old).failures < 2 ^ 64 - 1 }
     requires err_failures { (E.device err.old).failures < 2 ^ 64 - 2 }
     ensures { Finishes W.device W.flushes (λ out_now err_now status. RunsOn
-        (map string_bytes words.now) H.opens H.Input.rest H.Input.failures H.Input.last_failed
-        host.old host.new
+        (map string_bytes words.now) H.opens H.knows_length
+        H.Input.rest H.Input.failures H.Input.last_failed host.old host.new
         (W.device out.old) out_now (E.device err.old) err_now status)
         out.new (E.device err.new) result }
 {

@@ -1,6 +1,6 @@
 //! The machine that a process runs on, as a host.
 ghost use Rattle.std.specs.Prelude.{◌≡◌, ◌-◌, ◌^◌, ◌<◌, ◌≤◌, ℕ, ⊤, List, map, Result, string_bytes};
-ghost use Rattle.vcd_program.specs.Machine.{bytes_left, Error, GivesAtMost, measured_left, OpensOn, read_as, RunsOver};
+ghost use Rattle.vcd_program.specs.Machine.{bytes_left, Error, GivesAtMost, length_known, OpensOn, read_as, RunsOver};
 ghost use Rattle.vcd_program.specs.Names.{failed_calls};
 
 use crate::command_line::run_program;
@@ -8,7 +8,7 @@ use std::alloc::Global;
 use std::env::Env;
 use std::fs::{File, Metadata};
 use std::hash::{BuildHasher, BuildHasherDefault, FoldHasher, RandomState};
-use std::io::{ErrorKind, Read, Stdin, Take};
+use std::io::{ErrorKind, Read, Stdin};
 use std::os::fd::AsRawFd;
 use std::{env, fs, io};
 use vcd_host::{Buffered, Host, OpenFault, Output};
@@ -16,62 +16,18 @@ use vcd_text::{Sink, Source, Watch};
 use vcd_words::UseFault;
 use vcdkit::{Again, use_fault};
 
-/// Bytes that are read up to their end, or up to a number that is known.
-#[derive(Drop)]
-pub enum Measured<R> {
-    /// The first bytes of the reader, up to a limit.
-    AtMost(Take<R>),
-    /// All bytes of the reader, of which there may be any number.
-    Unknown(R),
-}
-
-impl<R: Read> Measured<R> {
-    /// Returns a reader of the first `len` bytes that `reader` gives, or of all of them if `len` is
-    /// `None`.
-    fn new(reader: R, len: Option<u64>) -> Self {
-        match len {
-            Some(len) => Measured::AtMost(reader.take(len)),
-            None => Measured::Unknown(reader),
-        }
-    }
-
-    /// Returns how many bytes are left up to the limit, which the reads to come do not exceed.
-    /// `None` if there is no limit, or if the number does not fit into a `usize`.
-    fn max_bytes(&self) -> Option<usize>
-        ensures { GivesAtMost (measured_left R.remaining self.now) result }
-    {
-        match self {
-            Measured::AtMost(reader) => usize::try_from(reader.limit()).ok(),
-            Measured::Unknown(_) => None,
-        }
-    }
-}
-
-impl<R: Read> Read for Measured<R> {
-    ghost remaining = { λ bytes. measured_left R.remaining bytes };
-
-    /// Reads from the reader to the front of `into`, up to its limit if it has one, and returns how
-    /// many bytes. Fails if the reader does.
-    fn read(&mut self, into: &mut [u8]) -> io::Result<usize> {
-        match self {
-            Measured::AtMost(reader) => reader.read(into),
-            Measured::Unknown(reader) => reader.read(into),
-        }
-    }
-}
-
-/// A file of at most this length is read only to the length that it had when it was opened. A
-/// longer file needs windows of this length anyway, which is the default token limit.
+/// A file of at most this length is read into buffers that are no longer. A longer file needs
+/// windows of this length anyway, which is the default token limit.
 const MAX_SHORT_FILE: u64 = 1_048_576;
 
 /// Returns the length of a file with this metadata, if it is short. `None` if it is no regular
 /// file, if it is longer than `MAX_SHORT_FILE`, or if its length is 0 or unknown. A file of length
 /// 0 may give bytes: the machine makes the bytes of some files while they are read.
-fn short_len(about: io::Result<Metadata>) -> Option<u64> {
+fn short_len(about: io::Result<Metadata>) -> Option<usize> {
     let about = about.ok()?;
     let len = about.len();
     if about.is_file() && 0 < len && len <= MAX_SHORT_FILE {
-        return Some(len);
+        return usize::try_from(len).ok();
     }
     None
 }
@@ -80,8 +36,8 @@ fn short_len(about: io::Result<Metadata>) -> Option<u64> {
 const STANDARD_INPUT: &str = "/proc/self/fd/0";
 
 /// A machine, where a process opens its files and finds its standard input. The host is proved over
-/// any machine. So all that is not proved of the process's own machine is that `open` and `input`
-/// are what they say.
+/// any machine, also over one that is wrong about lengths. So all that is not proved of the
+/// process's own machine is that `open` and `input` are what they say.
 trait Machine {
     /// A file that is open.
     type File: Read + Drop;
@@ -95,6 +51,12 @@ trait Machine {
     // What `input` may return.
     ghost gives: { Self → Self.Input → Type 0 };
 
+    // Whether the machine is right about the length of this file.
+    ghost knows_file: { Self.File → Type 0 };
+
+    // Whether the machine is right about the length of standard input.
+    ghost knows_input: { Self.Input → Type 0 };
+
     /// Opens the file of this name for reading, and returns it. Fails if it cannot be opened.
     fn open(&self, name: &str) -> io::Result<Self::File>
         ensures { opens self.now name.now result };
@@ -103,53 +65,50 @@ trait Machine {
     fn input(&self) -> Self::Input
         ensures { gives self.now result };
 
-    /// Returns a number of bytes that the reads of this file do not exceed; `None` if none is
-    /// known.
-    fn max_bytes_of_file(file: &Self::File) -> Option<usize>
-        ensures { GivesAtMost (Self.File.remaining file.now) result };
+    /// Returns a number of bytes that the reads of this file do not exceed, as far as the machine
+    /// knows; `None` if it knows none.
+    fn max_bytes_of_file(&self, file: &Self::File) -> Option<usize>
+        ensures { knows_file file.now → GivesAtMost (Self.File.remaining file.now) result };
 
-    /// Returns a number of bytes that the reads of standard input do not exceed; `None` if none is
-    /// known.
-    fn max_bytes_of_input(input: &Self::Input) -> Option<usize>
-        ensures { GivesAtMost (Self.Input.remaining input.now) result };
+    /// Returns a number of bytes that the reads of standard input do not exceed, as far as the
+    /// machine knows; `None` if it knows none.
+    fn max_bytes_of_input(&self, input: &Self::Input) -> Option<usize>
+        ensures { knows_input input.now → GivesAtMost (Self.Input.remaining input.now) result };
 }
 
-/// The machine that the process runs on. A short file is read up to the length that it has when it
-/// is opened, so its windows need not be longer. No contract says which file or stream a call
-/// gives.
+/// The machine that the process runs on. No contract says which file or stream a call gives, or
+/// that a length is right: a file may grow while it is read.
 impl Machine for HostRuntime {
-    type File = Measured<File>;
+    type File = File;
 
-    type Input = Measured<Stdin>;
+    type Input = Stdin;
 
     ghost opens = { λ _ _ _. ⊤ };
 
     ghost gives = { λ _ _. ⊤ };
 
-    /// Opens the file of this name, and returns it. If it is short, it is read only up to the
-    /// length that it has now. Fails if it cannot be opened.
-    fn open(&self, name: &str) -> io::Result<Measured<File>> {
-        let file = File::open(self, name)?;
-        let len = short_len(file.metadata());
-        Ok(Measured::new(file, len))
+    ghost knows_file = { λ _. ⊥ };
+
+    ghost knows_input = { λ _. ⊥ };
+
+    /// Opens the file of this name, and returns it. Fails if it cannot be opened.
+    fn open(&self, name: &str) -> io::Result<File> {
+        File::open(self, name)
     }
 
-    /// Returns standard input. If that is a short file, it is read only up to the length that it
-    /// has now.
-    fn input(&self) -> Measured<Stdin> {
-        let len = short_len(fs::metadata(self, STANDARD_INPUT));
-        Measured::new(self.stdin(), len)
+    /// Returns standard input.
+    fn input(&self) -> Stdin {
+        self.stdin()
     }
 
-    /// Returns how many bytes of a short file are left to read; `None` for any other.
-    fn max_bytes_of_file(file: &Measured<File>) -> Option<usize> {
-        file.max_bytes()
+    /// Returns the length that a short file has now; `None` for any other.
+    fn max_bytes_of_file(&self, file: &File) -> Option<usize> {
+        short_len(file.metadata())
     }
 
-    /// Returns how many bytes of standard input are left to read if it is a short file; `None` for
-    /// any other.
-    fn max_bytes_of_input(input: &Measured<Stdin>) -> Option<usize> {
-        input.max_bytes()
+    /// Returns the length that standard input has now if it is a short file; `None` for any other.
+    fn max_bytes_of_input(&self, _input: &Stdin) -> Option<usize> {
+        short_len(fs::metadata(self, STANDARD_INPUT))
     }
 }
 
@@ -164,7 +123,7 @@ pub enum Stream<F, I> {
     Refused,
 }
 
-// Reads of a file or input whose bytes are known give these; of `Refused` no bytes are known.
+// Reads of a file or input whose bytes are known give these; each read of `Refused` fails.
 impl<F: Read, I: Read> Read for Stream<F, I> {
     ghost remaining = { λ stream. bytes_left F.remaining I.remaining stream };
 
@@ -206,6 +165,8 @@ impl<M: Machine> Host for MachineHost<'_, M> {
 
     ghost opens = { λ old name result new. OpensOn M.opens M.gives old name result new };
 
+    ghost knows_length = { λ watch. length_known M.knows_file M.knows_input watch.device };
+
     /// Opens the file of this name on the machine, or standard input if `name` is `None`. Fails if
     /// the machine cannot open it, or has no memory for it.
     fn open(&mut self, name: Option<&str>) -> Result<Watch<Stream<M::File, M::Input>>, OpenFault> {
@@ -219,15 +180,12 @@ impl<M: Machine> Host for MachineHost<'_, M> {
         }
     }
 
-    /// Returns a number of bytes that the reads of this input do not exceed; `None` if the machine
-    /// knows none.
-    fn max_bytes_of(input: &Watch<Stream<M::File, M::Input>>) -> Option<usize>
-        ensures { GivesAtMost
-            (⟦<Watch<Stream<M::File, M::Input>> as Source>⟧.rest input.now) result }
-    {
+    /// Returns a number of bytes that the reads of this input do not exceed, as far as the machine
+    /// knows; `None` if it knows none.
+    fn max_bytes_of(&self, input: &Watch<Stream<M::File, M::Input>>) -> Option<usize> {
         match &input.device {
-            Stream::File(file) => M::max_bytes_of_file(&file.device),
-            Stream::Input(input) => M::max_bytes_of_input(&input.device),
+            Stream::File(file) => self.machine.max_bytes_of_file(&file.device),
+            Stream::Input(input) => self.machine.max_bytes_of_input(&input.device),
             Stream::Refused => None,
         }
     }
@@ -257,8 +215,8 @@ fn run_over<M: Machine, W: Output, E: Sink, B: BuildHasher>(
 ) -> u8
     requires out_failures { (W.device out.old).failures < 2 ^ 64 - 1 }
     requires err_failures { (E.device err.old).failures < 2 ^ 64 - 2 }
-    ensures { RunsOver M.opens M.gives M.File.remaining M.Input.remaining W.device W.flushes
-        machine.now is_seeded (map string_bytes words.now)
+    ensures { RunsOver M.opens M.gives M.knows_file M.knows_input
+        M.File.remaining M.Input.remaining W.device W.flushes machine.now is_seeded (map string_bytes words.now)
         (W.device out.old) out.new (E.device err.old) (E.device err.new) result }
 {
     let mut host = MachineHost { machine, is_seeded };

@@ -93,7 +93,7 @@ impl<'a> Host for Memory<'a> {
     }
 
     /// Returns how many bytes of this input are left. It never returns `None`.
-    fn max_bytes_of(input: &Bytes<'a>) -> Option<usize> {
+    fn max_bytes_of(&self, input: &Bytes<'a>) -> Option<usize> {
         Some(input.rest.len())
     }
 }

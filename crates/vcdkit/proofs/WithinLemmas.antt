@@ -289,6 +289,11 @@ run_within a b c d le want names texts old new out out' err err' status short (W
 run_within a b c d le want names texts old new out out' err err' status short (NoMemory inputs read written shown status_is) =
     NoMemory inputs (read_within a b c d le is_header_over [] texts old new inputs short read) written shown status_is
 
+-- under one limit any texts will do
+pub same_limit : (limit : ℕ) (texts : List (List ℕ)) → AllByRecursion (IsShort limit limit) texts
+same_limit limit [] = tt
+same_limit limit (text ∷ texts) = (inl refl, same_limit limit texts)
+
 -- ---- readers that give few bytes
 
 -- a reader that is known to give few bytes

@@ -1,6 +1,6 @@
 //! A job, from its readers to its output, its message and its status.
 ghost use Rattle.std.specs.Prelude.{◌≡◌, ◌+◌, ◌-◌, ◌^◌, ◌<◌, ◌≤◌, map, length, string_bytes, true, false, IfSome};
-ghost use Rattle.vcdkit.specs.Names.{AreReaders, AreWithin, AreWithinBound, chunk_len_of, CountsAt, CountsReadsOf, CountsWrites, Does, end_of, EndsAtRead, EndsAtReadOf, EndsAtStop, EndsSo, FailOnce, failure_of, HasNotFailed, InputEnds, is_asked, is_merge, IsEnough, IsValid, JobEnds, limit_of, MayFailOnce, merge_end, Merges, names_asked, Narrows, reads_failed, request_for, request_of_task, room_size, RunsJob, SameLoans, source_of, stop_writes, WantEnds, writes_failed};
+ghost use Rattle.vcdkit.specs.Names.{AreReaders, AreWithin, AreWithinBound, chunk_len_of, CountsAt, CountsReadsOf, CountsWrites, Does, end_of, EndsAtRead, EndsAtReadOf, EndsAtStop, EndsSo, FailOnce, failure_of, HasNotFailed, InputEnds, is_asked, is_merge, IsEnough, IsValid, JobEnds, limit_of, MayFailOnce, merge_end, Merges, names_asked, Narrows, reads_failed, request_for, request_of_task, room_size, RunsJob, RunsUnder, SameLoans, source_of, stop_writes, WantEnds, writes_failed};
 
 use crate::failure::Failure;
 use crate::inputs::{MAX_DECLARATIONS, Reading, open_input, open_inputs, windows_for};
@@ -260,6 +260,9 @@ fn narrowed(job: Job, longest: Option<usize>) -> Job
 /// them gives at most, if that is known: then the buffers are no longer than that, or than 64 bytes
 /// if it is less, so that a run over small inputs takes and clears less memory. What is written is
 /// the same. The other arguments, the output and the status are those of `run_with_hasher`.
+///
+/// If a reader gives more than `longest` bytes, these are read too, but its tokens have to fit into
+/// the shorter buffers: a longer token is refused.
 pub fn run_within<S: Source, W: Sink, E: Sink, B: BuildHasher>(
     alloc: Global,
     job: Job,
@@ -272,13 +275,19 @@ pub fn run_within<S: Source, W: Sink, E: Sink, B: BuildHasher>(
 ) -> u8
     requires names { length names.now ≡ length readers.old }
     requires readers { AreReaders S.failures readers.old }
-    requires within { AreWithin S.rest longest readers.old }
     requires alone { is_merge job.task ≡ false → length readers.old ≡ 1 }
     requires sinks { MayFailOnce W.Sink E.Sink out.old err.old }
     ensures failures { FailOnce W.Sink E.Sink out.old out.new err.old err.new }
     ensures ends { EndsSo S.Source W.Sink E.Sink job (map string_bytes names.now)
         readers.old readers.new out.old out.new err.old err.new result }
-    ensures gives { RunsJob S.Source W.Sink E.Sink job (map string_bytes names.now)
+
+    // If no reader gives more than `longest` bytes, it is the outcome of the definitions.
+    ensures gives { AreWithin S.rest longest readers.old
+        → RunsJob S.Source W.Sink E.Sink job (map string_bytes names.now)
+        readers.old readers.new out.old out.new err.old err.new result }
+
+    // Whatever the readers give, it is their outcome under a token limit that may be lower.
+    ensures under { RunsUnder S.Source W.Sink E.Sink longest job (map string_bytes names.now)
         readers.old readers.new out.old out.new err.old err.new result }
 {
     let narrow = narrowed(job, longest);
