@@ -1,14 +1,14 @@
 -- Codes of digits as lanes of a vector.
-use Rattle.std.proofs.Common.{◌≡◌, ◌≢◌, ℕ, ◌+◌, ◌*◌, ◌/◌, ◌%◌, ◌^◌, ◌<◌, ◌≤◌, ◌==◌, suc, T, ltb, ltb→lt, true, cond, not, List, [], ◌∷◌, length, map, get_or, replicate, Fits, w8, refl, sym, subst, ap, ap₂, ◌∙◌, arith}
-use Rattle.std.proofs.lemmas.Bool.{agree_below_at, eq-eqb, eqb-true}
+use Rattle.std.proofs.Common.{◌≡◌, ℕ, ◌+◌, ◌*◌, ◌/◌, ◌%◌, ◌^◌, ◌<◌, ◌≤◌, ◌==◌, suc, T, ltb, ltb→lt, true, false, cond, List, [], ◌∷◌, length, map, get_or, replicate, Fits, w8, refl, sym, subst, ap, ap₂, ◌∙◌, arith}
+use Rattle.std.proofs.lemmas.Bool.{agree_below_at, eqb-true}
 use Rattle.std.proofs.lemmas.List.{get_or-map, length-map}
-use Rattle.std.proofs.lemmas.Simd.{get_or-chunk, get_or-zip2, length-chunk, length-zip2, swz_l, SwzOk, SwzOk-from_below, tops_compared, zip2_splat}
+use Rattle.std.proofs.lemmas.Simd.{get_or-chunk, get_or-zip2, length-chunk, length-zip2, swz_l, SwzOk, SwzOk-from_below, zip2_splat}
 use Rattle.std.specs.Prelude.{bit_and}
-use lib.Lanes.{chunk, mask_l, top, zip2, Each1}
+use lib.Lanes.{chunk, zip2, Each1}
 use mir.Val.{zeroes}
-use Rattle.vcd_body.specs.Packed.{code_of, code_or}
+use Rattle.vcd_body.specs.Packed.{code_of, code_or, shifted}
 use Rattle.vcd_body.specs.declared.packed.TheConstants.{CODES}
-use Rattle.vcd_body.proofs.PackedLemmas.{in_text}
+use Rattle.vcd_body.proofs.PackedLemmas.{in_text, or_small}
 
 abbrev pub added : ℕ → ℕ → ℕ
 added a b = (a + b) % 256
@@ -28,59 +28,56 @@ all_low (x ∷ xs) fits = (low x fits.0.fits, all_low xs fits.1)
 pub places_of_lanes : (v : List ℕ) → length v ≡ 16 → Each1 (Fits w8) v → SwzOk w8 16 16 0 (zip2 bit_and v (replicate 16 15))
 places_of_lanes v long fits = subst (λ js. SwzOk w8 16 16 0 js) (sym (zip2_splat bit_and v 16 15 long)) (SwzOk-from_below w8 16 1 16 0 (map low_bits v) refl (omega (arith, length-map v low_bits, long)) (all_low v fits))
 
--- what a look-up finds for a byte at a place in the table
-abbrev found : ℕ → ℕ → ℕ
-found x place = cond (zeroes 16 w8 (low_bits x)) 0 (get_or CODES place 0)
+-- what a look-up finds for a byte in the table of codes that are moved to the left
+look : (s x : ℕ) → x < 256 → cond (zeroes 16 w8 (low_bits x)) 0 (get_or (map (shifted s) CODES) (low_bits x) 0) ≡ shifted s (code_of x)
+look s x fit =
+    ap (λ t. cond t 0 (get_or (map (shifted s) CODES) (low_bits x) 0)) (agree_below_at (λ y. zeroes 16 w8 (low_bits y)) (λ _. false) 256 x refl fit)
+    ∙ get_or-map (shifted s) CODES (low_bits x) 0 0 (low x fit)
+    ∙ ap (shifted s) (eqb-true (get_or CODES (low_bits x) 0) (code_of x) (agree_below_at (λ y. get_or CODES (low_bits y) 0 == code_of y) (λ _. true) 256 x refl fit))
 
-looked : (i : ℕ) (v : List ℕ) → i + length v ≤ 16 → Each1 (Fits w8) v → swz_l w8 16 CODES i (map low_bits v) ≡ map code_of v
-looked i [] few fits = refl
-looked i (x ∷ xs) few fits =
+looked : (s i : ℕ) (v : List ℕ) → i + length v ≤ 16 → Each1 (Fits w8) v → swz_l w8 16 (map (shifted s) CODES) i (map low_bits v) ≡ map (λ d. shifted s (code_of d)) v
+looked s i [] few fits = refl
+looked s i (x ∷ xs) few fits =
     let first : 16 * (i / 16) + low_bits x ≡ low_bits x = omega arith in
-    let code = eqb-true (found x (low_bits x)) (code_of x) (agree_below_at (λ y. found y (low_bits y) == code_of y) (λ _. true) 256 x refl fits.0.fits) in
-    ap₂ (λ (a : ℕ) (b : List ℕ). a ∷ b) (ap (found x) first ∙ code) (looked (suc i) xs (omega arith) fits.1)
+    ap₂ (λ (a : ℕ) (b : List ℕ). a ∷ b) (ap (λ j. cond (zeroes 16 w8 (low_bits x)) 0 (get_or (map (shifted s) CODES) j 0)) first ∙ look s x fits.0.fits) (looked s (suc i) xs (omega arith) fits.1)
 
-pub codes_of_lanes : (v : List ℕ) → length v ≡ 16 → Each1 (Fits w8) v → swz_l w8 16 CODES 0 (zip2 bit_and v (replicate 16 15)) ≡ map code_of v
-codes_of_lanes v long fits = ap (λ js. swz_l w8 16 CODES 0 js) (zip2_splat bit_and v 16 15 long) ∙ looked 0 v (omega arith) fits
+pub codes_of_lanes : (s : ℕ) (v : List ℕ) → length v ≡ 16 → Each1 (Fits w8) v → swz_l w8 16 (zip2 (λ a b. a * 2 ^ b % 256) CODES (replicate 16 s)) 0 (zip2 bit_and v (replicate 16 15)) ≡ map (λ d. shifted s (code_of d)) v
+codes_of_lanes s v long fits =
+    ap (λ t. swz_l w8 16 t 0 (zip2 bit_and v (replicate 16 15))) (zip2_splat (λ a b. a * 2 ^ b % 256) CODES 16 s refl)
+    ∙ ap (λ js. swz_l w8 16 (map (shifted s) CODES) 0 js) (zip2_splat bit_and v 16 15 long) ∙ looked s 0 v (omega arith) fits
 
--- a lane of codes
-pub code_lane : (text : List ℕ) (at k p : ℕ) → at + 16 ≤ length text → k < 16 → at + k ≡ p → get_or (map code_of (chunk at 16 text)) k 0 ≡ code_or text p
-code_lane text at k p room less is =
+-- ---- a sum of the codes of four loads
+
+abbrev lanes : ℕ → ℕ → List ℕ → List ℕ
+lanes s at text = map (λ d. shifted s (code_of d)) (chunk at 16 text)
+
+long_lanes : (s at : ℕ) (text : List ℕ) → at + 16 ≤ length text → length (lanes s at text) ≡ 16
+long_lanes s at text room = length-map (chunk at 16 text) (λ d. shifted s (code_of d)) ∙ length-chunk at 16 text room
+
+code_lane : (s at k : ℕ) (text : List ℕ) → at + 16 ≤ length text → k < 16 → get_or (lanes s at text) k 0 ≡ shifted s (code_or text (at + k))
+code_lane s at k text room less =
     let long = length-chunk at 16 text room in
-    get_or-map code_of (chunk at 16 text) k 0 0 (omega (arith, long, less)) ∙ ap code_of (get_or-chunk at 16 text k 0 less ∙ ap (λ j. get_or text j 0) is) ∙ sym (in_text text p (omega arith))
+    get_or-map (λ d. shifted s (code_of d)) (chunk at 16 text) k 0 0 (omega (arith, long, less)) ∙ ap (λ d. shifted s (code_of d)) (get_or-chunk at 16 text k 0 less) ∙ ap (shifted s) (sym (in_text text (at + k) (omega arith)))
 
--- ---- a lane plus four times another
+module _ (text : List ℕ) (a b d e : ℕ) (ra : a + 16 ≤ length text) (rb : b + 16 ≤ length text) (rd : d + 16 ≤ length text) (re : e + 16 ≤ length text) where
+  abbrev two : List ℕ
+  two = zip2 added (lanes 0 a text) (lanes 2 b text)
 
-pub long_4_times : (low high : List ℕ) → length low ≡ 16 → length high ≡ 16 → length (zip2 added low (zip2 added (zip2 added high high) (zip2 added high high))) ≡ 16
-long_4_times low high a b =
-    let t = length-zip2 added high high refl in
-    let f = length-zip2 added (zip2 added high high) (zip2 added high high) refl in
-    length-zip2 added low (zip2 added (zip2 added high high) (zip2 added high high)) (omega (arith, t, f)) ∙ a
+  abbrev three : List ℕ
+  three = zip2 added two (lanes 4 d text)
 
-pub lane_4_times : (low high : List ℕ) → length low ≡ 16 → length high ≡ 16 → (k : ℕ) → k < 16 → get_or low k 0 + 4 * get_or high k 0 < 256
-    → get_or (zip2 added low (zip2 added (zip2 added high high) (zip2 added high high))) k 0 ≡ get_or low k 0 + 4 * get_or high k 0
-lane_4_times low high a b k less fits =
-    let t = length-zip2 added high high refl in
-    let f = length-zip2 added (zip2 added high high) (zip2 added high high) refl in
-    let e = get_or-zip2 added high high k 0 0 0 (omega arith) (omega arith) in
-    let g = get_or-zip2 added (zip2 added high high) (zip2 added high high) k 0 0 0 (omega (arith, t)) (omega (arith, t)) in
-    get_or-zip2 added low (zip2 added (zip2 added high high) (zip2 added high high)) k 0 0 0 (omega arith) (omega (arith, t, f)) ∙ omega (arith, e, g)
+  long_two : length two ≡ 16
+  long_two = length-zip2 added (lanes 0 a text) (lanes 2 b text) (long_lanes 0 a text ra ∙ sym (long_lanes 2 b text rb)) ∙ long_lanes 0 a text ra
 
--- ---- rows of codes that are compared
+  long_three : length three ≡ 16
+  long_three = length-zip2 added two (lanes 4 d text) (long_two ∙ sym (long_lanes 4 d text rd)) ∙ long_two
 
-none_set : (xs : List ℕ) → mask_l (zip2 (λ a b. not (a == b)) xs xs) ≡ 0
-none_set [] = refl
-none_set (x ∷ xs) = let e : (x == x) ≡ true = eq-eqb x x refl in rw (e, none_set xs) refl
+  pub four_long : length (zip2 added three (lanes 6 e text)) ≡ 16
+  four_long = length-zip2 added three (lanes 6 e text) (long_three ∙ sym (long_lanes 6 e text re)) ∙ long_three
 
-pub no_mask : (xs : List ℕ) → mask_l (map (top 7) (zip2 (λ a b. cond (not (a == b)) 255 0) xs xs)) % 2 ^ 64 ≡ 0
-no_mask xs = ap (λ ms. mask_l ms % 2 ^ 64) (tops_compared w8 (λ a b. not (a == b)) xs xs) ∙ ap (λ n. n % 2 ^ 64) (none_set xs)
-
--- so rows with a mask differ
-pub mask_differs : (xs ys : List ℕ) → not (mask_l (map (top 7) (zip2 (λ a b. cond (not (a == b)) 255 0) xs ys)) % 2 ^ 64 == 0) ≡ true → xs ≢ ys
-mask_differs xs ys some e =
-    let z = ap (λ l. mask_l (map (top 7) (zip2 (λ a b. cond (not (a == b)) 255 0) xs l)) % 2 ^ 64) (sym e) ∙ no_mask xs in
-    let t : not (0 == 0) ≡ true = ap (λ n. not (n == 0)) (sym z) ∙ some in
-    cc t
-
--- the codes of the last digits of bytes
-pub last_codes : (v : List ℕ) → length v ≡ 16 → Each1 (Fits w8) v → zip2 (λ a b. a / 2 ^ b) v (replicate 16 6) ≡ map (λ y. y / 64) v
-last_codes v long fits = zip2_splat (λ a b. a / 2 ^ b) v 16 6 long
+  pub four_lanes : (k : ℕ) → k < 16 → get_or (zip2 added three (lanes 6 e text)) k 0 ≡ code_or text (a + k) + 4 * code_or text (b + k) + 16 * code_or text (d + k) + 64 * code_or text (e + k)
+  four_lanes k less =
+      let p = get_or-zip2 added (lanes 0 a text) (lanes 2 b text) k 0 0 0 (omega (arith, long_lanes 0 a text ra, less)) (omega (arith, long_lanes 2 b text rb, less)) in
+      let q = get_or-zip2 added two (lanes 4 d text) k 0 0 0 (omega (arith, long_two, less)) (omega (arith, long_lanes 4 d text rd, less)) in
+      get_or-zip2 added three (lanes 6 e text) k 0 0 0 (omega (arith, long_three, less)) (omega (arith, long_lanes 6 e text re, less))
+      ∙ omega (arith, p, q, code_lane 0 a k text ra less, code_lane 2 b k text rb less, code_lane 4 d k text rd less, code_lane 6 e k text re less, or_small text (a + k), or_small text (b + k), or_small text (d + k), or_small text (e + k))

@@ -1,14 +1,11 @@
 -- The codes of the last digits, which are the same where the values are.
-use Rattle.std.proofs.Common.{◌≡◌, ℕ, zero, suc, ◌+◌, ◌-◌, ◌/◌, ◌<◌, ◌≤◌, ◌==◌, true, List, length, map, get_or, Some, slice_get, Fits, w8, refl, sym, ap, ◌∙◌, arith}
+use Rattle.std.proofs.Common.{◌≡◌, ℕ, zero, suc, ◌-◌, ◌/◌, ◌<◌, ◌≤◌, ◌==◌, true, List, length, get_or, Some, slice_get, Fits, w8, refl, sym, ap, ◌∙◌, arith}
 use Rattle.std.specs.Prelude.{option_map}
 use Rattle.std.specs.Char.{to_ascii_lowercase}
 use Rattle.std.specs.Str.{str_to_ascii_lowercase}
 use Rattle.std.proofs.lemmas.Bool.{agree_below_at, eqb-true}
-use Rattle.std.proofs.lemmas.Grind.{same_number_lists}
-use Rattle.std.proofs.lemmas.List.{get_or-map, length-map}
+use Rattle.std.proofs.lemmas.List.{length-map}
 use Rattle.std.proofs.lemmas.Option.{slice_get-get_or, slice_get-map}
-use Rattle.std.proofs.lemmas.Simd.{get_or-chunk, length-chunk}
-use lib.Lanes.{chunk}
 use Rattle.vcd_model.specs.Values.{extend}
 use Rattle.vcd_body.specs.Packed.{code_among, code_of, digit_of, digits_in, quarter_of}
 use Rattle.vcd_body.proofs.CompareLemmas.{same_from_last}
@@ -60,25 +57,3 @@ ends_same share text len q back size is few less bytes fits e =
     let c : code_among len share p ≡ y / 64 = in_last len share p (omega (arith, is, few, enough)) ∙ ap (λ (n : ℕ). get_or share n 0 / 64) j in
     let at = ap (slice_get (digits_in len share)) i ∙ digit_among len share p (omega (arith, enough, few)) ∙ ap (λ (n : ℕ). Some (digit_of n)) c in
     sym (code_digit (y / 64) (omega (arith, fit))) ∙ end_code (digits_in len share) text size back (digit_of (y / 64)) (omega (arith, l, enough, few)) less fits e at
-
--- ---- a row of them
-
-lane : (f : ℕ → ℕ) (xs : List ℕ) (at k : ℕ) → at + 16 ≤ length xs → k < 16 → get_or (map f (chunk at 16 xs)) k 0 ≡ f (get_or xs (at + k) 0)
-lane f xs at k room less =
-    let long = length-chunk at 16 xs room in
-    get_or-map f (chunk at 16 xs) k 0 0 (omega (arith, long, less)) ∙ ap f (get_or-chunk at 16 xs k 0 less)
-
-rows : (f g : ℕ → ℕ) (xs ys : List ℕ) (at to : ℕ) → at + 16 ≤ length xs → to + 16 ≤ length ys → ((k : ℕ) → k < 16 → f (get_or xs (at + k) 0) ≡ g (get_or ys (to + k) 0)) → map f (chunk at 16 xs) ≡ map g (chunk to 16 ys)
-rows f g xs ys at to room more same =
-    let a = length-map (chunk at 16 xs) f ∙ length-chunk at 16 xs room in
-    let b = length-map (chunk to 16 ys) g ∙ length-chunk to 16 ys more in
-    same_number_lists (map f (chunk at 16 xs)) (map g (chunk to 16 ys)) (a ∙ sym b) (λ k h.
-    let less : k < 16 = omega (arith, a, h) in
-    lane f xs at k room less ∙ same k less ∙ sym (lane g ys to k more less))
-
-pub packed_ends : (share text : List ℕ) (len q size : ℕ) → q ≡ quarter_of len → 16 ≤ q → q ≤ length share → 16 ≤ length text → ((i : ℕ) → Fits w8 (get_or share i 0)) → ((i : ℕ) → Fits w8 (get_or text i 0)) → extend (digits_in len share) size ≡ extend (str_to_ascii_lowercase text) size
-    → map (λ y. y / 64) (chunk (q - 16) 16 share) ≡ map code_of (chunk (length text - 16) 16 text)
-packed_ends share text len q size is many room most bytes fits e = rows (λ y. y / 64) code_of share text (q - 16) (length text - 16) (omega arith) (omega arith) (λ k less.
-    let i : q - 16 + k ≡ q - 1 - (15 - k) = omega arith in
-    let j : length text - 1 - (15 - k) ≡ length text - 16 + k = omega arith in
-    ap (λ (n : ℕ). get_or share n 0 / 64) i ∙ ends_same share text len q (15 - k) size is (omega arith) (omega arith) bytes fits e ∙ ap (λ (n : ℕ). code_of (get_or text n 0)) j)

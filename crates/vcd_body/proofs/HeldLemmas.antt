@@ -1,10 +1,10 @@
 -- The value that a slot holds, digit by digit.
 use Rattle.std.proofs.Common.{◌≡◌, ℕ, zero, suc, ◌-◌, ◌<◌, ◌≤◌, List, [], ◌∷◌, ◌++◌, length, replicate, slice_get, Some, None, refl, sym, ap, ◌∙◌, arith}
 use Rattle.vcd_model.specs.Values.{extend, extension}
-use Rattle.vcd_body.specs.Kept.{Held, bytes_for, digit_in, value_at_size}
+use Rattle.vcd_body.specs.Kept.{Held, digit_in, value_at_size}
 use Rattle.vcd_body.specs.Binary.{binary_digits, count_in, number_in}
 use Rattle.vcd_body.specs.Packed.{digits_in}
-use Rattle.vcd_body.specs.Stored.{digits_held, held_by, some_by, used_by}
+use Rattle.vcd_body.specs.Stored.{digits_held, held_by, some_by}
 use Rattle.vcd_body.specs.declared.slot.State.{State}
 use Rattle.vcd_body.specs.declared.slot.State.TheVariants as state
 use Rattle.vcd_body.proofs.BinaryLemmas.{some_binary}
@@ -13,11 +13,8 @@ use Rattle.vcd_body.proofs.PackedLemmas.{length_digits}
 -- ---- held digits
 
 -- this many packed digits are held
-pub length_held : (len : ℕ) (bytes : List ℕ) → bytes_for len ≤ length bytes → length (digits_in len bytes) ≡ len
-length_held len bytes h = length_digits len bytes
-
-pub count_held : (st : State) (len : ℕ) (bytes : List ℕ) → st ≡ state.Packed → used_by st len ≤ length bytes → len ≡ length (digits_held (held_by st len bytes))
-count_held st len bytes is h = rw is (sym (length_held len bytes (let u = ap (λ (x : State). used_by x len) is in omega (arith, u, h))))
+pub count_held : (st : State) (len : ℕ) (bytes : List ℕ) → st ≡ state.Packed → len ≡ length (digits_held (held_by st len bytes))
+count_held st len bytes is = rw is (sym (length_digits len bytes))
 
 -- ---- extended digits
 
@@ -43,15 +40,15 @@ first_there [] h e = omega arith
 first_there (d ∷ ds) h e = let f : Some d ≡ None = e in cc
 
 -- where there is none, the value has no digits
-pub no_digits : (st : State) (len size position : ℕ) (bytes : List ℕ) → used_by st len ≤ length bytes → 1 ≤ some_by st len → slice_get (digits_held (held_by st len bytes)) 0 ≡ None → digit_in (value_at_size size (held_by st len bytes)) position ≡ None
-no_digits state.Unset len size position bytes u s e = refl
-no_digits state.Zero len size position bytes u s e = cc
-no_digits state.One len size position bytes u s e = cc
-no_digits state.Unknown len size position bytes u s e = cc
-no_digits state.High len size position bytes u s e = cc
-no_digits state.Packed len size position bytes u s e = absurd (first_there (digits_in len bytes) (let l = length_held len bytes u in omega arith) e)
-no_digits state.Bits len size position bytes u s e = absurd (first_there (binary_digits (count_in len) (number_in len)) (some_binary len s) e)
-no_digits state.Real len size position bytes u s e = refl
+pub no_digits : (st : State) (len size position : ℕ) (bytes : List ℕ) → 1 ≤ some_by st len → slice_get (digits_held (held_by st len bytes)) 0 ≡ None → digit_in (value_at_size size (held_by st len bytes)) position ≡ None
+no_digits state.Unset len size position bytes s e = refl
+no_digits state.Zero len size position bytes s e = cc
+no_digits state.One len size position bytes s e = cc
+no_digits state.Unknown len size position bytes s e = cc
+no_digits state.High len size position bytes s e = cc
+no_digits state.Packed len size position bytes s e = absurd (first_there (digits_in len bytes) (let l = length_digits len bytes in omega arith) e)
+no_digits state.Bits len size position bytes s e = absurd (first_there (binary_digits (count_in len) (number_in len)) (some_binary len s) e)
+no_digits state.Real len size position bytes s e = refl
 
 -- the digit that others are extended by is that of the first one
 pub extension_first : (ds : List ℕ) (first : ℕ) → slice_get ds 0 ≡ Some first → extension ds ≡ extension (first ∷ [])

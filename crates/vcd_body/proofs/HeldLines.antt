@@ -5,11 +5,11 @@ use Rattle.vcd_model.specs.Cut.{line_if_set}
 use Rattle.vcd_model.specs.Sample.{shown}
 use Rattle.vcd_model.specs.Values.{extend, short}
 use Rattle.vcd_body.specs.Kept.{Held, value_at_size}
-use Rattle.vcd_body.specs.Stored.{digits_held, held_by, held_line, some_by, used_by}
+use Rattle.vcd_body.specs.Stored.{digits_held, held_by, held_line, some_by}
 use Rattle.vcd_body.specs.declared.slot.State.{State}
 use Rattle.vcd_body.specs.declared.slot.State.TheVariants as state
 use Rattle.vcd_body.proofs.BinaryLemmas.{some_binary}
-use Rattle.vcd_body.proofs.HeldLemmas.{length_held}
+use Rattle.vcd_body.proofs.PackedLemmas.{length_digits}
 use Rattle.vcd_body.proofs.Shortest.{extend_wide}
 
 -- of a state with digits, that is all that is held
@@ -24,15 +24,15 @@ all_digits state.Bits len bytes u r = refl
 all_digits state.Real len bytes u r = absurd (r refl)
 
 -- and they are some
-pub some_digits : (st : State) (len : ℕ) (bytes : List ℕ) → used_by st len ≤ length bytes → 1 ≤ some_by st len → st ≢ state.Unset → st ≢ state.Real → 0 < length (digits_held (held_by st len bytes))
-some_digits state.Unset len bytes h s u r = absurd (u refl)
-some_digits state.Zero len bytes h s u r = omega arith
-some_digits state.One len bytes h s u r = omega arith
-some_digits state.Unknown len bytes h s u r = omega arith
-some_digits state.High len bytes h s u r = omega arith
-some_digits state.Packed len bytes h s u r = let l = length_held len bytes h in omega arith
-some_digits state.Bits len bytes h s u r = some_binary len s
-some_digits state.Real len bytes h s u r = absurd (r refl)
+pub some_digits : (st : State) (len : ℕ) (bytes : List ℕ) → 1 ≤ some_by st len → st ≢ state.Unset → st ≢ state.Real → 0 < length (digits_held (held_by st len bytes))
+some_digits state.Unset len bytes s u r = absurd (u refl)
+some_digits state.Zero len bytes s u r = omega arith
+some_digits state.One len bytes s u r = omega arith
+some_digits state.Unknown len bytes s u r = omega arith
+some_digits state.High len bytes s u r = omega arith
+some_digits state.Packed len bytes s u r = let l = length_digits len bytes in omega arith
+some_digits state.Bits len bytes s u r = some_binary len s
+some_digits state.Real len bytes s u r = absurd (r refl)
 
 -- the definitions' line of digits
 pub line_is : (size : ℕ) (ds id : List ℕ) (event : Bool) (held : Held) → 0 < length ds → held ≡ Held.Digits ds → held_line size ds id ≡ line_if_set (record { text = id; size = size; event = event }) (value_at_size size held)

@@ -24,7 +24,6 @@ pub mod Pieces
 pub mod HeldShort
 pub mod HeldLines
 pub mod SetLemmas
-mod SeveralLemmas
 pub mod CompareLemmas
 pub mod EndLemmas
 pub mod StepLemmas

@@ -53,16 +53,12 @@ pub off : (b : Bool) → not b ≡ true → b ≡ false
 off true h = cc
 off false h = refl
 
-pub on : (b : Bool) → not b ≡ false → b ≡ true
-on true h = refl
-on false h = cc
-
-pub mask_same : (xs ys : List ℕ) → length xs ≡ 16 → length ys ≡ 16 → not (mask_l (map (top 7) (zip2 (λ a b. cond (not (a == b)) 255 0) xs ys)) % 2 ^ 64 == 0) ≡ false → xs ≡ ys
+pub mask_same : (xs ys : List ℕ) → length xs ≡ 16 → length ys ≡ 16 → (mask_l (map (top 7) (zip2 (λ a b. cond (not (a == b)) 255 0) xs ys)) % 2 ^ 64 == 0) ≡ true → xs ≡ ys
 mask_same xs ys a b none =
     let tests = zip2 (λ x y. not (x == y)) xs ys in
     let long = length-zip2 (λ x y. not (x == y)) xs ys (a ∙ sym b) in
     let whole = ap (λ l. mask_l l % 2 ^ 64) (tops_compared w8 (λ x y. not (x == y)) xs ys) ∙ mask_l-mod tests 64 (omega (arith, long, a)) in
-    all_same xs ys (a ∙ sym b) (sym whole ∙ eqb-true _ 0 (on _ none))
+    all_same xs ys (a ∙ sym b) (sym whole ∙ eqb-true _ 0 none)
 
 -- ---- digits that are 0 and 1 alone
 

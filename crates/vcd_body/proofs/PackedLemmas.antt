@@ -56,16 +56,7 @@ above_test a b x y h = ap (λ t. cond t x y) (le-ltb a b h)
 pub in_text : (text : List ℕ) (position : ℕ) → position < length text → code_or text position ≡ code_of (get_or text position 0)
 in_text text position h = below_test position (length text) (code_of (get_or text position 0)) 0 h
 
--- the code at an index, by its quarter
-pub in_first : (n : ℕ) (bytes : List ℕ) (p : ℕ) → p < n - quarter_of n → p < quarter_of n → code_among n bytes p ≡ get_or bytes p 0 % 4
-in_first n bytes p before h = below_test p (n - quarter_of n) _ _ before ∙ below_test p (quarter_of n) _ _ h
-
-pub in_second : (n : ℕ) (bytes : List ℕ) (p : ℕ) → p < n - quarter_of n → quarter_of n ≤ p → p < 2 * quarter_of n → code_among n bytes p ≡ get_or bytes (p - quarter_of n) 0 / 4 % 4
-in_second n bytes p before h less = below_test p (n - quarter_of n) _ _ before ∙ above_test p (quarter_of n) _ _ h ∙ below_test p (2 * quarter_of n) _ _ less
-
-pub in_third : (n : ℕ) (bytes : List ℕ) (p : ℕ) → p < n - quarter_of n → 2 * quarter_of n ≤ p → code_among n bytes p ≡ get_or bytes (p - 2 * quarter_of n) 0 / 16 % 4
-in_third n bytes p before h = below_test p (n - quarter_of n) _ _ before ∙ above_test p (quarter_of n) _ _ (omega (arith, h)) ∙ above_test p (2 * quarter_of n) _ _ h
-
+-- the code at an index of the last quarter
 pub in_last : (n : ℕ) (bytes : List ℕ) (p : ℕ) → n - quarter_of n ≤ p → code_among n bytes p ≡ get_or bytes (p - (n - quarter_of n)) 0 / 64
 in_last n bytes p h = above_test p (n - quarter_of n) _ _ h
 
@@ -76,42 +67,41 @@ abbrev pub Packs : List ℕ → ℕ → List ℕ → Type 0
 Packs text count bytes = (j : ℕ) → j < count → get_or bytes j 0 ≡ four_codes text (quarter_of (length text)) j
 
 -- the codes of a byte
-codes_of_byte : (a b c d y : ℕ) → a < 4 → b < 4 → c < 4 → d < 4 → y ≡ a + 4 * b + 16 * c + 64 * d → (y % 4 ≡ a) × (y / 4 % 4 ≡ b) × (y / 16 % 4 ≡ c) × (y / 64 ≡ d)
-codes_of_byte a b c d y ha hb hc hd e = (omega arith, omega arith, omega arith, omega arith)
+codes_in : (text : List ℕ) (q j : ℕ) → (four_codes text q j % 4 ≡ code_or text j) × (four_codes text q j / 4 % 4 ≡ code_or text (j + q)) × (four_codes text q j / 16 % 4 ≡ code_or text (j + 2 * q)) × (four_codes text q j / 64 ≡ code_or text (j + (length text - q)))
+codes_in text q j =
+    let a = or_small text j in
+    let b = or_small text (j + q) in
+    let c = or_small text (j + 2 * q) in
+    let d = or_small text (j + (length text - q)) in
+    (omega (arith, a, b, c, d), omega (arith, a, b, c, d), omega (arith, a, b, c, d), omega (arith, a, b, c, d))
 
-codes_at : (text bytes : List ℕ) (j : ℕ) → Packs text (quarter_of (length text)) bytes → j < quarter_of (length text) → let q = quarter_of (length text) in let y = get_or bytes j 0 in
-    (y % 4 ≡ code_or text j) × (y / 4 % 4 ≡ code_or text (j + q)) × (y / 16 % 4 ≡ code_or text (j + 2 * q)) × (y / 64 ≡ code_or text (j + (length text - q)))
-codes_at text bytes j packs h =
-    let q = quarter_of (length text) in
-    codes_of_byte (code_or text j) (code_or text (j + q)) (code_or text (j + 2 * q)) (code_or text (j + (length text - q))) (get_or bytes j 0) (or_small text j) (or_small text (j + q)) (or_small text (j + 2 * q)) (or_small text (j + (length text - q))) (packs j h)
+-- the byte that has a code, and what takes the code from this byte, also where it is that of a text
+abbrev Place : ℕ → ℕ → Type 0
+Place n p = (j : ℕ) × (f : ℕ → ℕ) × (j < quarter_of n) × ((bytes : List ℕ) → code_among n bytes p ≡ f (get_or bytes j 0)) × ((text : List ℕ) → length text ≡ n → f (four_codes text (quarter_of n) j) ≡ code_or text p)
 
--- the code at each index is that of the text's digit
-code_again : (text bytes : List ℕ) (p : ℕ) → Packs text (quarter_of (length text)) bytes → p < length text → code_among (length text) bytes p ≡ code_of (get_or text p 0)
-code_again text bytes p packs less = elim (cases_lt p (n - q)) [
+place : (n p : ℕ) → p < n → Place n p
+place n p less = elim (cases_lt p (n - q)) [
   | inl before ↦ elim (cases_lt p q) [
-    | inl a ↦ in_first n bytes p before a ∙ (codes_at text bytes p packs a).0 ∙ in_text text p less
+    | inl a ↦ (p, (λ y. y % 4), a, (λ bytes. below_test p (n - q) _ _ before ∙ below_test p q _ _ a), (λ text is. (codes_in text q p).0))
     | inr a ↦ elim (cases_lt p (2 * q)) [
-      | inl b ↦ in_second n bytes p before a b ∙ (codes_at text bytes (p - q) packs (omega arith)).1 ∙ here (p - q + q) (omega arith)
-      | inr b ↦ in_third n bytes p before b ∙ (codes_at text bytes (p - 2 * q) packs (omega (arith, whole, before))).2 ∙ here (p - 2 * q + 2 * q) (omega arith)
+      | inl b ↦ (p - q, (λ y. y / 4 % 4), omega arith, (λ bytes. below_test p (n - q) _ _ before ∙ above_test p q _ _ a ∙ below_test p (2 * q) _ _ b), (λ text is. (codes_in text q (p - q)).1 ∙ ap (code_or text) (omega arith)))
+      | inr b ↦ (p - 2 * q, (λ y. y / 16 % 4), omega (arith, whole, before), (λ bytes. below_test p (n - q) _ _ before ∙ above_test p q _ _ a ∙ above_test p (2 * q) _ _ b), (λ text is. (codes_in text q (p - 2 * q)).2 ∙ ap (code_or text) (omega arith)))
     ]
   ]
-  | inr behind ↦ in_last n bytes p behind ∙ (codes_at text bytes (p - (n - q)) packs (omega (arith, few, less, behind))).3 ∙ here (p - (n - q) + (n - q)) (omega arith)
+  | inr behind ↦ (p - (n - q), (λ y. y / 64), omega (arith, less, behind), (λ bytes. in_last n bytes p behind), (λ text is. (codes_in text q (p - (n - q))).3 ∙ ap (code_or text) (omega (arith, is, behind, less))))
 ]
   where
-    n : ℕ
-    n = length text
-
     q : ℕ
-    q = quarter_of (length text)
+    q = quarter_of n
 
     whole : n ≤ 4 * q
     whole = let d = div_ceil_times n 4 (omega arith) in omega (arith, d)
 
-    few : q ≤ n
-    few = omega arith
-
-    here : (k : ℕ) → k ≡ p → code_or text k ≡ code_of (get_or text p 0)
-    here k e = ap (code_or text) e ∙ in_text text p less
+-- the code at each index is that of the text's digit
+code_again : (text bytes : List ℕ) (p : ℕ) → Packs text (quarter_of (length text)) bytes → p < length text → code_among (length text) bytes p ≡ code_of (get_or text p 0)
+code_again text bytes p packs less =
+    let at = place (length text) p less in
+    at.3 bytes ∙ ap at.1 (packs at.0 at.2) ∙ at.4 text refl ∙ in_text text p less
 
 pub length_digits : (n : ℕ) (bytes : List ℕ) → length (digits_in n bytes) ≡ n
 length_digits n bytes = length-map-range_with_len (λ position. digit_of (code_among n bytes position)) 0 n
@@ -161,6 +151,12 @@ digit_among n bytes p less =
 pub none_behind : (n : ℕ) (bytes : List ℕ) (p : ℕ) → n ≤ p → slice_get (digits_in n bytes) p ≡ None
 none_behind n bytes p h = slice_get_past (digits_in n bytes) p (let t = length_digits n bytes in omega arith)
 
+-- the last packed digit
+pub last_code : (len : ℕ) (bytes : List ℕ) → 1 ≤ len → slice_get (digits_in len bytes) (len - 1) ≡ Some (digit_of (get_or bytes (quarter_of len - 1) 0 / 64))
+last_code len bytes some =
+    let position : len - 1 - (len - quarter_of len) ≡ quarter_of len - 1 = omega (arith, some) in
+    digit_among len bytes (len - 1) (omega (arith, some)) ∙ ap (λ (n : ℕ). Some (digit_of n)) (in_last len bytes (len - 1) (omega (arith, some)) ∙ ap (λ (n : ℕ). get_or bytes n 0 / 64) position)
+
 -- only the first bytes matter
 pub digits_of_first : (n : ℕ) (xs ys : List ℕ) → ((j : ℕ) → j < quarter_of n → get_or xs j 0 ≡ get_or ys j 0) → digits_in n xs ≡ digits_in n ys
 digits_of_first n xs ys same =
@@ -168,19 +164,5 @@ digits_of_first n xs ys same =
     let b = length_digits n ys in
     same_number_lists (digits_in n xs) (digits_in n ys) (omega (arith, a, b)) (λ p h.
     let less : p < n = omega (arith, a, h) in
-    digit_there n xs p less ∙ ap digit_of (by_quarter p less) ∙ sym (digit_there n ys p less))
-  where
-    whole : n ≤ 4 * quarter_of n
-    whole = let d = div_ceil_times n 4 (omega arith) in omega (arith, d)
-
-    by_quarter : (p : ℕ) → p < n → code_among n xs p ≡ code_among n ys p
-    by_quarter p less = elim (cases_lt p (n - quarter_of n)) [
-      | inl before ↦ elim (cases_lt p (quarter_of n)) [
-        | inl a ↦ in_first n xs p before a ∙ ap (λ y. y % 4) (same p a) ∙ sym (in_first n ys p before a)
-        | inr a ↦ elim (cases_lt p (2 * quarter_of n)) [
-          | inl b ↦ in_second n xs p before a b ∙ ap (λ y. y / 4 % 4) (same (p - quarter_of n) (omega arith)) ∙ sym (in_second n ys p before a b)
-          | inr b ↦ in_third n xs p before b ∙ ap (λ y. y / 16 % 4) (same (p - 2 * quarter_of n) (omega (arith, whole, before))) ∙ sym (in_third n ys p before b)
-        ]
-      ]
-      | inr behind ↦ in_last n xs p behind ∙ ap (λ y. y / 64) (same (p - (n - quarter_of n)) (omega (arith, less, behind))) ∙ sym (in_last n ys p behind)
-    ]
+    let at = place n p less in
+    digit_there n xs p less ∙ ap digit_of (at.3 xs ∙ ap at.1 (same at.0 at.2) ∙ sym (at.3 ys)) ∙ sym (digit_there n ys p less))

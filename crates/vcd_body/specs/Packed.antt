@@ -1,12 +1,16 @@
 -- Digits, four to a byte: one of each quarter of the text, that of the first quarter in the lowest
 -- bits. The last quarter ends where the text does: it may begin with digits of the third one.
-use Rattle.std.specs.Prelude.{◌≡◌, ◌<◌, ◌≤◌, ℕ, ◌/◌, ◌%◌, ◌+◌, ◌-◌, ◌*◌, ◌==◌, nat_lt, min, cond, List, length, map, get_or}
+use Rattle.std.specs.Prelude.{◌≡◌, ◌<◌, ◌≤◌, ℕ, ◌/◌, ◌%◌, ◌+◌, ◌-◌, ◌*◌, ◌^◌, ◌==◌, nat_lt, min, cond, List, length, map, get_or}
 use Rattle.std.specs.List.{range_with_len}
 use Rattle.std.specs.Str.{byte}
 
 -- a digit as a number below 4; any other byte counts as the digit with its lowest four bits, or as z
 abbrev pub code_of : ℕ → ℕ
 code_of d = cond (d % 16 == 0) 0 (cond (d % 16 == 1) 1 (cond (d % 16 == 8) 3 2))
+
+-- a code in the two bits of a byte that begin at this one
+abbrev pub shifted : ℕ → ℕ → ℕ
+shifted shift code = code * 2 ^ shift % 256
 
 -- the digit with this number, in lower case
 abbrev pub digit_of : ℕ → ℕ

@@ -55,7 +55,7 @@ pub(crate) fn last_held(held: HeldValue<'_>) -> Option<u8>
     ensures { (size : ℕ) → result ≡ last_digit_in (value_at_size size (held_in held.entry)) }
 {
     match held.holding.state {
-        State::Packed => Some(last_packed(held.bytes, held.holding.len())),
+        State::Packed => Some(last_packed(held.bytes)),
         State::Bits => last_binary(held.holding),
         state => digit_of_state(state),
     }

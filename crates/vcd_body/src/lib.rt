@@ -60,8 +60,8 @@
 //! - `value`: `Value`, what a change gives
 //! - `table`, `slot`: `Table`, `Shown`; `Slot`, `Share`; `table_text`: `put_short`, `put_full`;
 //!   `step`: `Step`, what became of a value that was set
-//! - `store`: slots and shares of the values, and how they are set; `packed`: digits in a share, a
-//!   byte each or four to a byte
+//! - `store`: slots and shares of the values, and how they are set; `packed`: digits in a share,
+//!   four to a byte
 //! - `counters`: the counters of a code, which are in parts in its slot and its share
 //! - `bits`: `Bits`, up to 32 binary digits as a number, and how a slot holds them
 //! - `held`, `held_text`: the digits of a held value, and how it is written; `compare`: whether a

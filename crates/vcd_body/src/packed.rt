@@ -1,6 +1,6 @@
 // Digits in a share: four to a byte, one of each quarter of them.
 ghost use Rattle.std.specs.Prelude.{◌≡◌, ◌≢◌, ◌≤◌, ◌<◌, ◌+◌, ◌-◌, ◌*◌, ◌/◌, ℕ, Some, get_or, length, map, slice_get, false, true};
-ghost use Rattle.vcd_body.specs.Names.{ArePacked, AreTwo, HasFour, MayPack, chunk, code_among, code_of, code_or, digit_of, digits_in, four_codes, held_digit, quarter_of, str_to_ascii_lowercase};
+ghost use Rattle.vcd_body.specs.Names.{ArePacked, AreTwo, HasFour, MayPack, chunk, code_among, code_of, code_or, digit_of, digits_in, four_codes, held_digit, quarter_of, shifted, str_to_ascii_lowercase};
 
 use crate::words::are_all_digits;
 use std::simd::prelude::*;
@@ -23,34 +23,20 @@ fn digit_of(code: u8) -> u8
 // for `1`, 3 for an x, and 2 for a z and all others.
 const CODES: [u8; 16] = [0, 1, 2, 2, 2, 2, 2, 2, 3, 2, 2, 2, 2, 2, 2, 2];
 
-/// Returns the two bits of each of the 16 digits from offset `at` on: 0 for `0`, 1 for `1`, 3 for
-/// `x` and `X`, and 2 for `z` and `Z`. All 16 bytes have to be there.
+/// Returns the two bits of each of the 16 digits from offset `at` on, moved to the left by `shift`
+/// bits: 0 for `0`, 1 for `1`, 3 for `x` and `X`, and 2 for `z` and `Z`. All 16 bytes have to be
+/// there.
+// It moves the table, which takes no instruction, since `shift` is known when the program is built.
+// With additions that move the codes, `cut` before its window takes 3 % more of wide vectors.
 #[inline(always)]
-fn codes_16(bytes: &[u8], at: usize) -> u8x16
-    requires { at + 16 ≤ length bytes.now }
-    ensures { result ≡ map code_of (chunk at 16 bytes.now) }
+fn codes_16(bytes: &[u8], at: usize, shift: u8) -> u8x16
+    requires there { at + 16 ≤ length bytes.now }
+    requires shift { shift < 8 }
+    ensures { result ≡ map (λ d. shifted shift (code_of d)) (chunk at 16 bytes.now) }
 {
     let v = u8x16::from_slice(&bytes[at..]);
-    u8x16::from_array(CODES).swizzle_dyn(v & u8x16::splat(15))
-}
-
-/// Returns whether `first` and `second` differ in at least one of their 16 bytes.
-#[inline(always)]
-fn codes_differ(first: u8x16, second: u8x16) -> bool
-    ensures other { result ≡ true → first ≢ second }
-    ensures same { length first ≡ 16 → length second ≡ 16 → result ≡ false → first ≡ second }
-{
-    first.simd_ne(second).to_bitmask() != 0
-}
-
-/// Returns the two highest bits of each of the 16 bytes from offset `at` on. In packed digits
-/// (`pack`) they stand for the digits of the last quarter. All 16 bytes have to be there.
-#[inline(always)]
-fn last_codes_16(bytes: &[u8], at: usize) -> u8x16
-    requires { at + 16 ≤ length bytes.now }
-    ensures { result ≡ map (λ y. y / 64) (chunk at 16 bytes.now) }
-{
-    u8x16::from_slice(&bytes[at..]) >> u8x16::splat(6)
+    let codes = u8x16::from_array(CODES) << u8x16::splat(shift);
+    codes.swizzle_dyn(v & u8x16::splat(15))
 }
 
 /// Returns the two bits of a digit: 0 for `0`, 1 for `1`, 3 for `x` and `X`, and 2 for `z` and `Z`.
@@ -62,57 +48,21 @@ fn code_of(digit: u8) -> u8
     CODES[usize::from(digit % 16)]
 }
 
-/// Returns whether one of the last digits of `bytes`, which are `len` digits packed by `pack`,
-/// differs from that of a text at the same place, counted from the last digit. It compares up to
-/// four digits, and no more than a quarter of `len` or than the text has.
-fn few_ends_differ(bytes: &[u8], len: usize, text: &[u8]) -> bool
-    requires { quarter_of len ≤ length bytes.now }
-    ensures differ { result ≡ true → AreTwo (digits_in len bytes.now) text.now }
-    ensures some { result ≡ true → (1 ≤ len) × (1 ≤ length text.now) }
+/// Returns whether one of the last digits of `bytes`, which are digits packed by `pack`, differs
+/// from that of a text at the same place, counted from the last digit. It compares up to eight
+/// digits, and no more than a quarter of those that are packed, or than the text has.
+#[inline(always)]
+pub(crate) fn ends_differ(bytes: &[u8], text: &[u8]) -> bool
+    ensures differ { result ≡ true → (len : ℕ) → quarter_of len ≡ length bytes.now
+        → AreTwo (digits_in len bytes.now) text.now }
+    ensures some { result ≡ true → 1 ≤ length text.now }
 {
-    let quarter = len.div_ceil(4);
-    for back in 0..quarter.min(text.len()).min(4) {
-        if bytes[quarter - 1 - back] / 64 != code_of(text[text.len() - 1 - back]) {
+    for back in 0..bytes.len().min(text.len()).min(8) {
+        if bytes[bytes.len() - 1 - back] / 64 != code_of(text[text.len() - 1 - back]) {
             return true;
         }
     }
     false
-}
-
-/// Returns whether one of the last digits of `bytes`, which are `len` digits packed by `pack`,
-/// differs from that of a text at the same place, counted from the last digit. It compares 16
-/// digits if a quarter of `len` and the text have as many, otherwise up to four. Returns false if
-/// these are the same, or if `bytes` is too short for the digits.
-#[inline(always)]
-pub(crate) fn ends_differ(bytes: &[u8], len: usize, text: &[u8]) -> bool
-    ensures differ { result ≡ true → AreTwo (digits_in len bytes.now) text.now }
-    ensures some { result ≡ true → (1 ≤ len) × (1 ≤ length text.now) }
-    ensures room { result ≡ true → quarter_of len ≤ length bytes.now }
-{
-    let quarter = len.div_ceil(4);
-    if bytes.len() < quarter {
-        return false;
-    }
-    if quarter < 16 || text.len() < 16 {
-        return few_ends_differ(bytes, len, text);
-    }
-    codes_differ(
-        last_codes_16(bytes, quarter - 16),
-        codes_16(text, text.len() - 16),
-    )
-}
-
-/// Returns for each place the byte of `low` plus four times the byte of `high`. If a sum is 256 or
-/// more, its byte has no meaning.
-#[inline(always)]
-fn with_4_times(low: u8x16, high: u8x16) -> u8x16
-    requires { (length low ≡ 16) × (length high ≡ 16) }
-    ensures long { length result ≡ 16 }
-    ensures each { (k : ℕ) → k < 16 → get_or low k 0 + 4 * get_or high k 0 < 256
-        → get_or result k 0 ≡ get_or low k 0 + 4 * get_or high k 0 }
-{
-    let twice = high + high;
-    low + (twice + twice)
 }
 
 /// Returns 16 bytes of packed digits: byte k has the digits of the text at k bytes after `first`,
@@ -130,10 +80,10 @@ fn packed_from(text: &[u8], first: usize, second: usize, third: usize, last: usi
         + 4 * code_or text.now (second + k) + 16 * code_or text.now (third + k)
         + 64 * code_or text.now (last + k) }
 {
-    let third = codes_16(text, third);
-    let last = codes_16(text, last);
-    let both = with_4_times(codes_16(text, second), with_4_times(third, last));
-    with_4_times(codes_16(text, first), both)
+    codes_16(text, first, 0)
+        + codes_16(text, second, 2)
+        + codes_16(text, third, 4)
+        + codes_16(text, last, 6)
 }
 
 /// Returns 16 bytes of packed digits (`pack`): byte k has those at index `at + k` of each quarter
@@ -204,10 +154,8 @@ fn are_packed_16(bytes: &[u8], text: &[u8], quarter: usize, at: usize) -> bool
     requires quarter { 3 * quarter ≤ length text.now }
     ensures { result ≡ true → (k : ℕ) → k < 16 → HasFour bytes.now text.now quarter (at + k) }
 {
-    !codes_differ(
-        u8x16::from_slice(&bytes[at..]),
-        packed_16(text, quarter, at),
-    )
+    let packed = packed_16(text, quarter, at);
+    u8x16::from_slice(&bytes[at..]).simd_ne(packed).to_bitmask() == 0
 }
 
 /// Returns whether the first bytes of `bytes` are what `pack` writes for this text. The quarters of
@@ -305,15 +253,15 @@ pub(crate) fn digit_at(bytes: &[u8], len: usize, index: usize) -> Option<u8>
     Some(digit_of(code_among(bytes, len, index)))
 }
 
-/// Returns the last digit, in lower case, of `bytes`, which are `len` digits packed by `pack`.
-/// There has to be at least one.
+/// Returns the last digit, in lower case, of `bytes`, which are digits packed by `pack`. There has
+/// to be at least one.
 #[inline(always)]
-pub(crate) fn last_packed(bytes: &[u8], len: usize) -> u8
-    requires some { 1 ≤ len }
-    requires room { quarter_of len ≤ length bytes.now }
-    ensures { slice_get (digits_in len bytes.now) (len - 1) ≡ Some result }
+pub(crate) fn last_packed(bytes: &[u8]) -> u8
+    requires { 1 ≤ length bytes.now }
+    ensures { (len : ℕ) → quarter_of len ≡ length bytes.now
+        → slice_get (digits_in len bytes.now) (len - 1) ≡ Some result }
 {
-    digit_of(bytes[len.div_ceil(4) - 1] / 64)
+    digit_of(bytes[bytes.len() - 1] / 64)
 }
 
 /// Returns the two bits of the digit at `index`, counted from the left and less than `len`, of

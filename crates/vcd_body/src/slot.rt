@@ -74,7 +74,7 @@ pub(crate) struct Holding {
 pub(crate) struct HeldValue<'a> {
     pub(crate) holding: Holding,
     pub(crate) bytes: &'a [u8],
-    ghost fits: { used holding ≤ length bytes.now },
+    ghost fits: { used holding ≡ length bytes.now },
     ghost some: { 1 ≤ some_by holding.state (len_of holding) },
 }
 

@@ -7,7 +7,7 @@ use Rattle.vcd_body.proofs.HeldLemmas.{count_held}
 use Rattle.vcd_body.proofs.held.count_of.Goals as goal
 
 pub returns-in-Packed : goal.returns-in-Packed
-returns-in-Packed c = c.len.ensures ∙ count_held c.args.held.holding.state (len_of c.args.held.holding) c.args.held.bytes.now c.in-Packed.is c.args.held.fits
+returns-in-Packed c = c.len.ensures ∙ count_held c.args.held.holding.state (len_of c.args.held.holding) c.args.held.bytes.now c.in-Packed.is
 
 pub returns-in-Bits : goal.returns-in-Bits
 returns-in-Bits c =

@@ -4,7 +4,7 @@ use Rattle.vcd_body.proofs.HeldLemmas.{no_digits, shown_before, shown_behind}
 use Rattle.vcd_body.proofs.held.digit_shown.Goals as goal
 
 pub returns-in_err-first : goal.returns-in_err-first
-returns-in_err-first c = c.from_residual.ensures ∙ sym (no_digits c.args.held.holding.state (len_of c.args.held.holding) c.args.size c.args.index c.args.held.bytes.now c.args.held.fits c.args.held.some (sym c.digit_held.ensures ∙ c.in_err-first.was))
+returns-in_err-first c = c.from_residual.ensures ∙ sym (no_digits c.args.held.holding.state (len_of c.args.held.holding) c.args.size c.args.index c.args.held.bytes.now c.args.held.some (sym c.digit_held.ensures ∙ c.in_err-first.was))
 
 pub returns-then-index-missing : goal.returns-then-index-missing
 returns-then-index-missing c =

@@ -8,17 +8,18 @@ use Rattle.vcd_body.proofs.CompareLemmas.{last_number, last_of_state, last_packe
 use Rattle.vcd_body.proofs.held.last_held.Goals as goal
 
 pub last_packed-requires : goal.last_packed-requires
-last_packed-requires c = record {
-  some = (rw c.len.ensures (subst (λ (s : State). 1 ≤ some_by s (len_of c.args.held.holding)) c.in-Packed.is c.args.held.some));
-  room = (rw c.len.ensures (subst (λ (s : State). used_by s (len_of c.args.held.holding) ≤ length c.args.held.bytes.now) c.in-Packed.is c.args.held.fits));
-}
+last_packed-requires c =
+    let some = subst (λ (s : State). 1 ≤ some_by s (len_of c.args.held.holding)) c.in-Packed.is c.args.held.some in
+    let fits = subst (λ (s : State). used_by s (len_of c.args.held.holding) ≡ length c.args.held.bytes.now) c.in-Packed.is c.args.held.fits in
+    omega (arith, some, fits)
 
 pub returns-in-Packed : goal.returns-in-Packed
 returns-in-Packed c size =
     let len = (len_of c.args.held.holding) in
     let bytes = c.args.held.bytes.now in
     let some = subst (λ (s : State). 1 ≤ some_by s len) c.in-Packed.is c.args.held.some in
-    last_packed len c.last_packed.result bytes size some (rw c.len.ensures at c.last_packed.ensures)
+    let fits = subst (λ (s : State). used_by s len ≡ length bytes) c.in-Packed.is c.args.held.fits in
+    last_packed len c.last_packed.result bytes size some (c.last_packed.ensures len fits)
     ∙ sym (ap (λ (s : State). last_digit_in (value_at_size size (held_by s len bytes))) c.in-Packed.is)
 
 pub last_binary-requires : goal.last_binary-requires

@@ -1,9 +1,9 @@
-use Rattle.std.proofs.Common.{sym, ◌∙◌, arith}
-use Rattle.vcd_body.proofs.EndLemmas.{packed_ends}
+use Rattle.std.proofs.Common.{length, sym, ◌∙◌, arith}
+use Rattle.vcd_body.proofs.EndLemmas.{ends_same}
 use Rattle.vcd_body.proofs.packed.ends_differ.Goals as goal
 
-pub returns-clause-differ : goal.returns-clause-differ
-returns-clause-differ c = λ t size e. c.codes_differ.ensures.other t (
-    c.last_codes_16.ensures
-    ∙ packed_ends c.args.bytes.now c.args.text.now c.args.len c.div_ceil-quarter.result size (omega (arith, c.div_ceil-quarter.ensures)) c.if-quarter-lt16.false c.if-bytes-quarter.false c.if-text-lt16.false c.type_inv.bytes c.type_inv.text e
-    ∙ sym c.codes_16.ensures)
+pub returns-then-bytes-back-clause-differ : goal.returns-then-bytes-back-clause-differ
+returns-then-bytes-back-clause-differ c = λ t len is size e.
+    let bytes = c.args.bytes.now in
+    let less = c.loop-back-test.true in
+    c.if-bytes-back.true (ends_same bytes c.args.text.now len (length bytes) c.loop-back.back size (sym is) (omega (arith, less, c.min-back-end.ensures, c.min.ensures)) (omega (arith, less, c.min-back-end.ensures, c.min.ensures)) c.type_inv.bytes c.type_inv.text e ∙ sym c.code_of.ensures)

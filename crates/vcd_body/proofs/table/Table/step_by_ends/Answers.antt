@@ -1,0 +1,27 @@
+use Rattle.std.proofs.Common.{◌≡◌, Some, ℕ, length, Option, sym, ap, subst, ◌∙◌}
+use Rattle.std.specs.Str.{str_to_ascii_lowercase}
+use Rattle.vcd_model.specs.Values.{value_with}
+use Rattle.vcd_body.specs.Items.{model_form}
+use Rattle.vcd_body.specs.Kept.{Held, differs, goes_from, last_digit_in, value_at_size}
+use Rattle.vcd_body.specs.Packed.{digits_in}
+use Rattle.vcd_body.specs.Stored.{held_by, len_of, used_by}
+use Rattle.vcd_body.specs.declared.item.Form.TheVariants as form
+use Rattle.vcd_body.specs.declared.slot.State.{State}
+use Rattle.vcd_body.proofs.CompareLemmas.{differ_for}
+use Rattle.vcd_body.proofs.table.Table.step_by_ends.Goals as goal
+
+pub returns-in-Packed-clause-step : goal.returns-in-Packed-clause-step
+returns-in-Packed-clause-step c = λ laid size.
+    let bytes = c.in_ok-held.held.bytes.now in
+    let n = len_of c.in_ok-held.held.holding in
+    let v = value_with size (model_form form.Vector) c.args.text.now in
+    let held = sym (c.in_ok-held.ensures laid) in
+    let packed = sym (ap (λ (s : State). held_by s n bytes) c.in-Packed.is) ∙ held in
+    let fits = subst (λ (s : State). used_by s n ≡ length bytes) c.in-Packed.is c.in_ok-held.held.fits in
+    let some = c.ends_differ.ensures.some c.if-ends_differ.true in
+    let last = c.last_held.ensures size ∙ ap (λ (h : Held). last_digit_in (value_at_size size h)) held in
+    let is = c.step_to_text.ensures in (
+      is.differs ∙ differ_for (digits_in n bytes) (str_to_ascii_lowercase c.args.text.now) size (c.ends_differ.ensures.differ c.if-ends_differ.true n fits size) ∙ ap (λ (h : Held). differs (value_at_size size h) v) packed,
+      is.rises some size ∙ ap (λ (o : Option ℕ). goes_from 48 49 o (last_digit_in (Some v))) last,
+      is.falls some size ∙ ap (λ (o : Option ℕ). goes_from 49 48 o (last_digit_in (Some v))) last,
+    )
