@@ -1,5 +1,7 @@
 -- The checks of a variable's code.
-use Rattle.std.proofs.Common.{◌≡◌, ℕ, Bool, true, false, cond, List, [], ◌∷◌, Option, Some, None, refl}
+use Rattle.std.proofs.Common.{◌≡◌, ℕ, Bool, true, false, cond, List, [], ◌∷◌, Option, Some, None, refl, nat_le, arith}
+use Rattle.std.proofs.lemmas.Bool.{and_parts, leb-true}
+use Rattle.vcd_view.specs.Keys.{AreBytes}
 use Rattle.std.specs.List.{list_all}
 use Rattle.vcd_model.specs.Bytes.{decimal_value, is_code_byte}
 use Rattle.vcd_model.specs.Checks.{first_failed}
@@ -15,3 +17,12 @@ code_bad ds type digits tok e = rw e refl
 
 pub code_checked : (ds : List Declaration) (type digits tok : List ℕ) (b : Bool) → list_all is_code_byte tok ≡ true → agrees ds (record { type = type; size = decimal_value digits; code = tok; reference = [] }) ≡ b → first_failed (var_checks ds (type ∷ digits ∷ []) tok) ≡ cond b None (Some 8)
 code_checked ds type digits tok b good e = rw (good, e) refl
+
+-- the bytes of a code are bytes
+pub code_bytes : (t : List ℕ) → list_all is_code_byte t ≡ true → AreBytes t
+code_bytes [] e = tt
+code_bytes (b ∷ t) e =
+    let p = and_parts (is_code_byte b) (list_all is_code_byte t) e in
+    let q = and_parts (nat_le 33 b) (nat_le b 126) p.0 in
+    let most = leb-true b 126 q.1 in
+    (omega (arith, most), code_bytes t p.1)

@@ -241,25 +241,6 @@ holds_declared most d d' ps x h k date version scale = record {
   scaled = subst (λ o. IfSome o (λ (s : Scale). IsExponent s.exponent)) (sym scale) h.scaled;
 }
 
--- a draft that holds the same, of codes that may be kept otherwise
-pub holds_same : (most : ℕ) (d d' : Draft) (ps : List HeaderPhrase) → IsDraftOf most d ps → d'.text.items ≡ d.text.items → HasCodes d'.text.items d'.codes (declarations_of ps) → d'.rows.items ≡ d.rows.items → d'.scopes.items ≡ d.scopes.items
-    → d'.date.items ≡ d.date.items → d'.version.items ≡ d.version.items → d'.scale ≡ d.scale → IsDraftOf most d' ps
-holds_same most d d' ps h text codes rows scopes date version scale = record {
-  declares = record {
-    codes = codes;
-    rows = rw (text, rows) h.declares.rows;
-    nested = scopes ∙ h.declares.nested;
-    balance = h.declares.balance;
-    held = rw text h.declares.held;
-    few = h.declares.few;
-    allowed = h.declares.allowed;
-  };
-  date = date ∙ h.date;
-  version = version ∙ h.version;
-  scale = ap (option_map (λ (s : Scale). s.exponent)) scale ∙ h.scale;
-  scaled = subst (λ o. IfSome o (λ (s : Scale). IsExponent s.exponent)) (sym scale) h.scaled;
-}
-
 -- a phrase of which f has nothing to say
 pub not_said : {X : Type 0} (f : HeaderPhrase → Option X) (ps : List HeaderPhrase) (p : HeaderPhrase) → f p ≡ None → filter_map f (ps ++ p ∷ []) ≡ filter_map f ps
 not_said f ps p h = filter_map-append f ps (p ∷ []) ∙ rw h (append-nil (filter_map f ps))

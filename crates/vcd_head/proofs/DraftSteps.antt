@@ -1,5 +1,5 @@
 -- A draft carries one phrase more.
-use Rattle.std.proofs.Common.{◌≡◌, ℕ, ◌<◌, ◌≤◌, Bool, true, false, not, cond, MatchResult, List, [], ◌∷◌, ◌++◌, length, Option, Some, None, unwrap_or, Result, Ok, Err, is_err, refl, sym, ap, subst, ◌∙◌}
+use Rattle.std.proofs.Common.{◌≡◌, ℕ, ◌<◌, ◌≤◌, Bool, true, false, cond, List, [], ◌∷◌, ◌++◌, length, Option, Some, None, unwrap_or, refl, sym, ap, subst, ◌∙◌}
 use Rattle.std.specs.Prelude.{option_to_list}
 use Rattle.std.proofs.lemmas.List.{map-append}
 use Rattle.std.proofs.lemmas.Bool.{lt-ltb, le-ltb, ltb-true}
@@ -19,11 +19,9 @@ use Rattle.vcd_view.specs.declared.view.Kind.{Kind}
 use Rattle.vcd_view.specs.declared.view.Kind.TheVariants as kind
 use Rattle.vcd_view.proofs.RowLemmas.{rows_len}
 use Rattle.vcd_head.proofs.DraftLemmas.{open_is}
-use Rattle.vcd_head.proofs.TokenSteps.{append_not_nil}
-use Rattle.vcd_head.proofs.CodeChecks.{not_some}
 
 pub carried : {X : Type 0} {g : Ghosts X} (most : ℕ) (i : Input) (d : Draft) (f : Feed X g) (placed : List (Placed HeaderPhrase)) (p : Placed HeaderPhrase) → Reads most i (placed ++ p ∷ []) [] f → IsDraftOf most d (phrases_of placed ++ p.phrase ∷ []) → DraftsUpTo most i d f
-carried most i d f placed p r h = record { placed = placed ++ p ∷ []; reads = r; holds = subst (IsDraftOf most d) (sym (map-append (λ (q : Placed HeaderPhrase). q.phrase) placed (p ∷ []))) h; some = append_not_nil placed p }
+carried most i d f placed p r h = record { placed = placed ++ p ∷ []; reads = r; holds = subst (IsDraftOf most d) (sym (map-append (λ (q : Placed HeaderPhrase). q.phrase) placed (p ∷ []))) h }
 
 -- ---- the checks of a keyword
 
@@ -76,11 +74,6 @@ some_open most d ps h e = subst (λ n. 0 < n) (sym (open_is most d (declarations
 pub popped : (old new : List ℕ) (r : Option ℕ) (closed x : ℕ) → old ≡ new ++ option_to_list r → closed ≡ unwrap_or r 0 → r ≡ Some x → old ≡ new ++ closed ∷ []
 popped old new r closed x items e is = items ∙ ap (λ o. new ++ option_to_list o) is ∙ ap (λ y. new ++ y ∷ []) (sym (e ∙ ap (λ o. unwrap_or o 0) is))
 
--- a check that has passed
-pub passed_check : {E : Type 0} {U : Type 0} (r : Result U E) (A : U → Type 0) (B : E → Type 0) → is_err r ≡ false → MatchResult r A B → (u : U) × A u
-passed_check (Ok u) A B e m = (u, m)
-passed_check (Err x) A B e m = cc
-
 -- a test that fails gives the fault
 pub failed_test : (b : Bool) (n : ℕ) → b ≡ false → cond b None (Some n) ≡ Some n
 failed_test b n e = rw e refl
@@ -88,9 +81,6 @@ failed_test b n e = rw e refl
 -- a test that passes gives none
 pub passed_test : (b : Bool) (n : ℕ) → b ≡ true → cond b None (Some n) ≡ None
 passed_test b n e = rw e refl
-
-pub failed_not : (b : Bool) (n : ℕ) → b ≡ true → cond (not b) None (Some n) ≡ Some n
-failed_not b n e = rw e refl
 
 -- `$end` ends the phrase
 pub whole_test : {X : Type 0} (b : Bool) (x : X) → b ≡ true → cond b (Some x) None ≡ Some x

@@ -1,8 +1,6 @@
 pub mod WordLemmas
 pub mod TokenSteps
 pub mod TextSteps
-pub mod AheadLemmas
-pub mod AheadScopes
 pub mod PhraseLemmas
 pub mod EnclosingLemmas
 pub mod DraftGrows

@@ -2,11 +2,11 @@
 use Rattle.std.proofs.Common.{◌≡◌, ℕ, true, false, cond, List, [], ◌∷◌, ◌++◌, Option, Some, None, option_map, option_and_then, refl, ap, subst, ◌∙◌}
 use Rattle.vcd_model.specs.Input.{Input}
 use Rattle.vcd_model.specs.Keywords.{Keyword, keyword_of, keyword_text, is_end, is_unknown_command}
-use Rattle.vcd_model.specs.Checks.{first_failed}
+use Rattle.vcd_model.specs.Checks.{first_failed, ◌or_fault◌}
 use Rattle.vcd_model.specs.Bytes.{is_decimal, decimal_value}
 use Rattle.vcd_model.specs.Declarations.{Declaration}
 use Rattle.vcd_model.specs.HeaderPhrases.{HeaderPhrase, header_phrase, phrase_with, phrase_behind, variable_with, until_end, declarations_of}
-use Rattle.vcd_model.specs.HeaderChecks.{header_fault, start_checks, start_of, inner_checks, inner_of}
+use Rattle.vcd_model.specs.HeaderChecks.{header_fault, start_checks, start_of, inner_checks, inner_of, timescale_checks}
 use Rattle.vcd_model.specs.HeaderReading.{is_last}
 use Rattle.vcd_model.specs.Reading.{Placed, phrases_of}
 use Rattle.vcd_text.specs.Feed.{token_of}
@@ -18,7 +18,7 @@ use Rattle.vcd_head.specs.declared.fault.HeadFault.{HeadFault}
 use Rattle.vcd_head.specs.declared.fault.HeadFault.TheVariants.{TokenTooLong, EndOfInput, UnknownCommand, OutOfPlace, BadTimescale, BadScope, BadVariable, CodeDiffers, NoScope, TooDeep, TooMany, InputTooLong, ReadFailed, OutOfMemory}
 use Rattle.vcd_view.specs.declared.view.Kind.{Kind}
 use Rattle.vcd_view.specs.Keywords.{NoEnds}
-use Rattle.vcd_head.specs.Texts.{RunsOn, Welcomes}
+use Rattle.vcd_head.specs.Texts.{AsksEnd, RunsOn, Welcomes}
 use Rattle.vcd_view.proofs.KeywordLemmas.{until, not_until}
 use Rattle.vcd_model.proofs.HeaderGrammar.{keyword_of-text}
 use Rattle.vcd_head.proofs.TokenSteps.{taken, taken_phrase, taken_last, refused}
@@ -96,18 +96,32 @@ unknown_runs most placed u h inner t none =
 
 -- ---- what may follow
 
-pub scope_welcomes_type : (most : ℕ) (placed : List (Placed HeaderPhrase)) → Welcomes most placed (keyword_text Keyword.Scope ∷ [])
-scope_welcomes_type most placed t e = (inner_fault most (phrases_of placed) Keyword.Scope [] t ∙ rw e refl, phrase_is Keyword.Scope (t ∷ []))
+pub scope_asks_end : (most : ℕ) (placed : List (Placed HeaderPhrase)) (type name : List ℕ) → AsksEnd most placed (keyword_text Keyword.Scope ∷ type ∷ name ∷ []) 6
+scope_asks_end most placed type name t e = inner_fault most (phrases_of placed) Keyword.Scope (type ∷ name ∷ []) t ∙ rw e refl
 
-pub scope_welcomes_name : (most : ℕ) (placed : List (Placed HeaderPhrase)) (type : List ℕ) → Welcomes most placed (keyword_text Keyword.Scope ∷ type ∷ [])
-scope_welcomes_name most placed type t e = (inner_fault most (phrases_of placed) Keyword.Scope (type ∷ []) t ∙ rw e refl, phrase_is Keyword.Scope (type ∷ t ∷ []))
+pub upscope_asks_end : (most : ℕ) (placed : List (Placed HeaderPhrase)) → AsksEnd most placed (keyword_text Keyword.Upscope ∷ []) 6
+upscope_asks_end most placed t e = inner_fault most (phrases_of placed) Keyword.Upscope [] t ∙ rw e refl
 
-pub var_welcomes_type : (most : ℕ) (placed : List (Placed HeaderPhrase)) → Welcomes most placed (keyword_text Keyword.Var ∷ [])
-var_welcomes_type most placed t e = (inner_fault most (phrases_of placed) Keyword.Var [] t ∙ rw e refl, phrase_is Keyword.Var (t ∷ []))
+pub header_asks_end : (most : ℕ) (placed : List (Placed HeaderPhrase)) → AsksEnd most placed (keyword_text Keyword.EndDefinitions ∷ []) 4
+header_asks_end most placed t e = inner_fault most (phrases_of placed) Keyword.EndDefinitions [] t ∙ rw e refl
 
-pub var_welcomes_reference : (most : ℕ) (placed : List (Placed HeaderPhrase)) (type size code : List ℕ) → Welcomes most placed (keyword_text Keyword.Var ∷ type ∷ size ∷ code ∷ [])
-var_welcomes_reference most placed type size code t e =
-    (inner_fault most (phrases_of placed) Keyword.Var (type ∷ size ∷ code ∷ []) t ∙ rw e refl, phrase_is Keyword.Var (type ∷ size ∷ code ∷ t ∷ []) ∙ ap (λ o. option_map HeaderPhrase.Declares (option_and_then (variable_with type size code) o)) (not_until [] t tt e))
+pub scale_asks_end : (most : ℕ) (placed : List (Placed HeaderPhrase)) (inner : List (List ℕ)) → ((t : List ℕ) → timescale_checks inner t ≡ (is_end t or_fault 5) ∷ []) → AsksEnd most placed (keyword_text Keyword.Timescale ∷ inner) 5
+scale_asks_end most placed inner then t e = inner_fault most (phrases_of placed) Keyword.Timescale inner t ∙ ap first_failed (then t) ∙ rw e refl
+
+pub scope_welcomes_type : (most : ℕ) (placed : List (Placed HeaderPhrase)) → Welcomes most placed (keyword_text Keyword.Scope ∷ []) 6
+scope_welcomes_type most placed = (λ t e. (inner_fault most (phrases_of placed) Keyword.Scope [] t ∙ rw e refl, phrase_is Keyword.Scope (t ∷ [])), λ t e. inner_fault most (phrases_of placed) Keyword.Scope [] t ∙ rw e refl)
+
+pub scope_welcomes_name : (most : ℕ) (placed : List (Placed HeaderPhrase)) (type : List ℕ) → Welcomes most placed (keyword_text Keyword.Scope ∷ type ∷ []) 6
+scope_welcomes_name most placed type = (λ t e. (inner_fault most (phrases_of placed) Keyword.Scope (type ∷ []) t ∙ rw e refl, phrase_is Keyword.Scope (type ∷ t ∷ [])), λ t e. inner_fault most (phrases_of placed) Keyword.Scope (type ∷ []) t ∙ rw e refl)
+
+pub var_welcomes_type : (most : ℕ) (placed : List (Placed HeaderPhrase)) → Welcomes most placed (keyword_text Keyword.Var ∷ []) 7
+var_welcomes_type most placed = (λ t e. (inner_fault most (phrases_of placed) Keyword.Var [] t ∙ rw e refl, phrase_is Keyword.Var (t ∷ [])), λ t e. inner_fault most (phrases_of placed) Keyword.Var [] t ∙ rw e refl)
+
+pub var_welcomes_reference : (most : ℕ) (placed : List (Placed HeaderPhrase)) (type size code : List ℕ) → Welcomes most placed (keyword_text Keyword.Var ∷ type ∷ size ∷ code ∷ []) 7
+var_welcomes_reference most placed type size code = (
+  λ t e. (inner_fault most (phrases_of placed) Keyword.Var (type ∷ size ∷ code ∷ []) t ∙ rw e refl, phrase_is Keyword.Var (type ∷ size ∷ code ∷ t ∷ []) ∙ ap (λ o. option_map HeaderPhrase.Declares (option_and_then (variable_with type size code) o)) (not_until [] t tt e)),
+  λ t e. inner_fault most (phrases_of placed) Keyword.Var (type ∷ size ∷ code ∷ []) t ∙ rw e refl,
+)
 
 pub var_runs : (most : ℕ) (placed : List (Placed HeaderPhrase)) (type size code first : List ℕ) → is_end first ≡ false → RunsOn most placed (keyword_text Keyword.Var ∷ type ∷ size ∷ code ∷ first ∷ [])
 var_runs most placed type size code first n =

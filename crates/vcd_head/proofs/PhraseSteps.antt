@@ -15,31 +15,32 @@ use Rattle.vcd_text.specs.declared.device.Source.{Ghosts}
 use Rattle.vcd_text.specs.declared.feed.Feed.{Feed}
 use Rattle.vcd_head.specs.declared.draft.Draft.{Draft}
 use Rattle.vcd_head.specs.declared.fault.HeadFault.{HeadFault}
-use Rattle.vcd_head.specs.Reads.{Reads, ReadsToken, FailsAtToken, Fails, GivesHead}
+use Rattle.vcd_head.specs.Calls.{ReadsEnd}
+use Rattle.vcd_head.specs.Reads.{Reads, ReadsToken, Fails, GivesHead}
 use Rattle.vcd_view.specs.Keywords.{NoEnds, model_keyword}
 use Rattle.vcd_head.specs.Texts.{RunsOn, EndsThere}
 use Rattle.vcd_view.specs.declared.keyword.Keyword.{Keyword as WordOf}
 use Rattle.vcd_head.specs.declared.codes.Codes.{Codes}
 use Rattle.vcd_head.specs.Codes.{HasNone}
 use Rattle.vcd_head.proofs.CodesLemmas.{none_held}
-use Rattle.vcd_head.specs.Draft.{IsDraftOf, HasCodes, IsNew, AtKeyword, AtFirstToken, AtOther, DraftsBehind, DraftsUpTo, DraftsAll}
+use Rattle.vcd_head.specs.Draft.{IsDraftOf, HasCodes, IsNew, AtKeyword, AtFirstToken, AtOther, DraftsUpTo, DraftsAll}
 use Rattle.vcd_view.specs.Views.{IsExponent, AreRows, Views}
 use Rattle.vcd_head.specs.Shown.{shown}
 use Rattle.vcd_head.specs.declared.head.Head.{Head}
 use Rattle.vcd_view.specs.declared.view.Scale.{Scale}
-use Rattle.vcd_head.specs.declared.fault.HeadFault.TheVariants.{OutOfMemory}
+use Rattle.vcd_head.specs.declared.fault.HeadFault.TheVariants.{OutOfMemory, OutOfPlace}
 use Rattle.vcd_model.specs.Declarations.{codes_of, enclosing}
 use Rattle.vcd_model.specs.Header.{header_of}
 use Rattle.vcd_model.specs.HeaderReading.{header_grammar}
 use Rattle.vcd_model.proofs.SoFarLemmas.{so_far-nothing}
 use Rattle.vcd_text.specs.Feed.{HasGiven}
-use Rattle.vcd_head.proofs.TokenSteps.{taken, taken_phrase, faultless_whole}
-use Rattle.vcd_head.proofs.PhraseLemmas.{begun, ended, ended_all, refused_inside, runs_freely, unknown_runs, unknown_is, unknown_free}
+use Rattle.vcd_head.proofs.TokenSteps.{taken, taken_phrase, then_ok, faultless_whole}
+use Rattle.vcd_head.proofs.PhraseLemmas.{begun, ended, ended_all, header_asks_end, runs_freely, unknown_runs, unknown_is, unknown_free}
 use Rattle.vcd_view.proofs.KeywordLemmas.{not_until, until}
 use Rattle.vcd_model.proofs.HeaderGrammar.{keyword_is}
 use Rattle.vcd_head.proofs.WordLemmas.{fault_of_command, unknown_command}
 use Rattle.vcd_head.proofs.DraftLemmas.{holds_plain, holds_date, holds_version}
-use Rattle.vcd_head.proofs.DraftSteps.{carried, passed_test, failed_test, whole_test}
+use Rattle.vcd_head.proofs.DraftSteps.{carried, passed_test, whole_test}
 
 pub not_whole_date : (inner : List (List ℕ)) (t : List ℕ) → NoEnds inner → is_end t ≡ false → phrase_with Keyword.Date (inner ++ t ∷ []) ≡ None
 not_whole_date inner t none e = ap (option_map HeaderPhrase.Date) (not_until inner t none e)
@@ -98,18 +99,18 @@ module _ {X : Type 0} {g : Ghosts X} (most : ℕ) (i : Input) where
   unknown_read d f f' (Err fault) b o c e = e
   unknown_read d f f' (Ok w) b o c e = unknown_whole d f f' b (unknown_command (token_of f).bytes b.other c) e
 
-  pub end_begun : (d : Draft) (f : Feed X g) (b : AtKeyword most i Keyword.EndDefinitions d f) → Reads most i b.placed (keyword_text Keyword.EndDefinitions ∷ []) f
+  end_begun : (d : Draft) (f : Feed X g) (b : AtKeyword most i Keyword.EndDefinitions d f) → Reads most i b.placed (keyword_text Keyword.EndDefinitions ∷ []) f
   end_begun d f b = begun most i b.placed Keyword.EndDefinitions f b.keyword refl refl b.token_read
 
-  pub end_read : (d : Draft) (f f' : Feed X g) (b : AtKeyword most i Keyword.EndDefinitions d f) → ReadsToken most i b.placed (keyword_text Keyword.EndDefinitions ∷ []) f' → is_end (token_of f').bytes ≡ true → DraftsAll most i d f'
+  end_read : (d : Draft) (f f' : Feed X g) (b : AtKeyword most i Keyword.EndDefinitions d f) → ReadsToken most i b.placed (keyword_text Keyword.EndDefinitions ∷ []) f' → is_end (token_of f').bytes ≡ true → DraftsAll most i d f'
   end_read d f f' b l e = record {
     placed = b.placed ++ record { phrase = HeaderPhrase.EndDefinitions; line = (token_of f').line } ∷ [];
     reads = ended_all most i b.placed Keyword.EndDefinitions f' [] HeaderPhrase.EndDefinitions (passed_test (is_end (token_of f').bytes) 4 e) (whole_test (is_end (token_of f').bytes) HeaderPhrase.EndDefinitions e) refl l;
     holds = subst (IsDraftOf most d) (sym (map-append (λ (q : Placed HeaderPhrase). q.phrase) b.placed (record { phrase = HeaderPhrase.EndDefinitions; line = (token_of f').line } ∷ []))) (holds_plain most d (phrases_of b.placed) HeaderPhrase.EndDefinitions refl refl refl refl b.holds);
   }
 
-  pub end_refused : (d : Draft) (f f' : Feed X g) (b : AtKeyword most i Keyword.EndDefinitions d f) → ReadsToken most i b.placed (keyword_text Keyword.EndDefinitions ∷ []) f' → is_end (token_of f').bytes ≡ false → FailsAtToken most i 4 f'
-  end_refused d f f' b l e = refused_inside most i b.placed Keyword.EndDefinitions f' [] 4 (failed_test (is_end (token_of f').bytes) 4 e) l
+  pub end_taken : (d : Draft) (f f' : Feed X g) (r : Result (Unit {0}) HeadFault) (b : AtKeyword most i Keyword.EndDefinitions d f) → ReadsEnd OutOfPlace f f' r → MatchResult r (λ u. DraftsAll most i d f') (λ fault. Fails most i fault f')
+  end_taken d f f' r b h = then_ok r _ (λ u. DraftsAll most i d f') _ (λ u e. end_read d f f' b e.0 e.1) (h most i b.placed (keyword_text Keyword.EndDefinitions ∷ []) (header_asks_end most b.placed) (λ x. x) (end_begun d f b))
 
 -- the first token of a phrase was looked at
 pub begun_by : {X : Type 0} {g : Ghosts X} (most : ℕ) (i : Input) (d : Draft) (f : Feed X g) (placed : List (Placed HeaderPhrase)) (k : Option WordOf) → option_map model_keyword k ≡ keyword_of (token_of f).bytes → ReadsToken most i placed [] f → IsDraftOf most d (phrases_of placed) → AtFirstToken most i k d f
@@ -146,8 +147,8 @@ holds_nothing most d m n = record {
   scaled = subst (λ o. IfSome o (λ (x : Scale). IsExponent x.exponent)) (sym n.no_scale) tt;
 }
 
-pub carries_nothing : {X : Type 0} {g : Ghosts X} (most : ℕ) (i : Input) (d : Draft) (f : Feed X g) → most ≤ 16777216 → IsNew d → HasGiven i [] f → DraftsBehind most i d f
-carries_nothing most i d f m n s = record { given = []; stands = s; drafts = record { placed = []; so_far = so_far-nothing (header_grammar most); holds = holds_nothing most d m n } }
+pub carries_nothing : {X : Type 0} {g : Ghosts X} (most : ℕ) (i : Input) (d : Draft) (f : Feed X g) → most ≤ 16777216 → IsNew d → HasGiven i [] f → DraftsUpTo most i d f
+carries_nothing most i d f m n s = record { placed = []; reads = record { given = []; stands = s; so_far = so_far-nothing (header_grammar most); last = λ some. absurd (some refl) }; holds = holds_nothing most d m n }
 
 pub finished : {X : Type 0} {g : Ghosts X} (most : ℕ) (i : Input) (d : Draft) (f : Feed X g) (r : Result Head HeadFault) → DraftsAll most i d f
     → ((m : ℕ) (ps : List HeaderPhrase) → IsDraftOf m d ps → IfOk r (λ head. Views (shown head) (header_of ps))) → IfErr r (λ fault. fault ≡ OutOfMemory) → MatchResult r (λ head. GivesHead most i f (shown head)) (λ fault. Fails most i fault f)

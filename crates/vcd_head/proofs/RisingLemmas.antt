@@ -1,5 +1,5 @@
 -- Numbers of codes that rise, and the keys that they encode.
-use Rattle.std.proofs.Common.{◌≡◌, ℕ, zero, suc, ◌+◌, ◌-◌, ◌<◌, ◌≤◌, ◌==◌, ◌||◌, not, nat_eq, nat_lt, Bool, true, false, cond, MatchResult, List, [], ◌∷◌, ◌++◌, length, map, get_or, slice_get, position, bytes_eq, unwrap_or, option_map, Result, Ok, Err, Some, None, refl, sym, ap, subst, ◌∙◌, arith, append_assoc}
+use Rattle.std.proofs.Common.{◌≡◌, ℕ, zero, suc, ◌+◌, ◌-◌, ◌<◌, ◌≤◌, ◌==◌, ◌||◌, not, nat_eq, nat_lt, Bool, true, false, cond, MatchResult, List, [], ◌∷◌, ◌++◌, length, map, get_or, slice_get, position, bytes_eq, unwrap_or, Result, Ok, Err, Some, None, refl, sym, ap, subst, ◌∙◌, arith, append_assoc}
 use Rattle.std.specs.Ordering.{nat_cmp}
 use Rattle.std.specs.List.{list_any, position_or_len}
 use Rattle.std.specs.List.Sorted.{IsBinarySearchResult}
@@ -206,29 +206,6 @@ module _ (t : List ℕ) where
       let at = place_within (nat_eq (key_in t)) xs i e in
       let q = not_zero (key_in t) (number_positive (key_in t) xs i h e) in
       (same_place xs keys q (omega (arith, at.0, at.1)) ∙ at.0, omega (arith, at.1, length_keys xs keys))
-
-  -- the key of a number has its index
-  pub finds_number : (xs : List ℕ) (keys : List CodeKey) (i : ℕ) → Rises xs → position (nat_eq (key_in t)) xs ≡ Some i → position (is_key t) (keys_behind xs keys) ≡ Some i
-  finds_number xs keys i h e =
-      let at = place_key xs keys i h e in
-      place_first (is_key t) (keys_behind xs keys) i at.0 at.1
-
-  -- any other has that in the set, after all numbers
-  pub finds_behind : (xs : List ℕ) (keys : List CodeKey) → position (nat_eq (key_in t)) xs ≡ None → position (is_key t) (keys_behind xs keys) ≡ option_map (λ i. length xs + i) (position (is_key t) keys)
-  finds_behind xs keys e =
-      let n = none_there (nat_eq (key_in t)) xs e in
-      let p = position_or_len (is_key t) keys in
-      ap (λ i. cond (nat_lt i (length (keys_behind xs keys))) (Some i) None) (behind_rising xs keys n) ∙ ap (λ l. cond (nat_lt (length xs + p) l) (Some (length xs + p)) None) (length_keys xs keys) ∙ by_test (nat_lt p (length keys)) refl
-    where
-      by_test : (b : Bool) → nat_lt (position_or_len (is_key t) keys) (length keys) ≡ b → cond (nat_lt (length xs + position_or_len (is_key t) keys) (length xs + length keys)) (Some (length xs + position_or_len (is_key t) keys)) None ≡ option_map (λ i. length xs + i) (position (is_key t) keys)
-      by_test true q =
-          let p = position_or_len (is_key t) keys in
-          let l = ltb-true p (length keys) q in
-          ap (λ b. cond b (Some (length xs + p)) None) (lt-ltb (length xs + p) (length xs + length keys) (omega (arith, l))) ∙ sym (ap (λ b. option_map (λ i. length xs + i) (cond b (Some p) None)) q)
-      by_test false q =
-          let p = position_or_len (is_key t) keys in
-          let l = ltb-false p (length keys) q in
-          ap (λ b. cond b (Some (length xs + p)) None) (le-ltb (length xs + p) (length xs + length keys) (omega (arith, l))) ∙ sym (ap (λ b. option_map (λ i. length xs + i) (cond b (Some p) None)) q)
 
   -- ---- a key that is entered
 

@@ -1,9 +1,7 @@
 -- One token on in a phrase that runs to the first `$end`.
-use denote.Ref.{Bor}
-use Rattle.std.proofs.Common.{◌≡◌, inl, inr, ℕ, ◌-◌, true, false, List, [], ◌∷◌, ◌++◌, length, Option, Some, None, option_map, unwrap_or, refl, sym, ap, subst, ◌∙◌, arith}
+use Rattle.std.proofs.Common.{◌≡◌, ℕ, true, false, List, [], ◌∷◌, ◌++◌, None, sym, ap, subst, ◌∙◌}
 use Rattle.std.specs.List.{join_with_byte}
-use Rattle.std.specs.Slice.{IsGetRangeResult}
-use Rattle.std.proofs.lemmas.List.{append_assoc, append-nil, take_all}
+use Rattle.std.proofs.lemmas.List.{append_assoc, append-nil}
 use Rattle.vcd_model.specs.Input.{Input}
 use Rattle.vcd_model.specs.Keywords.{is_end}
 use Rattle.vcd_model.specs.HeaderPhrases.{HeaderPhrase, header_phrase}
@@ -25,17 +23,6 @@ spaced_more (u ∷ ts) t = ap (λ l. 32 ∷ u ++ l) (spaced_more ts t) ∙ sym (
 pub joined : (t : List ℕ) (ts : List (List ℕ)) → join_with_byte 32 (t ∷ ts) ≡ t ++ spaced ts
 joined t [] = sym (append-nil t)
 joined t (u ∷ ts) = ap (λ l. t ++ 32 ∷ l) (joined u ts)
-
--- tokens with a space before each, without the first space, and that put back
-pub spaced_left : (inner : List (List ℕ)) (text : List ℕ) (o : Option (Bor (List ℕ))) → text ≡ spaced inner → IsGetRangeResult text 1 (length text) o → unwrap_or (option_map (λ (more : Bor (List ℕ)). 32 ∷ more.now) o) [] ≡ spaced inner
-spaced_left inner [] None e p = e
-spaced_left inner [] (Some more) e p = absurd (let l = p.0.0 in omega arith)
-spaced_left inner (x ∷ text) None e p = absurd (elim p.0 [
-  | inl l ↦ omega arith
-  | inr l ↦ omega arith
-])
-spaced_left [] (x ∷ text) (Some more) e p = absurd cc
-spaced_left (t ∷ ts) (x ∷ text) (Some more) e p = ap (λ l. 32 ∷ l) (p.0.2 ∙ take_all (length (x ∷ text) - 1) text (omega arith) ∙ (let rest : text ≡ t ++ spaced ts = cc in rest))
 
 module _ {X : Type 0} {g : Ghosts X} (most : ℕ) (i : Input) (placed : List (Placed HeaderPhrase)) (before : List (List ℕ)) (f : Feed X g) where
   pub one_more : (inner : List (List ℕ)) → RunsOn most placed before → NoEnds inner → is_end (token_of f).bytes ≡ false → ReadsToken most i placed (before ++ inner) f → Reads most i placed (before ++ (inner ++ (token_of f).bytes ∷ [])) f
@@ -78,17 +65,3 @@ runs_behind most placed before t e runs inner u none =
       subst (λ (b : List (List ℕ)). header_fault most (phrases_of placed) b u ≡ None) (sym (append_assoc before (t ∷ []) inner)) step.0,
       λ n. subst (λ (b : List (List ℕ)). header_phrase (b ++ u ∷ []) ≡ None) (sym (append_assoc before (t ∷ []) inner)) (step.1 n),
     )
-
--- so it does after others
-pub runs_past : (most : ℕ) (placed : List (Placed HeaderPhrase)) (before inner : List (List ℕ)) → NoEnds inner → RunsOn most placed before → RunsOn most placed (before ++ inner)
-runs_past most placed before [] e runs = subst (RunsOn most placed) (sym (append-nil before)) runs
-runs_past most placed before (t ∷ inner) e runs = subst (RunsOn most placed) (append_assoc before (t ∷ []) inner) (runs_past most placed (before ++ t ∷ []) inner e.1 (runs_behind most placed before t e.0 runs))
-
--- more tokens before the first `$end`
-pub no_ends_past : (inner more : List (List ℕ)) → NoEnds inner → NoEnds more → NoEnds (inner ++ more)
-no_ends_past [] more a b = b
-no_ends_past (t ∷ inner) more a b = (a.0, no_ends_past inner more a.1 b)
-
-pub spaced_past : (inner more : List (List ℕ)) → spaced (inner ++ more) ≡ spaced inner ++ spaced more
-spaced_past [] more = refl
-spaced_past (t ∷ inner) more = ap (λ l. 32 ∷ t ++ l) (spaced_past inner more) ∙ sym (append_assoc (32 ∷ t) (spaced inner) (spaced more))

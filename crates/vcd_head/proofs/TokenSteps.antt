@@ -1,6 +1,5 @@
 -- One token on in the reading of a header.
-use Rattle.std.proofs.Common.{◌≡◌, ◌≢◌, ℕ, true, false, List, [], ◌∷◌, ◌++◌, Option, Some, None, unwrap_or, refl, sym, ap, subst, ◌∙◌}
-use Rattle.std.specs.Global.{Vec}
+use Rattle.std.proofs.Common.{◌≡◌, ◌≢◌, ℕ, true, false, List, [], ◌∷◌, ◌++◌, Option, Some, None, unwrap_or, Result, Ok, Err, MatchResult, refl, sym, ap, subst, ◌∙◌}
 use Rattle.std.proofs.lemmas.List.{append_assoc}
 use Rattle.vcd_model.specs.Input.{Input}
 use Rattle.vcd_model.specs.Laws.{IsPrefixOf}
@@ -18,7 +17,8 @@ use Rattle.vcd_text.proofs.ShownLemmas.{read_to_shown}
 use Rattle.vcd_text.specs.declared.device.Source.{Ghosts}
 use Rattle.vcd_text.specs.declared.feed.Feed.{Feed}
 use Rattle.vcd_head.specs.Reads.{Reads, ReadsToken, ReadsWhole, IsFaultless, HasFault, FailsAtEnd, FailsAtToken, IsGoodSoFar}
-use Rattle.vcd_head.specs.Texts.{Welcomes, WordRead}
+use Rattle.vcd_text.specs.Calls.{StandsStill}
+use Rattle.vcd_head.specs.Texts.{Welcomes}
 use Rattle.vcd_model.specs.Keywords.{is_end}
 
 -- a token is missing: the input's stream has no more
@@ -89,29 +89,32 @@ faultless most i placed before t f r = good_so_far most i placed (before ++ t �
 pub faultless_phrase : {X : Type 0} {g : Ghosts X} (most : ℕ) (i : Input) (placed : List (Placed HeaderPhrase)) (p : Placed HeaderPhrase) (f : Feed X g) → Reads most i (placed ++ p ∷ []) [] f → IsGoodSoFar most i f
 faultless_phrase most i placed p f r = good_so_far most i (placed ++ p ∷ []) [] f r (λ e. append_not_nil placed p (nothing_read most r.given (placed ++ p ∷ []) [] r.so_far e).0)
 
--- and after some
-pub faultless_phrases : {X : Type 0} {g : Ghosts X} (most : ℕ) (i : Input) (placed : List (Placed HeaderPhrase)) (f : Feed X g) → placed ≢ [] → Reads most i placed [] f → IsGoodSoFar most i f
-faultless_phrases most i placed f some r = good_so_far most i placed [] f r (λ e. some (nothing_read most r.given placed [] r.so_far e).0)
-
 -- and after the last
 pub faultless_whole : {X : Type 0} {g : Ghosts X} (most : ℕ) (i : Input) (placed : List (Placed HeaderPhrase)) (f : Feed X g) → ReadsWhole most i placed f → IsGoodSoFar most i f
 faultless_whole most i placed f r = (r.given, (r.stands, read_to_shown i r.given f r.stands), r.going, rw (r.whole, IsFaultless) tt)
 
 -- a word passes its checks
-pub welcomed : {X : Type 0} {g : Ghosts X} (most : ℕ) (i : Input) (placed : List (Placed HeaderPhrase)) (before : List (List ℕ)) (f : Feed X g) → Welcomes most placed before → is_end (token_of f).bytes ≡ false → ReadsToken most i placed before f
+pub welcomed : {X : Type 0} {g : Ghosts X} (most : ℕ) (i : Input) (placed : List (Placed HeaderPhrase)) (before : List (List ℕ)) (n : ℕ) (f : Feed X g) → Welcomes most placed before n → is_end (token_of f).bytes ≡ false → ReadsToken most i placed before f
     → Reads most i placed (before ++ (token_of f).bytes ∷ []) f
-welcomed most i placed before f w e l = let step = w (token_of f).bytes e in taken most i placed before f step.0 step.1 l
+welcomed most i placed before n f w e l = let step = w.0 (token_of f).bytes e in taken most i placed before f step.0 step.1 l
 
-module _ {X : Type 0} {g : Ghosts X} (most : ℕ) (i : Input) (placed : List (Placed HeaderPhrase)) (before : List (List ℕ)) (f : Feed X g) (o : Option (Vec ℕ)) where
-  pub word_some : (word : Vec ℕ) → o ≡ Some word → WordRead most i placed before f o → Reads most i placed (before ++ word.items ∷ []) f × (is_end word.items ≡ false)
-  word_some word e w = subst (WordRead most i placed before f) e w
+-- a token is kept
+pub kept : {X : Type 0} {g : Ghosts X} (most : ℕ) (i : Input) (placed : List (Placed HeaderPhrase)) (before : List (List ℕ)) (f f' : Feed X g) → StandsStill f f' → token_of f' ≡ token_of f → Reads most i placed before f → Reads most i placed before f'
+kept most i placed before f f' still same r = record {
+  given = r.given;
+  stands = still.stands i r.given r.stands;
+  so_far = r.so_far;
+  last = λ some. let at = r.last some in (at.0, at.1 ∙ ap (λ t. at.0 ++ t ∷ []) (sym same));
+}
 
-  pub word_none : ((word : Vec ℕ) → o ≡ Some word → ⊥) → WordRead most i placed before f o → ReadsToken most i placed before f × (is_end (token_of f).bytes ≡ true)
-  word_none e w = by_cases o e w
-    where
-      by_cases : (x : Option (Vec ℕ)) → ((word : Vec ℕ) → x ≡ Some word → ⊥) → WordRead most i placed before f x → ReadsToken most i placed before f × (is_end (token_of f).bytes ≡ true)
-      by_cases None e w = w
-      by_cases (Some word) e w = absurd (e word refl)
+-- what is so if a call succeeds
+pub then_ok : {A E : Type 0} (r : Result A E) (P Q : A → Type 0) (F : E → Type 0) → ((x : A) → P x → Q x) → MatchResult r P F → MatchResult r Q F
+then_ok (Ok x) P Q F h m = h x m
+then_ok (Err e) P Q F h m = m
+
+-- a reading that went on and is then refused
+pub ends_on : {X : Type 0} {g : Ghosts X} (failures : X → ℕ) (old new : Feed X g) (e : CallEnd) → e ≡ CallEnd.Ends → Advances failures old new CallEnd.GoesOn → Advances failures old new e
+ends_on failures old new e is a = rw is (record { loans = a.loans; limit = a.limit; chunk = a.chunk; on = λ q. cc; goes = λ q o. cc; failed = λ q o. cc; last = λ q o. cc; same = λ q. a.same (λ x. cc) })
 
 -- a call that ends before a token is read
 pub stays : {X : Type 0} {g : Ghosts X} (failures : X → ℕ) (f : Feed X g) (e : CallEnd) → e ≡ CallEnd.Ends → Advances failures f f e

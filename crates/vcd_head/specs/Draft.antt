@@ -1,5 +1,5 @@
 -- What a draft holds of the phrases read so far, besides the feed that they come from.
-use Rattle.std.specs.Prelude.{◌≡◌, ◌≢◌, ℕ, suc, ◌+◌, ◌≤◌, List, [], ◌∷◌, ◌++◌, length, map, reverse, find, filter_map, count_by, sum_by, bytes_eq, Some, None, is_some, option_map, unwrap_or, slice_get, Bool, true, false, Option, IfSome}
+use Rattle.std.specs.Prelude.{◌≡◌, ℕ, suc, ◌+◌, ◌≤◌, List, [], ◌∷◌, ◌++◌, length, map, reverse, find, filter_map, count_by, sum_by, bytes_eq, Some, None, is_some, option_map, unwrap_or, slice_get, Bool, true, false, Option, IfSome}
 use Rattle.std.specs.List.{AllByRecursion, list_any, last_or}
 use Rattle.vcd_model.specs.Declarations.{Declaration, Variable, IdCode, code_of, codes_of, variables_of, has_text, is_scope, is_up, enclosing}
 use Rattle.vcd_model.specs.HeaderChecks.{agrees}
@@ -14,10 +14,7 @@ use Rattle.vcd_head.specs.declared.draft.Draft.{Draft}
 use Rattle.vcd_model.specs.Input.{Input}
 use Rattle.vcd_model.specs.Keywords.{Keyword, keyword_of, keyword_text}
 use Rattle.vcd_model.specs.Reading.{Placed, phrases_of}
-use Rattle.vcd_model.specs.Tokens.{Token}
-use Rattle.vcd_model.specs.HeaderReading.{header_grammar}
-use Rattle.vcd_model.specs.SoFar.{IsSoFar}
-use Rattle.vcd_text.specs.Feed.{HasGiven, token_of}
+use Rattle.vcd_text.specs.Feed.{token_of}
 use Rattle.vcd_text.specs.declared.device.Source.{Ghosts}
 use Rattle.vcd_text.specs.declared.feed.Feed.{Feed}
 use Rattle.vcd_head.specs.Reads.{Reads, ReadsToken, ReadsWhole}
@@ -76,25 +73,11 @@ pub record IsNew (d : Draft) : Type 0 where
   pub no_scale : d.scale ≡ None
   pub no_scopes : d.scopes.items ≡ []
 
--- the draft holds the phrases that were read, at least one, and the feed shows the last token of
--- them
+-- the draft holds the phrases that were read, and the feed shows the last token of them
 pub record DraftsUpTo {X : Type 0} {g : Ghosts X} (most : ℕ) (i : Input) (d : Draft) (f : Feed X g) : Type 0 where
   pub placed : List (Placed HeaderPhrase)
   pub reads : Reads most i placed [] f
   pub holds : IsDraftOf most d (phrases_of placed)
-  pub some : placed ≢ []
-
--- the draft holds the phrases that these tokens are
-pub record DraftsOn (most : ℕ) (given : List Token) (d : Draft) : Type 0 where
-  pub placed : List (Placed HeaderPhrase)
-  pub so_far : IsSoFar (header_grammar most) given placed []
-  pub holds : IsDraftOf most d (phrases_of placed)
-
--- the draft holds the phrases that were given, and the feed need not show the last token of them
-pub record DraftsBehind {X : Type 0} {g : Ghosts X} (most : ℕ) (i : Input) (d : Draft) (f : Feed X g) : Type 0 where
-  pub given : List Token
-  pub stands : HasGiven i given f
-  pub drafts : DraftsOn most given d
 
 -- the draft holds the phrases that were read, and the feed is after the keyword that begins the
 -- next one

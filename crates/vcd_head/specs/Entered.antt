@@ -2,7 +2,6 @@
 use Rattle.std.specs.Prelude.{◌≡◌, ℕ, ◌<◌, ◌^◌, Bool, false, MatchBool, List, [], ◌∷◌, ◌++◌, length, Option, Result, IfOk}
 use Rattle.std.specs.List.{list_any, position_or_len}
 use Rattle.vcd_model.specs.Declarations.{Declaration, Variable, code_of}
-use Rattle.vcd_model.specs.HeaderChecks.{agrees}
 use Rattle.vcd_view.specs.Views.{IsSize}
 use Rattle.vcd_view.specs.declared.view.Code.{Code}
 use Rattle.vcd_head.specs.Codes.{Rises, keys_of}
@@ -15,10 +14,6 @@ use Rattle.vcd_head.specs.declared.fault.HeadFault.{HeadFault}
 -- the variable has the code with these bytes, this size, and is an event or none
 abbrev pub IsCoded : Variable → List ℕ → ℕ → Bool → Type 0
 IsCoded v bytes size event = code_of v ≡ record { text = bytes; size = size; event = event }
-
--- whether such a variable agrees with those before it
-abbrev pub Allows : Codes → List ℕ → ℕ → Bool → Bool → Type 0
-Allows known bytes size event result = (text : List ℕ) (ds : List Declaration) (v : Variable) → HasCodes text known ds → IsCoded v bytes size event → result ≡ agrees ds v
 
 -- the code of such a variable is entered
 abbrev pub Enters : (old new : List ℕ) → (known known_after : Codes) → List ℕ → ℕ → Bool → Result (Option ℕ) HeadFault → Type 0

@@ -1,5 +1,5 @@
 -- The numbers of the faults of a header.
-use Rattle.std.specs.Prelude.{ℕ, Result, Ok, Err}
+use Rattle.std.specs.Prelude.{◌≡◌, ℕ, Result, Ok, Err}
 use Rattle.vcd_text.specs.Advances.{CallEnd}
 use Rattle.vcd_head.specs.declared.fault.HeadFault.{HeadFault}
 use Rattle.vcd_head.specs.declared.fault.HeadFault.TheVariants.{TokenTooLong, EndOfInput, UnknownCommand, OutOfPlace, BadTimescale, BadScope, BadVariable, CodeDiffers, NoScope, TooDeep, TooMany, InputTooLong, ReadFailed, OutOfMemory}
@@ -26,3 +26,7 @@ abbrev pub call_end : {A : Type 0} → Result A HeadFault → CallEnd
 call_end (Ok x) = CallEnd.GoesOn
 call_end (Err ReadFailed) = CallEnd.Fails
 call_end (Err fault) = CallEnd.Ends
+
+-- it is a fault of a token, and not of the source
+abbrev pub IsFound : HeadFault → Type 0
+IsFound fault = call_end {A = Unit {0}} (Err fault) ≡ CallEnd.Ends

@@ -13,7 +13,6 @@ pub mod Draft
 pub mod Declares
 pub mod Entered
 pub mod Calls
-pub mod Ahead
 pub mod Variables
 pub mod Scaled
 pub mod Marks

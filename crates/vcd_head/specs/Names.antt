@@ -18,7 +18,7 @@ pub use Rattle.vcd_model.specs.Selection.{first_unmatched, is_selected, is_varia
 pub use Rattle.vcd_model.specs.Ticks.{moment_ticks, ticks}
 pub use Rattle.vcd_text.specs.Advances.{CallEnd}
 pub use Rattle.vcd_text.specs.Device.{Counts, Puts, PutsTo, PutsWhere, TakenBy, Takes}
-pub use Rattle.vcd_text.specs.Feed.{seen, source_of, token_of}
+pub use Rattle.vcd_text.specs.Feed.{seen, source_of, token_of, value_of}
 pub use Rattle.vcd_view.specs.Entries.{KeepsRight, are_right, is_right, text_in}
 pub use Rattle.vcd_view.specs.Finds.{Finds}
 pub use Rattle.vcd_view.specs.Keys.{key_in}
@@ -27,13 +27,12 @@ pub use Rattle.vcd_view.specs.Shown.{parts}
 pub use Rattle.vcd_view.specs.Views.{AreHeld, IsIndex, IsSize, IsViewOf, Views, counted_from_one, reference_of, type_of}
 pub use Rattle.vcd_view.specs.declared.view.Code.{Code}
 pub use Rattle.vcd_view.specs.declared.view.Scale.{Scale}
-pub use Rattle.vcd_head.specs.Ahead.{DraftsAhead, DraftsNext, Gives, GivesToken, GoesOnWithin, IsReference, IsScope, IsUpscope, IsVariable, LooksOn, MovesAhead, PassesOn, PassesTokens, TakesNext}
-pub use Rattle.vcd_head.specs.Calls.{MovesFurther, MovesOn, OrFails, ReadsAhead, ReadsAll, ReadsAny, ReadsEnd, ReadsNext, ReadsOne, ReadsOther, ReadsPhrase, ReadsRest, ReadsText, ReadsToEnd, ReadsWord}
+pub use Rattle.vcd_head.specs.Calls.{MovesFurther, MovesOn, OrFails, ReadsAll, ReadsAny, ReadsEnd, ReadsNext, ReadsOther, ReadsPhrase, ReadsRest, ReadsText, ReadsToEnd, ReadsWord}
 pub use Rattle.vcd_head.specs.Codes.{HasNone, Rises, is_of, keys_of}
-pub use Rattle.vcd_head.specs.Declares.{DeclaresVariable, IsBarred, MayStart, Takes as TakesPhrase, whole}
+pub use Rattle.vcd_head.specs.Declares.{IsBarred, MayStart, Takes as TakesPhrase}
 pub use Rattle.vcd_head.specs.Draft.{IsDraftOf, IsNew, goes_on}
-pub use Rattle.vcd_head.specs.Entered.{Allows, Enters, EntersKey, IsNewCode, code_with}
-pub use Rattle.vcd_head.specs.Fault.{call_end, fault_number}
+pub use Rattle.vcd_head.specs.Entered.{Enters, EntersKey, IsNewCode, code_with}
+pub use Rattle.vcd_head.specs.Fault.{IsFound, call_end, fault_number}
 pub use Rattle.vcd_head.specs.Fronts.{ArePrefixes, AreRanks, bytes_at, prefix_in, order_of, place_in_rank, rank_of}
 pub use Rattle.vcd_head.specs.Groups.{AreRising, FlagsSome, GoesOnWith, IsRun, IsRunOn, RunsOn, names_of}
 pub use Rattle.vcd_head.specs.Inside.{AnyOpen, ComparesAt, Enters as EntersScope, FlagsSelected, GivesAround, IsOpen, KeepsOpen, SelectsAt, StaysOpen, front, row_path}
@@ -51,8 +50,8 @@ pub use Rattle.vcd_head.specs.Scaled.{ReadsScale}
 pub use Rattle.vcd_head.specs.ScopesLeft.{GivesNext, LeavesScopes, Walks, scopes_around}
 pub use Rattle.vcd_head.specs.Selects.{IsBehind as GoesOnAfter, selects_after}
 pub use Rattle.vcd_head.specs.Shown.{shown}
-pub use Rattle.vcd_head.specs.Texts.{AppendsAhead, spaced}
-pub use Rattle.vcd_head.specs.Variables.{ReadsCode, ReadsFront, ReadsSize}
+pub use Rattle.vcd_head.specs.Texts.{spaced}
+pub use Rattle.vcd_head.specs.Variables.{ReadsCode, ReadsReference, ReadsSize}
 pub use Rattle.vcd_head.specs.Words.{power_in, size_in, unit_in}
 pub use Rattle.vcd_head.specs.Written.{TakesHeader, TakesRow}
 pub use Rattle.vcd_head.specs.declared.fault.HeadFault.TheVariants.{OutOfMemory}

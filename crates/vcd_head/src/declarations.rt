@@ -1,44 +1,14 @@
 // The checks of declarations, and what a declaration adds to the draft.
-ghost use Rattle.std.specs.Prelude.{◌≡◌, List, ◌++◌, length, IfOk, IfErr, MatchResult};
-ghost use Rattle.vcd_head.specs.Names.{CallEnd, Declaration, DeclaresVariable, HeaderPhrase, IsBarred, IsDraftOf, MayStart, TakesPhrase, call_end, whole};
+ghost use Rattle.std.specs.Prelude.{◌≡◌, List, IfOk, IfErr, MatchResult};
+ghost use Rattle.vcd_head.specs.Names.{CallEnd, Declaration, HeaderPhrase, IsBarred, IsDraftOf, MayStart, TakesPhrase, call_end};
 
-use crate::code_place::enter_code;
 use crate::draft::Draft;
 use crate::fault::HeadFault;
 use crate::rows::{WideRow, push};
-use crate::words::is_event;
-use std::alloc::Global;
 use vcd_view::Kind;
 
 // How many scopes may be open (profile).
 const MAX_OPEN: usize = 1000;
-
-// What the phrase of a variable says.
-#[derive(Clone, Copy)]
-pub(crate) struct VariablePhrase<'a> {
-    // The type.
-    pub(crate) word: &'a [u8],
-    pub(crate) size: usize,
-    pub(crate) code: &'a [u8],
-    pub(crate) reference: Reference<'a>,
-}
-
-// What a phrase refers to a variable by.
-#[derive(Clone, Copy)]
-pub(crate) struct Reference<'a> {
-    // Its first token.
-    pub(crate) name: &'a [u8],
-    // The tokens after that, with a space between; `None` if it has no others.
-    pub(crate) more: Option<&'a [u8]>,
-}
-
-// What the phrase of a scope says.
-#[derive(Clone, Copy)]
-pub(crate) struct ScopePhrase<'a> {
-    // The type.
-    pub(crate) word: &'a [u8],
-    pub(crate) name: &'a [u8],
-}
 
 /// Fails if a declaration of this kind may not come next: with `TooMany` if the draft has `most`
 /// declarations already, with `TooDeep` if it opens a scope while 1,000 are open, and with
@@ -69,84 +39,25 @@ pub(crate) fn check_start(draft: &Draft, most: u64, kind: Kind) -> Result<(), He
     }
 }
 
-/// Adds a variable to the draft, and returns whether its code allows that. It does not if the code
-/// was declared before with another size, or if only one of the two variables is an event; then the
-/// draft does not change. Fails only with `OutOfMemory`; then the draft may have a part of it.
-#[inline(always)]
-pub(crate) fn declare(
-    alloc: Global,
-    draft: &mut Draft,
-    variable: VariablePhrase<'_>,
-) -> Result<bool, HeadFault>
-    ensures declares { DeclaresVariable variable.entry draft.old draft.new result }
-    ensures memory { IfErr result (λ fault. fault ≡ HeadFault.OutOfMemory) }
-{
-    let event = is_event(variable.word);
-    let Some(position) = enter_code(
-        alloc,
-        &mut draft.text,
-        &mut draft.codes,
-        variable.code,
-        variable.size,
-        event,
-    )?
-    else {
-        return Ok(false);
-    };
-    let start = draft.text.len();
-    draft.text.extend_from_slice(variable.word)?;
-    let word = variable.word.len();
-    let all = add_reference(&mut draft.text, variable.reference)?;
-    let parent = draft.parent();
-    let row = WideRow {
-        kind: Kind::Var,
-        parent,
-        start,
-        word,
-        name: variable.reference.name.len(),
-        all,
-        code: position,
-    };
-    push(&mut draft.rows, row)?;
-    Ok(true)
-}
-
-/// Appends the tokens of a reference to the text, with a space between, and returns how many bytes
-/// it appended. Fails only with `OutOfMemory`; then some of the bytes may be appended.
-#[inline(always)]
-fn add_reference(text: &mut Vec<u8>, reference: Reference<'_>) -> Result<usize, HeadFault>
-    ensures text { IfOk result (λ _. text.new.items ≡ text.old.items ++ whole reference.entry) }
-    ensures len { IfOk result (λ len. len ≡ length (whole reference.entry)) }
-    ensures memory { IfErr result (λ fault. fault ≡ HeadFault.OutOfMemory) }
-{
-    let start = text.len();
-    text.extend_from_slice(reference.name)?;
-    if let Some(more) = reference.more {
-        text.push(b' ')?;
-        text.extend_from_slice(more)?;
-    }
-    Ok(text.len() - start)
-}
-
-/// Adds the declaration of a scope to the draft, and makes it the innermost open one. Fails only
+/// Adds a scope of this type and name to the draft, and makes it the innermost open one. Fails only
 /// with `OutOfMemory`; then the draft may have a part of it.
 #[inline(always)]
-pub(crate) fn open_scope(draft: &mut Draft, scope: ScopePhrase<'_>) -> Result<(), HeadFault>
+pub(crate) fn open_scope(draft: &mut Draft, word: &[u8], name: &[u8]) -> Result<(), HeadFault>
     ensures opens { IfOk result (λ _. TakesPhrase Kind.Scope
-        (Declaration.Scope scope.entry.word.now scope.entry.name.now) draft.old draft.new) }
+        (Declaration.Scope word.now name.now) draft.old draft.new) }
     ensures memory { IfErr result (λ fault. fault ≡ HeadFault.OutOfMemory) }
 {
     let start = draft.text.len();
-    draft.text.extend_from_slice(scope.word)?;
-    draft.text.extend_from_slice(scope.name)?;
+    draft.text.extend_from_slice(word)?;
+    draft.text.extend_from_slice(name)?;
     let parent = draft.parent();
     let row = WideRow {
         kind: Kind::Scope,
         parent,
         start,
-        word: scope.word.len(),
-        name: scope.name.len(),
-        all: scope.name.len(),
+        word: word.len(),
+        name: name.len(),
+        all: name.len(),
         code: 0,
     };
     push(&mut draft.rows, row)?;

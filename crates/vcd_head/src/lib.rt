@@ -29,9 +29,8 @@
 //! - `read`, `phrases`: the whole header; one phrase of it
 //! - `tokens`, `texts`, `words`: the next token; texts up to `$end`; tests of tokens
 //! - `scopes`, `variable`, `scale`: what a phrase says
-//! - `ahead`, `ahead_scopes`: variables and scopes whose phrases lie completely in the chunk
-//! - `declarations`, `rows`, `code_place`: what these are checked for, however they are read; what
-//!   becomes of the head: rows, and the index of a code
+//! - `declarations`, `rows`, `code_place`: what declarations are checked for, and what becomes of
+//!   them: rows, and the index of a code
 //! - `draft`, `codes`, `rising`, `code_key`, `finish`: a header while it is read, its codes, the
 //!   numbers and the keys by which they are found; the head that it becomes
 //! - `head`, `fault`: `Head`; `HeadFault`
@@ -58,8 +57,6 @@
 //! the marks if a name selects nothing.
 #![tactic(auto)]
 
-mod ahead;
-mod ahead_scopes;
 mod code_key;
 mod code_place;
 mod codes;

@@ -1,13 +1,13 @@
 // The phrases of a header, one after the other.
 ghost use Rattle.std.specs.Prelude.{◌≡◌, ◌-◌, ◌^◌, ◌<◌, OnOk};
-ghost use Rattle.vcd_head.specs.Names.{Keyword as Named, MovesOn, ReadsAny, ReadsEnd, ReadsOther, ReadsRest, goes_on as goes_on_after, seen, source_of};
+ghost use Rattle.vcd_head.specs.Names.{Keyword as Named, MovesOn, ReadsAny, ReadsOther, ReadsRest, goes_on as goes_on_after, seen, source_of};
 
 use crate::draft::Draft;
 use crate::fault::HeadFault;
 use crate::scale::read_timescale;
 use crate::scopes::{read_scope, read_upscope};
 use crate::texts::{skip_to_end, text_to_end};
-use crate::tokens::{next_ends, next_token};
+use crate::tokens::{next_end, next_token};
 use crate::variable::read_variable;
 use crate::words::{begins_change, is_command};
 use std::alloc::Global;
@@ -29,19 +29,6 @@ fn read_other<S: Source>(feed: &mut Feed<'_, '_, '_, '_, S>) -> Result<(), HeadF
         return Err(HeadFault::UnknownCommand);
     }
     skip_to_end(feed)
-}
-
-/// Reads the `$end` after `$enddefinitions`. Fails with `OutOfPlace` if another token comes next,
-/// and if none can be read.
-fn read_end<S: Source>(feed: &mut Feed<'_, '_, '_, '_, S>) -> Result<(), HeadFault>
-    requires { S.failures (source_of feed.old) < 2 ^ 64 - 1 }
-    ensures reads { ReadsEnd feed.old feed.new result }
-    ensures advances { MovesOn S.failures feed.old feed.new result }
-{
-    if next_ends(feed)? {
-        return Ok(());
-    }
-    Err(HeadFault::OutOfPlace)
 }
 
 /// Returns whether other phrases may follow one with this keyword (`None` if it begins with no
@@ -101,10 +88,10 @@ fn read_rest<S: Source>(
             Ok(())
         }
         Some(Keyword::Timescale) => read_timescale(feed, draft),
-        Some(Keyword::Scope) => read_scope(alloc, feed, most, draft),
+        Some(Keyword::Scope) => read_scope(feed, most, draft),
         Some(Keyword::Upscope) => read_upscope(feed, most, draft),
         Some(Keyword::Var) => read_variable(alloc, feed, most, draft),
-        Some(Keyword::EndDefinitions) => read_end(feed),
+        Some(Keyword::EndDefinitions) => next_end(feed, HeadFault::OutOfPlace),
         Some(Keyword::DumpAll) => Err(HeadFault::OutOfPlace),
         Some(Keyword::DumpOff) => Err(HeadFault::OutOfPlace),
         Some(Keyword::DumpOn) => Err(HeadFault::OutOfPlace),

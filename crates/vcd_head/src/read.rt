@@ -2,7 +2,6 @@
 ghost use Rattle.std.specs.Prelude.{◌-◌, ◌^◌, ◌<◌, ◌≤◌};
 ghost use Rattle.vcd_head.specs.Names.{MovesOn, ReadsAll, ReadsHead, source_of};
 
-use crate::ahead::read_ahead;
 use crate::draft::Draft;
 use crate::fault::HeadFault;
 use crate::finish::finish;
@@ -81,6 +80,5 @@ fn read_phrases<S: Source>(
         if !read_phrase(alloc, feed, most, draft)? {
             return Ok(());
         }
-        read_ahead(alloc, feed, most, draft)?;
     }
 }

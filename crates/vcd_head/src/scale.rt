@@ -4,7 +4,7 @@ ghost use Rattle.vcd_head.specs.Names.{Keyword, MovesOn, ReadsScale, ReadsText, 
 
 use crate::draft::Draft;
 use crate::fault::HeadFault;
-use crate::tokens::{next_ends, next_token};
+use crate::tokens::{next_end, next_token};
 use crate::words::{exponent_of, power_of, unit_of};
 use vcd_text::{Feed, Source};
 use vcd_view::Scale;
@@ -41,9 +41,6 @@ pub(crate) fn read_timescale<S: Source>(
     ensures advances { MovesOn S.failures feed.old feed.new result }
 {
     let exponent = read_exponent(feed)?;
-    if !next_ends(feed)? {
-        return Err(HeadFault::BadTimescale);
-    }
     draft.scale = Some(Scale { exponent });
-    Ok(())
+    next_end(feed, HeadFault::BadTimescale)
 }

@@ -2,11 +2,10 @@
 ghost use Rattle.std.specs.Prelude.{◌-◌, ◌^◌, ◌<◌};
 ghost use Rattle.vcd_head.specs.Names.{Keyword, MovesOn, ReadsPhrase, source_of};
 
-use crate::declarations::{ScopePhrase, check_start, close_scope, open_scope};
+use crate::declarations::{check_start, close_scope, open_scope};
 use crate::draft::Draft;
 use crate::fault::HeadFault;
-use crate::tokens::{next_ends, next_word};
-use std::alloc::Global;
+use crate::tokens::{next_end, next_word};
 use vcd_text::{Feed, Source};
 use vcd_view::Kind;
 
@@ -14,7 +13,6 @@ use vcd_view::Kind;
 /// other tokens come next, with `TooMany` if the draft has `most` declarations, with `TooDeep` if
 /// 1,000 scopes are open, and if a token cannot be read.
 pub(crate) fn read_scope<S: Source>(
-    alloc: Global,
     feed: &mut Feed<'_, '_, '_, '_, S>,
     most: u64,
     draft: &mut Draft,
@@ -24,21 +22,11 @@ pub(crate) fn read_scope<S: Source>(
     ensures advances { MovesOn S.failures feed.old feed.new result }
 {
     check_start(draft, most, Kind::Scope)?;
-    let Some(word) = next_word(alloc, feed)? else {
-        return Err(HeadFault::BadScope);
-    };
-    let Some(name) = next_word(alloc, feed)? else {
-        return Err(HeadFault::BadScope);
-    };
-    if !next_ends(feed)? {
-        return Err(HeadFault::BadScope);
-    }
-    let scope = ScopePhrase {
-        word: &word,
-        name: &name,
-    };
-    open_scope(draft, scope)?;
-    Ok(())
+    next_word(feed, HeadFault::BadScope)?;
+    feed.keep();
+    next_word(feed, HeadFault::BadScope)?;
+    open_scope(draft, feed.value(), feed.token())?;
+    next_end(feed, HeadFault::BadScope)
 }
 
 /// Reads the rest of an `$upscope` into the draft: `$end`. Fails with `BadScope` if another token
@@ -54,9 +42,6 @@ pub(crate) fn read_upscope<S: Source>(
     ensures advances { MovesOn S.failures feed.old feed.new result }
 {
     check_start(draft, most, Kind::Up)?;
-    if !next_ends(feed)? {
-        return Err(HeadFault::BadScope);
-    }
     close_scope(draft)?;
-    Ok(())
+    next_end(feed, HeadFault::BadScope)
 }

@@ -1,13 +1,11 @@
 // Phrases that run to the first `$end`.
-ghost use Rattle.std.specs.Prelude.{◌≡◌, ◌-◌, ◌^◌, ◌<◌, ◌++◌, IfErr};
-ghost use Rattle.vcd_head.specs.Names.{AppendsAhead, MovesOn, ReadsToEnd, join_with_byte, source_of, spaced};
+ghost use Rattle.std.specs.Prelude.{◌≡◌, ◌-◌, ◌^◌, ◌<◌, ◌≤◌, ◌++◌, IfOk, length};
+ghost use Rattle.vcd_head.specs.Names.{MovesOn, ReadsToEnd, join_with_byte, source_of, spaced};
 
-use crate::ahead::token_ahead;
 use crate::fault::HeadFault;
 use crate::tokens::next_ends;
-use crate::words::is_end;
 use std::alloc::Global;
-use vcd_text::{Ahead, Feed, Source};
+use vcd_text::{Feed, Source};
 
 /// Reads tokens up to and with the next `$end`, and ignores them. Fails if there is no `$end`, or
 /// if a token cannot be read.
@@ -32,6 +30,7 @@ pub(crate) fn append_to_end<S: Source>(
     requires { S.failures (source_of feed.old) < 2 ^ 64 - 1 }
     ensures reads { ReadsToEnd feed.old feed.new
         (λ _ inner. text.new.items ≡ text.old.items ++ spaced inner) result }
+    ensures grows { IfOk result (λ _. length text.old.items ≤ length text.new.items) }
     ensures advances { MovesOn S.failures feed.old feed.new result }
 {
     'tokens: loop {
@@ -40,31 +39,6 @@ pub(crate) fn append_to_end<S: Source>(
         }
         text.push(b' ')?;
         text.extend_from_slice(feed.token())?;
-        let passed = append_ahead(feed.ahead(), text)?;
-        feed.pass(passed);
-    }
-}
-
-/// Appends the tokens that come next and lie completely in the chunk to the text, up to the first
-/// `$end`, which is left; a space is put before each. Returns how many bytes `ahead` has passed
-/// after these tokens. Fails if there is no memory.
-// Without it, `check` of a date of tokens of one byte takes 2.2 times as many instructions.
-fn append_ahead(ahead: Ahead<'_>, text: &mut Vec<u8>) -> Result<usize, HeadFault>
-    ensures appends { AppendsAhead ahead.entry text.old.items text.new.items result }
-    ensures memory { IfErr result (λ fault. fault ≡ HeadFault.OutOfMemory) }
-{
-    let mut passed = ahead;
-    'tokens: loop {
-        let mut next = passed;
-        let Some(token) = token_ahead(&mut next) else {
-            return Ok(passed.passed());
-        };
-        if is_end(token) {
-            return Ok(passed.passed());
-        }
-        text.push(b' ')?;
-        text.extend_from_slice(token)?;
-        passed = next;
     }
 }
 

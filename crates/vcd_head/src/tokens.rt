@@ -1,10 +1,9 @@
 // Tokens of a header, one after the other.
 ghost use Rattle.std.specs.Prelude.{◌≡◌, ◌-◌, ◌^◌, ◌<◌, IfOk};
-ghost use Rattle.vcd_head.specs.Names.{MovesFurther, MovesOn, ReadsNext, ReadsOne, ReadsWord, is_end, source_of, token_of};
+ghost use Rattle.vcd_head.specs.Names.{IsFound, MovesFurther, MovesOn, ReadsEnd, ReadsNext, ReadsWord, is_end, source_of, token_of, value_of};
 
 use crate::fault::HeadFault;
 use crate::words;
-use std::alloc::Global;
 use vcd_text::{Feed, Halt, Next, Source};
 
 /// Reads the next token; `Feed::token` then returns it. Fails if the input has ended, if the token
@@ -13,6 +12,7 @@ use vcd_text::{Feed, Halt, Next, Source};
 pub(crate) fn next_token<S: Source>(feed: &mut Feed<'_, '_, '_, '_, S>) -> Result<(), HeadFault>
     requires { S.failures (source_of feed.old) < 2 ^ 64 - 1 }
     ensures reads { ReadsNext feed.old feed.new result }
+    ensures value { value_of feed.new ≡ value_of feed.old }
     ensures goes { MovesFurther S.failures feed.old feed.new result }
 {
     match feed.next() {
@@ -29,27 +29,46 @@ pub(crate) fn next_token<S: Source>(feed: &mut Feed<'_, '_, '_, '_, S>) -> Resul
 #[inline(always)]
 pub(crate) fn next_ends<S: Source>(feed: &mut Feed<'_, '_, '_, '_, S>) -> Result<bool, HeadFault>
     requires { S.failures (source_of feed.old) < 2 ^ 64 - 1 }
-    ensures reads { ReadsOne feed.old feed.new result }
-    ensures next { ReadsNext feed.old feed.new result }
+    ensures reads { ReadsNext feed.old feed.new result }
     ensures end { IfOk result (λ ends. ends ≡ is_end (token_of feed.new).bytes) }
+    ensures value { value_of feed.new ≡ value_of feed.old }
     ensures goes { MovesFurther S.failures feed.old feed.new result }
 {
     next_token(feed)?;
     Ok(words::is_end(feed.token()))
 }
 
-/// Reads the next token, and returns a copy of its bytes, or `None` if it is `$end`. Fails if there
-/// is no token, if it cannot be read, or if there is no memory.
+/// Reads the next token. Fails with `fault` if it is `$end`, and if it cannot be read.
+#[inline(always)]
 pub(crate) fn next_word<S: Source>(
-    alloc: Global,
     feed: &mut Feed<'_, '_, '_, '_, S>,
-) -> Result<Option<Vec<u8>>, HeadFault>
-    requires { S.failures (source_of feed.old) < 2 ^ 64 - 1 }
-    ensures reads { ReadsWord feed.old feed.new result }
+    fault: HeadFault,
+) -> Result<(), HeadFault>
+    requires failures { S.failures (source_of feed.old) < 2 ^ 64 - 1 }
+    requires found { IsFound fault }
+    ensures reads { ReadsWord fault feed.old feed.new result }
+    ensures value { value_of feed.new ≡ value_of feed.old }
     ensures advances { MovesOn S.failures feed.old feed.new result }
 {
     if next_ends(feed)? {
-        return Ok(None);
+        return Err(fault);
     }
-    Ok(Some(Vec::from_slice(alloc, feed.token())?))
+    Ok(())
+}
+
+/// Reads `$end`. Fails with `fault` if another token comes next, and if none can be read.
+#[inline(always)]
+pub(crate) fn next_end<S: Source>(
+    feed: &mut Feed<'_, '_, '_, '_, S>,
+    fault: HeadFault,
+) -> Result<(), HeadFault>
+    requires failures { S.failures (source_of feed.old) < 2 ^ 64 - 1 }
+    requires found { IsFound fault }
+    ensures reads { ReadsEnd fault feed.old feed.new result }
+    ensures advances { MovesOn S.failures feed.old feed.new result }
+{
+    if next_ends(feed)? {
+        return Ok(());
+    }
+    Err(fault)
 }

@@ -1,11 +1,13 @@
 // The phrase of a variable, after its keyword.
-ghost use Rattle.std.specs.Prelude.{◌-◌, ◌^◌, ◌<◌};
-ghost use Rattle.vcd_head.specs.Names.{Keyword, MovesOn, ReadsCode, ReadsFront, ReadsPhrase, ReadsSize, source_of};
+ghost use Rattle.std.specs.Prelude.{◌≡◌, ◌-◌, ◌^◌, ◌<◌, ◌≤◌, IfOk, length};
+ghost use Rattle.vcd_head.specs.Names.{Keyword, MovesOn, ReadsCode, ReadsPhrase, ReadsReference, ReadsSize, source_of, value_of};
 
+use crate::code_place::enter_code;
 use crate::codes::Codes;
-use crate::declarations::{Reference, VariablePhrase, check_start, declare};
+use crate::declarations::check_start;
 use crate::draft::Draft;
 use crate::fault::HeadFault;
+use crate::rows::{WideRow, push};
 use crate::texts::append_to_end;
 use crate::tokens::{next_token, next_word};
 use crate::words::{is_code, is_event, size_of};
@@ -15,9 +17,11 @@ use vcd_view::Kind;
 
 /// Reads the size of a variable, and returns it, in bits. Fails with `BadVariable` if the next
 /// token is not the digits of a number from 1 to 16,777,215, and if it cannot be read.
+#[inline(always)]
 fn read_size<S: Source>(feed: &mut Feed<'_, '_, '_, '_, S>) -> Result<usize, HeadFault>
     requires { S.failures (source_of feed.old) < 2 ^ 64 - 1 }
     ensures reads { ReadsSize feed.old feed.new result }
+    ensures value { value_of feed.new ≡ value_of feed.old }
     ensures advances { MovesOn S.failures feed.old feed.new result }
 {
     next_token(feed)?;
@@ -27,61 +31,55 @@ fn read_size<S: Source>(feed: &mut Feed<'_, '_, '_, '_, S>) -> Result<usize, Hea
     }
 }
 
-/// Reads the code of a variable with this size, which is an event if `event` is true, and returns
-/// its bytes. Fails with `BadVariable` if the next token is no code, with `CodeDiffers` if `known`
-/// has the code with another size, or if only one of its variables is an event, and if the token
+/// Reads the type, the size and the code of a variable, and returns the index of the code in
+/// `known`. The type is then the feed's `value`. A new code is added to `known`, and its bytes to
+/// `text`. Fails with `BadVariable` if other tokens come next, with `CodeDiffers` if the code was
+/// declared before with another size, or if only one of its variables is an event, and if a token
 /// cannot be read.
+#[inline(always)]
 fn read_code<S: Source>(
     alloc: Global,
     feed: &mut Feed<'_, '_, '_, '_, S>,
-    known: &Codes,
-    size: usize,
-    event: bool,
-) -> Result<Vec<u8>, HeadFault>
+    text: &mut Vec<u8>,
+    known: &mut Codes,
+) -> Result<usize, HeadFault>
     requires { S.failures (source_of feed.old) < 2 ^ 64 - 1 }
-    ensures reads { ReadsCode known.now size event feed.old feed.new result }
+    ensures reads { ReadsCode text.old.items known.old feed.old
+        text.new.items known.new feed.new result }
     ensures advances { MovesOn S.failures feed.old feed.new result }
 {
-    next_token(feed)?;
-    let token = feed.token();
-    if !is_code(token) {
-        return Err(HeadFault::BadVariable);
-    }
-    if !known.allow(alloc, token, size, event) {
-        return Err(HeadFault::CodeDiffers);
-    }
-    Ok(Vec::from_slice(alloc, token)?)
-}
-
-/// The first tokens of a variable.
-#[derive(Drop)]
-struct VariableStart {
-    /// The type.
-    word: Vec<u8>,
-    /// The size, in bits.
-    size: usize,
-    code: Vec<u8>,
-}
-
-/// Reads the type, the size and the code of a variable, and returns them. Fails with `BadVariable`
-/// if other tokens come next, with `CodeDiffers` if `known` has the code with another size, or if
-/// only one of its variables is an event, and if a token cannot be read.
-fn read_variable_start<S: Source>(
-    alloc: Global,
-    feed: &mut Feed<'_, '_, '_, '_, S>,
-    known: &Codes,
-) -> Result<VariableStart, HeadFault>
-    requires { S.failures (source_of feed.old) < 2 ^ 64 - 1 }
-    ensures reads { ReadsFront known.now feed.old feed.new result }
-    ensures advances { MovesOn S.failures feed.old feed.new result }
-{
-    let Some(word) = next_word(alloc, feed)? else {
-        return Err(HeadFault::BadVariable);
-    };
+    next_word(feed, HeadFault::BadVariable)?;
+    feed.keep();
     let size = read_size(feed)?;
-    let event = is_event(&word);
-    let code = read_code(alloc, feed, known, size, event)?;
-    Ok(VariableStart { word, size, code })
+    next_token(feed)?;
+    if !is_code(feed.token()) {
+        return Err(HeadFault::BadVariable);
+    }
+    let event = is_event(feed.value());
+    match enter_code(alloc, text, known, feed.token(), size, event)? {
+        Some(code) => Ok(code),
+        None => Err(HeadFault::CodeDiffers),
+    }
+}
+
+/// Reads the reference of a variable and the `$end` after it. Appends the tokens of the reference
+/// to `text`, with a space between, and returns the length of the first one. Fails with
+/// `BadVariable` if there is none, if a token cannot be read, and if there is no memory.
+#[inline(always)]
+fn read_reference<S: Source>(
+    feed: &mut Feed<'_, '_, '_, '_, S>,
+    text: &mut Vec<u8>,
+) -> Result<usize, HeadFault>
+    requires { S.failures (source_of feed.old) < 2 ^ 64 - 1 }
+    ensures reads { ReadsReference text.old.items feed.old text.new.items feed.new result }
+    ensures grows { IfOk result (λ _. length text.old.items ≤ length text.new.items) }
+    ensures advances { MovesOn S.failures feed.old feed.new result }
+{
+    next_word(feed, HeadFault::BadVariable)?;
+    let name = feed.token().len();
+    text.extend_from_slice(feed.token())?;
+    append_to_end(feed, text)?;
+    Ok(name)
 }
 
 /// Reads the rest of a `$var` into the draft: type, size, code, one or more tokens of reference,
@@ -99,23 +97,20 @@ pub(crate) fn read_variable<S: Source>(
     ensures advances { MovesOn S.failures feed.old feed.new result }
 {
     check_start(draft, most, Kind::Var)?;
-    let front = read_variable_start(alloc, feed, &draft.codes)?;
-    let Some(name) = next_word(alloc, feed)? else {
-        return Err(HeadFault::BadVariable);
+    let code = read_code(alloc, feed, &mut draft.text, &mut draft.codes)?;
+    let start = draft.text.len();
+    draft.text.extend_from_slice(feed.value())?;
+    let name_start = draft.text.len();
+    let name = read_reference(feed, &mut draft.text)?;
+    let row = WideRow {
+        kind: Kind::Var,
+        parent: draft.parent(),
+        start,
+        word: name_start - start,
+        name,
+        all: draft.text.len() - name_start,
+        code,
     };
-    let mut more = Vec::new(alloc);
-    append_to_end(feed, &mut more)?;
-    let variable = VariablePhrase {
-        word: &front.word,
-        size: front.size,
-        code: &front.code,
-        reference: Reference {
-            name: &name,
-            more: more.get(1..),
-        },
-    };
-    if !declare(alloc, draft, variable)? {
-        return Err(HeadFault::CodeDiffers);
-    }
+    push(&mut draft.rows, row)?;
     Ok(())
 }

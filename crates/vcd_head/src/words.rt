@@ -12,36 +12,12 @@ pub(crate) fn is_end(token: &[u8]) -> bool
     matches!(token, [b'$', b'e', b'n', b'd'])
 }
 
-/// Returns whether the token is `$var`.
-#[inline(always)]
-pub(crate) fn is_var(token: &[u8]) -> bool
-    ensures { result ≡ bytes_eq (codes "$var") token.now }
-{
-    matches!(token, [b'$', b'v', b'a', b'r'])
-}
-
 /// Returns whether the word, the type of a variable, is `event`.
 #[inline(always)]
 pub(crate) fn is_event(word: &[u8]) -> bool
     ensures { result ≡ bytes_eq (codes "event") word.now }
 {
     matches!(word, [b'e', b'v', b'e', b'n', b't'])
-}
-
-/// Returns whether the token is `$scope`.
-#[inline(always)]
-pub(crate) fn is_scope(token: &[u8]) -> bool
-    ensures { result ≡ bytes_eq (codes "$scope") token.now }
-{
-    matches!(token, [b'$', b's', b'c', b'o', b'p', b'e'])
-}
-
-/// Returns whether the token is `$upscope`.
-#[inline(always)]
-pub(crate) fn is_upscope(token: &[u8]) -> bool
-    ensures { result ≡ bytes_eq (codes "$upscope") token.now }
-{
-    matches!(token, [b'$', b'u', b'p', b's', b'c', b'o', b'p', b'e'])
 }
 
 /// Returns whether the token could begin a timestamp or a value change: by its first byte.

@@ -7,7 +7,7 @@ use Rattle.std.specs.Io.KnownBytes.{Consumes, IsAtEnd, Keeps}
 use Rattle.vcd_model.specs.Bytes.{is_white_space}
 use Rattle.vcd_model.specs.Input.{Input, Mark, Clean, Failed}
 use Rattle.vcd_model.specs.Tokens.{Token, end_of_tokens, line_at, stream_of}
-use Rattle.vcd_text.specs.Window.{line_feeds_in, skipped, gathered, ended, refilled, Whites, Gathers, Skips, Collects, Fills, Finishes, Halts}
+use Rattle.vcd_text.specs.Window.{begun, line_feeds_in, skipped, gathered, ended, refilled, Whites, Gathers, Skips, TakesShort, Collects, Fills, Finishes, Halts}
 use Rattle.vcd_text.specs.Registers.{looked, Fits, halt_number}
 use Rattle.vcd_text.specs.Answer.{whole, failed_after, Ends, NextGives}
 use Rattle.vcd_text.specs.ReadAhead.{Near, HasRest}
@@ -292,6 +292,22 @@ pub halted-stands : (limit : ℕ) (rest : Option (List ℕ)) (chunk token : List
     → HasGivenAt limit rest chunk p i given × (take p.size token ≡ []) × Ends limit i given (Some (halt_number h)) p.line
 halted-stands limit rest chunk token p i given h phase empty near marks e before = (rw phase (near, marks, e, before), rw empty refl, e)
 
+-- before the first step
+pub first-turns : (limit : ℕ) (rest : Option (List ℕ)) (chunk token : List ℕ) (p : Parked) → Fits p (length chunk) limit → p.phase ≡ Going → Turns limit (HasGivenAt limit rest chunk p) rest chunk token (length chunk) (record p { size = 0 })
+first-turns limit rest chunk token p r going = record {
+  fits = record { at = r.at; stop = r.stop; end = r.end; stops = r.stops; counted = r.counted; line_feeds = r.line_feeds; size = omega arith; kept = r.kept };
+  going = going;
+  clean = λ i given st. (subst (λ q. InPhase q limit rest chunk p i given) going st).0;
+  within = λ i given st.
+      let a = (subst (λ q. InPhase q limit rest chunk p i given) going st).1 in
+      let none : looked p - (looked p - 0) ≡ 0 = omega arith in
+      record {
+        at = record { place = a.place; begun = a.begun };
+        bytes = sym (ap (λ n. take n (drop (looked p - 0) i.bytes)) none);
+        line = λ lt. absurd (omega arith);
+      };
+}
+
 pub after-skip : (limit : ℕ) (stands : Input → List Token → Type 0) (rest : Option (List ℕ)) (chunk token : List ℕ) (size : ℕ) (old mid : Parked) → Turns limit stands rest chunk token size old → length chunk ≡ size → (0 < old.size → mid ≡ old) → (old.size ≡ 0 → Skips chunk old mid)
     → (i : Input) (given : List Token) → stands i given → Ready limit rest chunk token mid i.bytes given
 after-skip limit stands rest chunk token size old mid t fits begun skips i given st =
@@ -386,6 +402,39 @@ ended-near limit rest chunk token token' p i given d r full s lt white w =
 pub whole-near : (limit : ℕ) (rest : Option (List ℕ)) (chunk token token' : List ℕ) (mid new : Parked) (i : Input) (given : List Token) → Fits mid (length chunk) limit → length token ≡ limit → Collects chunk token token' mid new Whole → Ready limit rest chunk token mid i.bytes given
     → Near (length chunk) rest (end_of_tokens i.bytes (suc (length given))) i
 whole-near limit rest chunk token token' mid new i given r full cs w = ended-near limit rest chunk token token' mid i given cs.0 r full cs.1 cs.2 cs.3 w
+
+-- ---- a token that begins at the next byte
+
+module _ (limit : ℕ) (rest : Option (List ℕ)) (chunk token token' : List ℕ) (p new : Parked) (r : Fits p (length chunk) limit) (full : length token ≡ limit) (t : TakesShort chunk token token' p new) where
+  -- no white space comes before it
+  pub short-skips : Skips chunk (record p { size = 0 }) (begun p)
+  short-skips =
+      let none : p.at - p.at ≡ 0 = omega arith in
+      let here : p.at + 0 ≡ p.at = omega arith in
+      let few : line_feeds_in (slice_range chunk p.at (p.at + 0)) ≡ 0 = let z : p.at + 0 - p.at ≡ 0 = omega arith in ap (λ n. line_feeds_in (take n (drop p.at chunk))) z in
+      let same : p.line_feeds ≡ p.line_feeds + line_feeds_in (slice_range chunk p.at (p.at + 0)) = omega (arith, few) in
+      rw none (
+        record { to = omega (arith, r.at); white = λ k less. absurd (omega arith); after = λ _. t.collects.1.other 0 (omega (arith, t.some, ap (λ (q : Parked). q.size) t.collects.4)) },
+        λ j. record p { at = sym here j; size = 0; line_feeds = same j; line = same j + 1 },
+      )
+
+  short-begun : Fits (begun p) (length chunk) limit
+  short-begun = record { at = r.at; stop = r.stop; end = r.end; stops = r.stops; counted = r.counted; line_feeds = r.line_feeds; size = omega arith; kept = r.kept }
+
+  pub short-going : new.phase ≡ Going
+  short-going = ap (λ (q : Parked). q.phase) t.collects.4 ∙ t.going
+
+  module _ (i : Input) (given : List Token) (st : HasGivenAt limit rest chunk p i given) where
+    short-ready : Ready limit rest chunk token (begun p) i.bytes given
+    short-ready = after-skip limit (HasGivenAt limit rest chunk p) rest chunk token (length chunk) (record p { size = 0 }) (begun p) (first-turns limit rest chunk token p r t.going) refl (λ lt. absurd (omega arith)) (λ _. short-skips) i given st
+
+    -- it is given
+    pub short-stands : HasGivenAt limit rest chunk new i (given ++ (record { bytes = take new.size token'; line = new.line }) ∷ [])
+    short-stands = whole-stands limit rest chunk token token' (begun p) new i given ((first-turns limit rest chunk token p r t.going).clean i given st) short-begun full short-going t.collects short-ready
+
+    -- and nothing was read
+    pub short-near : Near (length chunk) rest (end_of_tokens i.bytes (suc (length given))) i
+    short-near = whole-near limit rest chunk token token' (begun p) new i given short-begun full t.collects short-ready
 
 -- a token that ends with the input
 pub finish-near : (limit : ℕ) (rest rest' : Option (List ℕ)) (chunk chunk' token : List ℕ) (p : Parked) (i : Input) (given : List Token) → p.end ≤ p.at → IsAtEnd rest → 0 < p.size → Within limit rest chunk token p i.bytes given

@@ -11,4 +11,4 @@ pub use Rattle.vcd_text.specs.Masks.{BitsAreWhite, TellsWhite}
 pub use Rattle.vcd_text.specs.Passed.{AreWhite, IsRun}
 pub use Rattle.vcd_text.specs.Registers.{Fits, IsOffset, KeepsFit, answer_number, looked, offset_of, phase_at, registers_at}
 pub use Rattle.vcd_text.specs.Turn.{GoesOnIn, MayGoOn, StillFits, TurnSays, Turns, TurnsAhead}
-pub use Rattle.vcd_text.specs.Window.{Collects, Fills, Finishes, Halts, Skips, gone_on, is_white_at, line_feeds_in, stepped_past}
+pub use Rattle.vcd_text.specs.Window.{Collects, Fills, Finishes, Halts, Skips, TakesShort, gone_on, is_white_at, line_feeds_in, stepped_past}

@@ -5,7 +5,7 @@ use Rattle.vcd_model.specs.Bytes.{is_white_space}
 use Rattle.vcd_text.specs.declared.registers.Parked.{Parked}
 use Rattle.vcd_text.specs.declared.answer.Halt.{Halt}
 use Rattle.vcd_text.specs.declared.answer.Halt.TheVariants.{TokenTooLong, InputTooLong, ReadFailed}
-use Rattle.vcd_text.specs.declared.registers.Phase.TheVariants.{Ended, Halted}
+use Rattle.vcd_text.specs.declared.registers.Phase.TheVariants.{Ended, Going, Halted}
 use Rattle.vcd_text.specs.declared.window.Collected.{Collected}
 use Rattle.vcd_text.specs.declared.window.Collected.TheVariants.{Whole, Part, TooLong}
 use Rattle.vcd_text.specs.declared.window.Filled.{Filled}
@@ -69,6 +69,16 @@ Collects chunk token token' old new Whole = (d : ℕ) × Gathers chunk token tok
     × (is_white_space (slice_index chunk (old.at + d)) ≡ true) × (new ≡ ended chunk old d)
 Collects chunk token token' old new TooLong = (new ≡ old) × (old.at + (length token - old.size) < old.stop)
     × ((k : ℕ) → k < length token - old.size + 1 → is_white_space (slice_index chunk (old.at + k)) ≡ false)
+
+-- the registers at the first byte of a token
+abbrev pub begun : Parked → Parked
+begun p = record p { size = 0; line = p.line_feeds + 1 }
+
+-- a whole token that begins at the next byte was collected
+pub record TakesShort (chunk token token' : List ℕ) (old new : Parked) : Type 0 where
+  pub going : old.phase ≡ Going
+  pub some : 0 < new.size
+  pub collects : Collects chunk token token' (begun old) new Whole
 
 abbrev pub Fills : Option (List ℕ) → Option (List ℕ) → List ℕ → Parked → Parked → Filled → Type 0
 Fills rest rest' chunk old new More = (0 < new.end) × (new.end ≤ length chunk) × Consumes rest rest' (take new.end chunk)

@@ -1,6 +1,6 @@
 // The steps of a feed: from the chunk to the token window, and then the next chunk.
 ghost use Rattle.std.specs.Prelude.{◌≡◌, ℕ, ◌+◌, ◌-◌, ◌^◌, ◌<◌, ◌≤◌, ◌≢◌, ◌++◌, length, take, slice_range, true, false};
-ghost use Rattle.vcd_text.specs.Names.{Collects, Fills, Finishes, Fits, GoesOnIn, Halts, KeepsFit, MayGoOn, Skips, StillFits, is_white_at, looked, stepped_past};
+ghost use Rattle.vcd_text.specs.Names.{Collects, Fills, Finishes, Fits, GoesOnIn, Halts, KeepsFit, MayGoOn, Skips, StillFits, TakesShort, is_white_at, looked, stepped_past};
 
 use crate::answer::{Halt, Next};
 use crate::device::Source;
@@ -68,7 +68,7 @@ pub(crate) fn collect(chunk: &[u8], token: &mut [u8], parked: &mut Parked) -> Co
     let at = parked.at;
     let stop = parked.stop;
     let size = parked.size;
-    let n = token_len(&chunk[at..stop]);
+    let n = run_len(&chunk[at..stop]);
     if n > token.len() - size {
         return Collected::TooLong;
     }
@@ -81,6 +81,40 @@ pub(crate) fn collect(chunk: &[u8], token: &mut [u8], parked: &mut Parked) -> Co
     }
     step_past(chunk, end, parked);
     Collected::Whole
+}
+
+/// Copies the next token of the chunk to the front of `token`, and moves `parked` past it and the
+/// white byte after it, if it begins at the next byte and has at most 15 bytes. Returns whether it
+/// did so. It does not if fewer than 16 bytes of the chunk are left, if `token` has fewer than 16
+/// bytes, or if the token has a byte below the space (32). Then nothing has changed. The bytes of
+/// `token` after those that were copied may change.
+// Most tokens of a header are such: without it, the header of 184,002 codes takes 40 % more.
+#[inline(always)]
+pub(crate) fn collect_short(chunk: &[u8], token: &mut [u8], parked: &mut Parked) -> bool
+    requires { MayGoOn (length chunk.now) parked.old }
+    ensures takes { result ≡ true → TakesShort chunk.now token.old token.new parked.old parked.new }
+    ensures none { result ≡ false → (parked.new ≡ parked.old) × (token.new ≡ token.old) }
+{
+    let Phase::Going = parked.phase else {
+        return false;
+    };
+    let at = parked.at;
+    if parked.stop - at < 16 || token.len() < 16 {
+        return false;
+    }
+    let low = low_16(chunk, at);
+    if low == 0 {
+        return false;
+    }
+    let n = lowest(low);
+    if n == 0 || !is_white_space(chunk[at + n]) {
+        return false;
+    }
+    token[..16].copy_from_slice(&chunk[at..at + 16]);
+    parked.size = n;
+    parked.line = parked.line_feeds + 1;
+    step_past(chunk, at + n, parked);
+    true
 }
 
 /// Moves `parked` past the byte of white space at `end` in the chunk, at which a token ends, and
@@ -97,42 +131,14 @@ fn step_past(chunk: &[u8], end: usize, parked: &mut Parked)
     parked.at = end + 1;
 }
 
-/// Returns how many bytes come before the first white byte; all of them if none is white.
-// A short token takes one look at 16 bytes, which is less than one at 64 (`white_64`).
-#[inline(always)]
-fn token_len(bytes: &[u8]) -> usize
-    ensures within { result ≤ length bytes.now }
-    ensures other { (k : ℕ) → k < result → is_white_at bytes.now k ≡ false }
-    ensures stops { result < length bytes.now → is_white_at bytes.now result ≡ true }
-{
-    if bytes.len() >= 16 {
-        let low = low_16(bytes, 0);
-        if low != 0 {
-            let len = lowest(low);
-            if is_white_space(bytes[len]) {
-                return len;
-            }
-        }
-    }
-    run_len(bytes)
-}
-
 /// Copies `n` bytes of the chunk from offset `at` on into `token`, after its first `size` bytes.
-/// The chunk has to have them, and `token` room for them. The bytes of `token` after these may
-/// change too.
-// A short token is one copy of 16 bytes, if both slices have 16: a copy of an unknown length is a
-// call.
-#[inline(always)]
+/// The chunk has to have them, and `token` room for them.
 fn append(token: &mut [u8], size: usize, chunk: &[u8], at: usize, n: usize)
     requires room { size + n ≤ length token.old }
     requires within { at + n ≤ length chunk.now }
     ensures { take (size + n) token.new ≡ take size token.old ++ slice_range chunk.now at (at + n) }
 {
-    if n <= 16 && token.len() - size >= 16 && chunk.len() - at >= 16 {
-        token[size..size + 16].copy_from_slice(&chunk[at..at + 16]);
-    } else {
-        token[size..size + n].copy_from_slice(&chunk[at..at + n]);
-    }
+    token[size..size + n].copy_from_slice(&chunk[at..at + n]);
 }
 
 /// Reads the next bytes of the source into the front of the chunk. Returns `More` if there were

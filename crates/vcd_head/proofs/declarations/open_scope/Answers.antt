@@ -10,8 +10,8 @@ pub returns-clause-opens : goal.returns-clause-opens
 returns-clause-opens c = λ most ps h start.
     let d = c.args.draft.now in
     let ds = declarations_of ps in
-    let type = c.args.scope.word.now in
-    let name = c.args.scope.name.now in
+    let type = c.args.word.now in
+    let name = c.args.name.now in
     let len : c.len.result ≡ suc (length d.rows.items) = omega (arith, c.in_ok-push.ensures.len) in
     let from : c.len-start.result ≡ length d.text.items = omega arith in
     holds_declared most d _ ps (Declaration.Scope type name) h

@@ -74,3 +74,9 @@ returns-in_ok-draft-in-Some-Version-clause-reads g c = λ i begun.
     let b = subst (λ k. AtFirstToken c.args.most i k c.args.draft.now c.args.feed.now) is begun in
     let s = steps.text_begun c.args.most i Keyword.Version c.args.draft.now c.args.feed.now b refl refl (λ inner t. refl) (λ inner t none e. steps.not_whole_version inner t none e) in
     rw is (steps.version_read c.args.most i c.args.draft.now c.args.feed.now c.text_to_end-in-Some-Version.new.feed c.in_ok-draft-in-Some-Version.field-0 b (c.in_ok-draft-in-Some-Version.ensures.reads c.args.most i b.placed (keyword_text Keyword.Version ∷ []) s.1 s.0))
+
+pub returns-in-Some-EndDefinitions-clause-reads : goal.returns-in-Some-EndDefinitions-clause-reads
+returns-in-Some-EndDefinitions-clause-reads g c = λ i begun.
+    let is : c.args.keyword ≡ Some word.EndDefinitions = search rules in
+    let b = subst (λ k. AtFirstToken c.args.most i k c.args.draft.now c.args.feed.now) is begun in
+    rw is (steps.end_taken c.args.most i c.args.draft.now c.args.feed.now c.next_end.new.feed c.next_end.result b c.next_end.ensures.reads)

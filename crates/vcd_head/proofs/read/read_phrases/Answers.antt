@@ -23,20 +23,8 @@ returns-then-not-branch-clause-reads g c = λ i b. MatchBool-at_false _ _ c.if-n
 pub returns-then-not-branch-clause-advances : goal.returns-then-not-branch-clause-advances
 returns-then-not-branch-clause-advances g c = advances_on g.S.Source.failures c.args.feed.now c.phrases.feed c.read_phrase.new.feed CallEnd.GoesOn c.phrases.invariant.0 c.in_ok-read_phrase.ensures.advances
 
-pub returns-in_err-read_ahead-clause-reads : goal.returns-in_err-read_ahead-clause-reads
-returns-in_err-read_ahead-clause-reads g c =
-    let p = err_from_is_err_and c.from_residual-in_err-read_ahead.result c.from_residual-in_err-read_ahead.ensures.1 in
-    rw (p.1, p.2) (λ i b. c.in_err-read_ahead.ensures.reads i (MatchBool-at_true _ _ c.if-not-branch.false (c.in_ok-read_phrase.ensures.reads i (c.phrases.invariant.1 i b))))
-
-pub returns-in_err-read_ahead-clause-advances : goal.returns-in_err-read_ahead-clause-advances
-returns-in_err-read_ahead-clause-advances g c =
-    let p = err_from_is_err_and c.from_residual-in_err-read_ahead.result c.from_residual-in_err-read_ahead.ensures.1 in
-    rw (p.1, p.2) (advances_on g.S.Source.failures c.args.feed.now c.read_phrase.new.feed c.read_ahead.new.feed _
-    (advances_on g.S.Source.failures c.args.feed.now c.phrases.feed c.read_phrase.new.feed CallEnd.GoesOn c.phrases.invariant.0 c.in_ok-read_phrase.ensures.advances) c.in_err-read_ahead.ensures.advances)
-
 pub phrases-preserved : goal.phrases-preserved
 phrases-preserved g c = (
-  advances_on g.S.Source.failures c.args.feed.now c.read_phrase.new.feed c.read_ahead.new.feed CallEnd.GoesOn
-      (advances_on g.S.Source.failures c.args.feed.now c.phrases.feed c.read_phrase.new.feed CallEnd.GoesOn c.phrases.invariant.0 c.in_ok-read_phrase.ensures.advances) c.in_ok-read_ahead.ensures.advances,
-  λ i b. c.in_ok-read_ahead.ensures.reads i (MatchBool-at_true _ _ c.if-not-branch.false (c.in_ok-read_phrase.ensures.reads i (c.phrases.invariant.1 i b))),
+  advances_on g.S.Source.failures c.args.feed.now c.phrases.feed c.read_phrase.new.feed CallEnd.GoesOn c.phrases.invariant.0 c.in_ok-read_phrase.ensures.advances,
+  λ i b. MatchBool-at_true _ _ c.if-not-branch.false (c.in_ok-read_phrase.ensures.reads i (c.phrases.invariant.1 i b)),
 )

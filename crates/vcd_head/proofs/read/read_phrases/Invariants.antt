@@ -1,12 +1,12 @@
 use Rattle.std.proofs.Common.{◌-◌, ◌^◌}
 use Rattle.vcd_model.specs.Input.{Input}
 use Rattle.vcd_text.specs.Feed.{seen}
-use Rattle.vcd_head.specs.Draft.{DraftsBehind}
+use Rattle.vcd_head.specs.Draft.{DraftsUpTo}
 use Rattle.vcd_text.specs.Advances.{Advances, CallEnd}
 use Rattle.vcd_head.proofs.read.read_phrases.Given as goal
 
 abbrev pub invariant-phrases : goal.invariant-phrases
-invariant-phrases g l = Advances g.S.Source.failures l.fn.feed l.feed CallEnd.GoesOn × ((i : Input) → DraftsBehind l.most i l.fn.draft l.fn.feed → DraftsBehind l.most i l.draft l.feed)
+invariant-phrases g l = Advances g.S.Source.failures l.fn.feed l.feed CallEnd.GoesOn × ((i : Input) → DraftsUpTo l.most i l.fn.draft l.fn.feed → DraftsUpTo l.most i l.draft l.feed)
 
 abbrev pub decreases-phrases : goal.decreases-phrases
 decreases-phrases g l = 2 ^ 63 - seen l.feed

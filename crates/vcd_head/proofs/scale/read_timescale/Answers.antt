@@ -7,9 +7,10 @@ use Rattle.vcd_model.specs.Keywords.{Keyword, keyword_text}
 use Rattle.vcd_model.specs.HeaderPhrases.{HeaderPhrase, scale_of}
 use Rattle.vcd_model.specs.Reading.{phrases_of}
 use Rattle.vcd_text.specs.Feed.{token_of}
-use Rattle.vcd_head.proofs.PhraseLemmas.{begun, ended, refused_inside}
+use Rattle.vcd_head.proofs.TokenSteps.{then_ok}
+use Rattle.vcd_head.proofs.PhraseLemmas.{begun, ended, scale_asks_end}
 use Rattle.vcd_view.proofs.KeywordLemmas.{until}
-use Rattle.vcd_head.proofs.DraftSteps.{carried, passed_test, failed_test}
+use Rattle.vcd_head.proofs.DraftSteps.{carried, passed_test}
 use Rattle.vcd_head.proofs.DraftLemmas.{holds_scale}
 use Rattle.vcd_head.proofs.ScaleTexts.{scale_in_range}
 use Rattle.vcd_head.proofs.scale.read_timescale.Goals as goal
@@ -19,24 +20,15 @@ returns-in_err-exponent-clause-reads g c =
     let p = err_from_is_err_and c.from_residual.result c.from_residual.ensures.1 in
     rw (p.1, p.2) (λ most i b. c.in_err-exponent.ensures.reads most i b.placed (begun most i b.placed Keyword.Timescale c.args.feed.now b.keyword refl refl b.token_read))
 
-pub returns-in_err-next_ends-clause-reads : goal.returns-in_err-next_ends-clause-reads
-returns-in_err-next_ends-clause-reads g c =
-    let p = err_from_is_err_and c.from_residual-in_err-next_ends.result c.from_residual-in_err-next_ends.ensures.1 in
-    rw (p.1, p.2) (λ most i b.
-    let s = c.in_ok-exponent.ensures.reads most i b.placed (begun most i b.placed Keyword.Timescale c.args.feed.now b.keyword refl refl b.token_read) in
-    c.in_err-next_ends.ensures.reads most i b.placed (keyword_text Keyword.Timescale ∷ s.inner) s.reads)
-
-pub returns-then-not-branch-clause-reads : goal.returns-then-not-branch-clause-reads
-returns-then-not-branch-clause-reads g c = λ most i b.
-    let s = c.in_ok-exponent.ensures.reads most i b.placed (begun most i b.placed Keyword.Timescale c.args.feed.now b.keyword refl refl b.token_read) in
-    refused_inside most i b.placed Keyword.Timescale c.next_ends.new.feed s.inner 5 (ap first_failed (s.then_end (token_of c.next_ends.new.feed).bytes) ∙ failed_test _ 5 (sym c.in_ok-next_ends.ensures.end ∙ c.if-not-branch.true))
-    (c.in_ok-next_ends.ensures.reads most i b.placed (keyword_text Keyword.Timescale ∷ s.inner) s.reads)
-
 pub returns-clause-reads : goal.returns-clause-reads
 returns-clause-reads g c = λ most i b.
     let s = c.in_ok-exponent.ensures.reads most i b.placed (begun most i b.placed Keyword.Timescale c.args.feed.now b.keyword refl refl b.token_read) in
     let x = to_z w8 (of_z w8 c.in_ok-exponent.exponent) in
-    let e = sym c.in_ok-next_ends.ensures.end ∙ c.if-not-branch.false in
-    let r = ended most i b.placed Keyword.Timescale c.next_ends.new.feed s.inner (HeaderPhrase.Timescale x) (ap first_failed (s.then_end (token_of c.next_ends.new.feed).bytes) ∙ passed_test _ 5 e)
-    (ap (λ o. option_map HeaderPhrase.Timescale (option_and_then scale_of o)) (until s.inner (token_of c.next_ends.new.feed).bytes s.none e) ∙ ap (option_map HeaderPhrase.Timescale) (s.scale_is ∙ ap Some (sym s.fits))) refl (c.in_ok-next_ends.ensures.reads most i b.placed (keyword_text Keyword.Timescale ∷ s.inner) s.reads) in
-    carried most i _ c.next_ends.new.feed b.placed (record { phrase = HeaderPhrase.Timescale x; line = (token_of c.next_ends.new.feed).line }) r (holds_scale most c.args.draft.now (phrases_of b.placed) (record { exponent = to_z w8 (of_z w8 c.in_ok-exponent.exponent) }) b.holds (scale_in_range s.inner x (s.scale_is ∙ ap Some (sym s.fits))))
+    let f = c.next_end.new.feed in
+    let is = s.scale_is ∙ ap Some (sym s.fits) in
+    then_ok c.next_end.result _ _ _
+    (λ u l. carried most i _ f b.placed (record { phrase = HeaderPhrase.Timescale x; line = (token_of f).line })
+    (ended most i b.placed Keyword.Timescale f s.inner (HeaderPhrase.Timescale x) (ap first_failed (s.then_end (token_of f).bytes) ∙ passed_test _ 5 l.1)
+    (ap (λ o. option_map HeaderPhrase.Timescale (option_and_then scale_of o)) (until s.inner (token_of f).bytes s.none l.1) ∙ ap (option_map HeaderPhrase.Timescale) is) refl l.0)
+    (holds_scale most c.args.draft.now (phrases_of b.placed) (record { exponent = x }) b.holds (scale_in_range s.inner x is)))
+    (c.next_end.ensures.reads most i b.placed (keyword_text Keyword.Timescale ∷ s.inner) (scale_asks_end most b.placed s.inner s.then_end) (λ x. x) s.reads)

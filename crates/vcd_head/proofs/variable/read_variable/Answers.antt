@@ -1,27 +1,20 @@
-use Rattle.std.proofs.Common.{◌≡◌, [], ◌∷◌, ◌++◌, length, option_map, unwrap_or, refl, sym, ap, subst, ◌∙◌, arith}
+use Rattle.std.proofs.Common.{◌≡◌, ◌<◌, ◌^◌, ◌-◌, [], ◌∷◌, ◌++◌, length, refl, sym, ap, subst, ◌∙◌, arith}
 use Rattle.std.specs.List.{join_with_byte}
-use Rattle.std.proofs.lemmas.Bool.{false≢true, MatchBool-at_true}
+use Rattle.std.proofs.lemmas.List.{append_assoc, append-nil, length-append}
 use Rattle.std.proofs.lemmas.Result.{err_from_is_err_and}
-use Rattle.vcd_model.specs.Bytes.{decimal_value}
 use Rattle.vcd_model.specs.Keywords.{Keyword, keyword_text}
-use Rattle.vcd_model.specs.HeaderChecks.{agrees}
 use Rattle.vcd_model.specs.HeaderPhrases.{HeaderPhrase, declarations_of}
-use Rattle.vcd_model.specs.Declarations.{Declaration, Variable}
+use Rattle.vcd_model.specs.Declarations.{Declaration}
 use Rattle.vcd_model.specs.Reading.{phrases_of}
-use Rattle.vcd_text.specs.Feed.{token_of}
+use Rattle.vcd_text.specs.Feed.{token_of, value_of}
 use Rattle.vcd_view.specs.declared.view.Kind.TheVariants as kind
-use Rattle.vcd_view.specs.Views.{IsSize}
-use Rattle.vcd_head.specs.Declares.{spelled, whole}
-use Rattle.vcd_head.specs.declared.declarations.Reference.{Reference}
-use Rattle.vcd_head.specs.declared.declarations.VariablePhrase.{VariablePhrase}
-use Rattle.vcd_head.specs.Draft.{IsDraftOf}
-use Rattle.vcd_head.specs.Texts.{spaced}
-use Rattle.vcd_head.proofs.TokenSteps.{faultless_phrase, stays, word_none, word_some}
-use Rattle.vcd_head.proofs.TextSteps.{joined, spaced_left}
-use Rattle.vcd_head.proofs.WordLemmas.{size_found, size_parts}
-use Rattle.vcd_head.proofs.PhraseLemmas.{barred, begun, ended, refused_inside, var_welcomes_reference, var_runs, var_whole}
-use Rattle.vcd_head.proofs.DraftSteps.{carried, failed_not}
-use Rattle.vcd_head.proofs.DraftLemmas.{some_token}
+use Rattle.vcd_view.specs.declared.view.Row.{Row}
+use Rattle.vcd_head.specs.Draft.{HasCodes}
+use Rattle.vcd_head.specs.Variables.{variable}
+use Rattle.vcd_head.proofs.TokenSteps.{faultless, faultless_phrase, stays}
+use Rattle.vcd_head.proofs.PhraseLemmas.{barred, begun, ended, var_whole}
+use Rattle.vcd_head.proofs.DraftSteps.{carried, room}
+use Rattle.vcd_head.proofs.DraftLemmas.{code_narrow, has_codes_grow, holds_declared, scope_narrow, some_token, var_entered}
 use Rattle.vcd_head.proofs.variable.read_variable.Goals as goal
 
 pub returns-in_err-check_start-clause-advances : goal.returns-in_err-check_start-clause-advances
@@ -35,131 +28,83 @@ returns-in_err-check_start-clause-reads g c =
     rw (p.1, p.2) (λ i b.
     barred c.args.most i b.placed kind.Var c.args.feed.now c.in_err-check_start.field-0.0 b.keyword (c.in_err-check_start.ensures.checks (phrases_of b.placed) b.holds) b.token_read)
 
-pub returns-in_err-front-clause-reads : goal.returns-in_err-front-clause-reads
-returns-in_err-front-clause-reads g c =
-    let p = err_from_is_err_and c.from_residual-in_err-front.result c.from_residual-in_err-front.ensures.1 in
+pub returns-in_err-code-clause-reads : goal.returns-in_err-code-clause-reads
+returns-in_err-code-clause-reads g c =
+    let p = err_from_is_err_and c.from_residual-in_err-code.result c.from_residual-in_err-code.ensures.1 in
     rw (p.1, p.2) (λ i b.
     let start = c.in_ok-check_start.ensures.checks (phrases_of b.placed) b.holds in
-    let r0 = begun c.args.most i b.placed Keyword.Var c.args.feed.now b.keyword start refl b.token_read in
-    c.in_err-front.ensures.reads c.args.most i b.placed c.args.draft.now.text.items b.holds.declares.codes r0)
+    let r = begun c.args.most i b.placed Keyword.Var c.args.feed.now b.keyword start refl b.token_read in
+    let held = b.holds.declares in
+    c.in_err-code.ensures.reads c.args.most i b.placed held.codes (omega (arith, held.few, held.allowed)) r)
+
+pub returns-in_err-extend_from_slice-clause-reads : goal.returns-in_err-extend_from_slice-clause-reads
+returns-in_err-extend_from_slice-clause-reads g c =
+    let p = err_from_is_err_and c.from_residual-in_err-extend_from_slice.result c.from_residual-in_err-extend_from_slice.ensures.1 in
+    rw (p.1, p.2) (λ i b.
+    let start = c.in_ok-check_start.ensures.checks (phrases_of b.placed) b.holds in
+    let r = begun c.args.most i b.placed Keyword.Var c.args.feed.now b.keyword start refl b.token_read in
+    let held = b.holds.declares in
+    let k = c.in_ok-code.ensures.reads c.args.most i b.placed held.codes (omega (arith, held.few, held.allowed)) r in
+    faultless c.args.most i b.placed (keyword_text Keyword.Var ∷ value_of c.read_code.new.feed ∷ k.digits ∷ []) k.code c.read_code.new.feed k.reads)
 
 pub returns-in_err-name-clause-reads : goal.returns-in_err-name-clause-reads
 returns-in_err-name-clause-reads g c =
     let p = err_from_is_err_and c.from_residual-in_err-name.result c.from_residual-in_err-name.ensures.1 in
     rw (p.1, p.2) (λ i b.
     let start = c.in_ok-check_start.ensures.checks (phrases_of b.placed) b.holds in
-    let r0 = begun c.args.most i b.placed Keyword.Var c.args.feed.now b.keyword start refl b.token_read in
-    let f1 = c.in_ok-front.ensures.reads c.args.most i b.placed c.args.draft.now.text.items b.holds.declares.codes r0 in
-    let front = c.in_ok-front.front in
-    let type = front.word.items in
-    let digits = f1.digits in
-    let sf = size_found digits front.size f1.size_is in
-    let code = front.code.items in
-    c.in_err-name.ensures.reads c.args.most i b.placed (keyword_text Keyword.Var ∷ type ∷ digits ∷ code ∷ []) (var_welcomes_reference c.args.most b.placed type digits code) f1.reads)
+    let r = begun c.args.most i b.placed Keyword.Var c.args.feed.now b.keyword start refl b.token_read in
+    let held = b.holds.declares in
+    let k = c.in_ok-code.ensures.reads c.args.most i b.placed held.codes (omega (arith, held.few, held.allowed)) r in
+    c.in_err-name.ensures.reads c.args.most i b.placed (value_of c.read_code.new.feed) k.digits k.code k.reads)
 
-pub returns-in_default-clause-reads : goal.returns-in_default-clause-reads
-returns-in_default-clause-reads g c = λ i b.
+pub returns-in_err-push-clause-reads : goal.returns-in_err-push-clause-reads
+returns-in_err-push-clause-reads g c =
+    let p = err_from_is_err_and c.from_residual-in_err-push.result c.from_residual-in_err-push.ensures.1 in
+    rw (p.1, p.2, c.in_err-push.ensures.memory) (λ i b.
     let start = c.in_ok-check_start.ensures.checks (phrases_of b.placed) b.holds in
-    let r0 = begun c.args.most i b.placed Keyword.Var c.args.feed.now b.keyword start refl b.token_read in
-    let f1 = c.in_ok-front.ensures.reads c.args.most i b.placed c.args.draft.now.text.items b.holds.declares.codes r0 in
-    let front = c.in_ok-front.front in
-    let type = front.word.items in
-    let digits = f1.digits in
-    let sf = size_found digits front.size f1.size_is in
-    let code = front.code.items in
-    let put = c.in_ok-name.ensures.reads c.args.most i b.placed (keyword_text Keyword.Var ∷ type ∷ digits ∷ code ∷ []) (var_welcomes_reference c.args.most b.placed type digits code) f1.reads in
-    let e = word_none c.args.most i b.placed (keyword_text Keyword.Var ∷ type ∷ digits ∷ code ∷ []) c.next_word.new.feed c.in_ok-name.field-0 c.in_default.not-Some put in
-    refused_inside c.args.most i b.placed Keyword.Var c.next_word.new.feed (type ∷ digits ∷ code ∷ []) 7 (failed_not _ 7 e.1) e.0
-
-pub returns-in_err-append_to_end-clause-reads : goal.returns-in_err-append_to_end-clause-reads
-returns-in_err-append_to_end-clause-reads g c =
-    let p = err_from_is_err_and c.from_residual-in_err-append_to_end.result c.from_residual-in_err-append_to_end.ensures.1 in
-    rw (p.1, p.2) (λ i b.
-    let start = c.in_ok-check_start.ensures.checks (phrases_of b.placed) b.holds in
-    let r0 = begun c.args.most i b.placed Keyword.Var c.args.feed.now b.keyword start refl b.token_read in
-    let f1 = c.in_ok-front.ensures.reads c.args.most i b.placed c.args.draft.now.text.items b.holds.declares.codes r0 in
-    let front = c.in_ok-front.front in
-    let type = front.word.items in
-    let digits = f1.digits in
-    let sf = size_found digits front.size f1.size_is in
-    let code = front.code.items in
-    let put = c.in_ok-name.ensures.reads c.args.most i b.placed (keyword_text Keyword.Var ∷ type ∷ digits ∷ code ∷ []) (var_welcomes_reference c.args.most b.placed type digits code) f1.reads in
-    let word = word_some c.args.most i b.placed (keyword_text Keyword.Var ∷ type ∷ digits ∷ code ∷ []) c.next_word.new.feed c.in_ok-name.field-0 c.in-Some.name c.in-Some.is put in
-    let first = c.in-Some.name.items in
-    c.in_err-append_to_end.ensures.reads c.args.most i b.placed (keyword_text Keyword.Var ∷ type ∷ digits ∷ code ∷ first ∷ []) (var_runs c.args.most b.placed type digits code first word.1) word.0)
-
-pub returns-in_err-declare-clause-reads : goal.returns-in_err-declare-clause-reads
-returns-in_err-declare-clause-reads g c =
-    let p = err_from_is_err_and c.from_residual-in_err-declare.result c.from_residual-in_err-declare.ensures.1 in
-    rw (p.1, p.2, c.in_err-declare.ensures.memory) (λ i b.
-    let start = c.in_ok-check_start.ensures.checks (phrases_of b.placed) b.holds in
-    let r0 = begun c.args.most i b.placed Keyword.Var c.args.feed.now b.keyword start refl b.token_read in
-    let f1 = c.in_ok-front.ensures.reads c.args.most i b.placed c.args.draft.now.text.items b.holds.declares.codes r0 in
-    let front = c.in_ok-front.front in
-    let type = front.word.items in
-    let digits = f1.digits in
-    let sf = size_found digits front.size f1.size_is in
-    let code = front.code.items in
-    let sp = size_parts digits sf.0 in
-    let put = c.in_ok-name.ensures.reads c.args.most i b.placed (keyword_text Keyword.Var ∷ type ∷ digits ∷ code ∷ []) (var_welcomes_reference c.args.most b.placed type digits code) f1.reads in
-    let word = word_some c.args.most i b.placed (keyword_text Keyword.Var ∷ type ∷ digits ∷ code ∷ []) c.next_word.new.feed c.in_ok-name.field-0 c.in-Some.name c.in-Some.is put in
-    let first = c.in-Some.name.items in
-    let e5 = c.in_ok-append_to_end.ensures.reads c.args.most i b.placed (keyword_text Keyword.Var ∷ type ∷ digits ∷ code ∷ first ∷ []) (var_runs c.args.most b.placed type digits code first word.1) word.0 in
-    let inner = e5.inner in
-    let v : Variable = record { type = type; size = decimal_value digits; code = code; reference = first ∷ inner } in
-    let r5 = ended c.args.most i b.placed Keyword.Var c.append_to_end.new.feed (type ∷ digits ∷ code ∷ first ∷ inner) (HeaderPhrase.Declares (Declaration.Var v)) refl (var_whole type digits code first inner (token_of c.append_to_end.new.feed).bytes word.1 e5.none e5.ends sp.0) refl e5.token_read in
-    faultless_phrase c.args.most i b.placed (record { phrase = HeaderPhrase.Declares (Declaration.Var v); line = (token_of c.append_to_end.new.feed).line }) c.append_to_end.new.feed r5)
-
-pub returns-then-not-branch-clause-reads : goal.returns-then-not-branch-clause-reads
-returns-then-not-branch-clause-reads g c = λ i b.
-    let start = c.in_ok-check_start.ensures.checks (phrases_of b.placed) b.holds in
-    let r0 = begun c.args.most i b.placed Keyword.Var c.args.feed.now b.keyword start refl b.token_read in
-    let f1 = c.in_ok-front.ensures.reads c.args.most i b.placed c.args.draft.now.text.items b.holds.declares.codes r0 in
-    let front = c.in_ok-front.front in
-    let type = front.word.items in
-    let digits = f1.digits in
-    let sf = size_found digits front.size f1.size_is in
-    let code = front.code.items in
-    let sp = size_parts digits sf.0 in
-    let put = c.in_ok-name.ensures.reads c.args.most i b.placed (keyword_text Keyword.Var ∷ type ∷ digits ∷ code ∷ []) (var_welcomes_reference c.args.most b.placed type digits code) f1.reads in
-    let word = word_some c.args.most i b.placed (keyword_text Keyword.Var ∷ type ∷ digits ∷ code ∷ []) c.next_word.new.feed c.in_ok-name.field-0 c.in-Some.name c.in-Some.is put in
-    let first = c.in-Some.name.items in
-    let e5 = c.in_ok-append_to_end.ensures.reads c.args.most i b.placed (keyword_text Keyword.Var ∷ type ∷ digits ∷ code ∷ first ∷ []) (var_runs c.args.most b.placed type digits code first word.1) word.0 in
-    let inner = e5.inner in
-    let v : Variable = record { type = type; size = decimal_value digits; code = code; reference = first ∷ inner } in
-    let ds = declarations_of (phrases_of b.placed) in
-    let size : IsSize front.size = record { some = omega (arith, sp.1, sf.1); most = omega (arith, sp.2, sf.1) } in
-    let name : Reference = record { name = c.deref-3.result; more = c.get.result } in
-    let text_is : whole name ≡ join_with_byte 32 (first ∷ inner) = ap (λ l. l ++ unwrap_or (option_map (λ more. 32 ∷ more.now) c.get.result) []) c.deref-3.ensures.value ∙ ap (λ l. first ++ l) (spaced_left inner c.deref-4.result.now c.get.result (c.deref-4.ensures.value ∙ e5.grows ∙ ap (λ l. l ++ spaced inner) c.new-more.ensures.items) c.get.ensures.lookup) ∙ sym (joined first inner) in
-    let said : VariablePhrase = record { word = c.deref.result; size = front.size; code = c.deref-2.result; reference = name } in
-    let is : spelled said (first ∷ inner) ≡ v = λ j. record { type = c.deref.ensures.value j; size = sym sf.1 j; code = c.deref-2.ensures.value j; reference = first ∷ inner } in
-    let takes = c.in_ok-declare.ensures.declares (first ∷ inner) size (record { named = some_token first inner; text_is = text_is; name_is = ap length c.deref-3.ensures.value }) c.args.most (phrases_of b.placed) b.holds start in
-    absurd (false≢true (sym c.if-not-branch.true ∙ takes.0 ∙ ap (agrees ds) is ∙ f1.allowed))
+    let r = begun c.args.most i b.placed Keyword.Var c.args.feed.now b.keyword start refl b.token_read in
+    let held = b.holds.declares in
+    let k = c.in_ok-code.ensures.reads c.args.most i b.placed held.codes (omega (arith, held.few, held.allowed)) r in
+    let type = value_of c.read_code.new.feed in
+    let q = c.in_ok-name.ensures.reads c.args.most i b.placed type k.digits k.code k.reads in
+    let f = c.read_reference.new.feed in
+    let x = HeaderPhrase.Declares (Declaration.Var (variable type k.digits k.code (q.first ∷ q.ends.inner))) in
+    faultless_phrase c.args.most i b.placed (record { phrase = x; line = (token_of f).line }) f
+    (ended c.args.most i b.placed Keyword.Var f (type ∷ k.digits ∷ k.code ∷ q.first ∷ q.ends.inner) x refl (var_whole type k.digits k.code q.first q.ends.inner (token_of f).bytes q.first_on q.ends.none q.ends.ends k.decimal) refl q.ends.token_read))
 
 pub returns-clause-reads : goal.returns-clause-reads
 returns-clause-reads g c = λ i b.
-    let start = c.in_ok-check_start.ensures.checks (phrases_of b.placed) b.holds in
-    let r0 = begun c.args.most i b.placed Keyword.Var c.args.feed.now b.keyword start refl b.token_read in
-    let f1 = c.in_ok-front.ensures.reads c.args.most i b.placed c.args.draft.now.text.items b.holds.declares.codes r0 in
-    let front = c.in_ok-front.front in
-    let type = front.word.items in
-    let digits = f1.digits in
-    let sf = size_found digits front.size f1.size_is in
-    let code = front.code.items in
-    let sp = size_parts digits sf.0 in
-    let put = c.in_ok-name.ensures.reads c.args.most i b.placed (keyword_text Keyword.Var ∷ type ∷ digits ∷ code ∷ []) (var_welcomes_reference c.args.most b.placed type digits code) f1.reads in
-    let word = word_some c.args.most i b.placed (keyword_text Keyword.Var ∷ type ∷ digits ∷ code ∷ []) c.next_word.new.feed c.in_ok-name.field-0 c.in-Some.name c.in-Some.is put in
-    let first = c.in-Some.name.items in
-    let e5 = c.in_ok-append_to_end.ensures.reads c.args.most i b.placed (keyword_text Keyword.Var ∷ type ∷ digits ∷ code ∷ first ∷ []) (var_runs c.args.most b.placed type digits code first word.1) word.0 in
-    let inner = e5.inner in
-    let v : Variable = record { type = type; size = decimal_value digits; code = code; reference = first ∷ inner } in
-    let r5 = ended c.args.most i b.placed Keyword.Var c.append_to_end.new.feed (type ∷ digits ∷ code ∷ first ∷ inner) (HeaderPhrase.Declares (Declaration.Var v)) refl (var_whole type digits code first inner (token_of c.append_to_end.new.feed).bytes word.1 e5.none e5.ends sp.0) refl e5.token_read in
-    let ds = declarations_of (phrases_of b.placed) in
-    let size : IsSize front.size = record { some = omega (arith, sp.1, sf.1); most = omega (arith, sp.2, sf.1) } in
-    let name : Reference = record { name = c.deref-3.result; more = c.get.result } in
-    let text_is : whole name ≡ join_with_byte 32 (first ∷ inner) = ap (λ l. l ++ unwrap_or (option_map (λ more. 32 ∷ more.now) c.get.result) []) c.deref-3.ensures.value ∙ ap (λ l. first ++ l) (spaced_left inner c.deref-4.result.now c.get.result (c.deref-4.ensures.value ∙ e5.grows ∙ ap (λ l. l ++ spaced inner) c.new-more.ensures.items) c.get.ensures.lookup) ∙ sym (joined first inner) in
-    let said : VariablePhrase = record { word = c.deref.result; size = front.size; code = c.deref-2.result; reference = name } in
-    let is : spelled said (first ∷ inner) ≡ v = λ j. record { type = c.deref.ensures.value j; size = sym sf.1 j; code = c.deref-2.ensures.value j; reference = first ∷ inner } in
-    let takes = c.in_ok-declare.ensures.declares (first ∷ inner) size (record { named = some_token first inner; text_is = text_is; name_is = ap length c.deref-3.ensures.value }) c.args.most (phrases_of b.placed) b.holds start in
-    carried c.args.most i _ c.append_to_end.new.feed b.placed (record { phrase = HeaderPhrase.Declares (Declaration.Var v); line = (token_of c.append_to_end.new.feed).line }) r5
-    (subst (λ (u : Variable). IsDraftOf c.args.most c.declare.new.draft (phrases_of b.placed ++ HeaderPhrase.Declares (Declaration.Var u) ∷ [])) is (MatchBool-at_true _ _ c.if-not-branch.false takes.1))
+    let most = c.args.most in
+    let ps = phrases_of b.placed in
+    let ds = declarations_of ps in
+    let d = c.args.draft.now in
+    let start = c.in_ok-check_start.ensures.checks ps b.holds in
+    let r = begun most i b.placed Keyword.Var c.args.feed.now b.keyword start refl b.token_read in
+    let held = b.holds.declares in
+    let k = c.in_ok-code.ensures.reads most i b.placed held.codes (omega (arith, held.few, held.allowed)) r in
+    let type = value_of c.read_code.new.feed in
+    let q = c.in_ok-name.ensures.reads most i b.placed type k.digits k.code k.reads in
+    let f = c.read_reference.new.feed in
+    let reference = q.first ∷ q.ends.inner in
+    let v = variable type k.digits k.code reference in
+    let x = HeaderPhrase.Declares (Declaration.Var v) in
+    let read = ended most i b.placed Keyword.Var f (type ∷ k.digits ∷ k.code ∷ reference) x refl (var_whole type k.digits k.code q.first q.ends.inner (token_of f).bytes q.first_on q.ends.none q.ends.ends k.decimal) refl q.ends.token_read in
+    let h = k.held reference in
+    let join = join_with_byte 32 reference in
+    let middle = c.read_code.new.text.items in
+    let known = c.read_code.new.known in
+    let typed = c.in_ok-extend_from_slice.ensures.items ∙ ap (λ l. middle ++ l) c.value.ensures in
+    let text : c.read_reference.new.text.items ≡ middle ++ (type ++ join) = q.ends.grows ∙ ap (λ l. l ++ join) typed ∙ append_assoc middle type join in
+    let grown : c.read_reference.new.text.items ≡ d.text.items ++ (h.more ++ (type ++ (join ++ []))) = text ∙ ap (λ t. t ++ (type ++ join)) h.grown ∙ append_assoc d.text.items h.more (type ++ join) ∙ ap (λ l. d.text.items ++ (h.more ++ (type ++ l))) (sym (append-nil join)) in
+    let codes : HasCodes c.read_reference.new.text.items known (ds ++ Declaration.Var v ∷ []) = subst (λ t. HasCodes t known (ds ++ Declaration.Var v ∷ [])) (sym text) (has_codes_grow middle (type ++ join) known (ds ++ Declaration.Var v ∷ []) h.held_codes) in
+    let typed_len = ap length typed in
+    let from : c.len-start.result ≡ length (d.text.items ++ h.more) = omega (arith, ap length h.grown) in
+    let word : c.len-name_start.result - c.len-start.result ≡ length type = omega (arith, typed_len, length-append middle type) in
+    let all : c.len.result - c.len-name_start.result ≡ length join = omega (arith, ap length q.ends.grows, length-append c.extend_from_slice.new.self.items join) in
+    let row : Row = record { kind = kind.Var; parent = c.parent.result; start = c.len-start.result; word = c.len-name_start.result - c.len-start.result; name = c.in_ok-name.name; all = c.len.result - c.len-name_start.result; code = c.in_ok-code.code } in
+    carried most i _ f b.placed (record { phrase = x; line = (token_of f).line }) read
+    (holds_declared most d _ ps (Declaration.Var v) b.holds
+    (var_entered most d _ ds v row h.more [] held (room most ps kind.Var start) (some_token q.first q.ends.inner) grown (omega (arith, h.short))
+    (c.in_ok-push.ensures.items (record { parent = subst (λ n. n < 2 ^ 32) (sym c.parent.ensures) (scope_narrow most d ds held); code = code_narrow most d ds v c.in_ok-code.code held (room most ps kind.Var start) h.held_at }))
+    codes h.held_at refl refl c.parent.ensures from word all q.name_is)
+    refl refl refl)

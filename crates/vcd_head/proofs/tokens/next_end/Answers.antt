@@ -1,0 +1,21 @@
+use Rattle.std.proofs.Common.{sym, ◌∙◌}
+use Rattle.std.proofs.lemmas.Result.{err_from_is_err_and}
+use Rattle.vcd_text.specs.Feed.{token_of}
+use Rattle.vcd_head.specs.Fault.{fault_number}
+use Rattle.vcd_head.proofs.TokenSteps.{ends_on, refused}
+use Rattle.vcd_head.proofs.tokens.next_end.Goals as goal
+
+pub returns-in_err-next_ends-clause-reads : goal.returns-in_err-next_ends-clause-reads
+returns-in_err-next_ends-clause-reads g c =
+    let p = err_from_is_err_and c.from_residual.result c.from_residual.ensures.1 in
+    rw (p.1, p.2) (λ most i placed before w at r. c.in_err-next_ends.ensures.reads most i placed before r)
+
+pub returns-then-branch-clause-reads : goal.returns-then-branch-clause-reads
+returns-then-branch-clause-reads g c = λ most i placed before w at r. (c.in_ok-next_ends.ensures.reads most i placed before r, sym c.in_ok-next_ends.ensures.end ∙ c.if-branch.true)
+
+pub returns-clause-reads : goal.returns-clause-reads
+returns-clause-reads g c = λ most i placed before w at r.
+    at (refused most i placed before c.next_ends.new.feed (fault_number c.args.fault) (w (token_of c.next_ends.new.feed).bytes (sym c.in_ok-next_ends.ensures.end ∙ c.if-branch.false)) (c.in_ok-next_ends.ensures.reads most i placed before r))
+
+pub returns-clause-advances : goal.returns-clause-advances
+returns-clause-advances g c = ends_on g.S.Source.failures c.args.feed.now c.next_ends.new.feed _ c.requires.found c.in_ok-next_ends.ensures.goes.advances
