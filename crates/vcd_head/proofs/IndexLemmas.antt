@@ -1,17 +1,17 @@
 -- The order of codes by their bytes.
-use Rattle.std.proofs.Common.{◌≡◌, ◌⊎◌, inl, inr, ℕ, zero, suc, ◌+◌, ◌*◌, ◌^◌, ◌<◌, ◌≤◌, Bool, true, false, List, [], ◌∷◌, ◌++◌, length, map, get_or, bytes_eq, option_map, unwrap_or, refl, sym, ap, subst, ◌∙◌, arith, zero-add, add-one}
+use Rattle.std.proofs.Common.{◌≡◌, ◌⊎◌, inl, inr, ℕ, zero, suc, ◌+◌, ◌*◌, ◌^◌, ◌<◌, ◌≤◌, Bool, true, false, List, [], ◌∷◌, ◌++◌, length, map, get_or, bytes_eq, option_map, unwrap_or, refl, sym, ap, subst, ◌∙◌, arith}
 use Rattle.std.specs.Prelude.{IsPermutation}
-use Rattle.std.specs.Cmp.{IsTotalOrder, IsStrictWeakOrder, nat_cmp_is}
+use Rattle.std.specs.Cmp.{IsStrictWeakOrder, nat_cmp_is}
 use Rattle.std.specs.List.{AllByRecursion, All, IsDistinct, range_with_len}
 use Rattle.std.specs.List.Sorted.{IsSortedBy, IsStrictlySortedBy}
-use Rattle.std.specs.Ordering.{nat_cmp, is_eq, is_lt, ordering_reverse, ordering_then}
+use Rattle.std.specs.Ordering.{nat_cmp, is_eq, is_lt, ordering_reverse}
 use Rattle.std.specs.declared.cmp.Ordering.{Ordering}
 use Rattle.std.specs.declared.cmp.Ordering.TheVariants.{Less, Equal, Greater}
 use Rattle.std.specs.Cmp.Lexicographic.{slice_cmp}
 use Rattle.std.proofs.lemmas.Bool.{cases_lt}
-use Rattle.std.proofs.lemmas.Cmp.{nat_cmp_total, nat_list_cmp_total, then_total}
+use Rattle.std.proofs.lemmas.Cmp.{nat_list_cmp_total}
 use Rattle.std.proofs.Math.Nat.{pow-le-pow_right}
-use Rattle.std.proofs.lemmas.List.{get_or-map, length-map, map-append}
+use Rattle.std.proofs.lemmas.List.{get_or-map, length-map}
 use Rattle.std.proofs.lemmas.List.FromFn.{get_or-range_with_len, length-range_with_len}
 use Rattle.std.proofs.lemmas.List.MinMax.{ranks_by}
 use Rattle.std.proofs.lemmas.List.Sorted.{All-permutation, IsPermutation-map, sorted_far}
@@ -20,12 +20,11 @@ use Rattle.std.proofs.lemmas.Map.Text.{is_eq-slice_cmp}
 use Rattle.std.proofs.lemmas.Option.{slice_get-get_or}
 use Rattle.vcd_model.specs.Declarations.{IdCode}
 use Rattle.vcd_view.specs.declared.view.Code.{Code}
-use Rattle.vcd_head.specs.declared.index.Prefix.{Prefix}
 use Rattle.vcd_view.specs.Views.{AreHeld, IsIndex, code_text}
 use Rattle.vcd_view.specs.Entries.{text_in}
-use Rattle.vcd_head.specs.Fronts.{ArePrefixes, bytes_at, prefix_in, order_of}
+use Rattle.vcd_head.specs.Fronts.{bytes_at, prefix_in}
 use Rattle.vcd_view.specs.Keys.{AreBytes}
-use Rattle.vcd_view.proofs.ListLemmas.{bytes_flip, to_all}
+use Rattle.vcd_view.proofs.ListLemmas.{bytes_flip}
 use Rattle.vcd_view.proofs.LookUpLemmas.{codes_len, text_at, texts_range}
 use Rattle.vcd_view.proofs.RowLemmas.{text_within, code_of_shown}
 
@@ -78,7 +77,7 @@ front_less (suc n) x y f g l =
         let same : prefix_in n x ≡ prefix_in n y = omega (arith, l) in
         less_at n x y (same_front n x y f g same) (omega (arith, l))
 
--- ---- the prefixes of codes
+-- ---- the order
 
 pub range_push : (a n : ℕ) → range_with_len a (suc n) ≡ range_with_len a n ++ (a + n) ∷ []
 range_push a zero = ap (λ k. k ∷ []) (none_more a)
@@ -90,51 +89,20 @@ range_push a (suc n) = ap (λ l. a ∷ l) (range_push (a + 1) n ∙ ap (λ k. ra
     one_more : (a n : ℕ) → (a + 1) + n ≡ a + suc n
     one_more a n = omega arith
 
--- the indexes of one front more
-pub places_more : (fs : List Prefix) (f : Prefix) (n : ℕ) → map (λ (x : Prefix). x.position) fs ≡ range_with_len 0 n → f.position ≡ n → map (λ (x : Prefix). x.position) (fs ++ f ∷ []) ≡ range_with_len 0 (n + 1)
-places_more fs f n h e = map-append (λ (x : Prefix). x.position) fs (f ∷ []) ∙ ap (λ l. l ++ f.position ∷ []) h ∙ ap (λ k. range_with_len 0 n ++ k ∷ []) (e ∙ sym (zero-add n)) ∙ sym (range_push 0 n) ∙ ap (range_with_len 0) (sym (add-one n))
-
--- ---- the order
-
-order_total : (text : List ℕ) (codes : List Code) → IsTotalOrder (order_of text codes)
-order_total text codes = then_total
-    {R = λ (a b : Prefix). nat_cmp a.number b.number} {S = λ (a b : Prefix). slice_cmp nat_cmp (bytes_at text codes a.position) (bytes_at text codes b.position)}
-    (record { antisymm = λ a b. nat_cmp_total.antisymm a.number b.number; trans = λ a b c. nat_cmp_total.trans a.number b.number c.number; congr = λ a b c. nat_cmp_total.congr a.number b.number c.number })
-    (record {
-      antisymm = λ a b. nat_list_cmp_total.antisymm (bytes_at text codes a.position) (bytes_at text codes b.position);
-      trans = λ a b c. nat_list_cmp_total.trans (bytes_at text codes a.position) (bytes_at text codes b.position) (bytes_at text codes c.position);
-      congr = λ a b c. nat_list_cmp_total.congr (bytes_at text codes a.position) (bytes_at text codes b.position) (bytes_at text codes c.position);
-    })
-
-abbrev pub before : List ℕ → List Code → Prefix → Prefix → Bool
-before text codes a b = is_lt (order_of text codes a b)
+abbrev pub before : List ℕ → List Code → ℕ → ℕ → Bool
+before text codes a b = is_lt (slice_cmp nat_cmp (bytes_at text codes a) (bytes_at text codes b))
 
 pub before_weak : (text : List ℕ) (codes : List Code) → IsStrictWeakOrder (before text codes)
-before_weak text codes = ranks_by (order_total text codes) (λ (f : Prefix). f)
+before_weak text codes = ranks_by nat_list_cmp_total (bytes_at text codes)
 
--- where a front is not after another, and their texts differ, its text comes first
-rises : (text : List ℕ) (codes : List Code) (a b : Prefix) → a.number ≡ prefix_in 8 (bytes_at text codes a.position) → b.number ≡ prefix_in 8 (bytes_at text codes b.position) → AreBytes (bytes_at text codes a.position) → AreBytes (bytes_at text codes b.position)
-    → before text codes b a ≡ false → bytes_eq (bytes_at text codes a.position) (bytes_at text codes b.position) ≡ false → slice_cmp nat_cmp (bytes_at text codes a.position) (bytes_at text codes b.position) ≡ Less
-rises text codes a b f g x y not_after apart = by_front (cases_lt a.number b.number)
+-- a text that is not after another one, and differs from it, comes first
+rises : (x y : List ℕ) → is_lt (slice_cmp nat_cmp y x) ≡ false → bytes_eq x y ≡ false → slice_cmp nat_cmp x y ≡ Less
+rises x y not_after apart = by_text (slice_cmp nat_cmp x y) refl
   where
-    ta : List ℕ
-    ta = bytes_at text codes a.position
-
-    tb : List ℕ
-    tb = bytes_at text codes b.position
-
-    by_text : (o : Ordering) → slice_cmp nat_cmp ta tb ≡ o → is_lt (slice_cmp nat_cmp tb ta) ≡ false → slice_cmp nat_cmp ta tb ≡ Less
-    by_text Less q k = q
-    by_text Equal q k = let e : bytes_eq ta tb ≡ true = sym (is_eq-slice_cmp ta tb) ∙ ap is_eq q in cc
-    by_text Greater q k = let e : slice_cmp nat_cmp tb ta ≡ Less = nat_list_cmp_total.antisymm tb ta ∙ ap ordering_reverse q in let z = ap is_lt e in cc
-
-    by_equal : (b.number < a.number) ⊎ (a.number ≤ b.number) → b.number ≤ a.number → slice_cmp nat_cmp ta tb ≡ Less
-    by_equal (inl l) k = let e : nat_cmp b.number a.number ≡ Less = sym (nat_cmp_is b.number a.number Less l) in let z : is_lt (order_of text codes b a) ≡ true = ap (λ o. is_lt (ordering_then o (slice_cmp nat_cmp tb ta))) e in cc
-    by_equal (inr l) k = let e : nat_cmp b.number a.number ≡ Equal = sym (nat_cmp_is b.number a.number Equal (omega arith)) in by_text (slice_cmp nat_cmp ta tb) refl (sym (ap (λ o. is_lt (ordering_then o (slice_cmp nat_cmp tb ta))) e) ∙ not_after)
-
-    by_front : (a.number < b.number) ⊎ (b.number ≤ a.number) → slice_cmp nat_cmp ta tb ≡ Less
-    by_front (inl l) = front_less 8 ta tb x y (omega (arith, f, g))
-    by_front (inr l) = by_equal (cases_lt b.number a.number) l
+    by_text : (o : Ordering) → slice_cmp nat_cmp x y ≡ o → slice_cmp nat_cmp x y ≡ Less
+    by_text Less q = q
+    by_text Equal q = let e : bytes_eq x y ≡ true = sym (is_eq-slice_cmp x y) ∙ ap is_eq q in cc
+    by_text Greater q = let e : slice_cmp nat_cmp y x ≡ Less = nat_list_cmp_total.antisymm y x ∙ ap ordering_reverse q in let z = ap is_lt e in cc
 
 -- ---- the index
 
@@ -168,36 +136,30 @@ pub map_map : {X Y Z : Type 0} (f : X → Y) (g : Y → Z) (xs : List X) → map
 map_map f g [] = refl
 map_map f g (x ∷ xs) = ap (λ l. g (f x) ∷ l) (map_map f g xs)
 
-pub index_made : (text : List ℕ) (list : List Code) (cs : List IdCode) (old new : List Prefix) → AreHeld text list cs → ArePrefixes text list old → IsPermutation old new → IsSortedBy (before text list) new → IsIndex cs (map (λ (f : Prefix). f.position) new)
-index_made text list cs old new h prefixes moved sorted =
-    let n = codes_len text list cs h.stand in
-    let positions : IsPermutation (range_with_len 0 (length cs)) (map (λ (f : Prefix). f.position) new) = subst (λ l. IsPermutation l (map (λ (f : Prefix). f.position) new)) (prefixes.positions ∙ ap (range_with_len 0) n) (IsPermutation-map (λ (f : Prefix). f.position) old new moved) in
+pub index_made : (text : List ℕ) (list : List Code) (cs : List IdCode) (new : List ℕ) → AreHeld text list cs → IsPermutation (range_with_len 0 (length list)) new → IsSortedBy (before text list) new → IsIndex cs new
+index_made text list cs new h moved sorted =
+    let positions : IsPermutation (range_with_len 0 (length cs)) new = subst (λ n. IsPermutation (range_with_len 0 n) new) (codes_len text list cs h.stand) moved in
     let texts = map (λ (k : IdCode). k.text) cs in
-    let ordered = map (code_text cs) (map (λ (f : Prefix). f.position) new) in
-    let same : IsPermutation texts ordered = subst (λ l. IsPermutation l ordered) (texts_range [] cs) (IsPermutation-map (code_text cs) (range_with_len 0 (length cs)) (map (λ (f : Prefix). f.position) new) positions) in
+    let ordered = map (code_text cs) new in
+    let same : IsPermutation texts ordered = subst (λ l. IsPermutation l ordered) (texts_range [] cs) (IsPermutation-map (code_text cs) (range_with_len 0 (length cs)) new positions) in
     let apart : IsDistinct bytes_eq ordered = IsDistinct-IsPermutation bytes_eq bytes_flip texts ordered same h.distinct in
-    let within : All (λ (f : Prefix). f.position < length cs) new = All-permutation (λ (f : Prefix). f.position < length cs) old new moved (places_within old (prefixes.positions ∙ ap (range_with_len 0) n)) in
-    let numbers : All (λ (f : Prefix). f.number ≡ prefix_in 8 (bytes_at text list f.position)) new = All-permutation (λ (f : Prefix). f.number ≡ prefix_in 8 (bytes_at text list f.position)) old new moved (to_all (λ (f : Prefix). f.number ≡ prefix_in 8 (bytes_at text list f.position)) old prefixes.numbers) in
+    let within : All (λ p. p < length cs) new = All-permutation (λ p. p < length cs) (range_with_len 0 (length cs)) new positions (below (length cs)) in
     record {
       positions = positions;
-      rising = subst (IsStrictlySortedBy (slice_cmp nat_cmp)) (sym (map_map (λ (f : Prefix). f.position) (code_text cs) new)) (sorted_from (λ (f : Prefix). code_text cs f.position) new (λ i j d a b.
+      rising = sorted_from (code_text cs) new (λ i j d a b.
+          let il : i < length new = omega arith in
           let x = get_or new i d in
           let y = get_or new j d in
-          let il : i < length new = omega arith in
-          let bx = bytes_are text list cs x.position h (within i d il) in
-          let by = bytes_are text list cs y.position h (within j d b) in
-          let len = length-map new (λ (f : Prefix). code_text cs f.position) in
-          let differ0 = apart_from_distinct bytes_eq (map (λ (f : Prefix). code_text cs f.position) new) i j [] (subst (IsDistinct bytes_eq) (map_map (λ (f : Prefix). f.position) (code_text cs) new) apart) a (omega arith) in
-          let differ : bytes_eq (code_text cs x.position) (code_text cs y.position) ≡ false = rw (sym (get_or-map (λ (f : Prefix). code_text cs f.position) new i d [] il), sym (get_or-map (λ (f : Prefix). code_text cs f.position) new j d [] b)) differ0 in
-          rw (sym bx, sym by) (rises text list x y (numbers i d il) (numbers j d b) (subst AreBytes (sym bx) (texts_are cs x.position h.texts)) (subst AreBytes (sym by) (texts_are cs y.position h.texts))
-          (sorted_far (before text list) (before_weak text list) new sorted i j d (omega arith) b) (rw (bx, by) differ))));
+          let len = length-map new (code_text cs) in
+          let differ0 = apart_from_distinct bytes_eq ordered i j [] apart a (omega arith) in
+          let differ : bytes_eq (code_text cs x) (code_text cs y) ≡ false = rw (sym (get_or-map (code_text cs) new i d [] il), sym (get_or-map (code_text cs) new j d [] b)) differ0 in
+          let bx = bytes_are text list cs x h (within i d il) in
+          let by = bytes_are text list cs y h (within j d b) in
+          rises (code_text cs x) (code_text cs y) (rw (bx, by) at (sorted_far (before text list) (before_weak text list) new sorted i j d (omega arith) b)) differ);
     }
   where
-    places_within : (fs : List Prefix) → map (λ (f : Prefix). f.position) fs ≡ range_with_len 0 (length cs) → All (λ (f : Prefix). f.position < length cs) fs
-    places_within fs e k d l =
-        let n = length-map fs (λ (f : Prefix). f.position) in
-        let m = length-range_with_len 0 (length cs) in
-        let s = ap length e in
-        let r = get_or-range_with_len 0 (length cs) k 0 (omega arith) in
-        let g = get_or-map (λ (f : Prefix). f.position) fs k d 0 l in
-        omega (arith, ap (λ xs. get_or xs k 0) e)
+    below : (n : ℕ) → All (λ p. p < n) (range_with_len 0 n)
+    below n k d l =
+        let m = length-range_with_len 0 n in
+        let r = get_or-range_with_len 0 n k d (omega arith) in
+        omega (arith, r)

@@ -1,11 +1,7 @@
 -- The order of codes by their bytes, and the numbers that decide most of it.
 use Rattle.std.specs.Prelude.{◌≡◌, ℕ, zero, suc, ◌+◌, ◌*◌, ◌%◌, ◌<◌, ◌≤◌, List, [], length, get_or, map, slice_get, option_map, unwrap_or}
-use Rattle.std.specs.List.{AllByRecursion, range_with_len}
-use Rattle.std.specs.Ordering.{nat_cmp, then_cmp}
-use Rattle.std.specs.declared.cmp.Ordering.{Ordering}
-use Rattle.std.specs.Cmp.Lexicographic.{slice_cmp}
+use Rattle.std.specs.List.{range_with_len}
 use Rattle.vcd_view.specs.declared.view.Code.{Code}
-use Rattle.vcd_head.specs.declared.index.Prefix.{Prefix}
 use Rattle.vcd_view.specs.Entries.{text_in}
 
 -- the bytes of the code at an index
@@ -16,15 +12,6 @@ bytes_at text codes p = unwrap_or (option_map (λ (c : Code). text_in text c.sta
 abbrev pub prefix_in : ℕ → List ℕ → ℕ
 prefix_in zero bs = 0
 prefix_in (suc n) bs = prefix_in n bs * 256 + get_or bs n 0
-
--- the order by the first bytes, and then by all
-abbrev pub order_of : List ℕ → List Code → Prefix → Prefix → Ordering
-order_of text codes = then_cmp (λ a b. nat_cmp a.number b.number) (λ a b. slice_cmp nat_cmp (bytes_at text codes a.position) (bytes_at text codes b.position))
-
--- a front for each code, in order
-pub record ArePrefixes (text : List ℕ) (codes : List Code) (prefixes : List Prefix) : Type 0 where
-  pub positions : map (λ f. f.position) prefixes ≡ range_with_len 0 (length codes)
-  pub numbers : AllByRecursion (λ f. f.number ≡ prefix_in 8 (bytes_at text codes f.position)) prefixes
 
 -- the codes have at most four bytes
 abbrev pub AreShort : List ℕ → List Code → Type 0

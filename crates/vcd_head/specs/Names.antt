@@ -3,7 +3,7 @@
 pub use Rattle.std.specs.Cmp.{on_equiv, on_per, partial_equiv_from_equiv}
 pub use Rattle.std.specs.Cmp.Lexicographic.{nat_list_eq_equiv}
 pub use Rattle.std.specs.Int.{div_ceil}
-pub use Rattle.std.specs.List.{concat, join_with_byte, list_all, list_any}
+pub use Rattle.std.specs.List.{concat, join_with_byte, list_all, list_any, range_with_len}
 pub use Rattle.std.specs.Option.{SomeIff}
 pub use Rattle.vcd_model.specs.Backward.{each}
 pub use Rattle.vcd_model.specs.Bytes.{is_code_byte}
@@ -33,7 +33,7 @@ pub use Rattle.vcd_head.specs.Declares.{IsBarred, MayStart, Takes as TakesPhrase
 pub use Rattle.vcd_head.specs.Draft.{IsDraftOf, IsNew, goes_on}
 pub use Rattle.vcd_head.specs.Entered.{Enters, EntersKey, IsNewCode, code_with}
 pub use Rattle.vcd_head.specs.Fault.{IsFound, call_end, fault_number}
-pub use Rattle.vcd_head.specs.Fronts.{ArePrefixes, AreRanks, bytes_at, prefix_in, order_of, place_in_rank, rank_of}
+pub use Rattle.vcd_head.specs.Fronts.{AreRanks, bytes_at, prefix_in, place_in_rank, rank_of}
 pub use Rattle.vcd_head.specs.Groups.{AreRising, FlagsSome, GoesOnWith, IsRun, IsRunOn, RunsOn, names_of}
 pub use Rattle.vcd_head.specs.Inside.{AnyOpen, ComparesAt, Enters as EntersScope, FlagsSelected, GivesAround, IsOpen, KeepsOpen, SelectsAt, StaysOpen, front, row_path}
 pub use Rattle.vcd_head.specs.Keys.{AreKeysOf, is_key, same_shape, same_writes, shape_in, shape_of, writes_of}

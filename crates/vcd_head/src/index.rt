@@ -1,27 +1,15 @@
 // The order of codes by their bytes.
 ghost use Rattle.std.specs.Prelude.{◌≡◌, ◌^◌, ◌<◌, ◌≤◌, List, length, map, get_or, IfOk, IfSome};
-ghost use Rattle.vcd_head.specs.Names.{AnyHeld, ArePrefixes, AreRanks, IsIndex, bytes_at, prefix_in, order_of, place_in_rank, rank_of};
+ghost use Rattle.vcd_head.specs.Names.{AnyHeld, AreRanks, IsIndex, bytes_at, prefix_in, place_in_rank, range_with_len, rank_of};
 
 use std::alloc::{AllocError, Global};
-use std::cmp::Ordering;
 use vcd_view::{Code, code_in, text_in};
-
-// How many bytes of a code a prefix has.
-const PREFIX_BYTES: usize = 8;
 
 // How many bytes of a code a rank has at most.
 const RANK_BYTES: usize = 4;
 
 // How many indexes a rank can distinguish.
 const PLACES: usize = 16_777_216;
-
-// The first bytes of a code as a number, and its index. The number is less if the bytes come before
-// others.
-#[derive(Clone, Copy)]
-pub(crate) struct Prefix {
-    pub(crate) number: u64,
-    pub(crate) position: usize,
-}
 
 /// Returns the indexes of the codes in the order of the codes' bytes, which lie in `text`. Fails if
 /// there is no memory.
@@ -30,7 +18,7 @@ pub(crate) fn index_of(alloc: Global, text: &[u8], codes: &[Code]) -> Result<Vec
 {
     match index_by_ranks(alloc, text, codes)? {
         Some(index) => Ok(index),
-        None => index_by_prefixes(alloc, text, codes),
+        None => index_by_bytes(alloc, text, codes),
     }
 }
 
@@ -98,52 +86,23 @@ fn ranks_to_indexes(ranks: &mut [usize])
 
 /// Returns the indexes of codes of any length in the order of the codes' bytes, which lie in
 /// `text`. Fails if there is no memory.
-fn index_by_prefixes(alloc: Global, text: &[u8], codes: &[Code]) -> Result<Vec<usize>, AllocError>
+fn index_by_bytes(alloc: Global, text: &[u8], codes: &[Code]) -> Result<Vec<usize>, AllocError>
     ensures { AnyHeld text.now codes.now (λ cs. IfOk result (λ index. IsIndex cs index.items)) }
 {
-    let mut prefixes = prefixes_of(alloc, text, codes)?;
-    prefixes.sort_unstable_by(|a, b| order_of(text, codes, *a, *b));
-    places_of(alloc, &prefixes)
+    let mut index = positions_below(alloc, codes.len())?;
+    index.sort_unstable_by(|a, b| bytes_at(text, codes, *a).cmp(bytes_at(text, codes, *b)));
+    Ok(index)
 }
 
-/// Returns for each code, in the order of `codes`, its first 8 bytes, which lie in `text`, as a
-/// number (`prefix_of`), and its index. Fails if there is no memory.
-fn prefixes_of(alloc: Global, text: &[u8], codes: &[Code]) -> Result<Vec<Prefix>, AllocError>
-    ensures { IfOk result (λ prefixes. ArePrefixes text.now codes.now prefixes.items) }
+/// Returns the numbers below `count`, in order. Fails if there is no memory.
+fn positions_below(alloc: Global, count: usize) -> Result<Vec<usize>, AllocError>
+    ensures { IfOk result (λ positions. positions.items ≡ range_with_len 0 count) }
 {
-    let mut prefixes = Vec::with_capacity(alloc, codes.len())?;
-    for position in 0..codes.len() {
-        let number = prefix_of(bytes_at(text, codes, position), PREFIX_BYTES);
-        prefixes.push(Prefix { number, position })?;
-    }
-    Ok(prefixes)
-}
-
-/// Returns the index of the code of each of these prefixes, in their order. Fails if there is no
-/// memory.
-fn places_of(alloc: Global, prefixes: &[Prefix]) -> Result<Vec<usize>, AllocError>
-    ensures { IfOk result (λ positions. positions.items ≡ map (λ f. f.position) prefixes.now) }
-{
-    let mut positions = Vec::with_capacity(alloc, prefixes.len())?;
-    for front in prefixes {
-        positions.push(front.position)?;
+    let mut positions = Vec::with_capacity(alloc, count)?;
+    for position in 0..count {
+        positions.push(position)?;
     }
     Ok(positions)
-}
-
-/// Returns how the code of prefix `a` compares with that of `b` in the order of their bytes, which
-/// lie in `text`. It looks at the bytes only if the prefixes are the same.
-#[inline(always)]
-fn order_of(text: &[u8], codes: &[Code], a: Prefix, b: Prefix) -> Ordering
-    ensures { result ≡ order_of text.now codes.now a b }
-{
-    match a.number.cmp(&b.number) {
-        Ordering::Less => Ordering::Less,
-        Ordering::Greater => Ordering::Greater,
-        Ordering::Equal => {
-            bytes_at(text, codes, a.position).cmp(bytes_at(text, codes, b.position))
-        }
-    }
 }
 
 /// Returns the bytes of the code at index `position` of `codes`, which lie in `text`; no bytes if
