@@ -291,11 +291,11 @@ printf '$timescale 1ns $end $scope module t $end $var wire 1 ! a\001<\351\303\25
     $var real 64 " r&\177 $end $enddefinitions $end #0 0! r\002 " #20 1!\n' > "$folder/odd.vcd"
 vcdkit-wave --width 100 "$folder/odd.vcd" t > "$folder/odd.svg"
 same 'vcdkit-wave: names that XML cannot have, an axis from 0' \
-    '0 ns,20 ns,t.,a\ufffd<\ufffd\xe9,r&\x7f,0,0' "$(texts "$folder/odd.svg")"
+    '0ns,20ns,t.,a\ufffd<\ufffd\xe9,r&\x7f,0,0' "$(texts "$folder/odd.svg")"
 printf '$timescale 100s $end $var wire 1 ! a $end $enddefinitions $end #0 0! #%s 1!\n' \
     18446744073709551615 > "$folder/long.vcd"
 vcdkit-wave --width 100 "$folder/long.vcd" a > "$folder/long.svg"
-same 'vcdkit-wave: all of the time there is' '0 s,a' "$(texts "$folder/long.svg")"
+same 'vcdkit-wave: all of the time there is' '0s,a' "$(texts "$folder/long.svg")"
 for width in 99 0 -5 1e3 ''; do
     same "vcdkit-wave --width '$width'" 'vcdkit-wave: error: argument --width: it is a number of '\
 'pixels, 100 to 20000
@@ -303,8 +303,23 @@ status 2' "$(status vcdkit-wave --width="$width" $dump bench.slow | tail -n 2)"
 done
 same 'vcdkit-wave: a mark that is outside' 'vcdkit-wave: 5ns is not in the window, 10ns to 20ns
 status 2' "$(status vcdkit-wave --from 10ns --to 20ns --mark 5ns $dump bench.slow)"
-same 'vcdkit-wave: nothing there' 'status 2' \
-    "$(status vcdkit-wave --from 2us --to 3us $dump bench.slow | tail -n 1)"
+same 'vcdkit-wave: a window after the end' 'vcdkit-wave: --from: 2us is after the end of the '\
+'dump, 122ns
+status 2' "$(status vcdkit-wave --from 2us --to 3us $dump bench.slow)"
+same 'vcdkit-wave --around: a window after the end' 'status 2' \
+    "$(status vcdkit-wave --around 2us --span 5ns $dump bench.slow | tail -n 1)"
+printf '$var wire 1 ! a $end $var real 64 " v $end $enddefinitions $end\n#0 r1.5 ! b101 "\n' \
+    > "$folder/odd.vcd"
+vcdkit-wave "$folder/odd.vcd" a v > "$folder/odd.svg"
+same 'vcdkit-wave: one time, a number for a bit, digits for a number' '0,1,a,v,5,5' \
+    "$(texts "$folder/odd.svg")"
+same 'vcdkit-wave: a title for those who do not see it' 1 \
+    "$(grep -c '<title>Waveforms of a, v from 0 to 1</title>' "$folder/odd.svg")"
+printf '%s' '$var reg 32 ! q $end $var reg 32 " r $end $enddefinitions $end ' \
+    '#0 b1010 ! bx " #60 b11110000000011110000111100001011 ! b1 " #100 b0 !' > "$folder/odd.vcd"
+vcdkit-wave --width 100 "$folder/odd.vcd" q r > "$folder/odd.svg"
+same 'vcdkit-wave: the last digits of a value' '0,100,q,a,+f0b,r,+xxxxxx,1' \
+    "$(texts "$folder/odd.svg")"
 same 'vcdkit-wave: an unknown name' 'status 1' \
     "$(status vcdkit-wave $dump bench.none | tail -n 1)"
 
@@ -550,7 +565,12 @@ for script in extras/vcdkit-*; do
         "$(said=$("$name" --help 2>&1); echo "$? $(head -n 1 <<< "$said" | grep -c "$name")")"
     same "$name: usage" 2 "$("$name" --no-such-option 2> /dev/null; echo $?)"
     case $name in
-        vcdkit-four-state | vcdkit-endmend) continue ;;
+        vcdkit-four-state | vcdkit-endmend)
+            for out in '> /dev/full' '>&-'; do
+                same "$name $out" "3 $name: read or write failed" \
+                    "$(said=$(eval "$name samples/nested.vcd 2>&1 $out"); echo "$? $said")"
+            done
+            continue ;;
         vcdkit-join-bits) words=() ;;
         vcdkit-diff) words=(samples/counter.vcd samples/counter.vcd) ;;
         vcdkit-table | vcdkit-wave | vcdkit-stats | vcdkit-when) words=(samples/counter.vcd clk) ;;

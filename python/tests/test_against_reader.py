@@ -101,13 +101,15 @@ def at_changes(changes, codes):
 
 
 def at_edges(changes, codes, clocks):
-    """The rows at edges; what the `$dumpvars` has that is first, is from before its time."""
+    """The rows at edges. The first value of a code is from before its time if it is in a
+    `$dumpvars`."""
     its = [one for one in changes if one[2] in {*codes, *(code for code, _ in clocks)}]
-    lead = {one for one in its if one[1][0] == "$dumpvars" and one[1] == its[0][1]}
+    first = {one[2]: one for one in reversed(its)}
+    lead = {one for one in first.values() if one[1][0] == "$dumpvars"}
     times = {after[0] for code, edge in clocks
              for clock in [[one for one in its if one[2] == code]]
              for before, after in zip(clock, clock[1:]) if before[3] + after[3] == edge}
-    return [(time, row(its, codes, lambda one: one[0] < time or one in lead))
+    return [(time, row(its, codes, lambda one: one[0] < time or one[0] == time and one in lead))
             for time in sorted(times)]
 
 
@@ -216,8 +218,8 @@ class Case:
         cut = window(self.changes, self.begin, self.end)
         one = merge(self.whole.cut(self.begin, self.end), self.whole)
         its = [one for one in cut if one[2] in {"!", *self.codes}]
-        lead = {one[2]: one for one in reversed(its) if one[1][0] == "$dumpvars"
-                and one[1] == its[0][1]}
+        first = {one[2]: one for one in reversed(its)}
+        lead = {code: one for code, one in first.items() if one[1][0] == "$dumpvars"}
         its = [(time, ("$dumpvars", 0) if one == lead.get(one[2]) else ("", 0), *rest)
                for one in its for time, _, *rest in [one]]
         self.same("merge", at_edges(its, self.codes, [("!", "01")]), [

@@ -146,8 +146,20 @@ def bare(path):
     return re.sub(r"\[\d+:\d+\]$", "", path)
 
 
-def selected(path, names):
-    return any((bare(path) + ".").startswith(bare(name) + ".") for name in names)
+def selected(sides, names):
+    """The paths of each that names select: those that are the name, or in its scope; else the one
+    that is the name with a range. Paths that are compared are selected together."""
+    found = [set(), set()]
+    for name in names:
+        for its, paths in zip(found, ({one[0] for one in side} for side in sides)):
+            ranged = {path for path in paths if bare(path) == name}
+            its |= {path for path in paths if (path + ".").startswith(name + ".")} or (
+                ranged if len(ranged) == 1 else set())
+    for pair in groups_of(sides):
+        if pair[0] in found[0] or pair[1] in found[1]:
+            for its, path in zip(found, pair):
+                its.add(path)
+    return found
 
 
 def groups_of(sides):
@@ -172,7 +184,7 @@ def alone(side, every, common):
             if all(one in side and one[0] not in common for one in its):
                 name = scope
             scope = scope.rpartition(".")[0]
-        lines.setdefault(name, set()).add(path)
+        lines.setdefault(name, []).extend(one for one in side if one[0] == path)
     return lines
 
 
@@ -184,11 +196,12 @@ def looks_of(changes, codes, clock, edge, factor):
         return {time * factor: (time, {one[2]: one[3] for one in its if one[0] <= time},
                                 {one[2] for one in its if one[0] == time})
                 for time in {one[0] for one in its}}
-    lead = next((one[1] for one in its[:1] if one[1][0] == "$dumpvars"), None)
+    first = {one[2]: one for one in reversed(its)}
+    lead = [one for one in first.values() if one[1][0] == "$dumpvars"]
     digits = [one for one in its if one[2] == clock]
     times = sorted({b[0] for a, b in zip(digits, digits[1:]) if a[3] + b[3] == edge})
     return {number: (time, {one[2]: one[3] for one in its
-                            if one[0] < time or one[0] == time and one[1] == lead},
+                            if one[0] < time or one[0] == time and one in lead},
                      {one[2] for one in its if before <= one[0] < time})
             for number, (before, time) in enumerate(zip([0] + times, times))}
 
@@ -230,8 +243,11 @@ def expected(texts, scales, asked):
     read_sides = [read(text) for text in texts]
     every = [[(re.sub(r"^TOP\.t\b", "t", one[0]) if asked["map"] else one[0], *one[1:])
               for one in side[0]] for side in read_sides]
-    sides = [[one for one in side if (selected(one[0], asked["names"]) or not asked["names"])
-              and not selected(one[0], asked["except"])] for side in every]
+    if not all(any(selected(every, [name])) for name in asked["except"]):
+        return [None]
+    sides = [[one for one in side if (one[0] in its or not asked["names"]) and one[0] not in others]
+             for side, its, others in zip(every, selected(every, asked["names"]),
+                                          selected(every, asked["except"]))]
     groups = groups_of(sides)
     lines, pairs = [], []
     if not asked["common"]:

@@ -6,12 +6,17 @@ of vcdkit-wave against a plain reader.
 
 VCDKIT names the program, else it is ./vcdkit of the repository.
 """
+import bz2
+import contextlib
 import gzip
 import io
+import lzma
 import os
 import random
 import re
 import shutil
+import signal
+import stat
 import subprocess
 import sys
 import tempfile
@@ -25,8 +30,9 @@ sys.path.insert(0, os.path.dirname(HERE))
 os.environ.setdefault("VCDKIT", os.path.join(TOP, "vcdkit"))
 os.environ["PYTHONDONTWRITEBYTECODE"] = "1"
 
-from vcdkit import Signal, _lanes
+from vcdkit import Dump, Signal, _body, _lanes, _unknown
 from vcdkit._lanes import Lanes, Several
+from vcdkit.commands import find, x
 
 NESTED = os.path.join(TOP, "samples", "nested.vcd")
 SCRIPTS = sorted(name for name in os.listdir(EXTRAS) if name.startswith("vcdkit-"))
@@ -344,7 +350,7 @@ class Answers(Case):
                 ("when", ["--from", "29ns", file, "a & !a"], 1, b""),
                 ("when", ["--from", "50ns", self.file("torn", TORN[:-5]), "a"], 2,
                  self.folder.name.encode() + b"/torn:17: unexpected end of input\n"),
-                ("stats", ["--from", "50ns", file, "a"], 0, b"--from: " + late),
+                ("stats", ["--from", "50ns", file, "a"], 2, b"--from: " + late),
                 ("values", ["--at", "50ns", file, "a"], 0, b"--at: " + late),
                 ("values", ["--at", "30ns", file, "a"], 0, b"")):
             with self.subTest(name=name, words=words):
@@ -444,7 +450,7 @@ class Pictures(unittest.TestCase):
             begin = int(body[1:body.index(b"\n")])
             signals = [Signal("s" + code, "wire", size, code) for code, size in sizes.items()]
             lanes = Lanes(signals, begin, last, rnd.choice([3, 10, 50, 100_000]))
-            lanes.read(io.BytesIO(body), lambda part: None)
+            lanes.read(io.BytesIO(body))
             for code in sizes:
                 with self.subTest(seed=seed, code=code):
                     self.compare(lanes, lanes.of_code[code.encode()].points, changes[code])
@@ -460,6 +466,337 @@ class Pictures(unittest.TestCase):
             wanted += its if len(its) < 2 else [(begin, None), (end, its[-1][1])]
         self.assertEqual([(time, None if isinstance(value, Several) else value)
                           for time, value in points], wanted)
+
+
+EDGE = b"""$timescale 10ns $end $scope module t $end $var wire 1 ! clk $end
+$var reg 4 \" q $end $var wire 1 # z $end $upscope $end $enddefinitions $end
+#0 1# #5 $dumpvars 0! b111 \" $end 1! #10 0! #11 1! 0! #12 x#
+"""
+REALS = b"""$timescale 1ns $end $scope module t $end $var %s 64 ! p $end $upscope $end
+$enddefinitions $end
+#0 r1 ! #10 r1.0 ! #20 r2 ! #30 r1e0 ! #35 r0 ! #36 r-0 ! #40
+"""
+SLICES = b"""$timescale 1ns $end $scope module tb $end $var wire 4 ! q[3:0] $end
+$var wire 4 \" q[7:4] $end $upscope $end $enddefinitions $end
+#0 b1 ! b1 \" #10 b10 ! b10 \"
+"""
+
+
+class Rules(Case):
+    """One rule each for names, numbers, times and edges, in all scripts."""
+
+    def test_names_with_a_range(self):
+        one = self.file("a.vcd", SLICES)
+        other = self.file("b.vcd", SLICES.replace(b'b10 "', b'b11 "'))
+        found = ["differs 10ns tb.q[7:4] 0010 0011", "status 1"]
+        for words, wanted in (
+                ([one, other], found), (["--except", "tb.q[3:0]", one, other], found),
+                (["--except", "tb.q[7:4]", one, other], ["status 0"]),
+                ([one, other, "tb.q[3:0]"], ["status 0"]), ([one, other, "tb.q[7:4]"], found),
+                ([one, other, "tb.q"], ["status 2"]),
+                (["--except", "tb.q", one, other], ["status 2"])):
+            self.assertEqual(said("vcdkit-diff", *words), wanted, words)
+        # One dump has the range in the path, and the other one has not.
+        loose = self.file("c.vcd", SLICES.replace(b"q[7:4]", b"r").replace(b"q[3:0]", b"q"))
+        full = self.file("d.vcd", SLICES.replace(b"q[7:4]", b"r").replace(b"b10 !", b"b11 !"))
+        for name in "tb.q", "tb.q[3:0]":
+            for pair, values in ((loose, full), "0010 0011"), ((full, loose), "0011 0010"):
+                path = "tb.q" if pair[0] == loose else "tb.q[3:0]"
+                wanted = ["differs 10ns %s %s" % (path, values), "status 1"]
+                self.assertEqual(said("vcdkit-diff", *pair, name), wanted)
+                self.assertEqual(said("vcdkit-diff", "--except", name, *pair), ["status 0"])
+        # A variable beside a scope of its name without the range, and beside that name itself.
+        beside = SLICES.replace(b"q[7:4]", b"q").replace(b"$upscope", b"$scope module q $end $var "
+                                                         b"wire 1 # s $end $upscope $end $upscope")
+        one, other = self.file("e.vcd", beside + b"1#"), self.file("f.vcd", beside.replace(
+            b'b10 !', b'b11 !') + b"0#")
+        for name, wanted in (("tb.q[3:0]", ["differs 10ns tb.q.s 1 0"]),
+                             ("tb.q", ["differs 10ns tb.q[3:0] 0010 0011"]), ("tb", [])):
+            self.assertEqual(said("vcdkit-diff", "--except", name, one, other)[:-1], wanted)
+
+    def test_alone_counts_variables(self):
+        one = self.file("a.vcd", b"$scope module t $end $scope module u $end $var wire 1 ! b $end "
+                        b"$var wire 1 \" b $end $upscope $end $var wire 1 # c $end $upscope $end "
+                        b"$enddefinitions $end #0")
+        other = self.file("b.vcd", b"$scope module t $end $var wire 1 # c $end $upscope $end "
+                          b"$enddefinitions $end #0")
+        self.assertEqual(said("vcdkit-diff", one, other), ["alone A t.u 2", "status 1"])
+
+    def test_real_numbers(self):
+        for kind in b"real", b"realtime", b"real_parameter", b"shortreal":
+            dump = self.file("r.vcd", REALS % kind)
+            self.assertEqual(said("vcdkit-stats", dump, "t.p")[1:], [
+                "  changes 3", "  range 0 to 2, mean 1.125", "  value 1 25ns 62.5%, 2 times, 5ns "
+                "to 5ns", "  value 2 10ns 25%, 1 time, 10ns to 10ns", "  value 0 5ns 12.5%, 1 time",
+                "status 0"])
+            self.assertEqual(said("vcdkit-diff", dump, self.file("s.vcd", REALS % b"real")),
+                             ["status 0"])
+            self.assertIn(b"p has no bits", run("vcdkit-when", [dump, "t.p[9:1] >= 0"])[2])
+            self.assertIn(b'class="curve"', run("vcdkit-wave", [dump, "t"])[1])
+
+    def test_stats_of_the_first_time(self):
+        dump = self.file("first.vcd", b"$timescale 1ns $end $var wire 1 ! a $end $enddefinitions "
+                         b"$end #0 $dumpvars 0! $end 1! #10 0! #20 1! #30")
+        self.assertEqual(said("vcdkit-stats", dump, "a"), [
+            "a wire 1", "  changes 2", "  value 1 20ns 66.67%, 2 times",
+            "  value 0 10ns 33.33%, 1 time, 10ns to 10ns", "status 0"])
+        self.assertEqual(said("vcdkit-stats", "--from", "10ns", dump, "a")[1], "  changes 2")
+        self.assertEqual(said("vcdkit-stats", "--from", "11ns", dump, "a")[1], "  changes 1")
+
+    def test_a_row_at_an_edge(self):
+        dump = self.file("edge.vcd", EDGE)
+        for names, rows in ((["t.q"], ["50,0111", "110,0111"]),
+                            (["t.q", "t.z"], ["50,0111,1", "110,0111,1"])):
+            self.assertEqual(said("vcdkit-table", "--rise", "t.clk", dump, *names)[1:-1], rows)
+            self.assertEqual(said("vcdkit-when", "--rise", "t.clk", "--every", dump, "&".join(
+                name + " > 0" for name in names)), ["50ns", "110ns", "status 0"])
+
+    def test_rows_of_times(self):
+        dump = self.file("edge.vcd", EDGE)
+        self.assertEqual(said("vcdkit-table", "--at", "100ns,50ns,100ns,10", dump, "t.clk"), [
+            "time (ns),t.clk", "100,0", "50,1", "100,0", "100,0", "status 0"])
+
+    def test_a_window_after_the_last_tick(self):
+        dump = self.file("edge.vcd", EDGE)
+        for name, words in (("x", []), ("when", ["t.clk"]), ("table", ["t"]), ("stats", ["t"]),
+                            ("wave", ["t"])):
+            for time in "125ns", "13", "1us":
+                status, out, message = run("vcdkit-" + name, ["--from", time, dump, *words])
+                self.assertEqual((status, out), (2, b""), (name, time))
+                self.assertEqual(message.decode(), "vcdkit-%s: --from: %s is after the end of the "
+                                 "dump, 120ns\n" % (name, time))
+            self.assertIn(run("vcdkit-" + name, ["--from", "115ns", dump, *words])[0], (0, 1))
+
+    def test_the_first_timestamp(self):
+        for body, first in ((b"#5 #10 1!", "first 5"), (b"1! #20 0!", "first 20"),
+                            (b"$comment #1 $end $dumpvars b1 #3 1! $end #0\n#7", "first 0"),
+                            (b"1!", "first -")):
+            dump = self.file("first.vcd", b"$date #9 $end $var wire 1 ! a $end $var wire 1 #3 b "
+                             b"$end $enddefinitions $end " + body)
+            self.assertIn(first, said("vcdkit-info", dump))
+        self.assertIn("first 0", said("vcdkit-info", self.file("e", b"$enddefinitions $end #0 #7")))
+
+    def test_names_after_options(self):
+        dump = self.file("edge.vcd", EDGE)
+        for name, words, more in (
+                ("values", [dump], ["--at", "30ns", "t.z"]), ("x", [dump], ["--from", "1", "t.q"]),
+                ("diff", [dump, dump], ["--all", "t.q"]), ("find", [dump], ["--csv", "q"]),
+                ("explain", [dump], ["--token-limit", "99", "t.q"]),
+                ("table", [dump, "t.z"], ["--hex", "t.q"]), ("info", [], ["--json", dump]),
+                ("wave", [dump, "t.z"], ["--light", "t.q"]), ("when", [dump], ["--count", "t.q"]),
+                ("stats", [dump, "t.z"], ["--values", "1", "t.q"])):
+            wanted = run("vcdkit-" + name, [*more[:-1], *words, more[-1]])
+            self.assertEqual(run("vcdkit-" + name, [*words, *more]), wanted, name)
+            self.assertIn(wanted[0], (0, 1), wanted)
+            self.assertEqual(run("vcdkit-" + name, [*more[:-1], *words, "--", more[-1]]), wanted)
+        self.assertIn(b"unrecognized arguments: --no", run("vcdkit-values", [dump, "t", "--no"])[2])
+        self.assertIn(b"--no: selects nothing", run("vcdkit-values", [dump, "--", "--no"])[2])
+        self.assertEqual(said("vcdkit-when", dump, "-1 < t.q"), said("vcdkit-when", dump, "t.q>-1"))
+        self.assertEqual(said("vcdkit-when", dump, "-1<t.q", "--count"), ["1", "status 0"])
+
+
+class Output(Case):
+    """What a script does with the files that it writes, and with signals."""
+
+    def salvaged(self):
+        """Returns a torn dump, and what --salvage writes of it."""
+        torn, good = self.file("torn.vcd", TORN[:-5]), os.path.join(self.folder.name, "good.vcd")
+        run("vcdkit-explain", ["--salvage", good, torn])
+        with open(good, "rb") as file:
+            return torn, file.read()
+
+    def test_salvage_through_links_and_with_its_mode(self):
+        torn, wanted = self.salvaged()
+        target, link = self.file("target", b"old"), os.path.join(self.folder.name, "link")
+        os.chmod(target, 0o600)
+        os.symlink("target", link)
+        run("vcdkit-explain", ["--salvage", link, torn])
+        with open(target, "rb") as file:
+            self.assertEqual(file.read(), wanted)
+        self.assertTrue(os.path.islink(link))
+        self.assertEqual(os.stat(target).st_mode & 0o777, 0o600)
+
+    def test_salvage_to_what_is_no_file(self):
+        torn, wanted = self.salvaged()
+        pipe = os.path.join(self.folder.name, "pipe")
+        os.mkfifo(pipe)
+        reader = subprocess.Popen(["cat", pipe], stdout=subprocess.PIPE)
+        for end in reader.wait, reader.stdout.close, reader.kill:
+            self.addCleanup(end)
+        self.assertEqual(run("vcdkit-explain", ["--salvage", pipe, torn])[0], 1)
+        self.assertTrue(stat.S_ISFIFO(os.stat(pipe).st_mode))
+        self.assertEqual(reader.stdout.read(), wanted)
+        full = os.path.join(self.folder.name, "full")  # never risk the /dev/full of the machine
+        try:
+            os.mknod(full, stat.S_IFCHR | 0o600, os.makedev(1, 7))
+        except PermissionError:
+            return
+        self.assertEqual(run("vcdkit-explain", ["--salvage", full, torn])[0], 3)
+        self.assertTrue(stat.S_ISCHR(os.stat(full).st_mode))
+
+    def test_salvage_to_standard_output(self):
+        torn, wanted = self.salvaged()
+        status, dump, said_of_it = run("vcdkit-explain", ["--salvage", "-", torn])
+        self.assertEqual((status, dump), (1, wanted))
+        self.assertIn(b"good until 29ns", said_of_it)
+        link = os.path.join(self.folder.name, "out")  # as /dev/stdout is one
+        os.symlink("/proc/self/fd/1", link)
+        self.assertIn(wanted, run("vcdkit-explain", ["--salvage", link, torn])[1])
+        self.assertTrue(os.path.islink(link))
+        self.assertEqual(run("vcdkit-explain", ["--salvage", "-", self.file("w", TORN)])[:2],
+                         (0, TORN))
+        self.assertEqual(os.listdir(SCRATCH.name).count("-"), 0)
+
+    def test_salvage_before_the_first_timestamp(self):
+        for body, until in ((b"#1.5 #0 0!", "but it has all values of no time"),
+                            (b"0! #1.5", "good until 0"), (b"#0 #1.5", "good until 0")):
+            dump = self.file("torn.vcd", b"$var wire 1 ! a $end $enddefinitions $end\n" + body)
+            good = os.path.join(self.folder.name, "good.vcd")
+            self.assertIn("wrote: %s, %s" % (good, until),
+                          said("vcdkit-explain", "--salvage", good, dump))
+
+    def test_interrupted_while_it_begins(self):
+        package = os.path.join(self.folder.name, "vcdkit", "commands")
+        os.makedirs(package)
+        for path, text in (("../__init__.py", ""), ("__init__.py", ""), (
+                "find.py", "import os, signal, time\nos.kill(os.getpid(), 2)\ntime.sleep(9)\n")):
+            with open(os.path.join(package, path), "w", encoding="ascii") as file:
+                file.write(text)
+        copy = os.path.join(self.folder.name, "vcdkit-find")
+        shutil.copy(os.path.join(EXTRAS, "launch"), copy)
+        done = subprocess.run([copy], env={**os.environ, "PYTHONPATH": self.folder.name},
+                              stderr=subprocess.PIPE, timeout=SECONDS,
+                              # A test in the background has it ignored.
+                              preexec_fn=lambda: signal.signal(signal.SIGINT, signal.SIG_DFL))
+        self.assertEqual((done.returncode, done.stderr), (-2, b""))
+
+    def test_filters_refuse_what_is_packed(self):
+        for name in "vcdkit-endmend", "vcdkit-four-state":
+            for data in (gzip.compress(TORN), lzma.compress(TORN), bz2.compress(TORN),
+                         b"\x28\xb5\x2f\xfd"):
+                status, out, message = run(name, [self.file("packed", data)])
+                self.assertEqual((status, out), (2, b""))
+                self.assertIn(b"the input is packed", message)
+
+    def test_progress(self):
+        for name, words, has_terminal in (("table", ["t.z"], False), ("x", [], True)):
+            terminal, back = os.openpty()
+            front, dump = os.pipe()
+            out = {"stdout": back} if has_terminal else {}
+            with subprocess.Popen([os.path.join(EXTRAS, "vcdkit-" + name), "-", *words],
+                                  **{"stdin": front, "stdout": subprocess.DEVNULL, "stderr": back,
+                                     **out}) as process:
+                os.close(front)
+                os.close(back)
+                os.write(dump, EDGE[:-8])
+                shown = b""
+                while b"\rvcdkit-%s: reads the dump" % name.encode() not in shown.replace(
+                        b"\r\033[K", b"\r"):
+                    shown += os.read(terminal, 1000)
+                os.write(dump, EDGE[-8:])
+                os.close(dump)
+                try:
+                    while True:
+                        shown += os.read(terminal, 1000)
+                except OSError:  # of a terminal that nobody has open
+                    pass
+                os.close(terminal)
+            ending = b"\r\033[K" + (b"120ns t.z x\r\n" if has_terminal else b"")
+            self.assertTrue(shown.endswith(ending), shown)
+
+
+class Filters(Case):
+    """The filters over unusual lines."""
+
+    def test_join_bits(self):
+        dump = self.file("bits.vcd", b"$var wire 1 ! q [1] $end\n$var wire 1 \" q [0] $end\n"
+                         b"$enddefinitions $end\n #0\nb0 !\n  0\"\n\t#10\nb1 !\n #20\n 1\"\n")
+        out = self.file("out.vcd", run("vcdkit-join-bits", [dump])[1])
+        self.assertEqual(said("vcdkit-table", "--unit", "tick", out, "q")[1:],
+                         ["0,00", "10,10", "20,11", "status 0"])
+
+    def test_endmend_leaves_valid_dumps(self):
+        for text in (HAND, TORN, EDGE, HAND.replace(b"\n", b"\r\n"),
+                     HAND.replace(b"b11111111 \"", b"b11111111 \" $comment x $end"),
+                     HAND.replace(b"#5\n", b"#5 $comment\n#6\n$end\n"),
+                     b"$date $dumpvars $end\n$var wire 1 $end1 a $end $var wire 2 #7 b $end\n"
+                     b"$enddefinitions $end #0 $dumpvars\n1$end1\nb01\n#7\n$end #1\n$comment x\n"
+                     b"$dumpall $end\n#2\n"):
+            self.assertEqual(run("vcdkit-endmend", [self.file("valid.vcd", text)]),
+                             (0, text, b""))
+        torn = (b"$var wire 1 ! a $end\n$enddefinitions $end #0 $dumpvars 0! #5 $dumpall\n"
+                b"1! #6\n$end")
+        out = self.file("out.vcd", run("vcdkit-endmend", [self.file("torn.vcd", torn)])[1])
+        self.assertIn("sections 2", said("vcdkit-explain", out))
+
+
+class Unknown(Case):
+    """vcdkit-x, which leaves out most lines, against a look at each line."""
+
+    def plain(self, text, letters, begin, end):
+        """Returns the lines of vcdkit-x, from each step of the body."""
+        last, lines = {}, []
+        dump = Dump(text).cut(begin, end)
+        for time, before, found in _body.steps(dump, {one.code.encode() for one in dump.signals},
+                                               is_cut=True):
+            ends = dict(reversed(before + found))  # each code where it changes last
+            ends = {code: dict(before + found)[code] for code in reversed(list(ends))}
+            for code, value in ends.items():
+                is_shown = value[:1] != b"r" and any(letter in value.decode() for letter in letters)
+                if is_shown and last.get(code) != value:
+                    lines += ["%s %s %s" % (dump.time(time), one.path, _body.value(value, one))
+                              for one in dump.signals if one.code.encode() == code]
+                last[code] = value if is_shown else None
+        return lines
+
+    def test_against_each_line(self):
+        codes = {"!": 1, "x": 4, "#1": 1, "b0": 3, "z": 1, "$": 12}
+        head = "".join("$var wire %d %s v%d $end\n" % (size, code, at) for at, (code, size) in
+                       enumerate(codes.items())) + "$var wire 1 z again $end\n"
+        head = ("$timescale 1ns $end\n%s$var real 64 r x $end\n$enddefinitions $end\n"
+                % head).encode()
+        for seed in range(60):
+            rnd = random.Random(seed)
+            body, _, last = random_dump(rnd, codes)
+            lines = body.split(b"\n")
+            for _ in range(rnd.choice([0, 0, 1, 3, 300])):  # unknown values, and other lines
+                code, size = rnd.choice(list(codes.items()))
+                value = "".join(rnd.choice("01xxz") for _ in range(rnd.randint(1, size)))
+                value = ("%s%s" % (value, code) if size == 1 else "b%s %s" % (value, code)).encode()
+                lines.insert(rnd.randrange(1, len(lines)), rnd.choice([
+                    value, value, b"rxyz r", b"rxz !", b"$dumpall %s $end" % value,
+                    b"$dumpvars %s $end" % value, b"$comment x $end"]))
+            text = head + b"\n".join(lines)
+            dump = self.file("random.vcd", text)
+            begin = rnd.choice([0, 0, rnd.randrange(last + 1)])
+            end = rnd.choice([2**64 - 1, rnd.randrange(begin, last + 2)])
+            for words, letters in ([], "x"), (["--z"], "xz"):
+                out, _unknown.BLOCK = io.StringIO(), rnd.choice([16, 300, 4000, 1 << 16])
+                _unknown.MAX_CODES = rnd.choice([0, 16])
+                with self.subTest(seed=seed, words=words), contextlib.redirect_stdout(out):
+                    self.assertIn(x.main([*words, "--from", str(begin), "--to", str(end), dump]),
+                                  (0, 1))
+                    self.assertEqual(out.getvalue().splitlines(),
+                                     self.plain(text, letters, begin, end))
+
+
+class Picks(Case):
+    """vcdkit-find --pick of more names than a command line has room for."""
+
+    def test_lines_of_some(self):
+        dump, out = Dump(NESTED), io.BytesIO()
+        stream, find.MAX_NAMES = io.TextIOWrapper(out), -1
+        rnd = random.Random(7)
+        for _ in range(20):
+            places = sorted(rnd.sample(range(len(dump.signals)), rnd.choice([1, 3, 9, 23])))
+            paths = {dump.signals[at].path for at in places}
+            places = [at for at, one in enumerate(dump.signals) if one.path in paths]
+            names = find.names_for(sorted(paths), dump.signals)
+            out.seek(0)
+            out.truncate()
+            with contextlib.redirect_stdout(stream):
+                find.write_picked(dump, places)
+            self.assertEqual(out.getvalue(), dump.pick(names).read(), names)
 
 
 if __name__ == "__main__":

@@ -8,9 +8,11 @@ nothing of vcdkit.
 """
 import copy
 import glob
+import io
 import json
 import os
 import pickle
+import stat
 import subprocess
 import sys
 import tempfile
@@ -309,7 +311,9 @@ class Questions:
         wanted = {"time": [0, 1, 2], "a !": [0, 1, 1], 'a "': [1, 1, 2], "b": [None, None, 1],
                   "time +": [None, 1, 1]}
         self.assertEqual(dump.table(["a", "b", "time"]), wanted)
-        self.assertEqual(dump.table(["a", "b", "time"], at=[0, 1, 1, 2]), wanted)
+        self.assertEqual(dump.table(["a", "b", "time"], at=[0, 1, 2]), wanted)
+        twice = dump.table("b", at=[1, 2, 1, "1"])
+        self.assertEqual(twice, {"time": [1, 2, 1, 1], "b": [None, 1, None, None]})
         self.assertEqual(list(dump.rows("a", at=[2, 0])), [(2, ["1", "10"]), (0, ["0", "01"])])
         self.assertEqual(dump.sample(0, ["a", "b"]), {0: {"a !": "0", 'a "': "01", "b": None}})
         self.assertEqual(dump.edges(), {"a !": (1, 1, 0), 'a "': (1, 0, 1), "b": (0, 0, 0),
@@ -413,6 +417,40 @@ class Questions:
             self.assertEqual(part.save(path).check(), part.check())
             self.assertEqual(os.listdir(folder), ["w.vcd"])
 
+    def test_open_files(self):
+        wanted = Dump(NESTED).check()
+        with open(NESTED, "rb") as file:
+            dump = Dump(file)
+        self.assertEqual((dump.check(), dump.name), (wanted, NESTED))
+        with open(NESTED, encoding="latin-1") as file:
+            self.assertEqual(Dump(file).check(), wanted)
+        with self.assertRaises(DumpFault) as raised:
+            Dump(io.BytesIO(BROKEN)).check()
+        self.assertEqual(raised.exception.file, "(file)")
+
+    def test_save_keeps_what_is_there(self):
+        part = Dump(NESTED).cut("100ns")
+        with tempfile.TemporaryDirectory() as folder:
+            target, link = os.path.join(folder, "target"), os.path.join(folder, "link")
+            pipe = os.path.join(folder, "pipe")
+            part.save(target)
+            os.chmod(target, 0o640)
+            os.symlink("target", link)
+            self.assertEqual(part.save(link).check(), part.check())
+            self.assertTrue(os.path.islink(link))
+            self.assertEqual(os.stat(target).st_mode & 0o777, 0o640)
+            broken = Dump(BROKEN).cut()
+            self.assertRaises(DumpFault, broken.save, link)
+            self.assertEqual(Dump(target).check(), part.check())
+            os.mkfifo(pipe)
+            reader = subprocess.Popen(["cat", pipe], stdout=subprocess.PIPE)
+            for end in reader.wait, reader.stdout.close, reader.kill:
+                self.addCleanup(end)
+            part.save(pipe)
+            self.assertTrue(stat.S_ISFIFO(os.stat(pipe).st_mode))
+            self.assertEqual(reader.stdout.read(), part.read())
+            self.assertEqual(sorted(os.listdir(folder)), ["link", "pipe", "target"])
+
     def test_packed_dumps_and_pipes(self):
         wanted = Dump(NESTED).check()
         with tempfile.TemporaryDirectory() as folder:
@@ -468,6 +506,13 @@ class Questions:
                 (lambda: no_scale.sample("5ns"), NoTimescale, "give times in ticks"),
                 (lambda: no_scale.cut("5ns").check(), NoTimescale, "n.vcd: no timescale"),
                 (lambda: dump.pick([]), UsageError, "needs a name"),
+                (lambda: dump.edges(b"bench.level"), UsageError, "names are texts"),
+                (lambda: dump.value(5, 0), UsageError, "5 is no name"),
+                (lambda: dump.rows(["bench", None]), UsageError, "None is no name"),
+                (lambda: dump.when(5), UsageError, "5 is no text"),
+                (lambda: dump.find("["), UsageError, "bad expression: ["),
+                (lambda: dump.find(5), UsageError, "bad expression: 5"),
+                (lambda: merge(dump, NESTED), UsageError, "write Dump(..)"),
                 (lambda: dump.cut("x"), UsageError, "bad time: x"),
                 (lambda: dump.cut(1.5), UsageError, '"1.5ns"'),
                 (lambda: dump.cut(-1), UsageError, "from 0"),
@@ -582,6 +627,8 @@ class Times(unittest.TestCase):
 
     def test_scales(self):
         scale = Timescale(100, "ps")
+        self.assertEqual([scale.ticks(time, is_up=True) for time in (7, "115ns", "118.999ns")],
+                         [7, 1150, 1190])
         self.assertEqual([scale.ticks(time) for time in (7, "115ns", "118.999ns", "1us", "99ps")],
                          [7, 1150, 1189, 10000, 0])
         self.assertEqual([scale.text(ticks) for ticks in (0, 1, 1150, 1189, 10**7, 10**10)],
@@ -627,6 +674,20 @@ class Values(unittest.TestCase):
         for again in pickle.loads(pickle.dumps(Value("01"))), copy.deepcopy(Value("01")):
             self.assertEqual((type(again), again), (Value, 1))
         self.assertEqual(json.dumps([Value("0x")]), '["0x"]')
+
+    def test_arithmetic(self):
+        value = Value("1011")
+        for call in (lambda: value * 2, lambda: 2 * value, lambda: value + value, lambda: value + 1,
+                     lambda: 1 + value, lambda: value - 1, lambda: 1 - value, lambda: value / 2,
+                     lambda: value // 2, lambda: value % 4, lambda: value << 1, lambda: 1 << value,
+                     lambda: value & 3, lambda: value ^ value, lambda: -value, lambda: ~value,
+                     lambda: sum([value, value])):
+            with self.assertRaises(TypeError) as raised:
+                call()
+            self.assertIn("int(value)", str(raised.exception))
+        self.assertEqual(("q=" + value, value + "b", "%s %d" % (value, value), value.join("()")),
+                         ("q=1011", "1011b", "1011 11", "(1011)"))
+        self.assertEqual("," .join([value, value]), "1011,1011")
 
     def test_formats(self):
         for digits, form, wanted in (

@@ -226,9 +226,11 @@ def names_of(node):
 
 def looks_at(changes, codes, clock, begin, end):
     """The times of a window at which a condition is looked at, with the values of then, and those
-    of between these times. What a $dumpvars has that begins is from before its time."""
+    of between these times. The first value of a code is from before its time if it is in a
+    $dumpvars."""
     its = [one for one in changes if one[2] in codes and (one[2] != "$" or one[0] >= begin)]
-    lead = next((one[1] for one in its[:1] if one[1][0] == "$dumpvars"), None)
+    first = {one[2]: one for one in reversed(its)}
+    lead = [one for one in first.values() if one[1][0] == "$dumpvars"]
     times = sorted({max(one[0], begin) for one in its if one[0] <= end})
     if clock:
         digits = [one for one in its if one[2] == "!"]
@@ -237,7 +239,7 @@ def looks_at(changes, codes, clock, begin, end):
     last = begin
     for time in times:
         seen = [one for one in its if one[2] != "$" and (
-            one[0] < time or one[0] == time and (one[1] == lead or not clock))]
+            one[0] < time or one[0] == time and (one in lead or not clock))]
         values = {one[2]: one[3] for one in seen}
         is_event = any(one[2] == "$" and (last <= one[0] < time if clock else one[0] == time)
                        for one in its)

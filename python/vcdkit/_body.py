@@ -2,8 +2,8 @@
 command or a value."""
 import functools
 import re
-from typing import (TYPE_CHECKING, Any, BinaryIO, Collection, Dict, Iterator, List, NamedTuple,
-                    Optional, Set, Tuple)
+from typing import (TYPE_CHECKING, Any, BinaryIO, Callable, Collection, Dict, Iterable, Iterator,
+                    List, NamedTuple, Optional, Set, Tuple)
 
 from .errors import DumpFault
 from .times import Timescale
@@ -15,7 +15,9 @@ if TYPE_CHECKING:
 BLOCK = 1 << 22
 BODY = b"$enddefinitions $end\n"
 MAX_SEEN = 1 << 16  # values that are kept to be given again
+FEW = 1 << 16
 Changes = List[Tuple[bytes, bytes]]  # a code and a value each
+Lines = Callable[[BinaryIO], Iterable[bytes]]
 Edge = Tuple[bytes, bytes, bytes]  # the code of a clock, a digit and the digit after it
 
 
@@ -89,6 +91,35 @@ def last_time(text: bytes) -> Optional[int]:
     return int(text[at + 2:text.index(b"\n", at + 1)]) if at >= 0 else None
 
 
+def first_time(text: BinaryIO) -> Optional[int]:
+    """Returns the first timestamp of any dump, also if no change follows, which vcdkit leaves out;
+    `None` if there is none before the end or a fault."""
+    words = _words(text)
+    for word in words:
+        first = word[:1]
+        if first == b"#":
+            return int(word[1:]) if word[1:].isdigit() else None
+        if first in b"bBrR":
+            next(words, b"")  # its code
+        elif first == b"$" and word not in (b"$end", b"$dumpvars", b"$dumpall", b"$dumpon",
+                                            b"$dumpoff"):
+            for word in words:
+                if word == b"$end":
+                    break
+    return None
+
+
+def _words(text: BinaryIO) -> Iterator[bytes]:
+    """Returns the words of a text."""
+    rest = b""
+    for block in iter(lambda: text.read(FEW), b""):
+        words = (rest + block).split()
+        rest = words.pop() if words and not block[-1:].isspace() else b""
+        yield from words
+    if rest:
+        yield rest
+
+
 def change(line: bytes) -> Tuple[bytes, bytes]:
     """Returns the code and the value of a line, without the `b` of digits."""
     first = line[:1]
@@ -98,23 +129,24 @@ def change(line: bytes) -> Tuple[bytes, bytes]:
     return line[1:-1], first
 
 
-def steps(part: "Dump", codes: Collection[bytes], lead: Collection[bytes] = ()
-          ) -> Iterator[Tuple[int, Changes, Changes]]:
+def steps(part: "Dump", codes: Collection[bytes], lead: Collection[bytes] = (),
+          is_cut: bool = False, lines: Lines = iter) -> Iterator[Tuple[int, Changes, Changes]]:
     """Returns of each timestamp of a part of a dump the changes of some codes: those that are
     values from before it, and the others. What comes before the first timestamp has time 0. No two
     steps that follow each other have one time. A time that a fault leaves unfinished has no step.
 
-    Values from before it are those of a `$dumpvars` with which the values of these codes begin:
-    `cut` begins with the values just before its first time, and goes on with what changes at it.
-    So are the first values of the codes in `lead`."""
-    time, is_begin, has_begun = 0, False, False
+    The first value of a code is from before its time if it is in a `$dumpvars`, or if the code is
+    in `lead`: `cut` begins with the values just before its first time, and goes on with what
+    changes at it. With `is_cut`, only the section with which `cut` begins has such values. `lines`
+    may leave out lines of the body that do not matter."""
+    time, is_begin, has_section = 0, False, False
     before: Changes = []
     found: Changes = []
-    left = set(lead)
+    left, begun = set(lead), set()
     fault: Optional[DumpFault] = None
     try:
         with part.body() as out:
-            for line in out:
+            for line in lines(out):
                 first = line[:1]
                 if first == b"#":
                     now = int(line[1:])
@@ -123,14 +155,15 @@ def steps(part: "Dump", codes: Collection[bytes], lead: Collection[bytes] = ()
                             yield time, before, found
                         time, before, found = now, [], []
                 elif first == b"$":
-                    is_begin = not has_begun and line == b"$dumpvars\n"
+                    is_begin = line == b"$dumpvars\n" and not (is_cut and has_section)
+                    has_section = True
                 else:
                     one = change(line)
-                    if one[0] in codes:
-                        has_begun = True
-                        if is_begin or one[0] in left:
-                            before.append(one)
-                            left.discard(one[0])
+                    code = one[0]
+                    if code in codes:
+                        if code not in begun:
+                            begun.add(code)
+                            (before if is_begin or code in left else found).append(one)
                         else:
                             found.append(one)
     except DumpFault as error:
@@ -142,20 +175,21 @@ def steps(part: "Dump", codes: Collection[bytes], lead: Collection[bytes] = ()
 
 
 def lead_of(out: BinaryIO, codes: Collection[bytes]) -> Set[bytes]:
-    """Returns those of some codes that are in a `$dumpvars` with which their values begin."""
+    """Returns those of some codes whose first value is in a `$dumpvars`."""
     is_begin = False
+    left = set(codes)
     found: Set[bytes] = set()
     for line in out:
         if line[:1] == b"$":
-            if found:
-                break
             is_begin = line == b"$dumpvars\n"
         elif line[:1] != b"#":
             code = change(line)[0]
-            if code in codes:
-                if not is_begin:
+            if code in left:
+                left.discard(code)
+                if is_begin:
+                    found.add(code)
+                if not left:
                     break
-                found.add(code)
     return found
 
 
@@ -172,6 +206,14 @@ def edge_steps(part: "Dump", codes: Collection[bytes], edges: Collection[Edge],
                 is_edge = is_edge or (code, last[code], digit) in edges
                 last[code] = digit
         yield time, before, found, is_edge
+
+
+@functools.lru_cache(maxsize=MAX_SEEN)
+def same(text: bytes) -> bytes:
+    """Returns a value in the form that all equal values have: 1.0, 1e0 and 1 are one number, and so
+    are -0 and 0, and NaN and NaN."""
+    number = real(text[1:].decode(errors="backslashreplace")) if text[:1] == b"r" else ""
+    return b"r%a" % (number + 0.0) if isinstance(number, float) else text
 
 
 def _value(text: bytes, size: int) -> Cell:

@@ -8,15 +8,14 @@ from typing import (Callable, Dict, Generator, Iterable, Iterator, List, NamedTu
                     Sequence, Set, Tuple, Union)
 
 from . import _body, _rows
-from ._condition import bare
-from .commands.find import names_for
+from ._names import bare, places_of, with_range
+from .commands.find import MAX_NAMES, names_for
 from .dump import Dump, _hint, merge
 from .errors import UnknownName, UsageError
 from .times import Timescale
 from .values import Signal
 
 BLOCK = 1 << 16
-MAX_NAMES = 1 << 17  # bytes of names on a command line
 Values = Tuple[Optional[bytes], Optional[bytes]]
 Same = Callable[[Optional[bytes], Optional[bytes]], bool]
 
@@ -54,47 +53,44 @@ def kind(signal: Signal) -> Union[str, int]:
     return "event" if signal.type == "event" else "real" if signal.is_real else signal.size
 
 
-def _around(path: str) -> Iterator[str]:
-    """Returns a path without its range, and the scopes around it."""
-    path = bare(path)
-    while path:
-        yield path
-        path = path.rpartition(".")[0]
-
-
 def hint_among(name: str, paths: Iterable[str]) -> str:
     """Returns what to write instead of a name that is none of some paths."""
     return _hint(name, _rows.Signals("".join("%s - 1 -\n" % one for one in paths)))
 
 
 class Side:
-    """One of the dumps. Its names are the paths, of which maps replace the front; `found` has what
-    of all that was asked for is in it."""
+    """One of the dumps. Its names are the paths, of which maps replace the front; `found` has those
+    of the names that were asked for that select something, and `mapped` the maps that fit."""
 
     def __init__(self, dump: Dump, maps: Sequence[Tuple[str, str]]):
         self.dump = dump
         self.report, self.scale = self.dump.check(), self.dump.timescale
         self.signals = list(self.dump.signals)
         self.found: Set[str] = set()
+        self.mapped: Set[str] = set()
         self.names = [self._mapped(one.path, maps) for one in self.signals]
-        self.of_name: Dict[str, List[int]] = {}
+        self._known = frozenset(self.names)
+        self.of_name: Dict[str, List[int]] = {}  # the places of each name
+        for at, name in enumerate(self.names):
+            self.of_name.setdefault(name, []).append(at)
         self.common: Set[str] = set()
 
     def _mapped(self, path: str, maps: Sequence[Tuple[str, str]]) -> str:
         for front, new in maps:
             if front in (path, bare(path)) or path.startswith(front + "."):
-                self.found.add(front)
+                self.mapped.add(front)
                 return new + path[len(front):] if new else path[len(front) + 1:]
         return path
 
-    def choose(self, names: Set[str], exceptions: Set[str]) -> None:
-        """Takes the signals that names select, all without names, but for the exceptions."""
-        asked = names | exceptions
-        for at, name in enumerate(self.names):
-            its = asked.intersection(_around(name)) if asked else asked
-            self.found |= its
-            if (not names or its & names) and not its & exceptions:
-                self.of_name.setdefault(name, []).append(at)
+    def full(self, name: str) -> str:
+        """Returns the name for which another one stands, as tb.q[3:0] for tb.q."""
+        return name if name in self._known else with_range([name], self.names).get(name, name)
+
+    def selected(self, asked: Sequence[str]) -> Dict[str, Set[str]]:
+        """Returns of each name that is asked for the names of the signals that it selects."""
+        full = {name: self.full(name) for name in asked}
+        places = places_of(full.values(), self.names) if asked else {}
+        return {name: {self.names[at] for at in places[path]} for name, path in full.items()}
 
     def unknown(self, name: str) -> UnknownName:
         """Returns the exception for a name that is not there."""
@@ -102,8 +98,10 @@ class Side:
 
     def clock(self, name: str) -> Signal:
         """Returns the signal of one bit that has a name."""
-        its: List[Signal] = [signal for signal, its in zip(self.signals, self.names)
-                             if bare(its) == bare(name)]
+        full = self.full(name)
+        pairs: List[Tuple[Signal, str]] = list(zip(self.signals, self.names))
+        its = ([signal for signal, its in pairs if its == full]
+               or [signal for signal, its in pairs if bare(its) == bare(name)])
         if not its:
             raise self.unknown(name)
         if len({one.code for one in its}) > 1 or kind(its[0]) != 1:
@@ -118,9 +116,10 @@ class Side:
         every = [one._replace(path=name) for one, name in zip(self.signals, self.names)]
         count = dict.fromkeys(names_for(paths, every), 0)
         for path in paths:
+            signals = len(self.of_name[path])
             while path not in count:
                 path = path.rpartition(".")[0]
-            count[path] += 1
+            count[path] += signals
         return list(count.items())
 
     def picked(self, paths: Sequence[str]) -> Optional[Dump]:
@@ -147,6 +146,24 @@ def _groups(sides: Sides) -> Iterator[Tuple[str, str]]:
         its = loose[1].get(name, [])
         if len(mine) == len(its) == 1:
             yield mine[0], its[0]
+
+
+def choose(sides: Sides, names: Sequence[str], exceptions: Sequence[str]) -> None:
+    """Takes the signals that names select, all without names, but for the exceptions. What a name
+    selects in one dump, it also selects in the other one if that has it with another range."""
+    asked = [*names, *exceptions]
+    found = [side.selected(asked) for side in sides]
+    for mine, its in _groups(sides) if asked else ():
+        for name in asked if mine != its else ():
+            if mine in found[0][name] or its in found[1][name]:
+                found[0][name].add(mine)
+                found[1][name].add(its)
+    for side, of in zip(sides, found):
+        side.found.update(name for name in asked if of[name])
+        chosen = set().union(*map(of.__getitem__, names)) if names else side.of_name.keys()
+        others = set().union(*map(of.__getitem__, exceptions))
+        side.of_name = {name: its for name, its in side.of_name.items()
+                        if name in chosen and name not in others}
 
 
 def in_common(sides: Sides) -> Tuple[List[Pair], List[Pair]]:

@@ -15,6 +15,7 @@ from typing import (TYPE_CHECKING, Any, Callable, Dict, Iterable, KeysView, List
                     Optional, Tuple, Union)
 
 from . import _body
+from ._names import RANGE, with_range
 from .errors import UsageError
 from .values import Signal, extension, real
 
@@ -24,7 +25,6 @@ if TYPE_CHECKING:
 Known = Optional[bool]
 Test = Callable[[List[Any]], Known]
 MAX_DEPTH = 50  # parentheses inside each other
-RANGE = re.compile(r"\[(-?\d+):(-?\d+)\]\Z")
 FIELD = re.compile(r"\[(-?\d+)(?::(-?\d+))?\]\Z")
 TOKEN = re.compile(r'"([^"]*)"|(->|&&?|\|\|?|[!=<>]=|[!<>()])|((?:(?!->)[^\s"&|!=<>()])+)')
 IN_PYTHON = {"&": "and", "&&": "and", "|": "or", "||": "or", "!": "~", "->": "if", "within": "else"}
@@ -83,11 +83,6 @@ class _Name(NamedTuple):
 Word = Union[str, _Number, Span]
 
 
-def bare(path: str) -> str:
-    """Returns a path without the range, as tb.q of tb.q[3:0]."""
-    return RANGE.sub("", path) if path[-1:] == "]" else path
-
-
 def _bad(why: str) -> UsageError:
     """Returns the exception for a condition that is none."""
     return UsageError("bad condition: " + why)
@@ -130,6 +125,8 @@ class _Text:
     """A condition as Python's parser takes it."""
 
     def __init__(self, text: str):
+        if not isinstance(text, str):
+            raise _bad("%r is no text" % (text,))
         self.words: List[Word] = []
         self.source = ""
         self._ends: List[Tuple[int, str]] = []  # of each token, in the source
@@ -178,16 +175,15 @@ class _Text:
 
 
 def _found(dump: "Dump", names: Iterable[str]) -> Dict[str, List[Signal]]:
-    """Returns of each name the signals whose path it is; else those of which it is the path without
-    the range, as q of q[3:0]."""
-    exact: Dict[str, List[Signal]] = {name: [] for name in names}
-    loose: Dict[str, List[Signal]] = {name: [] for name in names}
-    for at, path in enumerate(dump.signals.columns()[0]):
-        if path in exact:
-            exact[path].append(dump.signals[at])
-        if path[-1:] == "]" and bare(path) in loose:
-            loose[bare(path)].append(dump.signals[at])
-    return {name: exact[name] or loose[name] for name in exact}
+    """Returns of each name the signals whose path it is, or stands for."""
+    paths = dump.signals.columns()[0]
+    full = {name: name for name in names}
+    full.update(with_range([name for name in full if name not in dump.signals], paths, True))
+    found: Dict[str, List[Signal]] = {path: [] for path in full.values()}
+    for at, path in enumerate(paths):
+        if path in found:
+            found[path].append(dump.signals[at])
+    return {name: found[path] for name, path in full.items()}
 
 
 def _declared(dump: "Dump", paths: List[str]) -> Dict[str, Tuple[int, int]]:

@@ -2,13 +2,13 @@
 wide as a pixel. Of a bin with several changes of a signal only that is kept, and not each of them,
 so the work for a long dump is that of its text, and not that of its changes."""
 import io
-from typing import (BinaryIO, Callable, Dict, FrozenSet, Iterator, List, NamedTuple, Optional,
-                    Tuple)
+from typing import BinaryIO, Dict, FrozenSet, Iterator, List, NamedTuple, Optional, Tuple
 
 from . import _body
-from .values import Signal
+from .values import Signal, Value
 
 BLOCK = 1 << 20
+MAX_DIGITS = 1000  # of a number that is a float
 SMALL = 1 << 9  # bytes of the begin of a bin, in which most signals change
 Point = Tuple[int, object]
 
@@ -51,8 +51,12 @@ class Lane:
                 self.numbers.append(number)
 
     def value(self, text: bytes) -> object:
-        """Returns the value that a text of the body has."""
-        return _body.value(text, self.signal)
+        """Returns the value that a text of the body has; of a real signal also digits as a
+        number."""
+        value = _body.value(text, self.signal)
+        if self.is_real and isinstance(value, Value):
+            return float(int(value)) if value.is_known and len(value) <= MAX_DIGITS else value
+        return value
 
     def close(self, begin: int, end: int) -> None:
         """Ends a bin, which goes from one time to just before another."""
@@ -74,7 +78,7 @@ class Lanes:
         self.of_code: Dict[bytes, Lane] = {one.code.encode(): Lane(one) for one in signals}
         self.time, self.bin = begin, 0
 
-    def read(self, out: BinaryIO, progress: Callable[[float], None]) -> None:
+    def read(self, out: BinaryIO) -> None:
         """Takes the text of a body, which begins with a timestamp."""
         for block in iter(lambda: out.read(BLOCK) + out.readline(), b""):
             text, begin = b"\n" + block, 0
@@ -85,7 +89,6 @@ class Lanes:
                 else:
                     self.go_to(_time_at(text, begin))
                 begin = end
-            progress(self.bin / self.count)
         self.close()
 
     def edge(self, number: int) -> int:

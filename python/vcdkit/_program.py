@@ -90,6 +90,7 @@ class _Pipe:
     def __init__(self) -> None:
         self.files: List[File] = []
         self.parts: List[_Part] = []
+        _running.append(self)
 
     def start(self, words: Sequence[str], stdin: Optional[BinaryIO], names: Dict[str, str],
               of: Optional[Text], pass_fds: Sequence[int] = ()) -> BinaryIO:
@@ -132,8 +133,20 @@ class _Pipe:
             for file in files:
                 file.close()
 
+    def part_read(self) -> Optional[float]:
+        """Returns how much of its first file is read, as a part of 1; `None` if that cannot be
+        known, as of a pipe."""
+        process = self.parts[0].process.pid if self.parts else 0
+        try:
+            size = os.stat("/proc/%d/fd/0" % process).st_size
+            with open("/proc/%d/fdinfo/0" % process, encoding="ascii") as info:
+                return min(int(info.readline().split()[1]) / size, 1.0) if size else None
+        except (OSError, ValueError, IndexError):
+            return None
+
     def finish(self) -> None:
         """Waits for all; raises the error of the one nearest to the files."""
+        _running.remove(self)
         for part in self.parts:
             part.finish()
         for file in self.files:
@@ -145,10 +158,20 @@ class _Pipe:
 
     def stop(self) -> None:
         """Ends all that still run."""
+        _running.remove(self)
         for part in self.parts:
             part.process.terminate()
             part.out.close()
             part.finish()
+
+
+_running: List[_Pipe] = []
+
+
+def part_read() -> Optional[float]:
+    """Returns how much of a dump is read by what runs now; of several the smallest part."""
+    parts = [pipe.part_read() for pipe in tuple(_running)]
+    return min((part for part in parts if part is not None), default=None)
 
 
 @contextlib.contextmanager

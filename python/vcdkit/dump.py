@@ -3,13 +3,15 @@ import contextlib
 import importlib
 import os
 import re
+import stat
+import warnings
 from types import ModuleType
-from typing import (Any, BinaryIO, Collection, ContextManager, Dict, Iterable, Iterator, List,
+from typing import (IO, Any, BinaryIO, Collection, ContextManager, Dict, Iterable, Iterator, List,
                     Optional, Sequence, Set, Tuple, Union)
 
 from . import _body, _library, _program, _rows, _when
 from ._body import Header
-from ._condition import bare
+from ._names import places_of, with_range
 from ._texts import Bytes, File, Made, Text
 from .errors import (AT_A_TIMESTAMP, DumpFault, NoTimescale, RunFailed, UnknownName, UsageError,
                      VcdkitError)
@@ -36,7 +38,7 @@ def way() -> ModuleType:
 
 
 class Dump:
-    """A dump: a file, its bytes, or what pick(), cut() and merge() make of other dumps.
+    """A dump: a file, an open file, its bytes, or what pick(), cut() and merge() make of others.
 
     A file may be compressed (gzip, xz, bzip2, zstd, or FST if fst2vcd is on the PATH), or a pipe;
     "-" is standard input. Nothing is read before the first question. Each question reads the dump
@@ -48,11 +50,15 @@ class Dump:
     "q[3:0]" if there is no other such path. Dictionaries have paths as keys. If
     variables with different values have the same path, a blank and the code follow the path."""
 
-    def __init__(self, source: Union[str, "os.PathLike[str]", bytes], name: Optional[str] = None,
-                 token_limit: Optional[int] = None, four_state: bool = False):
-        """`name` is what faults call the bytes. `token_limit` is the longest token that is allowed,
+    def __init__(self, source: Union[str, "os.PathLike[str]", bytes, IO[Any]],
+                 name: Optional[str] = None, token_limit: Optional[int] = None,
+                 four_state: bool = False):
+        """An open file is read to its end, and kept in memory. `name` is what faults call the
+        bytes. `token_limit` is the longest token that is allowed,
         in bytes (1,048,576 without it). With `four_state`, a file is read through
         vcdkit-four-state, which converts the nine states of VHDL."""
+        if hasattr(source, "read"):
+            source, name = _bytes_of(source), name or str(getattr(source, "name", "(file)"))
         self._text: Text = (
             Bytes(bytes(source), name or "(bytes)")
             if isinstance(source, (bytes, bytearray, memoryview)) else File(source, four_state))
@@ -103,7 +109,8 @@ class Dump:
 
     def save(self, path: Union[str, "os.PathLike[str]"]) -> "Dump":
         """Writes the text to a file, and returns the Dump of that. If this fails, the file is as
-        it was."""
+        it was. It keeps its mode. Through a link its target is written, and a FIFO or a device is
+        written as it is."""
         write(path, self._blocks())
         return Dump(path)
 
@@ -131,8 +138,9 @@ class Dump:
         return self._signals
 
     def find(self, pattern: str, flags: int = 0) -> List[Signal]:
-        """Returns the signals whose paths match a regular expression anywhere (re.search)."""
-        search = re.compile(pattern, flags).search
+        """Returns the signals whose paths match a regular expression anywhere (re.search).
+        UsageError if it is none."""
+        search = compiled(pattern, flags).search
         paths = self.signals.columns()[0]
         return [self.signals[at] for at, path in enumerate(paths) if search(path)]
 
@@ -152,18 +160,11 @@ class Dump:
         return list(self._places(its).values()) if its else []
 
     def _full(self, names: Names) -> List[str]:
-        """Returns names; one that selects nothing is replaced by the one path that has a range
-        after it, as q by q[3:0]."""
-        its = [names] if isinstance(names, str) else list(names)
+        """Returns names; one for which a path with a range stands is replaced by that."""
+        its = _texts_of(names)
         left = {name for name in its if name and name not in self.signals}
-        found: Dict[str, Set[str]] = {}
-        for path in self.signals.columns()[0] if left else ():
-            if path[-1:] == "]" and bare(path) in left:
-                found.setdefault(bare(path), set()).add(path)
-        scopes = {name for name in found if any(
-            path.startswith(name + ".") for path in self.signals.columns()[0])}
-        return [next(iter(found[name])) if name not in scopes and len(found.get(name, ())) == 1
-                else name for name in its]
+        full = with_range(left, self.signals.columns()[0]) if left else {}
+        return [full.get(name, name) for name in its]
 
     def _places(self, names: List[str]) -> Dict[int, Signal]:
         """Returns the signals that names select, by their places among all; all without names."""
@@ -172,17 +173,11 @@ class Dump:
         last_names, last = self._last
         if names == last_names:
             return last
-        found: Dict[str, Dict[int, Signal]] = {name: {} for name in names}
-        for at, path in enumerate(self.signals.columns()[0]):
-            while path:
-                if path in found:
-                    found[path][at] = self.signals[at]
-                path = path.rpartition(".")[0]
         chosen: Dict[int, Signal] = {}
-        for name, its in found.items():
-            if not its:
+        for name, places in places_of(names, self.signals.columns()[0]).items():
+            if not places:
                 raise UnknownName(name, _hint(name, self.signals))
-            chosen.update(its)
+            chosen.update((place, self.signals[place]) for place in places)
         self._last = names, chosen
         return chosen
 
@@ -210,15 +205,15 @@ class Dump:
         """How long a tick is, as str() shows it: `100ps`. `None` if the header does not say."""
         return self.header.timescale
 
-    def ticks(self, time: Time) -> int:
-        """Returns a time in ticks, rounded down. Raises NoTimescale if the time has a unit and the
-        dump has no time scale."""
+    def ticks(self, time: Time, is_up: bool = False) -> int:
+        """Returns a time in ticks, rounded down, or up. Raises NoTimescale if the time has a unit
+        and the dump has no time scale."""
         text = word(time)
         if text.isdigit():
             return int(text)
         if self.timescale is None:
             raise NoTimescale("%s: no timescale: give times in ticks" % self.name)
-        return self.timescale.ticks(text)
+        return self.timescale.ticks(text, is_up)
 
     def time(self, ticks: int, unit: str = "") -> str:
         """Returns ticks with a unit, such as `115ns`: the largest unit in which they are a whole
@@ -318,9 +313,11 @@ class Dump:
         again, or that come and go within one time, are not changes. A time that a fault leaves
         unfinished has no row. `rise` and `fall` are paths of clocks of one bit: then there is a row
         for each such edge, with the values just before its time, which are those that a flip-flop
-        takes. With both there is a row for every edge, of one clock or of two. The values of a
-        `$dumpvars` at the beginning of a dump or a cut are from before its time. Raises UsageError
-        if a path is not such a clock. With `at` there is a row for each of these times."""
+        takes. With both there is a row for every edge, of one clock or of two. An edge counts
+        even if the clock comes back within its time. The first value of a signal is from before its
+        time if it is in a `$dumpvars`, as at the beginning of a dump or a cut. Raises UsageError if
+        a path is not such a clock. With `at` there is a row for each of these times, in this order,
+        also if one is there twice."""
         its = self._full(names)
         if not its:
             raise UsageError("rows() needs a name")
@@ -329,7 +326,7 @@ class Dump:
         if at is not None and edges:
             raise UsageError("rows are at times or at edges: give `at`, or `rise` and `fall`")
         if at is not None:
-            return self._rows_at(columns, list(_ticks_of(self, at).values()), its)
+            return self._rows_at(columns, [self.ticks(time) for time in _each(at)], its)
         clocks = [name for name in (rise, fall) if name is not None]
         return self._rows([*its, *clocks], list(columns.values()), edges)
 
@@ -431,7 +428,7 @@ class Dump:
 
     def pick(self, names: Names) -> "Dump":
         """Returns the dump of some signals, or scopes."""
-        chosen = [names] if isinstance(names, str) else list(names)
+        chosen = _texts_of(names)
         if not chosen:
             raise UsageError("pick() needs a name")
         if _words_for(chosen) != chosen:
@@ -462,23 +459,79 @@ def merge(*dumps: Dump) -> Dump:
     tick is the shortest of theirs; a dump without a time scale counts as one of 1s."""
     if not dumps:
         raise UsageError("merge() needs a dump")
+    for one in dumps:
+        if not isinstance(one, Dump):
+            raise UsageError("merge() takes Dumps, and %r is none: write Dump(..)" % (one,))
     return dumps[0]._made("merge", [], tuple(one._text for one in dumps))
 
 
 def write(path: Union[str, "os.PathLike[str]"], blocks: Iterable[bytes]) -> None:
-    """Writes a file; if this fails, it is as it was."""
-    part = "%s.%d.part" % (os.fspath(path), os.getpid())
+    """Writes a file, behind links if the path is one; if this fails, it is as it was. What is no
+    regular file, such as a FIFO or a device, is written as it is."""
+    name = os.fspath(path)
     try:
-        with open(part, "wb") as file:
-            file.writelines(blocks)
-        os.replace(part, path)
+        mode = os.stat(name).st_mode if os.path.exists(name) else None
+        if mode is None or stat.S_ISREG(mode) and not _is_open_file(name):
+            _replace(os.path.realpath(name), mode, blocks)
+        else:
+            with open(name, "wb") as file:
+                file.writelines(blocks)
     except OSError as error:
         if isinstance(error, VcdkitError):
             raise
-        raise RunFailed("%s: %s" % (os.fspath(path), error.strerror)) from error
+        raise RunFailed("%s: %s" % (name, error.strerror)) from error
+
+
+def _is_open_file(name: str) -> bool:
+    """Whether a path leads to what a process has open, as /dev/stdout does."""
+    while os.path.islink(name) and not name.startswith("/proc/"):
+        name = os.path.join(os.path.realpath(os.path.dirname(name)), os.readlink(name))
+    return name.startswith("/proc/")
+
+
+def _replace(name: str, mode: Optional[int], blocks: Iterable[bytes]) -> None:
+    """Puts a new file in the place of one, with its mode, once all is written."""
+    part = "%s.%d.part" % (name, os.getpid())
+    try:
+        with open(part, "wb", opener=_private if mode is not None else None) as file:
+            file.writelines(blocks)
+            if mode is not None:
+                os.chmod(part, stat.S_IMODE(mode))
+        os.replace(part, name)
     finally:
         if os.path.exists(part):
             os.unlink(part)
+
+
+def _private(name: str, flags: int) -> int:
+    """Opens a file that nobody else may read yet."""
+    return os.open(name, flags, 0o600)
+
+
+def compiled(pattern: str, flags: int = 0) -> "re.Pattern[str]":
+    """Returns a regular expression. UsageError if it is none."""
+    try:
+        with warnings.catch_warnings():
+            warnings.simplefilter("ignore", FutureWarning)  # of [[ in an expression
+            return re.compile(pattern, flags)
+    except (re.error, RecursionError, OverflowError, TypeError, ValueError) as error:
+        raise UsageError("bad expression: %s: %s" % (str(pattern)[:100], error)) from None
+
+
+def _bytes_of(file: Any) -> bytes:
+    """Returns what is left of an open file."""
+    data = file.read()
+    return data.encode("utf-8", "surrogateescape") if isinstance(data, str) else bytes(data)
+
+
+def _texts_of(names: Names) -> List[str]:
+    """Returns one name or several as a list."""
+    its = [names] if isinstance(names, (str, bytes)) or not isinstance(names, Iterable) else names
+    chosen = list(its)
+    for name in chosen:
+        if not isinstance(name, str):
+            raise UsageError("%r is no name: names are texts" % (name,))
+    return chosen
 
 
 def _words_for(names: List[str]) -> List[str]:
@@ -502,8 +555,12 @@ def _states(places: Dict[int, Signal]) -> Dict[int, Signal]:
 
 def _ticks_of(dump: Dump, times: Union[Time, Iterable[Time]]) -> Dict[Time, int]:
     """Returns the ticks of each time, as it was given."""
-    every = [times] if isinstance(times, str) or not isinstance(times, Iterable) else times
-    return {time: dump.ticks(time) for time in every}
+    return {time: dump.ticks(time) for time in _each(times)}
+
+
+def _each(times: Union[Time, Iterable[Time]]) -> Iterable[Time]:
+    """Returns one time or several as some."""
+    return [times] if isinstance(times, str) or not isinstance(times, Iterable) else times
 
 
 def _number(one: Cell) -> Union[int, float, str, None]:

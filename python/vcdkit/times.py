@@ -43,13 +43,15 @@ class Timescale(NamedTuple):
     def __str__(self) -> str:
         return "%d%s" % self
 
-    def ticks(self, time: Time) -> int:
-        """Returns a time in ticks. A time between two ticks is rounded down."""
+    def ticks(self, time: Time, is_up: bool = False) -> int:
+        """Returns a time in ticks. A time between two ticks is rounded down, or up, as that is with
+        which a cut begins."""
         text = word(time)
         digits = text.rstrip("smunpf")
         if digits == text:
             return int(text)
-        return int(digits) * _per(text[len(digits):]) // self.femtoseconds
+        span = int(digits) * _per(text[len(digits):])
+        return -(-span // self.femtoseconds) if is_up else span // self.femtoseconds
 
     def text(self, ticks: int, unit: str = "") -> str:
         """Returns ticks in the largest unit in which they are a whole number, such as `115ns`,

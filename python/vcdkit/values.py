@@ -2,7 +2,7 @@
 import numbers
 import operator
 import re
-from typing import Any, Callable, Iterator, List, NamedTuple, Optional, Union
+from typing import Any, Callable, Iterator, List, NamedTuple, NoReturn, Optional, Union
 
 NAN = float("nan")
 NUMBER_FORMAT = re.compile(r"(?:(.?)([<>=^]))?[-+ ]?#?(0?)(\d*)[_,]?([bdnoxX])\Z", re.DOTALL)
@@ -19,8 +19,9 @@ class Signal(NamedTuple):
 
     @property
     def is_real(self) -> bool:
-        """Whether its values are real numbers."""
-        return self.type in ("real", "realtime")
+        """Whether its values are real numbers. `vcdkit` takes a real number for any variable, so
+        this goes by the type: `real`, `realtime`, `real_parameter` of Verilator, `shortreal`."""
+        return self.type.startswith("real") or self.type == "shortreal"
 
 
 class Scope(NamedTuple):
@@ -71,7 +72,8 @@ class Value(str):
     As in Verilog, it is true if one of its digits is 1. If it has an x or a z, it equals no number,
     is neither less nor greater than any, and int() of it raises ValueError. If two Values of
     different sizes are compared, the shorter one is extended as in a dump. As the key of a
-    dictionary, a Value is its text: use int() for its number."""
+    dictionary, a Value is its text: use int() for its number. So it has to be in arithmetic, which
+    is refused (TypeError), as a text would be repeated or joined. Only `+` with a text joins."""
 
     __slots__ = ("_number",)  # what _known() says, once it was asked for
 
@@ -139,6 +141,12 @@ class Value(str):
 
     __hash__ = str.__hash__
 
+    def __add__(self, other: Any) -> str:
+        return str(self) + str(other) if _is_text(other) else _no_number(self)
+
+    def __radd__(self, other: Any) -> str:
+        return str(other) + str(self) if _is_text(other) else _no_number(self)
+
     def _known(self) -> Optional[int]:
         """Returns its number; `None` if it has an x or a z."""
         try:
@@ -166,6 +174,26 @@ class Value(str):
         return "".join("%x" % int(some, 2) if not some.strip("01")
                        else some[0] if len(set(some)) == 1 else "X"
                        for some in (bits[at:at + size] for at in range(0, len(bits), size)))
+
+
+def _is_text(other: object) -> bool:
+    """Whether it is a text, and no Value."""
+    return isinstance(other, str) and not isinstance(other, Value)
+
+
+def _no_number(value: Value, *_: object) -> NoReturn:
+    """Refuses arithmetic with a Value."""
+    raise TypeError("a Value is the text of its digits, here %s: write int(value) for its number"
+                    % value)
+
+
+for _name in ("sub", "mul", "truediv", "floordiv", "mod", "divmod", "pow", "lshift", "rshift",
+              "and", "or", "xor"):
+    setattr(Value, "__%s__" % _name, _no_number)
+    if _name != "mod":  # "%d" % value comes there too
+        setattr(Value, "__r%s__" % _name, _no_number)
+for _name in ("neg", "pos", "abs", "invert"):
+    setattr(Value, "__%s__" % _name, _no_number)
 
 
 # What a sample or a row has of a signal: the text of a real number that is none is a str, and

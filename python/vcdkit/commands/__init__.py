@@ -6,10 +6,11 @@ import os
 import re
 import shlex
 import sys
-from typing import Callable, List, Optional, TextIO
+from typing import Any, Callable, List, Optional, TextIO, Tuple
 
 from .. import Dump, Value, __version__, _program
-from ..errors import DumpFault, RunFailed, VcdkitError
+from .._progress import Progress
+from ..errors import DumpFault, RunFailed, UsageError, VcdkitError
 from ..times import UNITS
 
 STATUSES = """
@@ -32,6 +33,7 @@ exit status:
 """
 FAULT = "a name selects nothing, or not a valid dump"
 TIMES = "TIME is a number of ticks, or has a unit, such as 115ns or 1.5us.\n"
+MARK = "\0"  # which no argument has
 BROKEN_PIPE = 128 + 13  # the status that a shell shows of a program that SIGPIPE ended
 FORMS = {"hex": "in hexadecimal", "decimal": "in decimal",
          "signed": "in decimal, as two's complement",
@@ -39,13 +41,39 @@ FORMS = {"hex": "in hexadecimal", "decimal": "in decimal",
 
 
 class _Parser(argparse.ArgumentParser):
+    """A parser that takes options and other arguments in any order."""
+
     def format_help(self) -> str:
         text = super().format_help()
         return text + TIMES if "TIME" in text else text
 
+    def parsed(self, words: List[str]) -> Tuple[argparse.Namespace, List[str]]:
+        """Returns the arguments, and the words that fit none. Nothing behind `--` is an option:
+        argparse would forget that when it looks for the names between options, so these words
+        get a mark meanwhile."""
+        at = words.index("--") if "--" in words else len(words)
+        marked = [*words[:at], *(MARK + word for word in words[at + 1:])]
+        asked, rest = self.parse_known_intermixed_args(marked)
+        for key, value in vars(asked).items():
+            setattr(asked, key, _unmarked(value))
+        return asked, _unmarked(rest)
+
+    def parse_args(self, words: List[str]) -> argparse.Namespace:  # type: ignore[override]
+        asked, rest = self.parsed(words)
+        if rest:
+            self.error("unrecognized arguments: " + " ".join(rest))
+        return asked
+
+
+def _unmarked(value: Any) -> Any:
+    """Returns a word, or words, without marks."""
+    if isinstance(value, list):
+        return [_unmarked(one) for one in value]
+    return value[len(MARK):] if isinstance(value, str) and value.startswith(MARK) else value
+
 
 def parser(name: str, text: str, done: str = "everything was written", failed: str = FAULT,
-           wrong: str = "usage error") -> argparse.ArgumentParser:
+           wrong: str = "usage error") -> _Parser:
     """Returns a parser of words, whose help has the text of a command and its exit statuses 0, 1
     and 2, those of a filter if nothing is said of status 1."""
     first, _, rest = text.partition("\n")
@@ -90,10 +118,17 @@ def add_window(to: argparse.ArgumentParser) -> None:
                     help="the last time (the dump's end)")
 
 
+def check_begin(dump: Dump, asked: argparse.Namespace) -> None:
+    """Refuses a --from after the end of the dump."""
+    is_late = after_end(dump, asked.begin)
+    if is_late:
+        raise UsageError("--from: " + is_late)
+
+
 def after_end(dump: Dump, time: str) -> str:
     """Returns what to say of a time that is after the last timestamp of a dump; of another one an
     empty text. It reads up to that time, and raises a fault that comes before it."""
-    ticks = dump.ticks(time)
+    ticks = dump.ticks(time, is_up=True)
     if not ticks or dump.cut(ticks - 1, ticks).check().last == ticks:
         return ""
     last = dump.check().last
@@ -160,7 +195,8 @@ def command(function: Callable[[List[str]], int]) -> Callable[[Optional[List[str
         _write_bytes(sys.stdout)
         try:
             try:
-                return function(sys.argv[1:] if words is None else words)
+                with Progress(name):
+                    return function(sys.argv[1:] if words is None else words)
             finally:
                 sys.stdout.flush()
         except VcdkitError as error:

@@ -32,9 +32,8 @@ from concurrent.futures import ThreadPoolExecutor
 from typing import Dict, Iterable, Iterator, List, Optional, Sequence, Tuple
 
 from .. import RunFailed, UsageError, VcdkitError, _body
-from .._compare import (Comparison, Difference, Pair, Side, Sides, hint_among, in_common, kind,
-                        same_within)
-from .._condition import bare
+from .._compare import (Comparison, Difference, Pair, Side, Sides, choose, hint_among, in_common,
+                        kind, same_within)
 from ..times import word
 from ..values import Signal
 from . import FAULT, add_four_state, add_names, command, dump_of, parser, question
@@ -112,19 +111,23 @@ def sides_of(asked: argparse.Namespace) -> Sides:
     with ThreadPoolExecutor(2) as pool:
         one, other = pool.map(lambda file: Side(dump_of(asked, file), asked.maps),
                               (asked.one, asked.other))
+    choose((one, other), asked.names, asked.exceptions)
     for side in one, other:
-        side.choose(set(map(bare, asked.names)), set(map(bare, asked.exceptions)))
         for name in asked.names:
-            if bare(name) not in side.found:
+            if name not in side.found:
                 raise side.unknown(name)
-    mapped = [front for front, _ in asked.maps]
-    for name in [*mapped, *map(bare, asked.exceptions)]:
+    for front, _ in asked.maps:
+        if front not in one.mapped | other.mapped:
+            raise neither(front, [its.path for its in [*one.signals, *other.signals]])
+    for name in asked.exceptions:
         if name not in one.found | other.found:
-            paths = [path for side in (one, other) for path in (
-                [its.path for its in side.signals] if name in mapped else side.names)]
-            raise UsageError("neither dump has %s%s" % (
-                name, hint_among(name, dict.fromkeys(paths))))
+            raise neither(name, [*one.names, *other.names])
     return one, other
+
+
+def neither(name: str, paths: Iterable[str]) -> UsageError:
+    """Returns the exception for a name that is in no dump."""
+    return UsageError("neither dump has %s%s" % (name, hint_among(name, dict.fromkeys(paths))))
 
 
 def say_headers(report: Report, sides: Sides, apart: Sequence[Pair], is_common: bool) -> None:

@@ -7,7 +7,8 @@ lines are truncated.
 --salvage writes everything before the fault, as a dump. The line `good until` says up to which time
 it has all values. Usually that is one tick before the last timestamp in front of the fault, because
 some changes of that time may be missing. If the fault is in the next timestamp, it is the last
-timestamp itself. If there is no fault, or the header has the fault, no file is written.
+timestamp itself. If there is no fault, or the header has the fault, no file is written. With -, the
+dump goes to standard output, also if it has no fault, and all else goes to standard error.
 
 With NAMEs it also looks whether each of them selects something. If one does not, it lists similar
 paths.
@@ -17,6 +18,7 @@ examples:
   vcdkit-explain --salvage good.vcd sim.vcd
   vcdkit-explain sim.vcd tb.clk
   ssh lab cat sim.vcd.gz | vcdkit-explain -"""
+import contextlib
 import itertools
 import re
 import shlex
@@ -27,6 +29,7 @@ from ..dump import write
 from . import add_file, command, dump_of, parser
 
 WIDTH = 100
+OUTPUT = ("-", "/dev/stdout")
 FRONT = 1 << 16  # how much before a fault is looked at
 NINE = ("a nine-state value of VHDL",
         "vcdkit-four-state < FILE | vcdkit check    (or run ghdl again with --vcd-4states)")
@@ -200,13 +203,14 @@ class Good:
     `None` if there is none."""
 
     def __init__(self, dump, before):
-        self.dump, self.before, self.last = dump, before, None
+        self.dump, self.before, self.last, self.is_empty = dump, before, None, True
 
     def __iter__(self):
         tail, is_open = b"", False
         try:
             for block in self.dump.cut()._blocks():
                 text = tail + block
+                self.is_empty = self.is_empty and not re.search(rb"\n[01xzbr]", text)
                 last, section = _body.last_time(text), text.rfind(b"\n$")
                 self.last = self.last if last is None else last
                 is_open = is_open if section < 0 else text.startswith(b"\n$dump", section)
@@ -220,6 +224,13 @@ class Good:
         if time is not None:
             self.last = time
             yield b"#%d\n" % time
+        elif self.is_empty and self.has_no_time():
+            self.last = None  # `cut` wrote the time 0
+
+    def has_no_time(self):
+        """Whether no timestamp is before the fault."""
+        with self.dump.open() as text:
+            return _body.first_time(text) is None
 
     def time_without_change(self):
         """Returns the timestamp right before the fault, which `cut` does not write as no change is
@@ -232,13 +243,17 @@ class Good:
         return time if self.dump.goes_beyond(time - 1) else None
 
 
-def salvage(dump, fault, before, path):
-    """Writes what is before the fault of a dump, and says until which time it has all values."""
+def salvage(dump, fault, before, path, out):
+    """Writes what is before the fault of a dump, to `out` if that is given, and says until which
+    time it has all values."""
     if not has_header(dump):
         print("vcdkit-explain: nothing is good: the header has the fault", file=sys.stderr)
         return
     good = Good(dump, before)
-    write(path, good)
+    if out:
+        out.buffer.writelines(good)
+    else:
+        write(path, good)
     last = -1 if good.last is None else good.last - (not dump.is_finished(good.last, fault))
     print("wrote: %s, %s" % (path, "good until " + dump.time(last) if last >= 0 else
                              "but it has all values of no time"))
@@ -247,11 +262,21 @@ def salvage(dump, fault, before, path):
 @command
 def main(words):
     of = parser("vcdkit-explain", __doc__, "a valid dump, as far as it goes", "not a valid dump")
-    of.add_argument("--salvage", metavar="OUT", help="write what is before the fault")
+    of.add_argument("--salvage", metavar="OUT",
+                    help="write what is before the fault (-: to standard output)")
     of.add_argument("--token-limit", type=int, metavar="N",
                     help="the longest token that is allowed, in bytes")
     add_file(of, "*")
     asked = of.parse_args(words)
+    if asked.salvage not in OUTPUT:
+        return answer(asked, None)
+    out = sys.stdout
+    with contextlib.redirect_stdout(sys.stderr):
+        return answer(asked, out)
+
+
+def answer(asked, out):
+    """Says what is asked; returns the status. `out` gets what is salvaged if it is given."""
     dump = dump_of(asked, token_limit=asked.token_limit)
     unpacker = dump.unpacker()
     if unpacker:
@@ -273,9 +298,11 @@ def main(words):
         print("vcdkit: %s" % fault, file=sys.stderr, flush=True)
         before = explain(dump, fault, unpacker)
         if asked.salvage is not None:
-            salvage(dump, fault, before, asked.salvage)
+            salvage(dump, fault, before, asked.salvage, out)
         return fault.status
-    if asked.salvage is not None:
+    if out:
+        out.buffer.writelines(dump._blocks())
+    elif asked.salvage is not None:
         print("no fault: nothing written to " + asked.salvage, file=sys.stderr)
     for key, value in report._asdict().items():
         print(key, "-" if value is None else value)

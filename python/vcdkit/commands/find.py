@@ -13,14 +13,15 @@ examples:
   vcdkit-find --tree sim.vcd | head -n 20"""
 import csv
 import json
-import re
 import shutil
 import sys
-import warnings
 from typing import Dict, Iterable, List, Sequence
 
-from .. import Signal, UsageError
+from .. import Signal, _body
+from ..dump import compiled
 from . import add_file, command, dump_of, parser
+
+MAX_NAMES = 1 << 17  # bytes of names on a command line
 
 
 def names_for(chosen: Sequence[str], signals: Iterable[Signal]) -> List[str]:
@@ -66,16 +67,49 @@ def write_json(found):
     print()
 
 
-def patterns_of(texts):
-    """Returns the regular expressions of some texts."""
-    warnings.simplefilter("ignore", FutureWarning)  # of [[ in an expression
-    patterns = []
-    for text in texts:
-        try:
-            patterns.append(re.compile(text))
-        except (re.error, RecursionError, OverflowError) as error:
-            raise UsageError("bad expression: %s: %s" % (text[:100], error)) from None
-    return patterns
+def write_picked(dump, places):
+    """Writes the dump of the signals at some places, as pick() makes it. A command line has no room
+    for very many names: then this takes the lines of these signals out of the whole dump."""
+    every = list(dump.signals)
+    names, out = names_for([every[at].path for at in places], every), sys.stdout.buffer
+    if sum(map(len, names)) <= MAX_NAMES:
+        with dump.pick(names).open() as text:
+            shutil.copyfileobj(text, out, 1 << 18)
+        return
+    with dump.pick(names_for([one.path for one in every], every)).open() as text:
+        out.writelines(header_of(text, set(places)))
+        out.writelines(body_of(text, {every[at].code.encode() for at in places}))
+
+
+def header_of(text, places):
+    """Returns the lines of a header with the variables at some places, and with their scopes."""
+    opened, at = [], 0  # the lines of scopes, `None` for those that are written
+    for line in text:
+        if line.startswith(b"$scope "):
+            opened.append(line)
+        elif line.startswith(b"$var "):
+            if at in places:
+                yield from filter(None, opened)
+                opened = [None] * len(opened)
+                yield line
+            at += 1
+        elif not line.startswith(b"$upscope ") or opened.pop() is None:
+            yield line
+        if line == _body.BODY:
+            return
+
+
+def body_of(text, codes):
+    """Returns the lines of a body with the changes of some codes. Of the timestamps without changes
+    only the last one is left."""
+    time = b""
+    for line in text:
+        if line[:1] == b"#":
+            time = line
+        elif line[:1] == b"$" or _body.change(line)[0] in codes:
+            yield time + line
+            time = b""
+    yield time
 
 
 @command
@@ -90,19 +124,19 @@ def main(words):
     of.add_argument("patterns", metavar="REGEX", nargs="*", default=[],
                     help="an expression that paths have to match")
     asked = of.parse_args(words)
-    dump, patterns = dump_of(asked), patterns_of(asked.patterns)
+    dump, patterns = dump_of(asked), list(map(compiled, asked.patterns))
 
     def is_found(one):
         return not patterns or any(pattern.search(one.path) for pattern in patterns)
 
-    found = list(filter(is_found, dump.signals))
+    places = [at for at, one in enumerate(dump.signals) if is_found(one)]
+    found = [dump.signals[at] for at in places]
     if patterns and not found:
         hint = "; brackets of a path are \\[ and \\]" if "[" in "".join(asked.patterns) else ""
         print("vcdkit-find: no path matches" + hint, file=sys.stderr)
         return 1
     if asked.form == "pick":
-        with dump.pick(names_for([one.path for one in found], dump.signals)).open() as text:
-            shutil.copyfileobj(text, sys.stdout.buffer, 1 << 18)
+        write_picked(dump, places)
     elif asked.form == "json":
         write_json(found)
     elif asked.form == "csv":

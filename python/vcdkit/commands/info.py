@@ -12,16 +12,14 @@ examples:
 import json
 from collections import Counter
 
+from .. import _body
 from . import add_file, command, dump_of, parser
 
 
 def first_tick(dump):
-    """Returns the time of the first change; None where there is none."""
-    names = sorted({one.path.partition(".")[0] for one in dump.signals})
-    if not names:
-        return None
-    with dump.pick(names).body() as out:
-        return next((int(line[1:]) for line in out if line[:1] == b"#"), None)
+    """Returns the first timestamp; `None` if there is none."""
+    with dump.open() as text:
+        return _body.first_time(text)
 
 
 def of_header(dump, most):

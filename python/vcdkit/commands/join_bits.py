@@ -16,6 +16,7 @@ from .. import Dump
 from . import command, parser
 
 VARIABLE = re.compile(r"^\s*\$var\s+(\S+)\s+1\s+(\S+)\s+(\S+?)\s*\[(-?\d+)\]\s+\$end\s*$")
+CHANGE = re.compile(r"\s*(?:[bB](?=\S\s))?([01xXzZ])\s*(\S+)\s*$")  # of a bit, also b1 !
 DECLARED = re.compile(r"^\s*\$var\s+\S+\s+\S+\s+(\S+)\s")
 
 
@@ -53,9 +54,14 @@ class Vectors:
 
     def take(self, line):
         """Whether the line is the change of a bit of a vector, which is then kept."""
-        found = self.places.get(line[1:].strip()) if line[0] in "01xXzZ" else None
+        if line[0] in "01xXzZ":
+            digit, code = line[0], line[1:].strip()
+        else:
+            change = CHANGE.match(line)
+            digit, code = (change.group(1), change.group(2)) if change else ("", "")
+        found = self.places.get(code)
         if found:
-            self.digits[found[0]][found[1]] = line[0]
+            self.digits[found[0]][found[1]] = digit
             self.changed[found[0]] = True
         return bool(found)
 
@@ -97,7 +103,7 @@ def main(words):
         write_header(lines, vectors, out)
         for line in lines:
             if not vectors.take(line):
-                if line[0] in "#$":
+                if line.lstrip()[:1] in ("#", "$"):
                     out.write(vectors.due())
                 out.write(line)
         out.write(vectors.due())

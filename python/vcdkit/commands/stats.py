@@ -13,7 +13,8 @@ The first line of a signal has its path, type and size. These lines follow, if t
                                 longest pulse; a pulse counts only if it begins and ends in the
                                 window
 The values that it has longest come first. Only the values at the end of each time count: what
-comes and goes within one time is not seen. The window ends with the dump, if that is earlier.
+comes and goes within one time is not seen. Real numbers are compared as numbers. The window ends
+with the dump, if that is earlier. A --from after the end of the dump is a usage error.
 
 examples:
   vcdkit-stats sim.vcd tb.clk
@@ -22,11 +23,10 @@ examples:
 import argparse
 import json
 import math
-import sys
 
 from .. import _body
 from ..times import UNITS
-from . import add_file, add_form, add_window, after_end, command, dump_of, parser, shown
+from . import add_file, add_form, add_window, check_begin, command, dump_of, parser, shown
 
 MAX_VALUES = 1 << 16  # of one signal; further ones count as one
 OTHERS = b"others"
@@ -92,10 +92,11 @@ class Statistics:
 
     def start(self, time, text):
         """Takes a value from before the window, or the first one."""
-        self.text, self.begin = text, time
+        self.text, self.begin = _body.same(text), time
 
     def change(self, time, text):
         """Takes the value at the end of a time."""
+        text = _body.same(text)
         if self.signal.type == "event":
             self.changes += 1
             self.note_edge(time)
@@ -121,7 +122,7 @@ def statistics_of(dump, asked):
     signals = dump.select(asked.names)
     found = {one.code.encode(): Statistics(one) for one in signals}
     for time, before, changes in _body.steps(
-            dump._part(asked.names).cut(asked.begin, asked.end), found):
+            dump._part(asked.names).cut(asked.begin, asked.end), found, is_cut=True):
         for code, text in before:
             found[code].start(time, text)
         for code, text in dict(changes).items():
@@ -228,11 +229,10 @@ def main(words):
     add_file(of, "+")
     asked = of.parse_args(words)
     dump = dump_of(asked)
+    dump.select(asked.names)
+    check_begin(dump, asked)
     found = [facts_of(signal, counted, asked.form)
              for signal, counted in statistics_of(dump, asked)]
-    is_late = after_end(dump, asked.begin)
-    if is_late:
-        print("vcdkit-stats: --from: " + is_late, file=sys.stderr)
     if asked.json:
         print(json.dumps(found, indent=1))
         return 0

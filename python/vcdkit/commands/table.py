@@ -4,9 +4,10 @@ There is a row for each time at which one of the signals changes, with the value
 time. With --from there is also a row for that time, if there are values then. With --rise or --fall
 there is a row for each such edge of a clock of one bit, with the values just before the time of the
 edge, which are those that a flip-flop takes. With both there is a row for every edge. With --at
-there is a row for each of the given times. Changes within one time, and values that are written
-again, are not seen. Events have no column. While a pipe is read, each row is written as soon as it
-is known.
+there is a row for each of the given times, in this order. Changes within one time, and values that
+are written again, are not seen, but for edges of the clock: one also counts if the clock comes back
+within its time. Events have no column. While a pipe is read, each row is written as soon as it is
+known. A --from after the end of the dump is a usage error.
 
 Values are written with all their digits, as numbers (--hex, --decimal, --signed) or as text
 (--ascii). If a value has an x or a z, --hex writes x or z for four such digits and X for a mixture,
@@ -25,7 +26,8 @@ import os
 import sys
 from typing import List
 
-from . import add_file, add_form, add_window, command, dump_of, parser, shown, unit
+from . import (add_file, add_form, add_window, check_begin, command, dump_of, parser, shown,
+               unit)
 
 
 @command
@@ -47,6 +49,7 @@ def main(words: List[str]) -> int:
     scale = whole.timescale
     in_unit = asked.unit or (scale.unit if scale else "tick")
     whole.ticks("0" if in_unit == "tick" else "0" + in_unit)  # a unit needs a time scale
+    check_begin(whole, asked)
     # Values at the begin of a cut are a section, and none that changed.
     dump = whole.cut(asked.begin, asked.end) if is_part else whole
     rows = dump.rows(asked.names, None if asked.at is None else asked.at.split(","), asked.rise,

@@ -12,19 +12,19 @@ import argparse
 import math
 import os
 import re
-import sys
-import threading
 from xml.sax.saxutils import escape
 
 from .. import UsageError, Value
 from .._lanes import Lanes, Several
 from ..times import LAST_TICK, UNITS
-from . import add_file, add_form, add_window, command, dump_of, parser, shown
+from . import (add_file, add_form, add_window, after_end, check_begin, command, dump_of, parser,
+               shown)
 
 ROW, HIGH, PAD, TOP, CHAR = 26, 16, 10, 34, 6.7  # pixels
 CURVE = 3 * HIGH  # pixels: how high a curve is
 LEAST_WIDTH, MAX_WIDTH = 100, 20000  # pixels: room for a time of the axis; that of bins
 MAX_SIGNALS, MAX_NAME = 200, 40  # rows; letters
+LEAST_ROOM = 3  # letters of a value that is cut
 NOT_OF_XML = re.compile("[^\t\n\r -\ud7ff\ue000-\ufffd\U00010000-\U0010ffff]")
 DARK = {"back": "#10161d", "text": "#d8dee4", "axis": "#8b98a5", "grid": "#2b3540",
         "bit": "#3fd07f", "lane": "#58a6ff", "curve": "#d2a8ff", "x": "#ff4040", "z": "#ffa020",
@@ -40,45 +40,25 @@ path{fill:none;stroke-width:1.4}.bit{stroke:%(bit)s}.lane{stroke:%(lane)s;fill:%
 .several{fill:%(several)s}"""
 
 
-class Progress:
-    """Says on a terminal how far the work is, if it takes longer than a second."""
-
-    def __init__(self):
-        self.text, self.ended = "reads the dump", threading.Event()
-        self.thread = threading.Thread(target=self.run, daemon=True)
-
-    def run(self):
-        while not self.ended.wait(1):
-            print("\r\033[Kvcdkit-wave: " + self.text, end="", file=sys.stderr, flush=True)
-
-    def now(self, part):
-        self.text = "%d%%" % (100 * part)
-
-    def __enter__(self):
-        if sys.stderr.isatty():
-            self.thread.start()
-        return self
-
-    def __exit__(self, *_):
-        self.ended.set()
-        if self.thread.ident:
-            self.thread.join()
-            print("\r\033[K", end="", file=sys.stderr, flush=True)
-
-
 def unit_of(scale, ticks):
     """Returns the unit in which a span of ticks is a handy number, and its ticks."""
     if not scale:
-        return "ticks", 1
+        return "", 1
     at = UNITS.index(scale.unit)
     while at and ticks * scale.number >= 5 * 1000 ** (UNITS.index(scale.unit) - at + 1):
         at -= 1
     return UNITS[at], 1000 ** (UNITS.index(scale.unit) - at) / scale.number
 
 
-def value_text(value, form):
-    """Returns a value as a lane has it."""
-    return "%g" % value if isinstance(value, float) else shown(value, form or "hex")
+def value_text(value, form, room):
+    """Returns a value as a lane has it: its last digits if it has no room for all, without zeros
+    in front."""
+    text = "%g" % value if isinstance(value, float) else shown(value, form or "hex")
+    if len(text) > room and form != "ascii" and isinstance(value, Value) and value.is_known:
+        text = text.lstrip("0") or "0"
+    if len(text) > room:
+        text = "+" + text[1 - room:] if room >= LEAST_ROOM else ""
+    return text
 
 
 def kind_of(value, known):
@@ -130,13 +110,14 @@ class Picture:
         span, pixels = self.end - self.begin, self.right - self.left
         unit, ticks = unit_of(scale, span)
         step = next(one * 10**power for power in range(-3, 24) for one in (1, 2, 5)
-                    if one * 10**power * ticks * pixels / span >= 90)
+                    if one * 10**power * ticks * pixels / span >= 90
+                    and one * 10**power * ticks > 0.999)  # no part of a tick
         number = math.ceil(self.begin / (step * ticks))
         while number * step * ticks <= self.end:
             x = self.x(number * step * ticks)
             self.add('<path class="grid" d="M%.1f %dV%d"/>', x, TOP - 6, bottom)
-            self.text(x, TOP - 12, "%s %s" % (("%.3f" % (number * step)).rstrip("0").rstrip("."),
-                                              unit), "axis", "middle")
+            self.text(x, TOP - 12, ("%.3f" % (number * step)).rstrip("0").rstrip(".") + unit,
+                      "axis", "middle")
             number += 1
 
     def pieces(self, points):
@@ -155,7 +136,7 @@ class Picture:
         for x, to, value in self.pieces(points):
             if isinstance(value, Several):
                 of_kind.setdefault("several", []).append(box(x, to, y, HIGH))
-            elif value == "x":
+            elif value not in height:  # x, or the text of a real number
                 of_kind.setdefault("x", []).append(box(x, to, y, HIGH))
             else:
                 edge = "M%.1f %.1fV%.1f" % (x, height.get(last, height[value]), height[value])
@@ -174,9 +155,8 @@ class Picture:
             shape = "M%.1f %.1fL%.1f %.1fH%.1fL%.1f %.1fL%.1f %.1fH%.1fZ" % (
                 x, middle, x + slant, y, to - slant, to, middle, to - slant, y + HIGH, x + slant)
             of_kind.setdefault(kind_of(value, "lane"), []).append(shape)
-            text, room = value_text(value, form), int((to - x - 2 * slant - 2) / CHAR)
-            if room >= len(text) or room >= 3:
-                text = text if room >= len(text) else text[:room - 1] + "+"
+            text = value_text(value, form, int((to - x - 2 * slant - 2) / CHAR))
+            if text:
                 texts.append(((x + to) / 2, y + HIGH - 4, text, "", "middle"))
         self.shapes(of_kind)
         for text in texts:
@@ -192,14 +172,14 @@ class Picture:
             return y + CURVE * (1 - part)
 
         for x, to, value in pieces:
+            is_number = isinstance(value, float) and math.isfinite(value)
             if isinstance(value, Several):
                 part = "M%.1f %.1fV%.1f" % (x, height(value.least), height(value.largest))
-            elif kind_of(value, "curve") == "x":
-                part = box(x, to, y, CURVE)
-            else:
+            elif is_number:
                 at = height(value)
                 part = "M%.1f %.1fV%.1fH%.1f" % (x, at if last is None else last, at, to)
-            is_number = isinstance(value, float) and math.isfinite(value)
+            else:
+                part = box(x, to, y, CURVE)
             last = at if is_number else None
             of_kind.setdefault("curve" if is_number or isinstance(value, Several) else "x",
                                []).append(part)
@@ -235,11 +215,12 @@ class Picture:
         self.add('<path class="mark" d="M%.1f %dV%d"/>', x, TOP - 6, bottom)
         self.text(x, bottom + 11, text, "marked", "middle")
 
-    def write(self, bottom, colours):
-        """Writes the SVG."""
+    def write(self, bottom, title, colours):
+        """Writes the SVG, with a title for those who do not see it."""
         size = self.right + 3 * PAD, bottom + 2 * PAD
-        print('<svg xmlns="http://www.w3.org/2000/svg" width="%d" height="%d" viewBox="0 0 %d %d">'
-              % (*size, *size))
+        print('<svg xmlns="http://www.w3.org/2000/svg" width="%d" height="%d" viewBox="0 0 %d %d" '
+              'role="img">' % (*size, *size))
+        print("<title>%s</title>" % escape(NOT_OF_XML.sub("\ufffd", title)))
         print('<style>%s</style><rect width="100%%" height="100%%" fill="%s"/>'
               % (STYLE % colours, colours["back"]))
         print("\n".join(self.out) + "\n</svg>")
@@ -261,10 +242,14 @@ def bounds(values):
 def window_of(dump, asked):
     """Returns the window that the words ask for, begin and end."""
     if asked.around is None:
-        return dump.ticks(asked.begin), dump.ticks(asked.end)
+        check_begin(dump, asked)
+        return dump.ticks(asked.begin, is_up=True), dump.ticks(asked.end)
     at, span = dump.ticks(asked.around), dump.ticks(asked.span or "0")
     if not span:
         raise UsageError("--around needs --span TIME, how much before and after it")
+    is_late = after_end(dump, dump.time(max(at - span, 0)))
+    if is_late:
+        raise UsageError("--around: " + is_late)
     return max(at - span, 0), min(at + span, LAST_TICK)
 
 
@@ -279,14 +264,12 @@ def width(text):
 def lanes_of(dump, chosen, names, window, count):
     """Returns the lanes of a window, which ends with the dump if that is earlier."""
     begin, end = window
-    with Progress() as progress:
-        is_part = window != (0, LAST_TICK)
-        last = (dump.cut(begin, end) if is_part else dump).check().last
-        if last is None or last <= begin:
-            raise UsageError("the dump has nothing between these times")
-        lanes, part = Lanes(chosen, begin, last, count), dump._part(names)
-        with (part.cut(begin, end) if is_part else part).body() as out:
-            lanes.read(out, progress.now)
+    is_part = window != (0, LAST_TICK)
+    last = (dump.cut(begin, end) if is_part else dump).check().last or 0
+    # A dump with one time has at least a tick.
+    lanes, part = Lanes(chosen, begin, max(last, begin + 1), count), dump._part(names)
+    with (part.cut(begin, end) if is_part else part).body() as out:
+        lanes.read(out)
     return lanes
 
 
@@ -295,7 +278,7 @@ def draw(dump, chosen, lanes, asked):
     scope = common_scope([one.path for one in chosen])
     names = [short(one.path[len(scope):]) for one in chosen]
     # A time of the axis begins before the traces.
-    left = PAD * 2 + CHAR * max(map(len, [short(scope) + "0 ns", *names]))
+    left = PAD * 2 + CHAR * max(map(len, [short(scope) + "0ns", *names]))
     picture, bottom = Picture(lanes.begin, lanes.end, left, asked.width), TOP
     rows = []
     for signal in chosen:
@@ -313,7 +296,9 @@ def draw(dump, chosen, lanes, asked):
             raise UsageError("%s is not in the window, %s to %s" % (
                 mark, dump.time(lanes.begin), dump.time(lanes.end)))
         picture.mark(time, dump.time(time), bottom)
-    picture.write(bottom, LIGHT if asked.light else DARK)
+    title = "Waveforms of %s from %s to %s" % (", ".join(one.path for one in chosen), dump.time(
+        lanes.begin), dump.time(lanes.end))
+    picture.write(bottom, title, LIGHT if asked.light else DARK)
 
 
 @command

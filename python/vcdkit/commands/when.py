@@ -31,10 +31,10 @@ examples:
   vcdkit-when --rise tb.clk --every --count sim.vcd.gz 'tb.valid & tb.ready'
   vcdkit-when --never --rise tb.clk sim.vcd '!(tb.req -> tb.ack within 5)'
   vcdkit-when --first --from 1us sim.vcd 'tb.dut.state is x'"""
+import re
 from typing import List
 
-from .. import UsageError
-from . import FAULT, add_file, add_window, after_end, command, dump_of, parser, question
+from . import FAULT, add_file, add_window, check_begin, command, dump_of, parser, question
 
 
 @command
@@ -54,7 +54,8 @@ def main(words: List[str]) -> int:
     add_window(of)
     add_file(of)
     of.add_argument("condition", metavar="CONDITION", help="a condition (see below)")
-    asked, rest = of.parse_known_args(words)
+    # A condition may begin with a number below 0.
+    asked, rest = of.parsed([" " + word if re.match(r"-[.\d]", word) else word for word in words])
     if rest:
         of.error("put the condition into quotes" if rest[0][:1] != "-" else
                  "unrecognized arguments: " + " ".join(rest))
@@ -62,9 +63,7 @@ def main(words: List[str]) -> int:
     is_part = (asked.begin, asked.end) != (of.get_default("begin"), of.get_default("end"))
     part = dump.cut(asked.begin, asked.end) if is_part else dump
     count, times = 0, part.when(asked.condition, asked.rise, asked.fall, asked.every)
-    is_late = after_end(dump, asked.begin)
-    if is_late:
-        raise UsageError("--from: " + is_late)
+    check_begin(dump, asked)
     for time in times:
         count += 1
         if not asked.count:

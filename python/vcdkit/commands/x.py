@@ -11,8 +11,9 @@ examples:
   vcdkit-x --z --from 1us --to 2us sim.vcd | head"""
 from typing import Dict, List, Optional
 
-from .. import Signal, UsageError, _body
-from . import FAULT, add_file, add_window, after_end, command, dump_of, parser, question
+from .. import Signal, _body
+from .._unknown import Lines
+from . import FAULT, add_file, add_window, check_begin, command, dump_of, parser, question
 
 
 @command
@@ -31,15 +32,18 @@ def main(words: List[str]) -> int:
     for one in dump.select(asked.names) if asked.names else dump.signals:
         if not one.is_real and one.type != "event":
             signals.setdefault(one.code.encode(), []).append(one)
-    is_late = after_end(dump, asked.begin)
-    if is_late:
-        raise UsageError("--from: " + is_late)
+    check_begin(dump, asked)
     letters, count = (b"x", b"z") if asked.z else (b"x",), 0
     last: Dict[bytes, Optional[bytes]] = {}  # the last value of each code, if it is shown
     part = dump._part(asked.names).cut(asked.begin, asked.end)
-    for time, before, found in _body.steps(part, signals):
-        for code, text in dict(before + found).items():
-            is_shown = text[:1] != b"r" and any(letter in text for letter in letters)
+    lines = Lines(letters)
+    for time, before, found in _body.steps(part, signals, is_cut=True, lines=lines):
+        ends: Dict[bytes, bytes] = {}  # the last value of each code, in the order of these
+        for code, text in before + found:
+            ends.pop(code, None)
+            ends[code] = text
+        for code, text in ends.items():
+            is_shown = lines.has_letter(text)
             if is_shown and last.get(code) != text:
                 count += len(signals[code])
                 for one in () if asked.count else signals[code]:
