@@ -121,7 +121,7 @@ install:
 	install -m 644 completions/vcdkit.bash "$(bash_words)/vcdkit"
 	for name in $(scripts); do ln -sf vcdkit "$(bash_words)/$$name"; done
 	install -m 644 completions/_vcdkit "$(zsh_words)/_vcdkit"
-	install -m 644 python/vcdkit/*.py python/vcdkit/py.typed "$(python)"
+	install -m 644 python/vcdkit/*.py python/vcdkit/py.typed python/vcdkit/page.html "$(python)"
 	install -m 644 python/vcdkit/commands/*.py "$(python)/commands"
 	if test -e libvcdkit.so; then install -m 644 libvcdkit.so "$(python)"; fi
 	if [ -e libvcdkit.a ]; then \

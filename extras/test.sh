@@ -82,6 +82,9 @@ for script in when diff; do
     later "vcdkit-$script, against another reader" python3 "python/tests/test_$script.py"
 done
 later 'the scripts, at any argument, file and stream' python3 python/tests/test_scripts.py
+later 'the pages of vcdkit-wave and vcdkit-diff' python3 python/tests/test_page.py
+[[ -n $(type -P chromium chromium-browser google-chrome) ]] ||
+    echo 'the pages are not tried in a browser: there is no chromium'
 [[ -n $library ]] || echo 'the package is not tried over the library: no libvcdkit.so'
 
 same 'the version of the package' "$("$VCDKIT" --version)" "$(vcdkit-find --version |
@@ -281,6 +284,16 @@ END
 same 'vcdkit-wave --around, --span: as much on each side' \
     "$(vcdkit-wave --from 65ns --to 75ns --mark 70ns $dump bench.slow | cksum)" \
     "$(vcdkit-wave --around 70ns --span 5ns $dump bench.slow | cksum)"
+same 'vcdkit-wave --html: a page of all signals' '</html> 24' \
+    "$(vcdkit-wave --html $dump bench > "$folder/wave.html"
+       echo "$(tail -n 1 "$folder/wave.html") $(grep -o '"bench[^"]*",' "$folder/wave.html" |
+           wc -l)")"
+same 'vcdkit-diff --html: a page of what differs' "differs 35ns bench.slow.count 0011 1011
+page $folder/diff.html
+</html>" "$(vcdkit-diff --html "$folder/diff.html" $dump "$folder/other.vcd"
+    tail -n 1 "$folder/diff.html")"
+same 'vcdkit-diff --html: no difference, no page' 'status 0' \
+    "$(status vcdkit-diff --html "$folder/none/diff.html" $dump $dump)"
 # texts FILE: the texts of a picture, which has to be well-formed
 texts() {
     python3 -c 'import sys, xml.etree.ElementTree as tree

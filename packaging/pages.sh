@@ -12,7 +12,7 @@ for page in README.md CHANGELOG.md NOTICE.md docs/TUTORIAL.md docs/FAQ.md docs/M
     sed -E "s,\[([^][]+)\]\([^()]*($inner)\.md[^()]*\),\1,g" "$page" > "$1/$page"
     chmod 644 "$1/$page"
 done
-for picture in docs/*.svg; do
+for picture in docs/*.svg docs/*.png; do
     install -m 644 "$picture" "$1/docs"
 done
 install -m 644 samples/* "$1/samples"

@@ -94,7 +94,8 @@ if [[ -n $package ]]; then
         dpkg --root="$folder/bare" --force-not-root -i "$package" "$for_python"
     tries 'a script of the package' bash -c 'export PATH=$1/usr/bin:/usr/bin:/bin
         export PYTHONPATH=$1/usr/lib/python3/dist-packages
-        vcdkit-find samples/counter.vcd | grep -q count0' - "$folder/deb"
+        vcdkit-find samples/counter.vcd | grep -q count0 &&
+        vcdkit-wave --html samples/counter.vcd clk | tail -n 1 | grep -q html' - "$folder/deb"
 fi
 tries 'the wheel has what its RECORD says' python3 - "$wheel" <<'END'
 import base64, hashlib, sys, zipfile
@@ -113,6 +114,7 @@ tries 'the wheel is installed, and answers' bash -c 'python3 -m venv "$2/venv" &
     export PATH="$2/venv/bin:/usr/bin:/bin" &&
     vcdkit-info samples/nested.vcd | grep -q "last 122ns" &&
     vcdkit-values --four-state --at 20ns samples/ghdl.vcd tb.reset | grep -qx "tb.reset 0" &&
+    vcdkit-wave --html samples/nested.vcd bench | tail -n 1 | grep -q html &&
     python3 -m vcdkit find samples/counter.vcd count0 | grep -q count0 &&
     python3 -c "import vcdkit; print(vcdkit.Dump(\"samples/nested.vcd\").check())"' - \
     "$wheel" "$folder"

@@ -39,7 +39,7 @@ def files_of(version, program, library):
     """Returns the names of the wheel's files, their bytes and whether each is a program."""
     for folder, _, names in os.walk(PACKAGE):
         for name in names:
-            if name.endswith((".py", ".typed")):
+            if name.endswith((".py", ".typed", ".html")):
                 path = os.path.relpath(os.path.join(folder, name), os.path.dirname(PACKAGE))
                 yield path, read(folder, name), False
     if library:

@@ -123,11 +123,12 @@ class Side:
         return list(count.items())
 
     def picked(self, paths: Sequence[str]) -> Optional[Dump]:
-        """Returns the dump of these paths; None if a command line has no room for their names."""
+        """Returns a dump that has these paths, and only these if their names are UTF-8; None if a
+        command line has no room for the names."""
         if len(set(paths)) == len({one.path for one in self.signals}):
             return self.dump
         names = names_for(paths, self.signals)
-        return self.dump.pick(names) if sum(map(len, names)) <= MAX_NAMES else None
+        return self.dump._part(names) if sum(map(len, names)) <= MAX_NAMES else None
 
 
 Sides = Tuple[Side, Side]

@@ -22,6 +22,7 @@ the other. If you give NAMEs, only these are compared. With --map, the NAMEs are
 examples:
   vcdkit-diff golden.vcd.gz sim.vcd
   vcdkit-diff --window 20ns --into /tmp golden.vcd sim.vcd tb.dut
+  vcdkit-diff --html failure.html --rise tb.clk golden.vcd sim.vcd
   vcdkit-diff --map TOP.tb=tb --common --rise tb.clk verilator.vcd icarus.vcd
   vcdkit-diff --all --junit diff.xml --except tb.dut.seed golden.vcd sim.vcd"""
 import argparse
@@ -31,7 +32,7 @@ import xml.etree.ElementTree as xml
 from concurrent.futures import ThreadPoolExecutor
 from typing import Dict, Iterable, Iterator, List, Optional, Sequence, Tuple
 
-from .. import RunFailed, UsageError, VcdkitError, _body
+from .. import RunFailed, UsageError, VcdkitError, _body, _page_of_two
 from .._compare import (Comparison, Difference, Pair, Side, Sides, choose, hint_among, in_common,
                         kind, same_within)
 from ..times import word
@@ -168,6 +169,16 @@ def write_window(sides: Sides, times: Sequence[int], spans: Sequence[int], into:
         print("window", path)
 
 
+def write_page(path: str, texts: Iterable[str]) -> None:
+    """Writes a page, and says where it is."""
+    try:
+        with open(path, "w", encoding="ascii") as file:
+            file.writelines(texts)
+    except OSError as error:
+        raise RunFailed("%s: %s" % (path, error.strerror)) from error
+    print("page", path)
+
+
 def compare(asked: argparse.Namespace, report: Report) -> None:
     """Says all that differs."""
     sides = sides_of(asked)
@@ -182,8 +193,10 @@ def compare(asked: argparse.Namespace, report: Report) -> None:
                             (b"0", b"1") if asked.rise else (b"1", b"0"))
     differences = comparison.differences() if pairs else iter(())
     first: Optional[List[Difference]] = None
+    every: List[Difference] = []
     for found in differences:
         first = first or found
+        every += found
         report.say_some("differs", lines_of(found, sides))
         if not asked.all:
             break
@@ -196,6 +209,10 @@ def compare(asked: argparse.Namespace, report: Report) -> None:
         say_ends(report, sides, comparison, bool(clocks))
     if first and asked.window:
         write_window(sides, first[0].times, spans, asked.into or ".")
+    if first and asked.html is not None:
+        write_page(asked.html, _page_of_two.texts_of(
+            sides, comparison.factors, every, clocks, same_within(asked.tolerance),
+            spans[0] * comparison.factors[0] if spans else None))
 
 
 def map_of(text: str) -> Tuple[str, str]:
@@ -241,6 +258,10 @@ def words_of(words: List[str]) -> argparse.Namespace:
     of.add_argument("--window", metavar="TIME", help="if values differ, write the parts of both "
                     "dumps from TIME before to TIME after that, as diff.a.vcd and diff.b.vcd")
     of.add_argument("--into", metavar="FOLDER", help="the folder of these files (.)")
+    of.add_argument("--html", metavar="FILE", help="if values differ, write a page of HTML with "
+                    "the waveforms of both, as vcdkit-wave --html does: of the signals that the "
+                    "lines name and of the clock, in the time of --window, else as much as it "
+                    "has room for")
     add_four_state(of)
     of.add_argument("one", metavar="A", help="the first dump")
     of.add_argument("other", metavar="B", help="the second dump")

@@ -1,20 +1,27 @@
-"""Draws the waveforms of some signals in a window of time, as SVG on standard output
+"""Draws the waveforms of some signals in a window of time, as SVG or HTML on standard output
 
 A signal of one bit is a line, a vector is a lane with its values, a real number is a curve between
 its least and its largest value, and an event is a tick. x is red, and z is orange. A grey block
 stands for changes that are closer together than the picture can show. The scope that all names have
 in common stands above them. --mark draws a line at one time, such as that of a failure.
 
+With --html it writes a page instead: one file that needs no network, and in which you zoom, search,
+and read the values at a cursor. `?` shows its keys. It takes any number of signals, with up to
+3,000,000 changes. A link may name a place: page.html#from=100ns&to=200ns&cursor=158ns. --light and
+the form of the values are those with which the page begins.
+
 examples:
   vcdkit-wave --from 100ns --to 200ns --mark 158ns sim.vcd tb.clk tb.bus > failure.svg
-  vcdkit-wave --light --around 158ns --span 20ns sim.vcd.gz tb.cpu > failure.svg"""
+  vcdkit-wave --light --around 158ns --span 20ns sim.vcd.gz tb.cpu > failure.svg
+  vcdkit-wave --html --mark 158ns sim.vcd tb > failure.html"""
 import argparse
 import math
 import os
 import re
+import sys
 from xml.sax.saxutils import escape
 
-from .. import UsageError, Value
+from .. import UsageError, Value, _page
 from .._lanes import Lanes, Several
 from ..times import LAST_TICK, UNITS
 from . import (add_file, add_form, add_window, after_end, check_begin, command, dump_of, parser,
@@ -261,16 +268,33 @@ def width(text):
     return int(text)
 
 
-def lanes_of(dump, chosen, names, window, count):
-    """Returns the lanes of a window, which ends with the dump if that is earlier."""
+def last_of(dump, window):
+    """Returns the end of a window, which ends with the dump if that is earlier. It has at least a
+    tick, also if the dump has only one time."""
     begin, end = window
-    is_part = window != (0, LAST_TICK)
-    last = (dump.cut(begin, end) if is_part else dump).check().last or 0
-    # A dump with one time has at least a tick.
-    lanes, part = Lanes(chosen, begin, max(last, begin + 1), count), dump._part(names)
-    with (part.cut(begin, end) if is_part else part).body() as out:
+    last = (dump if window == (0, LAST_TICK) else dump.cut(begin, end)).check().last or 0
+    return max(last, begin + 1)
+
+
+def lanes_of(dump, chosen, names, window, count):
+    """Returns the lanes of a window."""
+    begin, end = window
+    lanes, part = Lanes(chosen, begin, last_of(dump, window), count), dump._part(names)
+    with (part if window == (0, LAST_TICK) else part.cut(begin, end)).body() as out:
         lanes.read(out)
     return lanes
+
+
+def mark_of(dump, asked, begin, end):
+    """Returns the time of the mark, None if there is none."""
+    mark = asked.mark or asked.around
+    if mark is None:
+        return None
+    time = dump.ticks(mark)
+    if not begin <= time <= end:
+        raise UsageError("%s is not in the window, %s to %s" % (
+            mark, dump.time(begin), dump.time(end)))
+    return time
 
 
 def draw(dump, chosen, lanes, asked):
@@ -289,16 +313,24 @@ def draw(dump, chosen, lanes, asked):
         picture.text(PAD, TOP - 12, short(scope), "axis", title=scope)
     for y, signal, name in zip(rows, chosen, names):
         picture.row(y, signal, lanes.of_code[signal.code.encode()].points, name, asked.form)
-    mark = asked.mark or asked.around
-    if mark is not None:
-        time = dump.ticks(mark)
-        if not lanes.begin <= time <= lanes.end:
-            raise UsageError("%s is not in the window, %s to %s" % (
-                mark, dump.time(lanes.begin), dump.time(lanes.end)))
+    time = mark_of(dump, asked, lanes.begin, lanes.end)
+    if time is not None:
         picture.mark(time, dump.time(time), bottom)
     title = "Waveforms of %s from %s to %s" % (", ".join(one.path for one in chosen), dump.time(
         lanes.begin), dump.time(lanes.end))
     picture.write(bottom, title, LIGHT if asked.light else DARK)
+
+
+def write_page(dump, chosen, asked):
+    """Writes the page of --html."""
+    begin, end = window_of(dump, asked)
+    end = last_of(dump, (begin, end))
+    mark = mark_of(dump, asked, begin, end)
+    streams = _page.Reader().read(
+        dump._part(asked.names), chosen, (begin, end), lambda time: time - begin)
+    page = _page.Page(os.path.basename(dump.name), _page.about(dump), dump.timescale, begin, end,
+                      mark, (begin, end), asked.form or "hex", asked.light)
+    sys.stdout.writelines(_page.texts_of(page, list(map(_page.Row, chosen, streams))))
 
 
 @command
@@ -313,6 +345,8 @@ def main(words):
                     help="width of the traces, in pixels (1000; %d to %d)"
                     % (LEAST_WIDTH, MAX_WIDTH))
     of.add_argument("--light", action="store_true", help="draw dark lines on white")
+    of.add_argument("--html", action="store_true",
+                    help="write a page of HTML to zoom and search in, and not a picture")
     add_form(of)
     add_file(of, "+")
     asked = of.parse_args(words)
@@ -323,9 +357,12 @@ def main(words):
         of.error("--span goes with --around")
     dump = dump_of(asked)
     chosen = dump.select(asked.names)
+    if asked.html:
+        write_page(dump, chosen, asked)
+        return 0
     if len(chosen) > MAX_SIGNALS:
-        raise UsageError("the names select %d signals, and a picture has at most %d: name fewer"
-                         % (len(chosen), MAX_SIGNALS))
+        raise UsageError("the names select %d signals, and a picture has at most %d: name fewer, "
+                         "or write a page by --html" % (len(chosen), MAX_SIGNALS))
     lanes = lanes_of(dump, chosen, asked.names, window_of(dump, asked), asked.width)
     draw(dump, chosen, lanes, asked)
     return 0

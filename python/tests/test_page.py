@@ -1,0 +1,549 @@
+#!/usr/bin/env python3
+"""Tests the pages of vcdkit-wave --html and vcdkit-diff --html: what they have against what the
+package says of random dumps, names of hostile dumps, and their limits. Then a browser shows them:
+its values at a cursor, what keys and the mouse do, and how long a frame takes. This is skipped if
+there is no Chromium.
+
+VCDKIT names the program, else it is ./vcdkit of the repository.
+"""
+import base64
+import contextlib
+import hashlib
+import io
+import json
+import math
+import os
+import random
+import re
+import sys
+import tempfile
+import unittest
+
+HERE = os.path.dirname(os.path.abspath(__file__))
+TOP = os.path.dirname(os.path.dirname(HERE))
+sys.path[:0] = [os.path.dirname(HERE), HERE]
+os.environ.setdefault("VCDKIT", os.path.join(TOP, "vcdkit"))
+
+import browser
+import test_against_reader as plain
+from vcdkit import Dump, Signal, Value, _page
+from vcdkit.commands import FORMS, diff, shown, wave
+
+NESTED = os.path.join(TOP, "samples", "nested.vcd")
+HOSTILE = b"""$date </script><script>hacked = 1</script> $end
+$version <img src=x onerror=hacked=1> $end
+$timescale 1ns $end $scope module <b>&amp; $end
+$var wire 1 ! </script><script>hacked=1</script> $end
+$var wire 4 " <img/src=x/onerror=hacked=1>'"` $end
+$var wire 4 # __proto__ $end $var wire 4 $ {data}\xff\x01 $end
+$upscope $end $enddefinitions $end #0 0! b1x " b1 # #5 1! b0 " b10 $ #9\n"""
+LATE = 2**60
+FRAME = 0.05  # seconds of processor time that the script of a frame may take
+
+
+def run(command, *words):
+    """Runs a command; returns its status, its output and its messages."""
+    out, messages = io.StringIO(), io.StringIO()
+    with contextlib.redirect_stdout(out), contextlib.redirect_stderr(messages):
+        try:
+            status = command.main(list(words))
+        except SystemExit as ended:
+            status = ended.code
+    return status, out.getvalue(), messages.getvalue()
+
+
+def data_of(text):
+    """Returns the data of a page."""
+    return json.loads(re.search(r'<script id="data" type="application/json">(.*?)</script>', text,
+                                re.DOTALL).group(1))
+
+
+def cell(value, size):
+    """Returns a value of a page as the package has it."""
+    if isinstance(value, (int, float)):
+        return float(value)
+    if value[:1] == "r":
+        number = value[1:]
+        return float(number) if number in ("nan", "inf", "-inf") else number
+    if re.search("[xz]", value):
+        return Value(value.rjust(size, value[0] if value[0] in "xz" else "0"))
+    return Value(format(int(value, 16), "0%db" % size))
+
+
+def points_of(data, number):
+    """Returns the times and values of a stream."""
+    gaps, values, *places = data["streams"][number]
+    values = [values[at] for at in places[0]] if places else values
+    times = [sum(gaps[:at + 1]) + int(data["begin"]) for at in range(len(gaps))]
+    return list(zip(times, values))
+
+
+def at(points, time):
+    """Returns the value of a stream at a time; None if there is none yet."""
+    return next((value for begin, value in reversed(points) if begin <= time), None)
+
+
+def is_same(one, other):
+    return one == other or one != one and other != other
+
+
+class Case(unittest.TestCase):
+    """A case that writes files."""
+
+    def setUp(self):
+        self.folder = tempfile.TemporaryDirectory()
+        self.addCleanup(self.folder.cleanup)
+
+    def file(self, name, data):
+        """Returns the path of a new file."""
+        path = os.path.join(self.folder.name, name)
+        with open(path, "wb") as file:
+            file.write(data)
+        return path
+
+    def page(self, *words):
+        """Returns the text of a page of vcdkit-wave, which has to be written."""
+        status, text, messages = run(wave, "--html", *words)
+        self.assertEqual((status, messages), (0, ""))
+        return text
+
+    def random_dump(self, seed):
+        """Returns the path of a random dump, and its last time; None if it has no span of time."""
+        of = random.Random(seed)
+        path = self.file("random.vcd", plain.HEADER + plain.body(of).encode())
+        last = Dump(path).check().last
+        return (path, last) if last else (None, None)
+
+
+class Data(Case):
+    """What a page has."""
+
+    def compare(self, path, names, *words):
+        """Compares the values of a page with those of sample, and its changes with those of the
+        package; returns the number of values."""
+        data, dump = data_of(self.page(*words, path, *names)), Dump(path)
+        begin, end = int(data["begin"]), int(data["begin"]) + data["span"]
+        times = sorted({begin, end, *(time for stream in range(len(data["streams"]))
+                                      for time, _ in points_of(data, stream))})
+        wanted = dump.sample(times, names)
+        paths = set()
+        for key, kind, size, stream, _, _ in data["signals"]:
+            points = points_of(data, stream)
+            paths.add(key)
+            if kind == "event":
+                found = {time for time, _ in dump.changes(key)}
+                self.assertEqual([time for time, _ in points],
+                                 sorted(time for time in found if begin <= time <= end))
+                continue
+            for time in times:
+                value = at(points, time)
+                value = None if value is None else cell(value, size)
+                self.assertTrue(is_same(value, wanted[time][key]), (key, time, value))
+            self.assertFalse(any(one[1] == other[1] for one, other in zip(points, points[1:])))
+        self.assertEqual(paths.difference(wanted[begin]), {
+            key for key, kind, *_ in data["signals"] if kind == "event"})
+        return sum(map(len, wanted.values()))
+
+    def test_nested(self):
+        self.assertGreater(self.compare(NESTED, ["bench"]), 500)
+        self.compare(NESTED, ["bench.slow", "bench.level"], "--from", "30ns", "--to", "110ns")
+        data = data_of(self.page("--around", "70ns", "--span", "5ns", "--signed", "--light", NESTED,
+                                 "bench.slow"))
+        self.assertEqual([data[key] for key in ("begin", "span", "mark", "radix", "light", "tick")],
+                         ["650", 100, 50, "signed", True, "100000"])
+        self.assertIsNone(data_of(self.page(NESTED, "bench"))["mark"])
+
+    def test_random_dumps(self):
+        values = 0
+        for seed in range(60):
+            path, last = self.random_dump(seed)
+            if path:
+                with self.subTest(seed=seed):
+                    values += self.compare(path, ["t"])
+                    if last > 4:
+                        values += self.compare(path, ["t.q", "t.u"], "--from", "3")
+        self.assertGreater(values, 1000)
+
+    def test_hostile_names(self):
+        text = self.page(self.file("</title><img src=x onerror=hacked=1>.vcd".replace("/", ""),
+                                   HOSTILE), "<b>&amp;")
+        blank = "".join(_page.template())
+        self.assertEqual(text.count("<"), blank.count("<"))
+        self.assertTrue(text.isascii())
+        self.assertEqual([one[0] for one in data_of(text)["signals"]], [
+            "<b>&amp;." + name for name in ("</script><script>hacked=1</script>",
+                                            "<img/src=x/onerror=hacked=1>'\"`", "__proto__",
+                                            "{data}\udcff\x01")])
+
+    def test_limits(self):
+        path = self.file("long.vcd", b"$timescale 1ns $end $var wire 64 ! q $end $var wire 1 \" c "
+                         b"$end $enddefinitions $end " + b"".join(
+                             b"#%d b%s !\n" % (time, format(time * 999_999_937, "b").encode())
+                             for time in range(500)))
+        for name, limit, message in (
+                ("MAX_CHANGES", 100, "more than 100 changes: name fewer signals, or show less time "
+                 "(there is room up to 99ns)"),
+                ("MAX_BYTES", 1000, "more than 0 MB of values: name fewer"),
+                ("MAX_BYTES", 7000, "the page would have more than 0 MB: name fewer signals")):
+            was = getattr(_page, name)
+            setattr(_page, name, limit)
+            try:
+                status, text, messages = run(wave, "--html", path, "q", "c")
+                self.assertEqual(run(wave, "--html", path, "c")[0], 0)
+            finally:
+                setattr(_page, name, was)
+            self.assertEqual((status, text), (2, ""))
+            self.assertIn("vcdkit-wave: " + message, messages)
+        head = b"$var wire 1 ! q $end $enddefinitions $end "
+        long = self.file("span.vcd", head + b"#0 0!\n#%d 1!\n#%d 0!\n" % (LATE, LATE + 9))
+        status, text, messages = run(wave, "--html", long, "q")
+        self.assertEqual((status, text), (2, ""))
+        self.assertIn("the window has more than 2^53 ticks", messages)
+        data = data_of(self.page("--from", str(LATE - 1), long, "q"))
+        self.assertEqual((data["begin"], data["span"]), (str(LATE - 1), 10))
+        self.assertEqual(run(wave, "--html", "--mark", "5", "--from", "9", long, "q")[0], 2)
+
+    def test_two_dumps(self):
+        pairs = 0
+        for seed in range(40):
+            path, last = self.random_dump(seed)
+            if path is None:
+                continue
+            of = random.Random(seed)
+            text = plain.HEADER + plain.body(of).encode()
+            other = self.file("other.vcd", re.sub(
+                rb"(?m)^(b?)[01](?=\S* ?[!\"%)]\n)", rb"\g<1>" + of.choice([b"1", b"x"]), text))
+            page = os.path.join(self.folder.name, "page.html")
+            words = ["--html", page] + ["--all"] * (seed % 2) + (
+                [] if seed % 3 else ["--window", "4", "--into", self.folder.name])
+            status, said, messages = run(diff, *words, path, other)
+            self.assertEqual((status, messages), ("differs" in said or "ends" in said, ""), seed)
+            if "differs" not in said:
+                continue
+            with self.subTest(seed=seed), open(page, encoding="ascii") as file:
+                pairs += self.compare_two(data_of(file.read()), Dump(path), Dump(other), said)
+        self.assertGreater(pairs, 20)
+
+    def compare_two(self, data, one, other, said):
+        """Compares where a page says that two dumps differ with where they do."""
+        begin, mark = int(data["begin"]), data["mark"] + int(data["begin"])
+        end = min(begin + data["span"], one.check().last, other.check().last)
+        rows = data["signals"]
+        self.assertEqual([row[4] for row in rows], ["A", "B"] * (len(rows) // 2))
+        self.assertEqual({row[0] for row in rows}, set(re.findall(r"(?m)^differs \S+ (\S+)", said)))
+        for mine, its in zip(rows[::2], rows[1::2]):
+            self.assertEqual((mine[0], mine[5]), (its[0], its[5]))
+            if mine[1] == "event" or mine[0] == "t.u.p":  # of two signals
+                continue
+            differs = points_of(data, mine[5])
+            name = re.sub("[\udc80-\udcff].*", "", mine[0]).rstrip("n").rstrip(".")
+            for time in range(begin, end + 1):
+                values = [dump.sample(time, name)[time][mine[0]] for dump in (one, other)]
+                self.assertEqual(at(differs, time) == "1", not is_same(*values), (mine[0], time))
+        self.assertTrue(any(at(points_of(data, row[5]), mark) == "1" for row in rows))
+        return len(rows) // 2
+
+    def test_two_scales_and_clocks(self):
+        with open(NESTED, "rb") as file:
+            text = file.read()
+        slow = self.file("slow.vcd", re.sub(rb"(?m)^#350\n(.*\n)*?#450$", lambda found: found.group(
+            ).replace(b"b11 1\n", b"b1011 1\n"), text).replace(b"100ps", b"1ns"))
+        page = os.path.join(self.folder.name, "page.html")
+        status, said, _ = run(diff, "--common", "--rise", "bench.clock", "--html", page, NESTED,
+                              slow)
+        self.assertEqual((status, said.splitlines()[1:]), (1, ["page " + page]))
+        with open(page, encoding="ascii") as file:
+            data = data_of(file.read())
+        self.assertEqual([row[0] for row in data["signals"]],
+                         ["bench.clock"] * 2 + ["bench.slow.count"] * 2)
+        self.assertEqual((data["mark"], data["tick"]), (450, "100000"))
+        self.assertIn("B is shown 405ns earlier", data["about"])
+        fast = self.file("fast.vcd", text.replace(b"b11 1\n", b"b1011 1\n"))
+        was, _page.MAX_CHANGES = _page.MAX_CHANGES, 12  # then it shows less time
+        try:
+            self.assertEqual(run(diff, "--html", page, NESTED, fast)[0], 1)
+            with open(page, encoding="ascii") as file:
+                data = data_of(file.read())
+            self.assertLess(data["span"], 500)
+            self.assertEqual(int(data["begin"]) + data["mark"], 350)
+            self.assertEqual(run(diff, "--window", "100ns", "--html", page, "--into",
+                                 self.folder.name, NESTED, fast)[0], 2)
+        finally:
+            _page.MAX_CHANGES = was
+        for path, status in ((os.path.join(self.folder.name, "none", "page.html"), 3), (page, 1)):
+            self.assertEqual(run(diff, "--html", path, NESTED, slow)[0], status)
+
+
+class Template(unittest.TestCase):
+    """The template."""
+
+    def setUp(self):
+        self.text = "".join(_page.template())
+
+    def test_policy(self):
+        policy = " ".join(re.search('Content-Security-Policy" content="(.*?)"', self.text,
+                                    re.DOTALL).group(1).split())
+        for name in "style", "script":
+            code = re.search("<%s>(.*?)</%s>" % (name, name), self.text, re.DOTALL).group(1)
+            digest = base64.b64encode(hashlib.sha256(code.encode()).digest()).decode()
+            self.assertIn("%s-src 'sha256-%s'" % (name, digest), policy)
+        self.assertIn("default-src 'none'", policy)
+        self.assertNotRegex(self.text, r"https?:|@import|url\(|innerHTML|eval|\son[a-z]+=\"")
+        self.assertTrue(self.text.isascii())
+
+    def test_contrast(self):
+        for theme in re.findall(r":root[.a-z]*\{(.*?)\}", self.text, re.DOTALL):
+            colours = dict(re.findall(r"--(\w+):#(\w+)", theme))
+            for names, backs, least in (
+                    ("text x", "back bar chosen", 4.5), ("axis", "back bar", 4.5),
+                    ("mark cursor other", "back", 4.5),
+                    ("text", "lane:26 x:33 z:20 differs", 4.5), ("x", "x:33", 4.5),
+                    ("bit lane curve z several manyX", "back", 3), ("edge lane", "bar back", 3)):
+                for name in names.split():
+                    for back in backs.split():
+                        ratio = contrast(colours, name, back)
+                        self.assertGreaterEqual(ratio, least, (name, back))
+
+
+def contrast(colours, name, back):
+    """Returns the contrast of two colours, as WCAG 2 defines it; `back` may have an opacity."""
+    def channels(text):
+        text = "".join(one * 2 for one in text) if len(text) == 3 else text
+        return [int(text[at:at + 2], 16) / 255 for at in (0, 2, 4)], int(text[6:] or "ff", 16) / 255
+
+    def light(parts):
+        red, green, blue = (one / 12.92 if one <= 0.04045 else ((one + 0.055) / 1.055) ** 2.4
+                            for one in parts)
+        return 0.2126 * red + 0.7152 * green + 0.0722 * blue
+
+    key, _, opacity = back.partition(":")
+    over, part = channels(colours[key] + opacity)
+    below = channels(colours["back"])[0]
+    mixed = [part * one + (1 - part) * other for one, other in zip(over, below)]
+    one, other = sorted((light(channels(colours[name])[0]), light(mixed)), reverse=True)
+    return (one + 0.05) / (other + 0.05)
+
+
+@unittest.skipIf(browser.PROGRAM is None, "there is no chromium")
+class Shown(Case):
+    """What a browser shows."""
+
+    @classmethod
+    def setUpClass(cls):
+        cls.browser = browser.Browser()
+        cls.addClassCleanup(cls.browser.close)
+
+    def open(self, text, fragment=""):
+        self.browser.open(self.file("page.html", text.encode("ascii")), fragment)
+        self.addCleanup(self.well)
+
+    def well(self):
+        """There is no error, and nothing was loaded."""
+        self.assertEqual(self.browser.said, [])
+        self.assertEqual([url[:5] for url in self.browser.asked], ["file:"])
+
+    def value(self, expression):
+        return self.browser.value(expression)
+
+    def is_now(self, expression, wanted):
+        self.assertEqual(self.value(expression), wanted, expression)
+
+    def press(self, *keys):
+        self.browser.press(*keys)
+
+    def compare(self, path, names, times):
+        """Compares what the page says of values with what the package says; returns how many."""
+        dump, count = Dump(path), 0
+        wanted = dump.sample(times, names)
+        for form in FORMS:
+            got = self.value("""now.radix = "%s"; %s.map(time => signals.filter(one => !one.isEvent)
+                .map(one => [one.path, valueAt(one, time - Number(BEGIN))]))"""
+                             % (form, json.dumps(times)))
+            for time, row in zip(times, got):
+                self.assertEqual(len(row), len(wanted[time]))
+                for key, text in row:
+                    its = wanted[time][key]
+                    if isinstance(its, float) and math.isfinite(its):
+                        self.assertEqual(float(text), its, (key, time))
+                    else:
+                        self.assertEqual(text, shown(its, form), (form, key, time))
+                    count += 1
+        return count
+
+    def test_values(self):
+        self.open(self.page(NESTED, "bench"))
+        times = sorted(random.Random(1).sample(range(1221), 30)) + [0, 1220]
+        self.assertGreater(self.compare(NESTED, ["bench"], times), 3000)
+        for seed in range(12):
+            path, last = self.random_dump(seed)
+            if path:
+                self.open(self.page(path, "t"))
+                # A name that is no UTF-8 is another one on its way through the browser.
+                self.value(r"signals.splice(signals.findIndex(one => /n\udcff/.test(one.path)), 1)")
+                names = ["t.c", "t.q", "t.r", "t.k", "t.w", "t.u.p"]
+                self.compare(path, names, list(range(last + 1)))
+
+    def test_rows(self):
+        """The elements of the rows in view."""
+        self.open(self.page("--mark", "115ns", NESTED, "bench"))
+        rows = """[...$("rows").children].filter(one => one.style.display !== "none").map(
+            one => one.children[0].textContent + "|" + one.children[1].textContent)"""
+        values = Dump(NESTED).sample("115ns", ["bench"])["115ns"]
+        got = self.value(rows)
+        self.assertIn("level|3", got)
+        self.assertIn("\\data+flags|" + values["bench.\\data+flags"].hex(), got)
+        self.assertIn("\u25be lane[0].fast|", got)
+        self.press("s", "r")
+        self.value("draw()")
+        self.assertIn("bench.high|%d" % values["bench.high"], self.value(rows))
+        self.is_now("$('spoken').textContent", " bench.lane0 %d at 115ns" % values["bench.lane0"])
+        self.is_now("document.querySelectorAll('[role=treeitem][aria-selected=true]').length", 1)
+        self.is_now("""document.getElementById($("rows").getAttribute("aria-activedescendant"))
+            .title.slice(0, 11)""", "bench.lane0")
+
+    def test_keys(self):
+        self.open(self.page("--mark", "70ns", NESTED, "bench.slow", "bench.level"))
+        span = "now.to - now.from"
+        self.press("+")
+        self.is_now(span, 610)
+        self.is_now("xOf(now.cursor) / width", 700 / 1220)
+        self.press("ArrowRight")
+        self.is_now("now.from", 472)
+        self.press("-", "f")
+        self.is_now("[now.from, now.to]", [0, 1220])
+        self.press("ArrowDown")
+        self.is_now("items[now.row].path", "bench.slow.overflow")
+        self.press("ArrowDown", "ArrowDown", "ArrowDown")
+        self.is_now("items[now.row].path", "bench.slow.count")
+        changes = [time for time, _ in Dump(NESTED).changes("bench.slow.count")]
+        self.press("n")
+        self.is_now("now.cursor", min(time for time in changes if time > 700))
+        self.press("p", "p")
+        self.is_now("now.cursor", max(time for time in changes if time < 700 and time != 650))
+        self.press("x")
+        self.is_now("now.cursor", 720)
+        self.press("X", "Home", "End", "m")
+        self.is_now("now.cursor", 700)
+        self.press("R", "R", "R")
+        self.value("draw()")
+        self.is_now("[items[now.row].radix, $('own').value]", ["signed", "signed"])
+        self.press("a")
+        self.is_now("[items[now.row].isCurve, numbersOf(items[now.row]).list.at(-1)]", [True, -5])
+        self.press("F")
+        self.is_now("items.map(one => one.path)", ["bench.slow", "bench.level"])
+        self.value("now.row = 0")
+        self.press("Enter")
+        self.is_now("items.length", 6)
+        self.press("/", "l", "e", "v", "Enter")
+        self.is_now("items.map(one => one.path)", ["bench.level"])
+        self.press("/", "[")
+        self.is_now("$('find').getAttribute('aria-invalid')", "true")
+        self.press("Escape", "g", "1", ".", "5", "n", "s", "Enter")
+        self.is_now("[now.cursor, now.pattern, items.length]", [15, None, 6])
+        self.press("?")
+        self.is_now("$('keys').open && $('keys').textContent.includes('next change')", True)
+        self.press("Escape", "t")
+        self.is_now("root.classList.contains('light')", False)
+        self.value("addEventListener('copy', event => { "
+                   "window.got = event.clipboardData.getData('text/plain'); })")
+        self.press("y")
+        self.is_now("window.got", "0")
+        self.press("l")
+        self.is_now("window.got.split('#')[1]", "from=0s&to=122ns&cursor=1.5ns")
+
+    def test_mouse(self):
+        self.open(self.page(NESTED, "bench.slow.clock", "bench.slow.count"))
+        left, top = self.value("(({ x, y }) => [x, y])(canvas.getBoundingClientRect())")
+        y = top + 30 + 24 + 12
+        x = left + self.value("Math.round(xOf(350))")
+        self.browser.click(x + 3, y)
+        self.is_now("[now.cursor, items[now.row].path]", [350, "bench.slow.count"])
+        self.browser.click(x + 203, y, modifiers=8)
+        self.is_now("now.cursor === 350 && now.other > 400", True)
+        self.value("draw()")
+        self.assertIn(" after 1 ", self.value("$('said').textContent"))
+        time = self.value("timeAt(%s)" % (x - left))
+        self.browser.mouse("Wheel", x, y, deltaX=0, deltaY=-100)
+        self.assertAlmostEqual(self.value("timeAt(%s)" % (x - left)), time, 6)
+        self.assertAlmostEqual(self.value("now.to - now.from"), 1220 / 1.25, 6)
+        self.browser.mouse("Pressed", x, y, button="left", clickCount=1)
+        self.browser.mouse("Moved", x - 60, y, button="left", buttons=1)
+        self.browser.mouse("Released", x - 60, y, button="left", clickCount=1)
+        self.assertAlmostEqual(self.value("timeAt(%s)" % (x - left - 60)), time, 6)
+        self.press("f")
+        self.browser.click(left + self.value("xOf(400)"), y, count=2)
+        self.assertEqual(self.value("[now.from, now.to]"), [320, 480])
+
+    def test_links(self):
+        text = self.page(NESTED, "bench")
+        self.open(text, "#from=30ns&to=110ns&cursor=72ns&find=slow%5C.c")
+        self.is_now("[now.from, now.to, now.cursor, items.length]", [300, 1100, 720, 3])
+        self.open(text, "#from=%&to=-5&cursor=9e9&find=(&__proto__=1")
+        self.is_now("[now.from, now.to, now.cursor]", [0, 1220, 0])
+
+    def test_late_times(self):
+        path = self.file("late.vcd", b"$timescale 1fs $end $var wire 1 ! q $end $enddefinitions "
+                         b"$end #%d 0!\n#%d 1!\n#%d 0!\n" % (LATE, LATE + 3, LATE + 9))
+        self.open(self.page("--from", str(LATE), path, "q"), "#cursor=%dfs" % (LATE + 3))
+        self.is_now("[$('at').value, valueAt(items[0], now.cursor)]",
+                    ["1152.921504606846979s", "1"])
+
+    def test_a_hostile_dump(self):
+        self.open(self.page(self.file("dump.vcd", HOSTILE), "<b>&amp;"))
+        self.press("?")
+        self.is_now("typeof hacked", "undefined")
+        self.is_now("signals.length === 4 && $('keys').textContent.includes('<img src=x')", True)
+        self.is_now("document.querySelectorAll('img').length", 0)
+        self.press("Escape")
+        # Whatever got in: no script of its own runs, and nothing is sent.
+        self.is_now("""new Promise(done => {
+            document.addEventListener("securitypolicyviolation", () => done(typeof hacked));
+            document.body.insertAdjacentHTML("beforeend", "<img src=x: onerror='hacked = 1'>");
+            })""", "undefined")
+        self.is_now("fetch('http://127.0.0.1:9/').then(() => 'sent', () => 'refused')", "refused")
+        self.is_now("typeof hacked", "undefined")
+        self.assertTrue(all("Content Security Policy" in one for one in self.browser.said))
+        self.browser.said.clear()
+        del self.browser.asked[1:]  # it lists what it refused
+
+    def test_two_dumps(self):
+        with open(NESTED, "rb") as file:
+            other = self.file("other.vcd", file.read().replace(b"b11 1\n", b"b1011 1\n"))
+        page = os.path.join(self.folder.name, "page.html")
+        self.assertEqual(run(diff, "--html", page, NESTED, other)[0], 1)
+        self.browser.open(page)
+        self.is_now("items.map(one => one.side + one.path)", ["A" + "bench.slow.count",
+                                                              "B" + "bench.slow.count"])
+        self.is_now("[now.cursor, valueAt(items[0], 350), valueAt(items[1], 350)]", [350, "3", "b"])
+        self.is_now("'differs' in paths", True)
+        self.press("Home", "d")
+        self.is_now("now.cursor", 350)
+
+    def test_frames(self):
+        """Two million changes: the processor time that the script of a frame takes."""
+        of = random.Random(1)
+        rows = []
+        for number in range(20):
+            stream = _page.Stream()
+            size, kind = [(1, "wire"), (32, "wire"), (1, "wire"), (64, "real")][number % 4]
+            step = of.choice([2, 9, 50])
+            stream.times.extend(range(0, step * 100_000, step))
+            stream.values += [at % 97 / 7 if kind == "real" else "%x" % of.getrandbits(size)
+                              for at in range(100_000)]
+            rows.append(_page.Row(Signal("t.s%d" % number, kind, size, str(number)), stream))
+        self.open("".join(_page.texts_of(_page.Page(
+            "large", [], None, 0, 5_000_000, None, (0, 5_000_000)), rows)))
+        self.browser.tell("Performance.enable", timeDomain="threadTicks")
+
+        def seconds():
+            return next(one["value"] for one in self.browser.tell("Performance.getMetrics")[
+                "metrics"] if one["name"] == "ScriptDuration")
+        self.value("draw()")
+        before = seconds()
+        self.value("""(() => { for (let at = 0, half = SPAN / 2; at < 40; at++, half *= 0.75) {
+            show(SPAN / 2 - half, SPAN / 2 + half); draw(); } })()""")
+        self.assertLess((seconds() - before) / 40, FRAME)
+
+
+if __name__ == "__main__":
+    unittest.main()
