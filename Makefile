@@ -2,6 +2,8 @@
 #     a sample. An idle processor proves vcd_changes too, which `make library` needs
 # make CPU=x86-64-v3    the same for newer processors, whose instructions the program may use. On a
 #     processor without them, it says so and ends
+# make trial   builds the program as ./vcdkit-unproved, for trying code. Nothing of it is proved: two
+#     minutes of one processor
 # make test    the gate: all proofs, the must-fail edits, the tests, and the program as two compilers
 #     build it: about an hour
 # make hostile runs the program while memory, reads and writes fail, with closed streams, and on
@@ -27,8 +29,8 @@
 
 sample := samples/counter.vcd
 
-.PHONY: all test hostile docs-check clean vcdkit toolchain sources static library dist dist-check \
-    install uninstall completions-check extras-check
+.PHONY: all trial test hostile docs-check clean vcdkit toolchain sources static library dist \
+    dist-check install uninstall completions-check extras-check
 
 # The processor to build for. If it is empty, any x86-64 with SSE4.2 runs the program.
 CPU ?=
@@ -62,6 +64,9 @@ vcdkit: toolchain
 	@rm -f make.log
 	packaging/prove.py vcdkit_main run $(addprefix --cpu=,$(CPU)) -- check < $(sample)
 	cp crates/vcdkit_main/out/vcdkit_main $@
+
+trial: toolchain
+	packaging/unproved.py
 
 test: toolchain
 	.ci/run
