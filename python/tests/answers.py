@@ -43,13 +43,15 @@ class Change(NamedTuple):
 
 class Dump(NamedTuple):
     """A dump up to its end or its fault: variables, changes, timestamps, the femtoseconds of a tick
-    (None without a time scale), and the name of the fault."""
+    (None without a time scale), the name of the fault, and the last time whose changes are all
+    known."""
 
     variables: List[Variable]
     changes: List[Change]
     times: List[int]
     tick: Optional[int] = None
     fault: str = ""
+    finished: int = FOREVER
 
 
 # ---- Names, times and kinds.
@@ -167,11 +169,11 @@ def last_time(dump: Dump) -> int:
     return dump.times[-1] if dump.times else 0
 
 
-def known_until(dump: Dump) -> int:
+def finished(times: Sequence[int], fault: str) -> int:
     """The last time whose changes are all known: before a fault, the last timestamp only if the
     fault is in the place of the next one; else the time before it. -1 if there is none."""
-    is_known = dump.fault in ("", *AT_A_TIMESTAMP)
-    return FOREVER if not dump.fault else last_time(dump) - (not is_known)
+    last = times[-1] if times else 0
+    return FOREVER if not fault else last - (fault not in AT_A_TIMESTAMP)
 
 
 def has_fault_by(dump: Dump, time: int) -> bool:
@@ -235,7 +237,7 @@ def rows_at_changes(dump: Dump, codes: Sequence[str]) -> List[Row]:
     times = sorted({one.time for one in dump.changes if one.code in codes})
     rows = [(-1, [None for _ in codes]), *(row_at(dump, codes, time) for time in times)]
     return [now for was, now in zip(rows, rows[1:])
-            if not all(map(same, was[1], now[1])) and now[0] <= known_until(dump)]
+            if not all(map(same, was[1], now[1])) and now[0] <= dump.finished]
 
 
 def edge_times(dump: Dump, clocks: Clocks) -> List[int]:
@@ -245,7 +247,7 @@ def edge_times(dump: Dump, clocks: Clocks) -> List[int]:
     times = {after.time for code, edge in clocks
              for its in [changes_of(dump, code)] for before, after in zip(its, its[1:])
              if (before.value, after.value) == (edge[0], edge[1])}
-    return sorted(time for time in times if time <= known_until(dump))
+    return sorted(time for time in times if time <= dump.finished)
 
 
 def rows_at_edges(dump: Dump, codes: Sequence[str], clocks: Clocks) -> List[Row]:
@@ -258,7 +260,7 @@ def number(value: Optional[Value]) -> Any:
     """A value in a table() of the package: a number, and None if it has an x or a z."""
     if isinstance(value, str) and value[0] != "r":
         return int(value, 2) if set(value) <= {"0", "1"} else None
-    return value[1:] if isinstance(value, str) else value
+    return value
 
 
 def shown(value: Optional[Value], form: str = "binary") -> str:
@@ -406,7 +408,7 @@ def looks(dump: Dump, codes: Set[str], clocks: Clocks) -> List[Look]:
                                                       else one.time == time) for one in of)
                for code in events}
         found.append(Look(time, {**values, **now}, {**values, **dict.fromkeys(events, "0")}))
-    return [one for one in found if one.time <= known_until(dump)]
+    return [one for one in found if one.time <= dump.finished]
 
 
 def starts(of: Sequence[Look], tree: Tree, has_clock: bool, every: bool) -> List[int]:
@@ -661,4 +663,4 @@ def salvaged(dump: Dump) -> Tuple[List[Change], Optional[int], int]:
     the fault, nothing is known, not even that time 0 has no change."""
     nothing = not dump.times and not dump.changes
     return (dump.changes, dump.times[-1] if dump.times else None,
-            -1 if nothing else known_until(dump))
+            -1 if nothing else dump.finished)
