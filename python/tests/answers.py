@@ -118,6 +118,25 @@ def time_text(tick: Optional[int], time: int) -> str:
     return "%d%s" % (span // 10 ** UNITS[unit], unit) if time else "0" + own
 
 
+def scale_text(tick: Optional[int]) -> str:
+    """A time scale, as 10ns; - if there is none."""
+    return time_text(tick, 1) if tick else "-"
+
+
+def decimal(number: Fraction) -> str:
+    """An exact decimal number, without zeros at its end."""
+    places = next(at for at in range(40) if (number * 10**at).denominator == 1)
+    digits = "%0*d" % (places + 1, number * 10**places)
+    return digits[:len(digits) - places] + ("." + digits[len(digits) - places:] if places else "")
+
+
+def time_in(tick: Optional[int], time: int, unit: str) -> str:
+    """Ticks as an exact number of a unit."""
+    if tick is None or unit == "tick":
+        return str(time)
+    return decimal(Fraction(time * tick, 10 ** UNITS[unit]))
+
+
 # ---- Values.
 
 def changes_of(dump: Dump, code: str) -> List[Change]:
@@ -303,10 +322,26 @@ Tree = Tuple[Any, ...]  # ("or", tree, ..), ("and", tree, ..), ("not", tree), or
 
 
 def field(one: Variable, first: int, last: int, is_signed: bool = False) -> Part:
-    """The bits of a variable from `first` to `last`, which are numbered as in the declaration."""
+    """The bits of a variable from `first` to `last`, which are numbered as in the declaration; from
+    N - 1 to 0 if that does not fit the N bits."""
     left, right = one.range or (one.size - 1, 0)
-    at = (lambda bit: abs(left - bit))
-    return Part(one.code, at(first), at(last) + 1, one.size, is_signed)
+    left, right = (left, right) if abs(left - right) + 1 == one.size else (one.size - 1, 0)
+    step = 1 if left <= right else -1
+    return Part(one.code, (first - left) * step, (last - left) * step + 1, one.size, is_signed)
+
+
+def operand(variables: Sequence[Variable], name: str) -> Optional[Part]:
+    """What a name of a condition is: the signal of this name, else, if it ends in [N] or [N:M], these
+    bits of the signal before them. None if there is none, if it has no bits, or if the name is that
+    of several signals."""
+    whole, bits = named(variables, name), re.fullmatch(r"(.*)\[(-?\d+)(?::(-?\d+))?\]", name)
+    its = whole or named(variables, bits[1] if bits else name)
+    if len({one.code for one in its}) != 1 or not whole and kind(its[0]) in ("real", "event"):
+        return None
+    if whole or not bits:
+        return Part(its[0].code, 0, its[0].size, its[0].size, its[0].type == "integer")
+    part = field(its[0], int(bits[2]), int(bits[3] or bits[2]))
+    return part if 0 <= part.begin < part.end <= its[0].size else None
 
 
 def digits_of(side: Operand, values: Dict[str, Value]) -> Optional[Value]:
@@ -442,12 +477,11 @@ def when(dump: Dump, tree: Tree, codes: Set[str], clocks: Clocks = (), every: bo
 
 # ---- vcdkit-x, vcdkit-stats.
 
-def unknown(dump: Dump, variables: Sequence[Variable], begin: int, end: int, letters: str
-            ) -> List[Tuple[int, str, str]]:
-    """The lines of vcdkit-x: a value with an x at the end of the first time of the window, or at
-    that of a later time if it differs from the value before. Decided: within a time they come in
-    the order of their last changes. Reals and events have no line."""
-    part, found = cut(dump, begin, end), []
+def unknown(part: Dump, variables: Sequence[Variable], letters: str) -> List[Tuple[int, str, str]]:
+    """The lines of vcdkit-x in a cut: a value with an x at the end of its first time, or at that of
+    a later time if it differs from the value before. Decided: within a time they come in the order
+    of their last changes. Reals and events have no line."""
+    found = []
     codes = dict.fromkeys(one.code for one in variables if not is_real(one) and not is_event(one))
     for code in codes:
         for time, (value,) in rows_at_changes(part, [code]):
@@ -538,6 +572,25 @@ def shares(spans: Spans, form: str) -> List[Dict[str, Any]]:
 
 # ---- vcdkit-diff.
 
+class Compare(NamedTuple):
+    """What is asked of vcdkit-diff: NAMEs, --except, --common, --all, an edge ("01", "10", or
+    none) and its clock, and --real-tolerance."""
+
+    names: Sequence[str]
+    exceptions: Sequence[str]
+    is_common: bool
+    every: bool
+    edge: str
+    clock: str
+    tolerance: float
+
+    def codes(self, dump: Dump) -> Set[str]:
+        """The code of the clock in a dump, also if it has a range in only one of them; none
+        without a clock."""
+        its = [one for one in dump.variables if bare(one.path) == bare(self.clock)]
+        return {one.code for one in its} if self.edge else set()
+
+
 def bare(path: str) -> str:
     """A path without its range."""
     return re.sub(r"\[-?\d+:-?\d+\]\Z", "", path)
@@ -588,34 +641,27 @@ def alone(every: Sequence[Variable], its: Sequence[Variable], common: Set[str]
     return list(lines.items())
 
 
-def seen(dump: Dump, codes: Set[str], clock: Optional[Tuple[str, str]]) -> List[Look]:
-    """The times at which values are compared; at the edges of a clock all edges."""
-    return looks(dump, codes, [clock] if clock else [])
-
-
-def differences(dumps: Sequence[Dump], both: Sequence[Tuple[Variable, Variable]],
-                clocks: Sequence[Tuple[str, str]], tolerance: float
-                ) -> List[Tuple[int, int, Optional[Value], Optional[Value]]]:
-    """The first difference of each pair: its time in the ticks of A, the number of the pair, and
-    the two values. Values are compared at the end of each time up to the end of the shorter dump;
-    at clocks just before the n-th edge of each. An event has the value "1" where it is
-    triggered."""
-    found = []
-    factors = factors_of([dump.tick for dump in dumps])
-    its = [seen(dump, {pair[at].code for pair in both} - ({clocks[at][0]} if clocks else set()) |
-                ({clocks[at][0]} if clocks else set()), clocks[at] if clocks else None)
+def differences(dumps: Sequence[Dump], both: Sequence[Tuple[Variable, Variable]], asked: Compare
+                ) -> List[Tuple[int, str]]:
+    """The first difference of each pair: a number that grows with the time, and the line. Values
+    are compared at the end of each time, up to the end of the shorter dump; at a clock just before
+    the n-th edge of A and of B."""
+    found, factors = [], factors_of([dump.tick for dump in dumps])
+    its = [looks(dump, {pair[at].code for pair in both} | asked.codes(dump),
+                 [(code, asked.edge) for code in asked.codes(dump)])
            for at, dump in enumerate(dumps)]
-    ends = min(last_time(dump) * factor for dump, factor in zip(dumps, factors))
-    marks = [number for number, _ in enumerate(its[0][:len(its[1])])] if clocks else sorted(
-        {one.time * factor for side, factor in zip(its, factors) for one in side
-         if one.time * factor <= ends})
-    for number, pair in enumerate(both):
+    last = min(last_time(dump) * factor for dump, factor in zip(dumps, factors))
+    marks = list(range(min(map(len, its)))) if asked.edge else sorted({
+        one.time * factor for side, factor in zip(its, factors) for one in side
+        if one.time * factor <= last})
+    for pair in both:
         for mark in marks:
-            values = [compared_value(side, of, mark, factor, bool(clocks))
+            values = [compared_value(side, of, mark, factor, bool(asked.edge))
                       for side, of, factor in zip(its, pair, factors)]
-            if not alike(values[0], values[1], tolerance):
-                time = its[0][mark].time if clocks else mark // factors[0]
-                found.append((time, number, values[0], values[1]))
+            if not alike(values[0], values[1], asked.tolerance):
+                time = its[0][mark].time if asked.edge else mark // factors[0]
+                found.append((mark, "differs %s %s %s %s" % (
+                    time_text(dumps[0].tick, time), pair[0].path, *map(in_a_line, values, pair))))
                 break
     return sorted(found)
 
@@ -641,12 +687,68 @@ def alike(one: Optional[Value], other: Optional[Value], tolerance: float) -> boo
     return one == other
 
 
+def in_a_line(value: Optional[Value], of: Variable) -> str:
+    """A value in a line of vcdkit-diff."""
+    if is_event(of):
+        return "triggered" if value else "-"
+    return str(value) if isinstance(value, float) else shown(value)
+
+
 def factors_of(scales: Sequence[Optional[int]]) -> List[int]:
     """By what to multiply the ticks of each dump, so that they are those of both. Decided: if one
     has no time scale, ticks are compared with ticks."""
     if scales[0] is None or scales[1] is None:
         return [1, 1]
     return [scales[0] // gcd(scales[0], scales[1]), scales[1] // gcd(scales[0], scales[1])]
+
+
+def compare(dumps: Sequence[Dump], asked: Compare) -> Tuple[List[str], bool]:
+    """The lines of vcdkit-diff, and whether it refuses the question: a NAME that is not in both
+    dumps, an exception that is in neither, no clock, nothing in common, or no edge."""
+    sides = [dump.variables for dump in dumps]
+    each = [[compared(sides, [name], [])[at] for at in (0, 1)]
+            for name in (*asked.names, *asked.exceptions)]
+    count = len(asked.names)
+    its = compared(sides, asked.names, asked.exceptions)
+    both = [[[one for one in side if one.path == path] for side, path in zip(its, pair)]
+            for pair in pairs(*its)]
+    if not all(all(one) for one in each[:count]) or not all(map(any, each[count:])) or (
+            asked.edge and not all(map(asked.codes, dumps)) or asked.is_common and not both):
+        return [], True
+    fit = [pair for pair in both if [kind(one) for one in pair[0]] == [kind(one) for one in pair[1]]]
+    lines = [] if asked.is_common else headers(dumps, its)
+    lines += ["size %s %s %s" % (pair[0][0].path, kind(pair[0][0]), kind(pair[1][0]))
+              for pair in both if pair not in fit]
+    found = differences(dumps, [of for pair in fit for of in zip(*pair)], asked)  # type: ignore
+    lines += [line for mark, line in found if asked.every or mark == found[0][0]]
+    edges_of_each = [len(edge_times(dump, [(code, asked.edge) for code in asked.codes(dump)]))
+                     for dump in dumps] if fit else [0, 0]
+    if asked.edge and fit and 0 in edges_of_each:
+        return lines, True
+    return lines + ends(dumps, edges_of_each, asked, bool(found)), False
+
+
+def headers(dumps: Sequence[Dump], its: Sequence[Sequence[Variable]]) -> List[str]:
+    """The lines about what only one dump has."""
+    scales = [scale_text(dump.tick) for dump in dumps]
+    both = [{pair[at] for pair in pairs(*its)} for at in (0, 1)]
+    return ["timescale %s %s" % tuple(scales)] * (scales[0] != scales[1]) + [
+        "alone %s %s %d" % (letter, *one) for at, letter in enumerate("AB")
+        for one in alone(dumps[at].variables, its[at], both[at])]
+
+
+def ends(dumps: Sequence[Dump], counts: Sequence[int], asked: Compare, is_different: bool
+         ) -> List[str]:
+    """The line about the longer dump; at a clock that about the numbers of edges, if no value
+    differs."""
+    if asked.is_common:
+        return []
+    if asked.edge:
+        return ["edges %d %d" % tuple(counts)] * (counts[0] != counts[1] and not is_different)
+    factors = factors_of([dump.tick for dump in dumps])
+    last = [dump.times[-1] * factor if dump.times else None for dump, factor in zip(dumps, factors)]
+    texts = [time_text(dump.tick, dump.times[-1]) if dump.times else "-" for dump in dumps]
+    return ["ends %s %s" % tuple(texts)] * (last[0] != last[1])
 
 
 # ---- vcdkit-find, vcdkit-info, vcdkit-explain.
