@@ -8,7 +8,7 @@ nothing of the package. So it is slow, and short enough to be read beside the pa
 test_every_small_dump.py compares these functions with the package and the scripts."""
 import re
 from fractions import Fraction
-from math import gcd, isclose, isfinite
+from math import ceil, floor, gcd, isclose, isfinite
 from typing import Any, Dict, List, NamedTuple, Optional, Sequence, Set, Tuple, Union
 
 # All digits of a value in lower case, a real number, or `r` and a text that is no number.
@@ -104,8 +104,8 @@ def ticks(tick: Optional[int], number: str, unit: str, is_up: bool = False) -> O
         return int(number)
     if tick is None:
         return None
-    span = Fraction(number) * 10 ** UNITS[unit] / tick
-    return -(-span.numerator // span.denominator) if is_up else span.numerator // span.denominator
+    span = Fraction(number) * Fraction(10 ** UNITS[unit], tick)
+    return ceil(span) if is_up else floor(span)
 
 
 def time_text(tick: Optional[int], time: int) -> str:
@@ -254,7 +254,8 @@ def rows_at_changes(dump: Dump, codes: Sequence[str]) -> List[Row]:
     """A row for each time at whose end a value is another one than at the end of the time before.
     What comes and goes within one time is not seen, nor a value that is written again."""
     times = sorted({one.time for one in dump.changes if one.code in codes})
-    rows = [(-1, [None for _ in codes]), *(row_at(dump, codes, time) for time in times)]
+    rows: List[Row] = [(-1, [None for _ in codes])]
+    rows += [row_at(dump, codes, time) for time in times]
     return [now for was, now in zip(rows, rows[1:])
             if not all(map(same, was[1], now[1])) and now[0] <= dump.finished]
 
@@ -358,13 +359,14 @@ def digits_of(side: Operand, values: Dict[str, Value]) -> Optional[Value]:
 
 def number_of(side: Operand, values: Dict[str, Value]) -> Optional[float]:
     """The number of an operand. None if a digit of it is x or z, or it has no value."""
+    if not isinstance(side, Part):
+        return None if isinstance(side, str) else side
     digits = digits_of(side, values)
-    if not isinstance(digits, str) or not isinstance(side, Part):
-        return side if isinstance(side, (int, float)) else None if isinstance(
-            digits, str) else digits
+    if not isinstance(digits, str):
+        return digits
     if set(digits) - {"0", "1"}:
         return None
-    return int(digits, 2) - (side.is_signed and digits[0] == "1") * 2 ** len(digits)
+    return int(digits, 2) - int(side.is_signed and digits[0] == "1") * (1 << len(digits))
 
 
 def are_equal(one: Operand, other: Operand, values: Dict[str, Value]) -> Optional[bool]:
@@ -567,7 +569,7 @@ def shares(spans: Spans, form: str) -> List[Dict[str, Any]]:
         found.append({"value": shown(value + 0.0 if isinstance(value, float) else value, form),
                       "ticks": total, "share": total / whole, "times": len(its),
                       "shortest": pulses.get("shortest"), "longest": pulses.get("longest")})
-    return sorted(found, key=lambda one: -one["ticks"])
+    return sorted(found, key=lambda one: -int(one["ticks"]))
 
 
 # ---- vcdkit-diff.

@@ -1,6 +1,8 @@
 """All small dumps, who answers, and what is counted, for test_every_small_dump.py."""
+import ast
 import collections
 import contextlib
+import functools
 import io
 import os
 import sys
@@ -13,10 +15,10 @@ sys.path[:0] = [HERE, os.path.dirname(HERE), os.path.join(TOP, "hostile")]
 os.environ.setdefault("VCDKIT", os.path.join(TOP, "vcdkit"))
 
 import answers as by_definition
-import evaluator
+import evaluator  # type: ignore[import]
 import vcdkit.dump
 from answers import Change, Part, Tree, Variable
-from vcdkit import Dump, DumpFault, Value, VcdkitError, _library, _program
+from vcdkit import Dump, DumpFault, Value, VcdkitError, _condition, _library, _program
 
 EACH = 100  # of so many questions one goes through the program too
 Outcome = Any
@@ -66,8 +68,10 @@ class Evaluator:
         at = words.index("--") if "--" in words else len(words)
         names = [name.encode("utf-8", "surrogateescape") for name in words[at + 1:]]
         times = [word for option in words[1:at:2] for word in option.split(",")]
-        return evaluator.run(command, [moment_of(time) for time in times],  # type: ignore
-                             [] if command == "merge" else names, list(inputs))
+        done: Tuple[bytes, bytes, int] = evaluator.run(
+            command, [moment_of(time) for time in times],
+            [] if command == "merge" else names, list(inputs))
+        return done
 
 
 def moment_of(time: str) -> Tuple[int, Optional[int]]:
@@ -77,11 +81,22 @@ def moment_of(time: str) -> Tuple[int, Optional[int]]:
     return int(digits), evaluator.UNITS[unit.encode()] if unit else None
 
 
+class Condition(_condition._Text):
+    """The text of a condition, which is parsed once for all dumps."""
+
+    def tree(self) -> ast.expr:
+        """Returns what Python's parser makes of it."""
+        if not hasattr(self, "_tree"):
+            self._tree = super().tree()
+        return self._tree
+
+
 class Ways:
     """Who answers: the evaluator in this process; the program; the library, if there is one."""
 
     def __init__(self) -> None:
         evaluator.read_head = Heads()
+        setattr(_condition, "_Text", functools.lru_cache(maxsize=None)(Condition))
         self._evaluator = Evaluator()
         self._library = _library.run
         self.others = [_program] if _program.path() else []
@@ -92,7 +107,7 @@ class Ways:
     def take(self, way: Any = None) -> None:
         """Lets one of them answer, the evaluator if none is named."""
         _library.run = self._library if way is _library else self._evaluator.run
-        vcdkit.dump.way = lambda: way or _library  # type: ignore[assignment]
+        vcdkit.dump.way = lambda: way or _library
 
 
 # ---- Small dumps.
@@ -104,7 +119,7 @@ class Declarations(NamedTuple):
     lines: List[str]
     names: List[List[str]]
     clock: str
-    conditions: List[Tuple[str, Tree]]
+    conditions: Sequence[Tuple[str, Tree]]
 
 
 def of_line(header: str) -> List[Variable]:

@@ -10,7 +10,7 @@ from vcdkit.commands import diff
 
 # The lines of a header. A variable has a size and a reference.
 SCOPES = ["$scope module a $end", "$upscope $end"]
-VARIABLES = [(1, "a"), (2, "a[1:0]"), (2, "a[3:2]"), (2, "a [1:0]"), (1, "a[0]"), (1, "b")]
+VARIABLES = ["1 a", "2 a[1:0]", "2 a[3:2]", "2 a [1:0]", "1 a[0]", "1 b"]
 NAMES = ["a", "a[1:0]", "a[3:2]", "a[0]", "b", "a.a", "a.a[1:0]", "a.a[0]", "a.b"]
 CODES = "!\"%"
 
@@ -20,13 +20,12 @@ def headers() -> Iterator[str]:
     for count in (1, 2, 3):
         for lines in itertools.product([*SCOPES, *VARIABLES], repeat=count):
             depths = list(itertools.accumulate(
-                {SCOPES[0]: 1, SCOPES[1]: -1}.get(one, 0)  # type: ignore[call-overload]
-                for one in lines))
+                {SCOPES[0]: 1, SCOPES[1]: -1}.get(one, 0) for one in lines))
             if min(depths) < 0 or not set(lines) & set(VARIABLES):
                 continue
             codes = iter(CODES)
-            yield "\n".join([one if isinstance(one, str) else "$var wire %d %s %s $end" % (
-                one[0], next(codes), one[1]) for one in lines]) + "\n"
+            yield "\n".join([one if one in SCOPES else "$var wire %s %s %s $end" % (
+                one[:1], next(codes), one[2:]) for one in lines]) + "\n"
 
 
 def body(header: str, digit: str) -> str:
@@ -64,12 +63,14 @@ def ask_names(asked: Asked, folder: str, stride: int) -> None:
             times, is_refused = condition_of(dumps[0], name)
             asked.same("names: condition", name, header, (times or [], is_refused), lambda: refusal(
                 answered(lambda: dump.when(name + " is not z"))))
-            for words, names, exceptions in (([], [name], []), (["--except=" + name], [], [name])):
+            asks: List[Tuple[List[str], List[str]]] = [([name], []), ([], [name])]
+            for names, exceptions in asks:
                 lines, is_bad = by_definition.compare(dumps, by_definition.Compare(
                     names, exceptions, False, True, "", "", 0))
-                asked.same("names: vcdkit-diff", "%s %s" % (words, names), header, (
+                words = ["--all", *("--except=" + one for one in exceptions), *paths, *names]
+                asked.same("names: vcdkit-diff", "%s except %s" % (names, exceptions), header, (
                     lines, 2 if is_bad else int(bool(lines)), is_bad),
-                    lambda: said(diff.main, ["--all", *words, *paths, *names]))
+                    lambda: said(diff.main, words))
 
 
 def coded(outcome: Tuple[Any, str]) -> Tuple[Any, str]:

@@ -67,7 +67,8 @@ class Case:
         """Asks for values at times, and for counts."""
         its = self.states(names)
         ordered = [one for one in self.variables if one in its]
-        times: List[Any] = [[12, 5, "0", 3, 5], [0, 4, "4"], [7, 10, 5]][self.number % 3]
+        every: List[List[Any]] = [[12, 5, "0", 3, 5], [0, 4, "4"], [7, 10, 5]]
+        times = every[self.number % 3]
         last = max(map(int, times))
         fault = self.fault_by(last)
         wanted = {time: dict(zip(keys_of(ordered), by_definition.row_at(

@@ -268,10 +268,10 @@ class Scripts:
             names, exceptions, self.number % 4 == 0, self.number % 3 == 0,
             self.turn(["", "01", "10"]) if self.of.clock else "", self.of.clock,
             self.turn([0.0, 0.5], 3))
-        words += ["--except=" + one for one in exceptions] + ["--all"] * asked.every + [
-            "--common"] * asked.is_common + {"": [], "01": ["--rise=" + self.of.clock],
-                                             "10": ["--fall=" + self.of.clock]}[asked.edge] + [
-            "--real-tolerance=0.5"] * bool(asked.tolerance)
+        words += ["--except=" + one for one in exceptions] + ["--all"] * asked.every
+        words += ["--common"] * asked.is_common + ["--real-tolerance=0.5"] * bool(asked.tolerance)
+        if asked.edge:
+            words.append({"01": "--rise=", "10": "--fall="}[asked.edge] + self.of.clock)
         lines, is_refused = by_definition.compare(both, asked)
         self.same("diff", [*words, self.path, self.other_path, *names], lines,
                   2 if is_refused else int(bool(lines)), is_refused,
