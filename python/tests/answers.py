@@ -332,9 +332,9 @@ def field(one: Variable, first: int, last: int, is_signed: bool = False) -> Part
 
 
 def operand(variables: Sequence[Variable], name: str) -> Optional[Part]:
-    """What a name of a condition is: the signal of this name, else, if it ends in [N] or [N:M], these
-    bits of the signal before them. None if there is none, if it has no bits, or if the name is that
-    of several signals."""
+    """What a name of a condition is: the signal of this name, else, if it ends in [N] or [N:M],
+    these bits of the signal before them. None if there is none, if it has no bits, or if the name
+    is that of several signals."""
     whole, bits = named(variables, name), re.fullmatch(r"(.*)\[(-?\d+)(?::(-?\d+))?\]", name)
     its = whole or named(variables, bits[1] if bits else name)
     if len({one.code for one in its}) != 1 or not whole and kind(its[0]) in ("real", "event"):
@@ -717,7 +717,7 @@ def compare(dumps: Sequence[Dump], asked: Compare) -> Tuple[List[str], bool]:
     if not all(all(one) for one in each[:count]) or not all(map(any, each[count:])) or (
             asked.edge and not all(map(asked.codes, dumps)) or asked.is_common and not both):
         return [], True
-    fit = [pair for pair in both if [kind(one) for one in pair[0]] == [kind(one) for one in pair[1]]]
+    fit = [pair for pair in both if [*map(kind, pair[0])] == [*map(kind, pair[1])]]
     lines = [] if asked.is_common else headers(dumps, its)
     lines += ["size %s %s %s" % (pair[0][0].path, kind(pair[0][0]), kind(pair[1][0]))
               for pair in both if pair not in fit]
