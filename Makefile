@@ -7,7 +7,8 @@
 # make test    the gate: all proofs, the must-fail edits, the tests, and the program as two compilers
 #     build it: about an hour
 # make hostile runs the program while memory, reads and writes fail, with closed streams, and on
-#     dumps that are truncated, crafted or random: some minutes
+#     dumps that are truncated, crafted or random, and asks the package and the scripts about every
+#     small dump: some minutes
 # make docs-check runs the commands on the pages with ./vcdkit, and compares what they print with
 #     the pages. It also looks for links that lead nowhere: seconds
 # make static  links ./vcdkit-static, a program that needs no shared library: seconds after make
@@ -76,6 +77,7 @@ hostile: vcdkit
 	hostile/hostile.py ./vcdkit $$devices memory large devices cut_off pipes && \
 	hostile/machine.py ./vcdkit $$devices && hostile/streams.py ./vcdkit && \
 	hostile/random_runs.py ./vcdkit --runs 50000 && hostile/crafted.py ./vcdkit && \
+	VCDKIT=./vcdkit python/tests/test_every_small_dump.py && \
 	{ [ ! -e libvcdkit.so ] || hostile/library.py ./vcdkit ./libvcdkit.so; }; \
 	status=$$?; rm -f $$devices; exit $$status
 

@@ -129,7 +129,12 @@ def after_end(dump: Dump, time: str) -> str:
     """Returns what to say of a time that is after the last timestamp of a dump; of another one an
     empty text. It reads up to that time, and raises a fault that comes before it."""
     ticks = dump.ticks(time, is_up=True)
-    if not ticks or dump.cut(ticks - 1, ticks).check().last == ticks:
+    try:
+        if not ticks or dump.cut(ticks - 1, ticks).check().last == ticks:
+            return ""
+    except DumpFault:
+        with dump.cut(ticks, ticks).body() as out:
+            out.read(1)  # `cut` writes nothing if the fault comes before this time
         return ""
     last = dump.check().last
     return "%s is after the end of the dump%s" % (
