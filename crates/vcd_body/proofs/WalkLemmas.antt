@@ -1,5 +1,5 @@
 -- A walk over the items ahead, step by step.
-use Rattle.std.proofs.Common.{◌≡◌, ◌≤◌, ◌<◌, ◌+◌, Bool, true, false, List, ℕ, [], ◌++◌, length, Result, Ok, Err, refl, sym, ap, subst, ◌∙◌, append_assoc, append-nil, arith}
+use Rattle.std.proofs.Common.{◌≡◌, ◌≤◌, ◌<◌, ◌+◌, Bool, true, false, List, ℕ, [], ◌++◌, length, Result, Ok, Err, IfOk, refl, sym, ap, subst, ◌∙◌, append_assoc, append-nil, arith}
 use Rattle.vcd_model.specs.Tokens.{Token}
 use Rattle.vcd_text.specs.Ahead.{bytes_of, passed_of}
 use Rattle.vcd_text.specs.Device.{Counts}
@@ -8,8 +8,16 @@ use Rattle.vcd_text.specs.declared.ahead.Ahead.{Ahead}
 use Rattle.vcd_text.specs.declared.device.WriteFailed.{WriteFailed}
 use Rattle.vcd_view.specs.declared.view.HeadView.{HeadView}
 use Rattle.vcd_body.specs.Ahead.{LooksOver, PassesNoItem}
-use Rattle.vcd_body.specs.Walk.{Begins, Further, HasCome, Past, Stage, TakesOne, Trail, Walks, stage_at}
+use Rattle.vcd_body.specs.Taken.{TakesItem}
+use Rattle.vcd_body.specs.Walk.{Begins, CanGoOn, Further, HasCome, Past, Stage, TakesOne, Trail, Walks, as_done, stage_at}
+use Rattle.vcd_body.specs.declared.ahead.ScannedItem.{ScannedItem}
 use Rattle.vcd_body.specs.declared.item.Regs.{Regs}
+
+module _ {V C : Type 0} (takes : HeadView → Stage V C → Stage V C → Result (Unit {0}) WriteFailed → Type 0) (stands : V → C → List ℕ → Regs → Type 0) (v : HeadView) where
+  -- an item that the visit has taken is one item more
+  pub took_one : (a b : Stage V C) (result : Result (Unit {0}) WriteFailed) (scanned : ScannedItem) → TakesItem v a.ahead b.ahead a.regs scanned → takes v a b result → Counts a.out b.out result → IfOk result (λ _. CanGoOn takes stands b) → TakesOne takes stands v a b (as_done result)
+  took_one a b (Ok tt) scanned item did counts on = record { scanned = scanned; item = item; did = did; counts = counts; on = on }
+  took_one a b (Err e) scanned item did counts on = record { scanned = scanned; item = item; did = did; counts = counts; on = on }
 
 module _ {V C : Type 0} (takes : HeadView → Stage V C → Stage V C → Result (Unit {0}) WriteFailed → Type 0) (stands : V → C → List ℕ → Regs → Type 0) (over : V → Bool) (v : HeadView) where
   -- it begins with no item
