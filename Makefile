@@ -3,7 +3,7 @@
 # make CPU=x86-64-v3    the same for newer processors, whose instructions the program may use. On a
 #     processor without them, it says so and ends
 # make trial   builds the program as ./vcdkit-unproved, for trying code. Nothing of it is proved: two
-#     minutes of one processor
+#     CPU minutes
 # make test    the gate: all proofs, the must-fail edits, the tests, and the program as two compilers
 #     build it: about an hour
 # make hostile runs the program while memory, reads and writes fail, with closed streams, and on
