@@ -1,10 +1,9 @@
 #!/usr/bin/env bash
 # bench/peers.sh DUMP..   prints the CPU seconds and the peak memory of `vcdkit check` and of other
-# programs that read the whole dump: wc -w, which counts its words, vcd2fst of GTKWave, which
-# converts it, GTKWave itself, which loads it and exits (on a display of Xvfb), and sigrok-cli, which
-# converts it to bytes. Of three runs the one with the least CPU time counts; a program that takes
-# more than 10 s runs once. VCDKIT names the program, else it is ./vcdkit. A program that is not
-# there is left out.
+# programs that read the whole dump: wc -w counts its words, vcd2fst of GTKWave converts it, GTKWave
+# loads it and exits (on a display of Xvfb), and sigrok-cli converts it to bytes. Of three runs the
+# one with the least CPU time counts; a program that takes more than 10 s runs once. VCDKIT names
+# the program, else it is ./vcdkit. A program that is not there is left out.
 set -u
 program=${VCDKIT:-$(dirname "$0")/../vcdkit}
 out=$(mktemp) times=$(mktemp) display=
