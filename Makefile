@@ -3,7 +3,7 @@
 # make CPU=x86-64-v3    the same for newer processors, whose instructions the program may use. On a
 #     processor without them, it says so and ends
 # make trial   builds the program as ./vcdkit-unproved, for trying code. Nothing of it is proved: two
-#     minutes of one processor
+#     CPU minutes
 # make test    the gate: all proofs, the must-fail edits, the tests, and the program as two compilers
 #     build it: about an hour
 # make hostile runs the program while memory, reads and writes fail, with closed streams, and on
@@ -40,7 +40,7 @@ DESTDIR ?=
 bin := $(DESTDIR)$(PREFIX)/bin
 man := $(DESTDIR)$(PREFIX)/share/man/man1
 bash_words := $(DESTDIR)$(PREFIX)/share/bash-completion/completions
-# On Debian, zsh has one folder for what packages bring and another one for everything else.
+# On Debian, zsh has one directory for what packages bring and another one for everything else.
 ZSH_FOLDER ?= $(PREFIX)/share/zsh/$(if $(filter /usr,$(PREFIX)),vendor-completions,site-functions)
 zsh_words := $(DESTDIR)$(ZSH_FOLDER)
 scripts := $(notdir $(wildcard extras/vcdkit-*))
@@ -48,7 +48,7 @@ scripts := $(notdir $(wildcard extras/vcdkit-*))
 commands := $(patsubst python/vcdkit/commands/%.py,vcdkit-%, \
     $(filter-out %/__init__.py,$(wildcard python/vcdkit/commands/*.py)))
 commands := $(subst _,-,$(commands))
-# The folder of the Python package. The scripts look there, and then where Python looks.
+# The directory of the Python package. The scripts look there, and then where Python looks.
 PYTHON_FOLDER ?= $(PREFIX)/share/vcdkit/python
 python := $(DESTDIR)$(PYTHON_FOLDER)/vcdkit
 documents := $(DESTDIR)$(PREFIX)/share/doc/vcdkit
@@ -108,7 +108,7 @@ clean:
 
 # A tarball contains the built program, and no crates.
 sources:
-	@test -d crates || { echo "make: this folder has the built program, and not its sources:" \
+	@test -d crates || { echo "make: this directory has the built program, and not its sources:" \
 	    "run make install, or ./vcdkit" >&2; exit 1; }
 
 toolchain: sources

@@ -1,6 +1,6 @@
 #!/bin/sh
-# pages.sh FOLDER: copies the pages for users and the samples into the folder. Links to pages that
-# only the repository has, such as those for developers, become plain text.
+# pages.sh FOLDER: copies the pages for users and the samples into the directory. Links to pages
+# that only the repository has, such as those for developers, become plain text.
 set -eu
 [ $# = 1 ] || { sed -n '2,/^set/s/^# //p' "$0"; exit 2; }
 cd "$(dirname "$0")/.."

@@ -20,10 +20,7 @@ exit status:
   2  %s
   3  I/O error, out of memory, or no vcdkit
 
-A dump may be compressed (gzip, xz, bzip2, zstd; FST if fst2vcd is on the PATH), a pipe, or - for
-standard input. A pipe is stored in a temporary file in TMPDIR or /tmp, because it is read more than
-once. The variable VCDKIT names the program. Without it, the vcdkit beside this command is run, or
-the one on the PATH.
+A dump may be compressed, a pipe, or - for standard input: see SCRIPTS in vcdkit(1).
 """
 STATUSES_OF_A_FILTER = """
 exit status:
