@@ -144,7 +144,7 @@ output. Each command has its own help, with examples: vcdkit check --help
 There are scripts too, each with its own --help: vcdkit-info, -find and -explain sum a dump up, find
 names and explain faults; -values, -table, -stats, -wave, -x and -when show values, periods,
 waveforms, unknown values and when a condition holds; -diff compares two dumps; -four-state,
--endmend and -join-bits repair dumps. They are in extras/ of the sources and of the tarball.
+-close-sections and -join-bits repair dumps. They are in extras/ of the sources and of the tarball.
 
 The man page is vcdkit(1). The manual, recipes and notes on simulators are in share/doc/vcdkit below
 the prefix of the installation, such as /usr/local/share/doc/vcdkit, or in docs/ of the sources.",
