@@ -176,16 +176,19 @@ def _take(batch: List[Tuple[int, List[bytes]]], found: Dict[bytes, Bits]) -> Non
             add = get(line)
             if add:
                 add(time)
-            elif line[:1] == b"b":
-                text, code = line.split()
-                if code in found:
-                    found[code].take(time, text[1:])
+            elif line[:1] in (b"b", b"r"):
+                code, text = _body.change(line + b"\n")
+                if code in of_bits:
+                    of_bits[code][2].append(time)
+                elif code in found:
+                    found[code].take(time, text)
     odd = {code for code, (falls, rises, others) in of_bits.items()
            if others or (falls or rises) and not found[code].takes_all(falls, rises)}
     for time, lines in batch if odd else ():
         for line in lines:
-            if line[1:] in odd:
-                found[line[1:]].take(time, line[:1])
+            code, text = _body.change(line + b"\n") if line[:1] != b"$" else (b"", b"")
+            if code in odd:
+                found[code].take(time, text)
 
 
 def places_of(signal: Signal, ranges: Dict[str, Tuple[int, int]]) -> Sequence[Optional[int]]:

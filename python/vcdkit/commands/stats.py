@@ -29,6 +29,7 @@ examples:
   vcdkit-stats --toggle --from 1us sim.vcd tb.cpu | head
   vcdkit-stats --saif power.saif --from 1us --to 2us sim.vcd tb.cpu"""
 import math
+import sys
 
 from .. import _body, _toggles
 from ..dump import write
@@ -237,10 +238,11 @@ def write_bits(dump, asked):
     rows = _toggles.rows_of(dump, asked.names, begin, end)
     if asked.toggle:
         write_toggles(rows, asked)
-    if asked.saif is not None:
-        write("/dev/stdout" if asked.saif == "-" else asked.saif, (
-            text.encode("utf-8", "surrogateescape")
-            for text in _toggles.saif(dump, rows, end - begin)))
+    texts = _toggles.saif(dump, rows, end - begin)
+    if asked.saif == "-":
+        sys.stdout.writelines(texts)
+    elif asked.saif is not None:
+        write(asked.saif, (text.encode("utf-8", "surrogateescape") for text in texts))
 
 
 @command
