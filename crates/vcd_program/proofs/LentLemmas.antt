@@ -87,13 +87,13 @@ module _ (n n' m m' status : ℕ) (ws vs : List ℕ) where
 
   runs-after : (words : Option Words) (asked : List (Option Text)) (host after : Memory) → After (Runs OpensIn known bytes_of no_failures none_failed words asked host after)
   runs-after words asked host after (Runs.Refused fault is same leaves) = let o = outcome-after _ leaves in (o.0, o.1, Runs.Refused fault is same o.2)
-  runs-after words asked host after (Runs.Ran want limit is readers done opened ends gives lower below under) =
+  runs-after words asked host after (Runs.Ran want limit is readers done opened ends gives lower near under) =
       let texts = map (λ (b : Bytes). b.rest.now) readers in
       let one = leaves-after _ want lower texts _ _ (under texts (texts-of readers)) in (
         one.0,
         one.1,
         Runs.Ran want limit is readers done opened (ends.0, ends.1, same-count (writes_failed ends.0) (n' ∷ ws) ws _ ends.2, ends.3, (shows-after m m' vs _ ends.4).1, ends.5)
-            (λ all read have. (leaves-after _ want limit read _ _ (gives all read have)).2) lower below (λ read have. (leaves-after _ want lower read _ _ (under read have)).2),
+            (λ all read have. (leaves-after _ want limit read _ _ (gives all read have)).2) lower near (λ read have. (leaves-after _ want lower read _ _ (under read have)).2),
       )
   runs-after words asked host after (Runs.Stopped job is name opened leaves) = let o = outcome-after _ leaves in (o.0, o.1, Runs.Stopped job is name opened o.2)
   runs-after words asked host after (Runs.NoMemory job is opened fails) = let o = fails-after (codes "out of memory") fails in (o.0, o.1, Runs.NoMemory job is opened o.2)

@@ -137,7 +137,7 @@ module _ (a b : Bool) where
       → Runs OpensIn known bytes_of no_failures none_failed words asked host after (holding false []) (holding a out) (holding false []) (holding b err) status → IsLeftOf words asked files input left ⊎ IsOutOfMemory left
   left-parsed words asked files input host after left out err status f i n holds (Runs.Refused fault is same leaves) =
       inl (IsLeftOf.Refused fault is (is-left left after out err status [] (command_outcome words [] []) holds (ap noted same ∙ n) leaves))
-  left-parsed words asked files input host after left out err status f i n holds (Runs.Ran want limit is readers done opened ends gives lower below under) =
+  left-parsed words asked files input host after left out err status f i n holds (Runs.Ran want limit is readers done opened ends gives lower near under) =
       let o = opened-in files input host asked readers after f i opened in
       let texts = map (λ (b : Bytes). b.rest.now) readers in
       by_end o texts (o.bytes ∙ texts-of readers) (gives (all-known readers) texts (texts-of readers))

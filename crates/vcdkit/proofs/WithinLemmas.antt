@@ -30,7 +30,7 @@ use Rattle.vcd_merge.specs.MergeRun.{AreReadOnTurn, HasEnded, ReadOnTurn}
 use Rattle.vcd_merge.specs.MergeRun.AreReadOnTurn.{OnTurn, Unread}
 use Rattle.vcd_merge.specs.Seat.{HasDump, Lane}
 use Rattle.vcd_words.specs.declared.job.Job.{Job}
-use Rattle.vcdkit.specs.Calls.{AreWithin, IsWithin, Narrows}
+use Rattle.vcdkit.specs.Calls.{AreWithin, IsLimitFor, Narrows}
 use Rattle.vcdkit.specs.Inputs.{AreBegun, IsBegun, IsWhy, Stops, headers_in}
 use Rattle.vcdkit.specs.Run.{AreInTurn, AreMergedInTurn, AreNeeded, AreRead, HasRun, IsOutcome, header_behind, known, settles_among}
 use Rattle.vcdkit.specs.Run.AreMergedInTurn.{InBodies, InHeaders}
@@ -301,7 +301,7 @@ same_limit limit (text ∷ texts) = (inl refl, same_limit limit texts)
 short_text : (longest : Option ℕ) (wide narrow : Job) (text : List ℕ) → Narrows longest wide narrow → IfSome longest (λ most. length text ≤ most) → IsShort narrow.limit wide.limit text
 short_text longest wide narrow text n within = by_limit n.limit
   where
-    by_limit : (narrow.limit ≡ wide.limit) ⊎ ((narrow.limit ≤ wide.limit) × IsWithin longest narrow.limit) → IsShort narrow.limit wide.limit text
+    by_limit : IsLimitFor longest wide.limit narrow.limit → IsShort narrow.limit wide.limit text
     by_limit (inl same) = inl same
     by_limit (inr less) =
         let few : length text ≤ less.1.0 = subst (λ (o : Option ℕ). IfSome o (λ most. length text ≤ most)) less.1.1 within in
