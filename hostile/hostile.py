@@ -11,7 +11,7 @@ memory   Each request of a run is refused in turn. The run must end without outp
          asked for more than it needs, or if the request is for the key of a code that was declared
          with another size. A dump with 5,000 comments at its end makes as many requests, of as many
          bytes, as one with five. All requests together stay below a bound: the windows, four times
-         what is kept of the headers, and 64 KB for the command line and the buffer of the output.
+         what is kept of the headers, and 64 KB for the command line and the two buffers.
 large    There is plenty of memory: the whole outcome, below the same bound.
 devices  Each read and write transfers 1, 2, 3, 5 or 7 bytes: the whole outcome. Read number 1, 2,
          3, .. of a file or of standard input fails: the outcome of the bytes until then. Write
@@ -74,7 +74,7 @@ def say(case, what, want, got):
 
 # ---- memory
 
-# The command line, names, messages and the buffer of the output.
+# The command line, names, and the buffers of the output and of messages.
 COMMAND_LINE = 65_536
 
 

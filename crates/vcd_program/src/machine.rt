@@ -280,13 +280,22 @@ fn stand_in(rt: &HostRuntime) -> Option<File> {
 /// exit status, as `run_words_on_machine` does. It is 2 if an argument is not UTF-8, and 3 if there
 /// is no memory for the arguments; then a message goes to standard error.
 ///
+/// Messages wait in a buffer and are written at the end, in one write, so that those of programs
+/// that share a standard error do not mix. Only the message that there is no memory for this buffer
+/// is written in pieces.
+///
 /// The system gives a file that is opened the lowest free descriptor. If a standard stream is
 /// closed, that is its descriptor, so a directory is open there until the end (`stand_in`).
 pub fn run_on_machine(rt: &HostRuntime) -> u8
     ensures { result ≤ 3 }
 {
     let _stand_ins = [stand_in(rt), stand_in(rt), stand_in(rt)];
-    let mut err = Watch::new(Again::new(rt.stderr()));
+    let Ok(mut err) = Buffered::new(rt.alloc(), Again::new(rt.stderr())) else {
+        return use_fault(
+            UseFault::OutOfMemory,
+            &mut Watch::new(Again::new(rt.stderr())),
+        );
+    };
     match words_of(rt) {
         Ok(words) => run_words_on_machine(rt, words.as_slice(), &mut err),
         Err(fault) => use_fault(fault, &mut err),
