@@ -140,11 +140,11 @@ def memory(place, case):
 # ---- devices
 
 def failed_reads(place, case, file, most):
-    """Each read of the one input fails in turn, of its file and of a pipe as standard input. A
-    small file is read up to its length; of a pipe the last read gives nothing."""
+    """Each read of the one input fails in turn, of its file and of a pipe as standard input. The
+    last read gives nothing."""
     text, runs = case.inputs[0], 0
-    filled = -(-len(text) // most)
-    for word, name, given, reads in ((file, file, b"", filled), ("-", "(stdin)", text, filled + 1)):
+    reads = -(-len(text) // most) + 1
+    for word, name, given in ((file, file, b""), ("-", "(stdin)", text)):
         for call in range(1, reads + 2):
             runs += 1
             read = text if call > reads else evaluator.Failed(text[:(call - 1) * most])
