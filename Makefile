@@ -72,7 +72,7 @@ test: toolchain
 hostile: vcdkit
 	devices=$$(mktemp --suffix=.so) && cc -O1 -shared -fPIC -o $$devices hostile/devices.c -ldl && \
 	hostile/hostile.py ./vcdkit $$devices memory large devices cut_off pipes && \
-	hostile/machine.py ./vcdkit $$devices && hostile/streams.py ./vcdkit && \
+	hostile/machine.py ./vcdkit $$devices && hostile/streams.py ./vcdkit $$devices && \
 	hostile/random_runs.py ./vcdkit --devices $$devices --runs 50000 && \
 	hostile/crafted.py ./vcdkit && \
 	VCDKIT=./vcdkit python/tests/test_every_small_dump.py && \

@@ -6,6 +6,8 @@
 //   ERROR_MOST=N    and of those to the error stream;   ERROR_FAILS=N
 //   INTERRUPTED=1   these calls are interrupted (EINTR) where they would fail
 //   NO_ENTROPY=1    the machine gives no random bytes
+//   CHANGED=FILE    before call number CHANGED_AT, of those that ask for the length of an input or
+//                   read one, the file gets the bytes of the file BECOMES
 //   COUNTS=FILE     at the end the number of requests for memory and of reads, and the sum of the
 //                   bytes asked for, is written to the file
 #define _GNU_SOURCE
@@ -16,6 +18,7 @@
 #include <stdlib.h>
 #include <string.h>
 #include <unistd.h>
+#include <sys/stat.h>
 #include <sys/syscall.h>
 
 static long requests, asked, reads, writes, errors;
@@ -53,7 +56,26 @@ static size_t limited(size_t size, long most) {
     return most > 0 && size > (size_t)most ? (size_t)most : size;
 }
 
+// Gives the file CHANGED the bytes of the file BECOMES, if its time has come.
+static void change(void) {
+    static long calls;
+    static char bytes[1 << 21];
+    if (++calls != number("CHANGED_AT")) return;
+    int from = open(getenv("BECOMES"), O_RDONLY), to = open(getenv("CHANGED"), O_WRONLY);
+    long size = syscall(SYS_read, from, bytes, sizeof bytes);
+    if (syscall(SYS_write, to, bytes, size) != size || ftruncate(to, size)) abort();
+    close(from);
+    close(to);
+}
+
+int statx(int fd, const char *restrict path, int flags, unsigned mask,
+          struct statx *restrict about) {
+    change();
+    return syscall(SYS_statx, fd, path, flags, mask, about);
+}
+
 ssize_t read(int fd, void *into, size_t size) {
+    change();
     if (failed(++reads, number("READ_FAILS"))) return -1;
     return syscall(SYS_read, fd, into, limited(size, number("READ_MOST")));
 }

@@ -11,7 +11,7 @@ memory   Each request of a run is refused in turn. The run must end without outp
          asked for more than it needs, or if the request is for the key of a code that was declared
          with another size. A dump with 5,000 comments at its end makes as many requests, of as many
          bytes, as one with five. All requests together stay below a bound: the windows, four times
-         what is kept of the headers, and 64 KB for the command line and the buffer of the output.
+         what is kept of the headers, and 64 KB for the command line and the two buffers.
 large    There is plenty of memory: the whole outcome, below the same bound.
 devices  Each read and write transfers 1, 2, 3, 5 or 7 bytes: the whole outcome. Read number 1, 2,
          3, .. of a file or of standard input fails: the outcome of the bytes until then. Write
@@ -74,7 +74,7 @@ def say(case, what, want, got):
 
 # ---- memory
 
-# The command line, names, messages and the buffer of the output.
+# The command line, names, and the buffers of the output and of messages.
 COMMAND_LINE = 65_536
 
 
@@ -140,11 +140,11 @@ def memory(place, case):
 # ---- devices
 
 def failed_reads(place, case, file, most):
-    """Each read of the one input fails in turn, of its file and of a pipe as standard input. A
-    small file is read up to its length; of a pipe the last read gives nothing."""
+    """Each read of the one input fails in turn, of its file and of a pipe as standard input. The
+    last read gives nothing."""
     text, runs = case.inputs[0], 0
-    filled = -(-len(text) // most)
-    for word, name, given, reads in ((file, file, b"", filled), ("-", "(stdin)", text, filled + 1)):
+    reads = -(-len(text) // most) + 1
+    for word, name, given in ((file, file, b""), ("-", "(stdin)", text)):
         for call in range(1, reads + 2):
             runs += 1
             read = text if call > reads else evaluator.Failed(text[:(call - 1) * most])

@@ -2,9 +2,9 @@
 """machine.py PROGRAM DEVICES
 
 Runs the program on what only a machine has: files that cannot be read, arguments that are not
-UTF-8, no random numbers, no memory for arguments. It also runs the command lines of the stored
-runs, because the gate does not compare their error streams. DEVICES is devices.c, built as a shared
-library.
+UTF-8, no random numbers, an error stream that takes one write, no memory for arguments. It also
+runs the command lines of the stored runs, because the gate does not compare their error streams.
+DEVICES is devices.c, built as a shared library.
 
 Each case is also run with 112 KB of stack (`ulimit -s 112`), and has to give the whole outcome.
 Then it is run with limited memory (`ulimit -v`), in steps of 16 KB, from the least size with which
@@ -68,6 +68,13 @@ def no_random_numbers(program):
     for words in ANSWERED:
         yield ("%r without random numbers" % words, [program.run(words)],
                program.run(words, no_entropy=1))
+
+
+def messages_in_one_write(program):
+    """A second write to the error stream fails: no message needs it, up to 8,192 bytes."""
+    for words in ANSWERED + [["check", "/"], ["list", "n" * 8_165], ["merge", "n" * 4_096, "-"]]:
+        yield ("%.100r in one write" % words, [program.run(words)],
+               program.run(words, error_fails=2))
 
 
 def no_memory_for_words(program, words):
@@ -163,7 +170,8 @@ def main():
     program = Program(*sys.argv[1:3])
     least = least_memory(program)
     jobs = [partial(part, program)
-            for part in (failing_files, words_that_are_no_text, no_random_numbers, stored_runs)]
+            for part in (failing_files, words_that_are_no_text, no_random_numbers,
+                         messages_in_one_write, stored_runs)]
     jobs += [partial(no_memory_for_words, program, words) for words in ANSWERED]
     jobs += [partial(small_stack, program, case) for case in LIMITED]
     jobs += [partial(little_memory, program, least, case) for case in LIMITED]

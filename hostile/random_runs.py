@@ -14,7 +14,7 @@ COMMANDS = ["check", "list", "pick", "cut", "sample", "edges", "merge"]
 
 # About these lengths reading changes: the shortest window, a chunk, and the longest file whose
 # windows are no longer than the file.
-LENGTHS = [64, 64, 65_536, 1_048_576]
+LENGTHS = [4_096, 4_096, 65_536, 1_048_576]
 
 
 def asked(d, text):

@@ -1,8 +1,9 @@
 #!/usr/bin/env python3
-"""streams.py PROGRAM
+"""streams.py PROGRAM DEVICES
 
 Runs the program while standard streams are closed, while its output fails, and on inputs that are
-not plain files. It has to leave what the evaluator gives.
+not plain files. It has to leave what the evaluator gives. DEVICES is devices.c, built as a shared
+library.
 
 closed     One, two or all of the standard streams are closed: no file takes their place. A read of
            standard input fails, a write to standard output fails, and a message is lost, but the
@@ -11,12 +12,15 @@ failing    The reader of the output has ended, or the device of the output is fu
            size of files (`ulimit -f`) ends the program with a signal, or, if that is ignored, makes
            the write fail. What was written before is the beginning of the output.
 one stream Standard input has no bytes yet and does not wait. `-` comes twice. Two names are one
-           FIFO. A file grows while it is read.
+           FIFO.
+changing   A file grows or shrinks, before its length is asked for, after that, and between reads.
+           The outcome is that of its last text. In a short file that grows, a token may have as
+           many bytes as the longest input had when the lengths were asked for, or 4,096.
 many       64 files have a token limit of 16 MB, if 4 GB of memory are free."""
 import fcntl, os, struct, subprocess, sys, tempfile, termios, time
 from contextlib import contextmanager
 from functools import partial
-from itertools import combinations
+from itertools import combinations, product
 
 import evaluator
 from cases import A, CASES, CLOCK, ON_A, ON_B, ON_D, Case
@@ -34,7 +38,7 @@ CLOSED = {streams: 'exec "$@" ' + " ".join(("<&-", ">&-", "2>&-")[stream] for st
           for count in (1, 2, 3) for streams in combinations((0, 1, 2), count)}
 CHUNK = 65_536
 # With it a file is no longer small: such a file has at most 1,048,576 bytes.
-LARGE_COMMENT = b"$comment " + b"x " * (1 << 20) + b"$end\n"
+LARGE_COMMENT = b"$comment " + b"x " * (1 << 19) + b"$end\n"
 SIZE_SIGNAL = 25
 SECONDS = 20
 
@@ -262,32 +266,37 @@ def one_fifo(program):
                    outcome_of(process))
 
 
-def growing(program):
-    """A file gets more text after it was opened, and before it is read: while the program waits to
-    open a FIFO that comes later. It is read to its end, whether it is small or large."""
-    more = b"#9\n0!\n"
-    for text in (CLOCK, CLOCK + LARGE_COMMENT):
-        for first in "a.vcd", "-":
-            with files_with({"a.vcd": text}) as folder:
-                at = os.path.join(folder, "a.vcd")
-                fifos = ["one", "two"]
-                for name in fifos:
-                    os.mkfifo(os.path.join(folder, name))
-                with open(at, "rb") as given:
-                    process = program.start(["merge", first] + fifos, folder, stdin=given,
-                                            stdout=subprocess.PIPE)
-                # The first FIFO is opened after the file, and nothing is read before the second is.
-                writers = [opened(os.path.join(folder, "one"))]
-                with open(at, "ab") as f:
-                    f.write(more)
-                writers.append(opened(os.path.join(folder, "two")))
-                for writer in writers:
-                    os.write(writer, ON_B)
-                    os.close(writer)
-                case = Case("growing", "merge", [CLOCK + more, ON_B, ON_B])
-                names = ["(stdin)" if first == "-" else first] + fifos
-                yield ("%s of %d bytes grows" % (first, len(text)),
-                       [wanted(case, names, case.inputs)], outcome_of(process))
+LATER = b"#9\n0!\n"
+# Comments with a long token, and what comes after it.
+LONG = [b"$comment " + b"x" * size + b" $end\n" + LATER for size in (1_000, 5_000, 7_000)]
+# The first and the last text of a file. They begin with the same bytes, of which a run has read at
+# most two thirds when the one becomes the other.
+CHANGES = [(CLOCK, CLOCK + more) for more in (LATER, *LONG)]
+CHANGES += [(CLOCK + LONG[1], CLOCK + LONG[1] + more) for more in LONG]
+CHANGES += [(CLOCK + LARGE_COMMENT, CLOCK + LARGE_COMMENT + LONG[2])]
+CHANGES += [(ON_A, ON_A[:-5]), (CLOCK + LONG[1], CLOCK), (CLOCK + LARGE_COMMENT, CLOCK)]
+
+
+def token_limit(lengths):
+    """The longest token over inputs that have these lengths when they are asked for."""
+    longest = max(lengths)
+    return max(longest, 4_096) if longest <= 1_048_576 else 1_048_576
+
+
+def changing(program, old, new):
+    """A file gets another text before call 1, 2, .. that asks for a length or reads."""
+    most = max(len(os.path.commonprefix([old, new])) // 3, 1)
+    for command, files in (("check", ["a.vcd"]), ("merge", ["a.vcd", "b.vcd"])):
+        for place, call in product(range(len(files) + 1), range(1, 5)):
+            words = ["-" if k == place else name for k, name in enumerate(files)]
+            names = [b"(stdin)" if word == "-" else word.encode() for word in words]
+            with files_with({"a.vcd": old, "b.vcd": ON_B, "new": new}) as folder:
+                with open(os.path.join(folder, files[place % len(files)]), "rb") as given:
+                    got = program.run([command] + words, folder, given, changed="a.vcd",
+                                      becomes="new", changed_at=call, read_most=most)
+            limit = token_limit([len(new if call == 1 else old), len(ON_B)][:len(files)])
+            yield ("%s of %d bytes, then %d, before call %d" % (words, len(old), len(new), call),
+                   [evaluator.run(command, [], [], list(zip(names, [new, ON_B])), limit)], got)
 
 
 # ---- many files
@@ -317,10 +326,11 @@ def many_files(program):
 
 
 def main():
-    program = Program(sys.argv[1])
+    program = Program(*sys.argv[1:3])
     jobs = [partial(part, program) for part in (
         many_files, closed_without_a_job, closed_input_of_a_merge, places_of_closed,
-        fault_and_failing_write, limited_size, input_twice, one_fifo, growing)]
+        fault_and_failing_write, limited_size, input_twice, one_fifo)]
+    jobs += [partial(changing, program, old, new) for old, new in CHANGES]
     jobs += [partial(part, program, case) for case in CASES
              for part in (closed, failing_outputs, without_waiting)]
     return compare("streams", jobs)

@@ -14,8 +14,8 @@ a_file = refl
 hyphen : inputs_of Command.Listing (Some (codes "-")) ≡ None ∷ []
 hyphen = refl
 
-hyphen_in_a_folder : inputs_of Command.Listing (Some (codes "./-")) ≡ Some (codes "./-") ∷ []
-hyphen_in_a_folder = refl
+hyphen_in_a_directory : inputs_of Command.Listing (Some (codes "./-")) ≡ Some (codes "./-") ∷ []
+hyphen_in_a_directory = refl
 
 hyphen_among_files : inputs_of (Command.Merge (codes "b.vcd" ∷ codes "-" ∷ codes "--" ∷ [])) None ≡ Some (codes "b.vcd") ∷ None ∷ Some (codes "--") ∷ []
 hyphen_among_files = refl

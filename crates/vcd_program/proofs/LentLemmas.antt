@@ -10,7 +10,7 @@ use Rattle.vcd_text.specs.Device.{Device, Supply, Writes, WritesSome, failures_t
 use Rattle.vcd_text.specs.declared.device.Bytes.{Bytes}
 use Rattle.vcdkit.specs.Failure.{writes_failed}
 use Rattle.vcdkit.specs.Message.{Shows}
-use Rattle.vcdkit.specs.Run.{IsOutcome}
+use Rattle.vcdkit.specs.Run.{AreInTurn, IsOutcome}
 use Rattle.vcdkit.proofs.TurnLemmas.{turns_over}
 use Rattle.vcdkit.specs.Run.IsOutcome.{Whole, Part}
 use Rattle.vcd_program.specs.Memory.{IsLeftAs, IsLeftIn, OpensIn, noted}
@@ -52,6 +52,10 @@ module _ (n n' : ℕ) (ws : List ℕ) where
   shows-after line (inl all) = let s = writes-after line all in (s.0, inl s.1)
   shows-after line (inr some) = let s = some-after line some in (s.0, inr s.1)
 
+  turns-after : (want : Want) (limit : ℕ) (texts : List Text) (old new : List Supply) (inputs : List Input) → AreInTurn want limit 65536 texts old new inputs (holding false (n ∷ [])) (holding false (n' ∷ ws))
+      → AreInTurn want limit 65536 texts old new inputs (holding false []) (holding false ws)
+  turns-after want limit texts old new inputs turns = turns_over want limit 65536 texts old new inputs (holding false (n ∷ [])) (holding false (n' ∷ ws)) (holding false []) (holding false ws) (λ text held. rest held) turns
+
 module _ (n n' m m' status : ℕ) (ws vs : List ℕ) where
   -- of what is left, with the names and without them
   abbrev After : ((out out' err err' : Device) → ℕ → Type 0) → Type 0
@@ -76,18 +80,20 @@ module _ (n n' m m' status : ℕ) (ws vs : List ℕ) where
   leaves-after : (due : List Input → Outcome) (want : Want) (limit : ℕ) (texts : List Text) (old new : List Supply) → After (Leaves due want limit texts old new)
   leaves-after due want limit texts old new (Leaves.WithOutcome inputs read needed turns leaves) =
       let o = outcome-after _ leaves in
-      (o.0, o.1, Leaves.WithOutcome inputs read needed (turns_over want limit 65536 texts old new inputs (holding false (n ∷ [])) (holding false (n' ∷ ws)) (holding false []) (holding false ws) (λ text held. rest held) turns) o.2)
-  leaves-after due want limit texts old new (Leaves.NoMemory inputs read fails) = let o = fails-after (codes "out of memory") fails in (o.0, o.1, Leaves.NoMemory inputs read o.2)
+      (o.0, o.1, Leaves.WithOutcome inputs read needed (turns-after n n' ws want limit texts old new inputs turns) o.2)
+  leaves-after due want limit texts old new (Leaves.NoMemory inputs read turns fails) =
+      let o = fails-after (codes "out of memory") fails in
+      (o.0, o.1, Leaves.NoMemory inputs read (turns-after n n' ws want limit texts old new inputs turns) o.2)
 
   runs-after : (words : Option Words) (asked : List (Option Text)) (host after : Memory) → After (Runs OpensIn known bytes_of no_failures none_failed words asked host after)
   runs-after words asked host after (Runs.Refused fault is same leaves) = let o = outcome-after _ leaves in (o.0, o.1, Runs.Refused fault is same o.2)
-  runs-after words asked host after (Runs.Ran want limit is readers done opened ends gives lower below under) =
+  runs-after words asked host after (Runs.Ran want limit is readers done opened ends gives lower near under) =
       let texts = map (λ (b : Bytes). b.rest.now) readers in
       let one = leaves-after _ want lower texts _ _ (under texts (texts-of readers)) in (
         one.0,
         one.1,
         Runs.Ran want limit is readers done opened (ends.0, ends.1, same-count (writes_failed ends.0) (n' ∷ ws) ws _ ends.2, ends.3, (shows-after m m' vs _ ends.4).1, ends.5)
-            (λ all read have. (leaves-after _ want limit read _ _ (gives all read have)).2) lower below (λ read have. (leaves-after _ want lower read _ _ (under read have)).2),
+            (λ all read have. (leaves-after _ want limit read _ _ (gives all read have)).2) lower near (λ read have. (leaves-after _ want lower read _ _ (under read have)).2),
       )
   runs-after words asked host after (Runs.Stopped job is name opened leaves) = let o = outcome-after _ leaves in (o.0, o.1, Runs.Stopped job is name opened o.2)
   runs-after words asked host after (Runs.NoMemory job is opened fails) = let o = fails-after (codes "out of memory") fails in (o.0, o.1, Runs.NoMemory job is opened o.2)

@@ -23,7 +23,7 @@ use Rattle.vcdkit.specs.Message.{Shows, unopened_outcome, use_outcome}
 use Rattle.vcdkit.specs.Run.{HasRun, IsOutcome}
 use Rattle.vcdkit.specs.Run.IsOutcome.{Whole, Part}
 use Rattle.vcd_host.specs.Opens.{Opens, OpensSome, OpensUpTo, StopsAmong, called, text_of}
-use Rattle.vcd_program.specs.Runs.{Answers, EndsSo, Finishes, Leaves, Runs, names_wanted}
+use Rattle.vcd_program.specs.Runs.{Answers, EndsSo, Finishes, IsLimitOf, Leaves, Runs, names_wanted}
 use Rattle.vcd_host.specs.declared.host.OpenFault.{OpenFault}
 use Rattle.vcd_host.specs.declared.opened.OpenStop.{OpenStop}
 use Rattle.vcd_host.specs.declared.opened.OpenStop.TheVariants as stop
@@ -90,7 +90,7 @@ pub leaves-of : (due : List Input → Outcome) (want : Want) (limit : ℕ) (name
     → HasRun want limit 65536 names texts old new out out' err err' status → Leaves due want limit texts old new out out' err err' status
 leaves-of due want limit names texts old new out out' err err' status is (HasRun.WithOutcome inputs read needed turns left) =
     Leaves.WithOutcome inputs read needed turns (subst (λ o. IsOutcome o out out' err err' status) (sym (is inputs)) left)
-leaves-of due want limit names texts old new out out' err err' status is (HasRun.NoMemory inputs read written shown status_is) = Leaves.NoMemory inputs read (written, shown, status_is)
+leaves-of due want limit names texts old new out out' err err' status is (HasRun.NoMemory inputs read turns written shown status_is) = Leaves.NoMemory inputs read turns (written, shown, status_is)
 
 -- ---- before a job is run
 
@@ -205,10 +205,10 @@ pub within-known : {I : Type 0} (knows : I → Type 0) (rest : I → Option (Lis
 within-known knows rest None readers now same said known = tt
 within-known knows rest (Some most) readers now same said known = rw same (λ k d less. said k d less (subst (All knows) same known k d less))
 
--- such a limit is no larger
-pub below-limit : (longest : Option ℕ) (wide narrow : ℕ) → IsLimitFor longest wide narrow → narrow ≤ wide
-below-limit longest wide narrow (inl same) = omega (arith, same)
-below-limit longest wide narrow (inr less) = less.0
+-- such a limit is that one, or a lower one of at least 4,096 bytes
+pub near-limit : (longest : Option ℕ) (wide narrow : ℕ) → IsLimitFor longest wide narrow → IsLimitOf wide narrow
+near-limit longest wide narrow (inl same) = inl same
+near-limit longest wide narrow (inr less) = inr (less.2, less.0)
 
 -- the job was run over the inputs that the words ask for
 pub ran : {H I : Type 0} (opens : H → Option Text → Result I OpenFault → H → Type 0) (knows : I → Type 0) (rest : I → Option (List ℕ)) (failures : I → ℕ) (last_failed : I → Bool) (words : Option Words) (asked : List (Option Text)) (host host' : H) (out out' err err' : Device) (status : ℕ)
@@ -216,12 +216,12 @@ pub ran : {H I : Type 0} (opens : H → Option Text → Result I OpenFault → H
     → job_of words ≡ Ok (record { want = want; limit = limit }) → chunk ≡ 65536 → names ≡ map called asked → wanted ≡ names_wanted want → Opens opens host asked readers host'
     → EndsSo names wanted (map failures readers) (map failures after) (map last_failed after) out out' err err' status
     → (All knows readers → (texts : List Text) → map rest readers ≡ map (λ text. Some text) texts → HasRun want limit chunk names texts (map (supply rest failures) readers) (map (supply rest failures) after) out out' err err' status)
-    → lower ≤ limit → ((texts : List Text) → map rest readers ≡ map (λ text. Some text) texts → HasRun want lower chunk names texts (map (supply rest failures) readers) (map (supply rest failures) after) out out' err err' status)
+    → IsLimitOf limit lower → ((texts : List Text) → map rest readers ≡ map (λ text. Some text) texts → HasRun want lower chunk names texts (map (supply rest failures) readers) (map (supply rest failures) after) out out' err err' status)
     → Runs opens knows rest failures last_failed words asked host host' out out' err err' status
-ran opens knows rest failures last_failed words asked host host' out out' err err' status want limit lower chunk names wanted readers after e at named wants opened ends gives below under =
+ran opens knows rest failures last_failed words asked host host' out out' err err' status want limit lower chunk names wanted readers after e at named wants opened ends gives near under =
     Runs.Ran want limit e readers after opened
     (subst (λ l. EndsSo l (names_wanted want) (map failures readers) (map failures after) (map last_failed after) out out' err err' status) named (subst (λ l. EndsSo names l (map failures readers) (map failures after) (map last_failed after) out out' err err' status) wants ends))
-    (λ known texts h. leaves (command_outcome words (map called asked)) limit texts (λ inputs. command-is words want limit (map called asked) inputs e) (gives known texts h)) lower below
+    (λ known texts h. leaves (command_outcome words (map called asked)) limit texts (λ inputs. command-is words want limit (map called asked) inputs e) (gives known texts h)) lower near
     (λ texts h. leaves (outcome want lower (map called asked)) lower texts (λ inputs. refl) (under texts h))
   where
     leaves : (due : List Input → Outcome) (n : ℕ) (texts : List Text) → ((inputs : List Input) → due inputs ≡ outcome want n (map called asked) inputs) → HasRun want n chunk names texts (map (supply rest failures) readers) (map (supply rest failures) after) out out' err err' status

@@ -36,7 +36,7 @@ runs-low : {H I : Type 0} (opens : H → Option Text → Result I OpenFault → 
 runs-low opens knows rest failures last_failed words asked host host' out out' err err' status (Runs.Refused fault is same leaves) =
     let two : (command_outcome words [] []).status ≡ 2 = ap (λ o. o.status) (command-refused words fault is) in
     outcome-low (command_outcome words [] []) out out' err err' status (omega arith) leaves
-runs-low opens knows rest failures last_failed words asked host host' out out' err err' status (Runs.Ran want limit is readers after opened ends leaves lower below under) = omega (arith, ends.3, end-low ends.0)
+runs-low opens knows rest failures last_failed words asked host host' out out' err err' status (Runs.Ran want limit is readers after opened ends leaves lower near under) = omega (arith, ends.3, end-low ends.0)
 runs-low opens knows rest failures last_failed words asked host host' out out' err err' status (Runs.Stopped job is name opened leaves) = outcome-low (unopened_outcome (called name)) out out' err err' status (omega arith) leaves
 runs-low opens knows rest failures last_failed words asked host host' out out' err err' status (Runs.NoMemory job is opened fails) = omega (arith, fails.2)
 

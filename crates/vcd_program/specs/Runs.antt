@@ -46,10 +46,14 @@ EndsSo names asked before after last_failed out out' err err' status =
 pub data Leaves (due : List Input → Outcome) (want : Want) (limit : ℕ) (texts : List Text) (old new : List Supply) (out out' err err' : Device) (status : ℕ) : Type 0 where
   WithOutcome : (inputs : List Input) (read : AreRead (is_settled want) limit 65536 [] texts old new inputs) (needed : AreNeeded want limit 65536 old new inputs) (in_turn : AreInTurn want limit 65536 texts old new inputs out out') (leaves : IsOutcome (due inputs) out out' err err' status)
       → Leaves due want limit texts old new out out' err err' status
-  NoMemory : (inputs : List Input) (read : AreRead is_header_over limit 65536 [] texts old new inputs) (fails : Fails (codes "out of memory") out out' err err' status)
+  NoMemory : (inputs : List Input) (read : AreRead is_header_over limit 65536 [] texts old new inputs) (in_turn : AreInTurn want limit 65536 texts old new inputs out out') (fails : Fails (codes "out of memory") out out' err err' status)
       → Leaves due want limit texts old new out out' err err' status
 
 -- ---- what words leave that were parsed
+
+-- this token limit, or a lower one of at least 4,096 bytes
+abbrev pub IsLimitOf : (limit lower : ℕ) → Type 0
+IsLimitOf limit lower = (lower ≡ limit) ⊎ ((4096 ≤ lower) × (lower ≤ limit))
 
 -- what a program leaves whose words ask for these inputs, before it flushes
 pub data Runs {H I : Type 0} (opens : H → Option Text → Result I OpenFault → H → Type 0) (knows : I → Type 0) (rest : I → Option (List ℕ)) (failures : I → ℕ) (last_failed : I → Bool) (words : Option Words) (asked : List (Option Text)) (host host' : H) (out out' err err' : Device) (status : ℕ) : Type 0 where
@@ -58,12 +62,12 @@ pub data Runs {H I : Type 0} (opens : H → Option Text → Result I OpenFault �
       → Runs opens knows rest failures last_failed words asked host host' out out' err err' status
   -- all inputs were opened, and the job was run over them: it leaves the outcome of the words if the
   -- host is right about the lengths of all inputs; whatever their lengths, it leaves the outcome
-  -- under a token limit that may be lower, so that no input is cut short
+  -- under a token limit that may be lower, but not below 4,096, so that no input is cut short
   Ran : (want : Want) (limit : ℕ) (is : job_of words ≡ Ok (record { want = want; limit = limit })) (readers after : List I) (opened : Opens opens host asked readers host')
       (ends : EndsSo (map called asked) (names_wanted want) (map failures readers) (map failures after) (map last_failed after) out out' err err' status)
       (leaves : All knows readers → (texts : List Text) → map rest readers ≡ map (λ text. Some text) texts
       → Leaves (command_outcome words (map called asked)) want limit texts (map (supply rest failures) readers) (map (supply rest failures) after) out out' err err' status)
-      (lower : ℕ) (below : lower ≤ limit) (under : (texts : List Text) → map rest readers ≡ map (λ text. Some text) texts
+      (lower : ℕ) (near : IsLimitOf limit lower) (under : (texts : List Text) → map rest readers ≡ map (λ text. Some text) texts
       → Leaves (outcome want lower (map called asked)) want lower texts (map (supply rest failures) readers) (map (supply rest failures) after) out out' err err' status)
       → Runs opens knows rest failures last_failed words asked host host' out out' err err' status
   -- one of them cannot be opened

@@ -104,7 +104,7 @@ fn answer<W: Sink, E: Sink>(alloc: Global, error: &Error, out: &mut W, err: &mut
 /// Parses these arguments, the program's name first among them, does what they ask for, and returns
 /// the exit status. `host` opens the inputs, output goes to `out`, which is not flushed, and
 /// messages go to `err`.
-fn run_words<H: Host, W: Sink, E: Sink, B: BuildHasher>(
+fn parse_and_run<H: Host, W: Sink, E: Sink, B: BuildHasher>(
     alloc: Global,
     words: &[String],
     host: &mut H,
@@ -151,7 +151,7 @@ pub fn run_program<H: Host, W: Output, E: Sink, B: BuildHasher>(
         (W.device out.old) out_now (E.device err.old) err_now status)
         out.new (E.device err.new) result }
 {
-    let status = run_words(alloc, words, host, out, err, hasher);
+    let status = parse_and_run(alloc, words, host, out, err, hasher);
     let flushed = out.flush();
     if status < 3 && flushed.is_err() {
         return write_fault(err);

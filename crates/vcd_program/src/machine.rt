@@ -16,8 +16,8 @@ use vcd_text::{Sink, Source, Watch};
 use vcd_words::UseFault;
 use vcdkit::{Again, use_fault};
 
-/// A file of at most this length is read into buffers that are no longer. A longer file needs
-/// windows of this length anyway, which is the default token limit.
+/// The longest file whose length decides how long the windows are. A longer file needs windows of
+/// this length anyway, which is the default token limit.
 const MAX_SHORT_FILE: u64 = 1_048_576;
 
 /// Returns the length of a file with this metadata, if it is short. `None` if it is no regular
@@ -36,8 +36,7 @@ fn short_len(about: io::Result<Metadata>) -> Option<usize> {
 const STANDARD_INPUT: &str = "/proc/self/fd/0";
 
 /// A machine, where a process opens its files and finds its standard input. The host is proved over
-/// any machine, also over one that is wrong about lengths. So all that is not proved of the
-/// process's own machine is that `open` and `input` are what they say.
+/// any machine, also over one that is wrong about lengths.
 trait Machine {
     /// A file that is open.
     type File: Read + Drop;
@@ -76,8 +75,8 @@ trait Machine {
         ensures { knows_input input.now → GivesAtMost (Self.Input.remaining input.now) result };
 }
 
-/// The machine that the process runs on. No contract says which file or stream a call gives, or
-/// that a length is right: a file may grow while it is read.
+/// The machine that the process runs on. No contract says which file or stream a call returns, or
+/// that a length is right, since a file may grow while it is read.
 impl Machine for HostRuntime {
     type File = File;
 
@@ -204,6 +203,8 @@ fn words_of<R: Env + AllocGlobal>(rt: &R) -> Result<Vec<String>, UseFault<'stati
 /// Runs the program with these arguments over the inputs of this machine, and returns the exit
 /// status, as `run_program` does. Output goes to `out`, and messages go to `err`. If `is_seeded` is
 /// false, the machine gave no random numbers, and each read of an input fails.
+// A function of its own, so that it is proved over any machine: nothing is known of the process's
+// own.
 fn run_over<M: Machine, W: Output, E: Sink, B: BuildHasher>(
     alloc: Global,
     machine: &M,
@@ -226,7 +227,7 @@ fn run_over<M: Machine, W: Output, E: Sink, B: BuildHasher>(
 /// Runs the program with these arguments over the files, the standard input and the standard output
 /// of the process, and returns the exit status, as `run_program` does. Messages go to `err`. If
 /// `is_seeded` is false, the machine gave no random numbers, and each read of an input fails.
-fn run_words<E: Sink, B: BuildHasher>(
+fn run_to_stdout<E: Sink, B: BuildHasher>(
     rt: &HostRuntime,
     words: &[String],
     is_seeded: bool,
@@ -253,10 +254,10 @@ pub fn run_words_on_machine<E: Sink>(rt: &HostRuntime, words: &[String], err: &m
     ensures { result ≤ 3 }
 {
     match RandomState::new(rt) {
-        Ok(hasher) => run_words(rt, words, true, err, &hasher),
+        Ok(hasher) => run_to_stdout(rt, words, true, err, &hasher),
         Err(_) => {
             let hasher: BuildHasherDefault<FoldHasher> = BuildHasherDefault::new();
-            run_words(rt, words, false, err, &hasher)
+            run_to_stdout(rt, words, false, err, &hasher)
         }
     }
 }
@@ -264,13 +265,13 @@ pub fn run_words_on_machine<E: Sink>(rt: &HostRuntime, words: &[String], err: &m
 /// The highest descriptor of a standard stream.
 const MAX_STANDARD: i32 = 2;
 
-/// Opens the folder `/`, and returns it if it got the descriptor of a standard stream, which was
-/// closed then. `None` if all standard streams are open, or if the folder cannot be opened. Reads
-/// and writes of a folder fail, as they do on a closed stream.
+/// Opens the directory `/`, and returns it if it got the descriptor of a standard stream, which was
+/// closed then. `None` if all standard streams are open, or if the directory cannot be opened.
+/// Reads and writes of a directory fail, as they do on a closed stream.
 fn stand_in(rt: &HostRuntime) -> Option<File> {
-    let folder = File::open(rt, "/").ok()?;
-    if folder.as_raw_fd() <= MAX_STANDARD {
-        return Some(folder);
+    let directory = File::open(rt, "/").ok()?;
+    if directory.as_raw_fd() <= MAX_STANDARD {
+        return Some(directory);
     }
     None
 }
@@ -279,13 +280,22 @@ fn stand_in(rt: &HostRuntime) -> Option<File> {
 /// exit status, as `run_words_on_machine` does. It is 2 if an argument is not UTF-8, and 3 if there
 /// is no memory for the arguments; then a message goes to standard error.
 ///
+/// Messages wait in a buffer and are written at the end, in one write, so that those of programs
+/// that share a standard error do not mix. Only the message that there is no memory for this buffer
+/// is written in pieces.
+///
 /// The system gives a file that is opened the lowest free descriptor. If a standard stream is
-/// closed, that is its descriptor, so a folder is open there until the end (`stand_in`).
+/// closed, that is its descriptor, so a directory is open there until the end (`stand_in`).
 pub fn run_on_machine(rt: &HostRuntime) -> u8
     ensures { result ≤ 3 }
 {
     let _stand_ins = [stand_in(rt), stand_in(rt), stand_in(rt)];
-    let mut err = Watch::new(Again::new(rt.stderr()));
+    let Ok(mut err) = Buffered::new(rt.alloc(), Again::new(rt.stderr())) else {
+        return use_fault(
+            UseFault::OutOfMemory,
+            &mut Watch::new(Again::new(rt.stderr())),
+        );
+    };
     match words_of(rt) {
         Ok(words) => run_words_on_machine(rt, words.as_slice(), &mut err),
         Err(fault) => use_fault(fault, &mut err),

@@ -30,7 +30,7 @@ use Rattle.vcd_merge.specs.MergeRun.{AreReadOnTurn, HasEnded, ReadOnTurn}
 use Rattle.vcd_merge.specs.MergeRun.AreReadOnTurn.{OnTurn, Unread}
 use Rattle.vcd_merge.specs.Seat.{HasDump, Lane}
 use Rattle.vcd_words.specs.declared.job.Job.{Job}
-use Rattle.vcdkit.specs.Calls.{AreWithin, IsWithin, Narrows}
+use Rattle.vcdkit.specs.Calls.{AreWithin, IsLimitFor, Narrows}
 use Rattle.vcdkit.specs.Inputs.{AreBegun, IsBegun, IsWhy, Stops, headers_in}
 use Rattle.vcdkit.specs.Run.{AreInTurn, AreMergedInTurn, AreNeeded, AreRead, HasRun, IsOutcome, header_behind, known, settles_among}
 use Rattle.vcdkit.specs.Run.AreMergedInTurn.{InBodies, InHeaders}
@@ -286,8 +286,9 @@ run_within a b c d le want names texts old new out out' err err' status short (W
     WithOutcome inputs (read_within a b c d le (is_settled want) [] texts old new inputs short read) (all_within a b c d le old new inputs all want needed)
     (turns_within a b c d le texts old new inputs out out' short all want turns)
     (subst (λ (o : Outcome). IsOutcome o out out' err err' status) (same_outcome a b want names inputs all) leaves)
-run_within a b c d le want names texts old new out out' err err' status short (NoMemory inputs read written shown status_is) =
-    NoMemory inputs (read_within a b c d le is_header_over [] texts old new inputs short read) written shown status_is
+run_within a b c d le want names texts old new out out' err err' status short (NoMemory inputs read turns written shown status_is) =
+    let all = lefts_short a b c d le is_header_over [] texts old new inputs short read in
+    NoMemory inputs (read_within a b c d le is_header_over [] texts old new inputs short read) (turns_within a b c d le texts old new inputs out out' short all want turns) written shown status_is
 
 -- under one limit any texts will do
 pub same_limit : (limit : ℕ) (texts : List (List ℕ)) → AllByRecursion (IsShort limit limit) texts
@@ -300,7 +301,7 @@ same_limit limit (text ∷ texts) = (inl refl, same_limit limit texts)
 short_text : (longest : Option ℕ) (wide narrow : Job) (text : List ℕ) → Narrows longest wide narrow → IfSome longest (λ most. length text ≤ most) → IsShort narrow.limit wide.limit text
 short_text longest wide narrow text n within = by_limit n.limit
   where
-    by_limit : (narrow.limit ≡ wide.limit) ⊎ ((narrow.limit ≤ wide.limit) × IsWithin longest narrow.limit) → IsShort narrow.limit wide.limit text
+    by_limit : IsLimitFor longest wide.limit narrow.limit → IsShort narrow.limit wide.limit text
     by_limit (inl same) = inl same
     by_limit (inr less) =
         let few : length text ≤ less.1.0 = subst (λ (o : Option ℕ). IfSome o (λ most. length text ≤ most)) less.1.1 within in

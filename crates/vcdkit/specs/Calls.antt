@@ -65,9 +65,9 @@ AreWithin rest longest readers = IfSome longest (λ most. All (λ r. IfSome (res
 abbrev pub IsWithin : Option ℕ → ℕ → Type 0
 IsWithin longest limit = (most : ℕ) × (longest ≡ Some most) × (most ≤ limit)
 
--- the same limit; or a lower one, but not lower than a length that is known
+-- the same limit; or a lower one, but not lower than a length that is known, or than 4,096 bytes
 abbrev pub IsLimitFor : Option ℕ → (wide narrow : ℕ) → Type 0
-IsLimitFor longest wide narrow = (narrow ≡ wide) ⊎ ((narrow ≤ wide) × IsWithin longest narrow)
+IsLimitFor longest wide narrow = (narrow ≡ wide) ⊎ ((narrow ≤ wide) × IsWithin longest narrow × (4096 ≤ narrow))
 
 -- the same job, with windows that may be shorter, but not shorter than any token of inputs of this
 -- length

@@ -237,11 +237,12 @@ pub fn run_with_hasher<S: Source, W: Sink, E: Sink, B: BuildHasher>(
     }
 }
 
-/// How long a window is at least after it was shortened.
-const SHORTEST: usize = 64;
+/// How long a window is at least after it was shortened. Most tokens are no longer, so that a file
+/// may grow while it is read.
+const SHORTEST: usize = 4_096;
 
-/// Returns this job with buffers for chunk and token of at most `longest` bytes, or 64 if `longest`
-/// is less. If it is `None`, the job stays as it is.
+/// Returns this job with buffers for chunk and token of at most `longest` bytes, or 4,096 if
+/// `longest` is less. If it is `None`, the job stays as it is.
 fn narrowed(job: Job, longest: Option<usize>) -> Job
     ensures { Narrows longest job result }
 {
@@ -257,9 +258,10 @@ fn narrowed(job: Job, longest: Option<usize>) -> Job
 }
 
 /// Runs a job over the readers, and returns the exit status. `longest` is how many bytes each of
-/// them gives at most, if that is known: then the buffers are no longer than that, or than 64 bytes
-/// if it is less, so that a run over small inputs takes and clears less memory. What is written is
-/// the same. The other arguments, the output and the status are those of `run_with_hasher`.
+/// them gives at most, if that is known: then the buffers are no longer than that, or than 4,096
+/// bytes if it is less, so that a run over small inputs takes and clears less memory. What is
+/// written is the same. The other arguments, the output and the status are those of
+/// `run_with_hasher`.
 ///
 /// If a reader gives more than `longest` bytes, these are read too, but its tokens have to fit into
 /// the shorter buffers: a longer token is refused.

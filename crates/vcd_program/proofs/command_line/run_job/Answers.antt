@@ -7,7 +7,7 @@ use Rattle.vcd_host.specs.Opens.{called, text_of, Opens}
 use Rattle.vcd_host.specs.declared.opened.OpenStop.TheVariants as stop
 use Rattle.vcd_host.proofs.AskedLemmas.{asked-is}
 use Rattle.vcd_host.proofs.OpensLemmas.{opens-many}
-use Rattle.vcd_program.proofs.RunsLemmas.{below-limit, memory-shown, memory-stopped, merge-same, names-many, names-same, no-memory, ran, shown_once, stopped, within-known}
+use Rattle.vcd_program.proofs.RunsLemmas.{memory-shown, memory-stopped, merge-same, names-many, names-same, near-limit, no-memory, ran, shown_once, stopped, within-known}
 use Rattle.vcd_program.proofs.command_line.run_job.Goals as goal
 
 pub returns-in_default-clause-runs : goal.returns-in_default-clause-runs
@@ -45,7 +45,7 @@ returns-in-Ok-open_inputs-clause-runs g c =
     ran g.H.Host.opens g.H.Host.knows_length g.H.Input.Source.rest g.H.Input.Source.failures g.H.Input.Source.last_failed (words_used m) (inputs_asked m) c.args.host.now c.open_inputs.new.host (g.W.Sink.device c.args.out.now) (g.W.Sink.device c.run_within.new.out) (g.E.Sink.device c.args.err.now) (g.E.Sink.device c.run_within.new.err) c.run_within.result
     (model_want c.args.job.task) c.args.job.limit under.0 c.args.job.chunk (map string_bytes c.as_slice-in-Ok-open_inputs.result.now) (names_asked c.args.job.task) c.as_mut_slice.result.now c.run_within.new.readers
     c.requires.job c.requires.chunk (ap (map string_bytes) c.as_slice-in-Ok-open_inputs.ensures.value ∙ c.in-Ok-open_inputs.ensures.names ∙ ap (map called) named) (names-same c.args.job.task) opened_now c.run_within.ensures.ends
-    (λ known. c.run_within.ensures.gives (within-known g.H.Host.knows_length g.H.Input.Source.rest c.max_bytes_of_all-longest.result _ _ (c.as_mut_slice.ensures.value ∙ sym c.deref.ensures.value) c.max_bytes_of_all-longest.ensures known)) (below-limit _ _ _ under.1) under.2
+    (λ known. c.run_within.ensures.gives (within-known g.H.Host.knows_length g.H.Input.Source.rest c.max_bytes_of_all-longest.result _ _ (c.as_mut_slice.ensures.value ∙ sym c.deref.ensures.value) c.max_bytes_of_all-longest.ensures known)) (near-limit _ _ _ under.1) under.2
 
 pub returns-in-Err-Unopened-clause-runs : goal.returns-in-Err-Unopened-clause-runs
 returns-in-Err-Unopened-clause-runs g c =

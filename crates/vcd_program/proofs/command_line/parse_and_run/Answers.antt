@@ -3,7 +3,7 @@ use Rattle.clap.specs.Words.{HasMatchesOf, IsAmong, fault_of, is_simple_and_free
 use Rattle.clap.specs.declared.error.kind.ErrorKind.TheVariants as kind
 use Rattle.vcd_program.specs.Runs.{RunsOn}
 use Rattle.vcd_program.proofs.RunsLemmas.{memory-shown, shown_once, simple, writes-none}
-use Rattle.vcd_program.proofs.command_line.run_words.Goals as goal
+use Rattle.vcd_program.proofs.command_line.parse_and_run.Goals as goal
 
 pub returns-in_default-clause-runs : goal.returns-in_default-clause-runs
 returns-in_default-clause-runs g c = RunsOn.NoMatches kind.OutOfMemory (inl refl) (λ _. refl) refl (inr (writes-none (g.W.Sink.device _), memory-shown (g.E.Sink.device _) (g.E.Sink.device _) c.use_fault.ensures.line, c.use_fault.ensures.status))
