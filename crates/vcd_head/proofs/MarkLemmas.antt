@@ -1,8 +1,8 @@
 -- Marks that are set, one index after the other.
-use Rattle.std.proofs.Common.{◌≡◌, ℕ, ◌<◌, ◌≤◌, Bool, true, false, cond, ◌&&◌, ◌||◌, ◌==◌, flat_map, List, [], ◌∷◌, ◌++◌, length, map, take, set, IfSome, get_or, Option, Some, None, inl, inr, refl, sym, ap, subst, ◌∙◌, arith}
+use Rattle.std.proofs.Common.{◌≡◌, ◌⊎◌, ℕ, zero, suc, ◌<◌, ◌≤◌, Bool, true, false, cond, ◌&&◌, ◌||◌, ◌==◌, flat_map, List, [], ◌∷◌, ◌++◌, length, map, take, set, IfSome, get_or, Option, Some, None, inl, inr, refl, sym, ap, subst, ◌∙◌, arith}
 use Rattle.std.specs.List.{range_with_len}
-use Rattle.std.proofs.lemmas.Bool.{cases_eq, eq-eqb, ne_eqb}
-use Rattle.std.proofs.lemmas.List.{get_or-set_other, get_or-set_same, length-set}
+use Rattle.std.proofs.lemmas.Bool.{cases_eq, cases_lt, eq-eqb, ne_eqb}
+use Rattle.std.proofs.lemmas.List.{get_or-set_other, get_or-set_same, get_or_past, length-set}
 use Rattle.std.proofs.lemmas.List.FromFn.{fill_by_all}
 use Rattle.vcd_model.specs.Declarations.{Declaration, enclosing, parent, path_of}
 use Rattle.std.specs.List.{list_any}
@@ -10,9 +10,9 @@ use Rattle.std.proofs.lemmas.List.Folds.{list_any-append}
 use Rattle.vcd_model.specs.Backward.{each_after}
 use Rattle.vcd_model.specs.Bytes.{is_empty}
 use Rattle.vcd_model.specs.Selection.{is_among, is_selected, is_variable, marked_places, selects_path}
-use Rattle.vcd_head.specs.Marks.{AllMarked, Marked, scopes_at}
+use Rattle.vcd_head.specs.Marks.{AllMarked, AreClosed, Marked}
 use Rattle.vcd_view.specs.Views.{counted_from_one}
-use Rattle.vcd_view.proofs.ParentLemmas.{with_scopes, scopes_around}
+use Rattle.vcd_view.proofs.ParentLemmas.{around_some, around_none, parent_before, with_scopes, scopes_around}
 
 -- ---- indexes in a row
 
@@ -73,13 +73,6 @@ marked_first names ds marks = marked_none marks
 
 -- ---- scopes that are marked already
 
-pub around_is : (ds : List Declaration) (i : ℕ) → enclosing (take i ds) ≡ scopes_at ds (counted_from_one (parent (take i ds)))
-around_is ds i = scopes_around ds i ∙ by_parent (parent (take i ds))
-  where
-    by_parent : (o : Option ℕ) → with_scopes ds o ≡ scopes_at ds (counted_from_one o)
-    by_parent None = refl
-    by_parent (Some p) = refl
-
 -- to mark them again changes nothing
 marked_again : (positions marks : List ℕ) → AllMarked positions marks → Marked positions marks marks
 marked_again positions marks h = record { kept = refl; marks = λ i l. by_test (get_or marks i 0) (is_among positions i) (h i l) }
@@ -88,33 +81,64 @@ marked_again positions marks h = record { kept = refl; marks = λ i l. by_test (
     by_test x true f = f refl
     by_test x false f = refl
 
-pub marked_alone : (ds : List Declaration) (row n : ℕ) (marks : List ℕ) → row < length marks → n ≡ counted_from_one (parent (take row ds)) → AllMarked (scopes_at ds n) marks → Marked (row ∷ enclosing (take row ds)) marks (set marks row 1)
-marked_alone ds row n marks l e h =
-    subst (λ ps. Marked (row ∷ ps) marks (set marks row 1)) (sym (around_is ds row ∙ ap (scopes_at ds) (sym e)))
-    (moved (row ∷ scopes_at ds n) (marked_both (scopes_at ds n) (row ∷ []) marks marks (set marks row 1) (marked_again (scopes_at ds n) marks h) (marked_one marks row l)))
-  where
-    swap : (i : ℕ) → is_among (scopes_at ds n ++ row ∷ []) i ≡ is_among (row ∷ scopes_at ds n) i
-    swap i = among-append (scopes_at ds n) (row ∷ []) i ∙ either_way (is_among (scopes_at ds n) i) (i == row)
-      where
-        either_way : (a b : Bool) → (a || (b || false)) ≡ (b || a)
-        either_way true true = refl
-        either_way true false = refl
-        either_way false true = refl
-        either_way false false = refl
+-- a declaration that was marked before has nothing left to be marked
+pub marked_before : (ds : List Declaration) (p : ℕ) (old marks : List ℕ) → length marks ≡ length old → AreClosed ds old → get_or old p 0 ≡ 1 → ((i : ℕ) → get_or old i 0 ≡ 1 → get_or marks i 0 ≡ 1) → Marked (p ∷ enclosing (take p ds)) marks marks
+marked_before ds p old marks len closed one grown = marked_again (p ∷ enclosing (take p ds)) marks (λ i l among. elim (cases_eq i p) [
+  | inl e ↦ grown i (ap (λ k. get_or old k 0) e ∙ one)
+  | inr n ↦ grown i (closed p one i (omega (arith, l, len)) (subst (λ b. (b || is_among (enclosing (take p ds)) i) ≡ true) (ne_eqb i p n) among))
+])
 
-    moved : (ps : List ℕ) → Marked (scopes_at ds n ++ row ∷ []) marks (set marks row 1) → Marked (row ∷ scopes_at ds n) marks (set marks row 1)
-    moved ps m = record { kept = m.kept; marks = λ i q. m.marks i q ∙ ap (λ b. cond b 1 (get_or marks i 0)) (swap i) }
+none_among : (i : ℕ) → is_among [] i ≡ true → ⊥
+none_among i e = cc
 
--- those around a row that was marked with them
-pub now_marked : (ds : List Declaration) (row n : ℕ) (old new : List ℕ) → n ≡ counted_from_one (parent (take row ds)) → Marked (row ∷ enclosing (take row ds)) old new → AllMarked (scopes_at ds n) new
-now_marked ds row n old new e m = λ i l b.
-    let among : is_among (enclosing (take row ds)) i ≡ true = ap (λ ps. is_among ps i) (around_is ds row ∙ ap (scopes_at ds) (sym e)) ∙ b in
-    m.marks i (omega (arith, m.kept)) ∙ by_test (get_or old i 0) (i == row) (is_among (enclosing (take row ds)) i) among
+or_right : (a b : Bool) → b ≡ true → (a || b) ≡ true
+or_right true b e = refl
+or_right false b e = e
+
+-- the scopes around a scope around a row are around the row
+step_outwards : (ds : List Declaration) (row i j : ℕ) (o : Option ℕ) → parent (take row ds) ≡ o → is_among (row ∷ enclosing (take row ds)) i ≡ true → is_among (enclosing (take i ds)) j ≡ true
+    → ((p : ℕ) → p < row → is_among (p ∷ enclosing (take p ds)) i ≡ true → is_among (enclosing (take p ds)) j ≡ true) → is_among (enclosing (take row ds)) j ≡ true
+step_outwards ds row i j o e among inner outer = elim (cases_eq i row) [
+  | inl same ↦ subst (λ k. is_among (enclosing (take k ds)) j ≡ true) same inner
+  | inr n ↦ by_parent o e (subst (λ b. (b || is_among (enclosing (take row ds)) i) ≡ true) (ne_eqb i row n) among)
+]
   where
-    by_test : (x : ℕ) (a b : Bool) → b ≡ true → cond (a || b) 1 x ≡ 1
-    by_test x true b f = refl
-    by_test x false true f = refl
-    by_test x false false f = cc
+    by_parent : (q : Option ℕ) → parent (take row ds) ≡ q → is_among (enclosing (take row ds)) i ≡ true → is_among (enclosing (take row ds)) j ≡ true
+    by_parent None f a = absurd (none_among i (subst (λ ps. is_among ps i ≡ true) (around_none ds row f) a))
+    by_parent (Some p) f a =
+        let same = around_some ds row p f in
+        subst (λ ps. is_among ps j ≡ true) (sym same)
+        (or_right (j == p) (is_among (enclosing (take p ds)) j) (outer p (parent_before ds row p f) (subst (λ ps. is_among ps i ≡ true) same a)))
+
+around_within : (ds : List Declaration) (fuel row i j : ℕ) → row ≤ fuel → is_among (row ∷ enclosing (take row ds)) i ≡ true → is_among (enclosing (take i ds)) j ≡ true → is_among (enclosing (take row ds)) j ≡ true
+around_within ds zero row i j le among inner = step_outwards ds row i j (parent (take row ds)) refl among inner (λ p lt a. absurd (omega (arith, lt, le)))
+around_within ds (suc n) row i j le among inner = step_outwards ds row i j (parent (take row ds)) refl among inner (λ p lt a. around_within ds n p i j (omega (arith, lt, le)) a inner)
+
+-- after a row was marked, with the scopes around it
+pub closed_after : (ds : List Declaration) (row : ℕ) (old new : List ℕ) → AreClosed ds old → Marked (row ∷ enclosing (take row ds)) old new → AreClosed ds new
+closed_after ds row old new closed m i one j l inner = m.marks j (omega (arith, m.kept, l)) ∙ by_test (get_or old j 0) (is_among (row ∷ enclosing (take row ds)) j) (here (is_among (row ∷ enclosing (take row ds)) i) refl)
+  where
+    by_test : (x : ℕ) (b : Bool) → (b ≡ true) ⊎ (x ≡ 1) → cond b 1 x ≡ 1
+    by_test x true h = refl
+    by_test x false (inl e) = cc
+    by_test x false (inr e) = e
+
+    within : i < length old
+    within = elim (cases_lt i (length new)) [
+      | inl lt ↦ omega (arith, lt, m.kept)
+      | inr le ↦ absurd (omega (arith, one, get_or_past new i 0 le))
+    ]
+
+    here : (b : Bool) → is_among (row ∷ enclosing (take row ds)) i ≡ b → (is_among (row ∷ enclosing (take row ds)) j ≡ true) ⊎ (get_or old j 0 ≡ 1)
+    here true e = inl (or_right (j == row) (is_among (enclosing (take row ds)) j) (around_within ds row row i j (omega arith) e inner))
+    here false e = inr (closed i (sym (m.marks i within ∙ ap (λ b. cond b 1 (get_or old i 0)) e) ∙ one) j (omega (arith, m.kept, l)) inner)
+
+-- none is marked
+pub closed_zeros : (ds : List Declaration) (marks : List ℕ) → ((i : ℕ) → i < length marks → get_or marks i 0 ≡ 0) → AreClosed ds marks
+closed_zeros ds marks zeros i one = elim (cases_lt i (length marks)) [
+  | inl lt ↦ absurd (omega (arith, zeros i lt, one))
+  | inr le ↦ absurd (omega (arith, one, get_or_past marks i 0 le))
+]
 
 -- ---- names in two groups
 

@@ -16,9 +16,9 @@ use Rattle.vcd_text.proofs.Writes.{AppendsSome, appends-first, appends-some}
 use Rattle.vcd_view.specs.declared.view.Kind.TheVariants as kind
 use Rattle.vcd_view.specs.declared.view.Code.{Code}
 use Rattle.vcd_view.specs.declared.view.Row.{Row}
-use Rattle.vcd_view.specs.Shown.{HeadShown, text_in}
+use Rattle.vcd_view.specs.Shown.{HeadShown}
 use Rattle.vcd_view.specs.Views.{IsCode, IsRow, Views, code_text}
-use Rattle.vcd_view.proofs.RowLemmas.{rows_len, there, row_at, row_of, row_of_variable, text_within}
+use Rattle.vcd_view.proofs.RowLemmas.{rows_len, there, row_at, row_of, row_of_variable}
 use Rattle.vcd_view.proofs.ParentLemmas.{around_some, around_none}
 use Rattle.vcd_head.proofs.SelectionLemmas.{take-next}
 
@@ -60,18 +60,14 @@ some_reference s h i v views is =
 
 -- ---- a code
 
--- the code of a row, as it is read
-pub record CodeRead (text : List ℕ) (c : Code) (v : Variable) : Type 0 where
-  pub size_read : v.size ≡ c.size
-  pub bytes_read : text_in text c.start c.len ≡ v.code
-
-pub code_read : (s : HeadShown) (h : Header) (i : ℕ) (r : Row) (v : Variable) (c : Code) → Views s h → slice_get s.rows i ≡ Some r → slice_get h.declarations i ≡ Some (Declaration.Var v) → slice_get s.codes r.code ≡ Some c → CodeRead s.text c v
-code_read s h i r v c views at is code =
+-- its size, by the code of its row
+pub code_size : (s : HeadShown) (h : Header) (i : ℕ) (r : Row) (v : Variable) (c : Code) → Views s h → slice_get s.rows i ≡ Some r → slice_get h.declarations i ≡ Some (Declaration.Var v) → slice_get s.codes r.code ≡ Some c → v.size ≡ c.size
+code_size s h i r v c views at is code =
     let own = row_of_variable s h i r v views at is in
     let there = own.code_there in
     let same : own.code ≡ c = cc in
     let c_is = subst (λ (y : Code). IsCode s.text y (code_of v)) same own.code_is in
-    record { size_read = sym c_is.size_is; bytes_read = text_within s.text c.start c.len c_is.within ∙ c_is.text_is }
+    sym c_is.size_is
 
 pub code_there : (s : HeadShown) (h : Header) (i : ℕ) (r : Row) (v : Variable) → Views s h → slice_get s.rows i ≡ Some r → slice_get h.declarations i ≡ Some (Declaration.Var v) → slice_get s.codes r.code ≢ None
 code_there s h i r v views at is none = let there = (row_of_variable s h i r v views at is).code_there in cc

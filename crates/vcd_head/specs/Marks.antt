@@ -1,5 +1,5 @@
 -- Marks: which declarations a written header has.
-use Rattle.std.specs.Prelude.{true, zero, suc, [], ◌∷◌, take, get_or, ℕ, ◌==◌, Bool, cond, List, length, map, unwrap_or, slice_get, ◌≡◌, ◌<◌, slice_index, Some, None, Result, MatchResult}
+use Rattle.std.specs.Prelude.{true, ◌∷◌, take, get_or, ℕ, ◌==◌, Bool, cond, List, length, map, unwrap_or, slice_get, ◌≡◌, ◌<◌, slice_index, Some, None, Result, MatchResult}
 use Rattle.std.specs.List.{range_with_len}
 use Rattle.vcd_model.specs.Declarations.{Declaration, enclosing}
 use Rattle.vcd_model.specs.Header.{Header}
@@ -18,14 +18,13 @@ pub record Marked (positions old new : List ℕ) : Type 0 where
   pub kept : length new ≡ length old
   pub marks : (i : ℕ) → i < length old → slice_index new i ≡ cond (is_among positions i) 1 (slice_index old i)
 
--- a scope, counted from 1, and those around it
-abbrev pub scopes_at : List Declaration → ℕ → List ℕ
-scopes_at ds zero = []
-scopes_at ds (suc p) = p ∷ enclosing (take p ds)
-
--- the scope and those around it are marked
+-- the declarations at these indexes are marked
 abbrev pub AllMarked : List ℕ → List ℕ → Type 0
 AllMarked positions marks = (i : ℕ) → i < length marks → is_among positions i ≡ true → get_or marks i 0 ≡ 1
+
+-- the scopes around each marked declaration are marked
+abbrev pub AreClosed : List Declaration → List ℕ → Type 0
+AreClosed ds marks = (i : ℕ) → get_or marks i 0 ≡ 1 → AllMarked (enclosing (take i ds)) marks
 
 -- a row and the scopes around it
 abbrev pub row_and_scopes : Header → ℕ → List ℕ

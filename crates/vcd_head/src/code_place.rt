@@ -5,8 +5,8 @@ ghost use Rattle.vcd_head.specs.Names.{Enters, EntersKey, IsNewCode, Rises, code
 use crate::code_key::CodeKey;
 use crate::codes::{Codes, index_among, is_declared_as};
 use crate::fault::HeadFault;
-use crate::rising::{index_in_rising, last_of};
-use crate::rows::token_len;
+use crate::rising::{index_in_rising, last_rising};
+use crate::rows::{append, token_len};
 use std::alloc::Global;
 use vcd_view::{Code, code_in, key_of};
 
@@ -56,9 +56,9 @@ fn enter_key(alloc: Global, known: &mut Codes, bytes: &[u8]) -> Result<(usize, b
         → IfErr result (λ _. IsNewCode known.old bytes.now) }
 {
     let number = key_of(bytes);
-    if known.keys.is_empty() && number > last_of(&known.rising) {
+    if known.keys.is_empty() && number > last_rising(&known.rising) {
         let position = known.rising.len();
-        known.rising.push(number)?;
+        append(&mut known.rising, number)?;
         return Ok((position, true));
     }
     if let Some(position) = index_in_rising(&known.rising, number) {
@@ -114,11 +114,11 @@ fn add(
     let len = token_len(bytes.len())?;
     let start = text.len();
     text.extend_from_slice(bytes)?;
-    list.push(Code {
+    let code = Code {
         start,
         len,
         size,
         event,
-    })?;
-    Ok(())
+    };
+    append(list, code)
 }

@@ -26,22 +26,23 @@
 //!
 //! # The modules
 //!
-//! - `read`, `phrases`: the whole header; one phrase of it
-//! - `tokens`, `texts`, `words`: the next token; texts up to `$end`; tests of tokens
-//! - `scopes`, `variable`, `scale`: what a phrase says
-//! - `declarations`, `rows`, `code_place`: what declarations are checked for, and what becomes of
-//!   them: rows, and the index of a code
-//! - `draft`, `codes`, `rising`, `code_key`, `finish`: a header while it is read, its codes, the
-//!   numbers and the keys by which they are found; the head that it becomes
-//! - `head`, `fault`: `Head`; `HeadFault`
-//! - `entries`, `index`: how the entries are filled; the order of the codes by their bytes
-//! - `enclosing`, `path`: the scopes around a declaration, outermost first; paths
-//! - `selection`, `inside`, `names`: which variables names select; the names that continue inside
-//!   open scopes; names in the order of their bytes
-//! - `write`: headers as they are written
-//! - `moment`: `ticks`, a time with a unit in ticks of the header's scale
-//! - `merged`: the header of a merged dump
-//! - `laws`: each function has a law over headers and codes as its contract
+//! The `mod` lines below are in the same groups.
+//!
+//! - The grammar, and the draft that it fills: `read`, the whole header; `phrases`, one phrase of
+//!   it; `tokens`, `texts` and `words`, the next token, texts up to `$end` and tests of tokens;
+//!   `scale`, `scopes` and `variable`, what a phrase says; `declarations` and `rows`, what may be
+//!   declared and what is kept of it; `draft`, a header while it is read; `finish`, the head that
+//!   it becomes; `head` and `fault`, the results
+//! - Codes of the draft: `codes`, the list; `rising` and `code_key`, the numbers and the keys by
+//!   which they are found; `code_place`, the index of a variable's code
+//! - Look-up in the head: `entries`, how the entries are filled; `index`, the order of the codes by
+//!   their bytes
+//! - Scopes around a declaration: `enclosing`, outermost first; `path`, the path of a variable
+//! - Selection: `selection`, which variables names select; `inside`, the names that continue inside
+//!   open scopes; `names`, names in the order of their bytes
+//! - Writing: `write`, headers as they are written; `merged`, the header of a merged dump
+//! - Ticks: `moment`, a time with a unit in ticks of the header's scale
+//! - Theorems: `laws`. Each function there has a law over headers and codes as its contract
 //!
 //! In `specs/` callers read `Shown`, `Reads` (`ReadsHead`), `Written`, `Fault`, `Marks`, `Merged`
 //! and `Moments`; of the view `Views`, `ViewShown`, `Over`, `Finds`, `Needs` and `NewCode`; and the
@@ -57,35 +58,50 @@
 //! the marks if a name selects nothing.
 #![tactic(auto)]
 
-mod code_key;
-mod code_place;
-mod codes;
+// The grammar, and the draft that it fills.
 mod declarations;
 mod draft;
-mod enclosing;
-mod entries;
 mod fault;
 mod finish;
 mod head;
-mod index;
-mod inside;
-pub mod laws;
-mod merged;
-mod moment;
-mod names;
-mod path;
 mod phrases;
 mod read;
-mod rising;
 mod rows;
 mod scale;
 mod scopes;
-mod selection;
 mod texts;
 mod tokens;
 mod variable;
 mod words;
+
+// Codes of the draft.
+mod code_key;
+mod code_place;
+mod codes;
+mod rising;
+
+// Look-up in the head.
+mod entries;
+mod index;
+
+// Scopes around a declaration.
+mod enclosing;
+mod path;
+
+// Selection.
+mod inside;
+mod names;
+mod selection;
+
+// Writing.
+mod merged;
 mod write;
+
+// Ticks.
+mod moment;
+
+// Theorems.
+pub mod laws;
 
 pub use fault::HeadFault;
 pub use head::Head;

@@ -79,8 +79,8 @@ pub fn ticks(view: HeadView<'_>, moment: Moment, up: bool) -> Result<u64, TickFa
 fn unit_ticks(number: u64, unit: i8, tick: i8, up: bool) -> Option<u64>
     ensures { SomeIff result (ticks number unit tick up < 2 ^ 64) (ticks number unit tick up) }
 {
-    let unit = power_of(unit);
-    let tick = power_of(tick);
+    let unit = in_femtoseconds(unit);
+    let tick = in_femtoseconds(tick);
     if tick <= unit {
         multiplied(number, unit - tick)
     } else if up {
@@ -95,7 +95,7 @@ const FEMTOSECOND: i8 = -15;
 
 /// Returns how far `exponent` is from -15: the power of ten in femtoseconds, if `exponent` is one
 /// in seconds.
-fn power_of(exponent: i8) -> u8
+fn in_femtoseconds(exponent: i8) -> u8
     ensures { result ≡ nat_abs (exponent +ℤ pos 15) }
 {
     exponent.abs_diff(FEMTOSECOND)

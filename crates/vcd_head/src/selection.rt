@@ -1,6 +1,6 @@
 //! Selection of variables by their paths (profile).
 ghost use Rattle.std.specs.Prelude.{◌≡◌, ◌≢◌, false, ◌+◌, ◌<◌, ◌≤◌, ◌∷◌, ◌++◌, ℕ, List, take, length, map, string_bytes, [], IfOk, IfSome};
-ghost use Rattle.vcd_head.specs.Names.{AllMarked, AnyDeclared, AnyHeader, AnyRow, AnyVariable, Declaration, GoesOnAfter, Header, IsFirstFalse, IsViewOf, Marked, RefusesUnmatched, counted_from_one, first_unmatched, is_variable, marked_places, marks_of, parent, row_and_scopes, row_path, scopes_at, selects_after, selects_path};
+ghost use Rattle.vcd_head.specs.Names.{AnyDeclared, AnyHeader, AnyRow, AnyVariable, AreClosed, Declaration, GoesOnAfter, Header, IsFirstFalse, IsViewOf, Marked, RefusesUnmatched, first_unmatched, is_variable, marked_places, marks_of, row_and_scopes, row_path, selects_after, selects_path};
 
 use crate::enclosing::Enclosing;
 use crate::inside::{Inside, MAX_OPEN, Open};
@@ -65,48 +65,21 @@ pub fn selects(view: HeadView<'_>, row: usize, name: &str) -> bool
 }
 
 /// Sets the elements of the declaration at index `row` and of each scope around it to 1 in `marks`,
-/// which has one byte for each row.
+/// which has one byte for each row. It stops at the first one that is 1 already, because the scopes
+/// around it are marked too.
 fn mark(view: HeadView<'_>, row: usize, marks: &mut [u8])
     requires { row < length marks.old }
-    ensures { AnyRow view.entry row (λ h. Marked (row_and_scopes h row) marks.old marks.new) }
-{
-    let mut next = Some(row);
-    while let Some(marked) = next {
-        marks[marked] = 1;
-        next = view.scope_of(marked);
-    }
-}
-
-/// Sets the elements of the declaration at index `row` and of the scopes around it to 1 in `marks`,
-/// which has one byte for each row. Returns 1 plus the index of the row of the scope directly
-/// around it, or 0 if there is none. `marked` is such a number: of a scope that is already marked
-/// together with those around it, or 0.
-fn mark_row(view: HeadView<'_>, row: usize, marked: usize, marks: &mut [u8]) -> usize
-    requires { row < length marks.old }
-    ensures marks { AnyRow view.entry row (λ h. AllMarked (scopes_at h.declarations marked) marks.old
+    ensures marks { AnyRow view.entry row (λ h. AreClosed h.declarations marks.old
         → Marked (row_and_scopes h row) marks.old marks.new) }
-    ensures around { AnyRow view.entry row (λ h. AllMarked (scopes_at h.declarations marked) marks.old
-        → AllMarked (scopes_at h.declarations result) marks.new) }
     ensures len { length marks.new ≡ length marks.old }
 {
-    let parent = parent_of(view, row);
-    if parent == marked {
-        marks[row] = 1;
-    } else {
-        mark(view, row, marks);
-    }
-    parent
-}
-
-/// Returns 1 plus the index of the row of the scope directly around the declaration at index `row`,
-/// or 0 if there is no such scope or row.
-fn parent_of(view: HeadView<'_>, row: usize) -> usize
-    ensures { (h : Header) → IsViewOf view.entry h → row < length h.declarations
-        → result ≡ counted_from_one (parent (take row h.declarations)) }
-{
-    match view.row_at(row) {
-        Some(declared) => declared.parent as usize,
-        None => 0,
+    let mut next = Some(row);
+    while let Some(declared) = next {
+        if marks[declared] == 1 {
+            return;
+        }
+        marks[declared] = 1;
+        next = view.scope_of(declared);
     }
 }
 
@@ -115,15 +88,13 @@ fn parent_of(view: HeadView<'_>, row: usize) -> usize
 // It needs no names in order, and so not their 88 KB of stack.
 fn mark_all(view: HeadView<'_>, marks: &mut [u8])
     requires { length marks.old ≡ length view.rows.now }
-    ensures marks { (h : Header) → IsViewOf view.entry h
+    ensures marks { (h : Header) → IsViewOf view.entry h → AreClosed h.declarations marks.old
         → Marked (marked_places [] h.declarations) marks.old marks.new }
     ensures len { length marks.new ≡ length marks.old }
 {
-    // As in `mark_selected`.
-    let mut marked = 0;
     for row in 0..view.rows.len() {
         if is_variable(view, row) {
-            marked = mark_row(view, row, marked, marks);
+            mark(view, row, marks);
         }
     }
 }
@@ -150,8 +121,10 @@ fn is_variable(view: HeadView<'_>, row: usize) -> bool
 fn mark_selected(view: HeadView<'_>, names: &[String], marks: &mut [u8]) -> Option<usize>
     requires len { length marks.old ≡ length view.rows.now }
     requires few { length names.now ≤ 16384 }
-    ensures marks { (h : Header) → IsViewOf view.entry h
+    ensures marks { (h : Header) → IsViewOf view.entry h → AreClosed h.declarations marks.old
         → Marked (marked_places (map string_bytes names.now) h.declarations) marks.old marks.new }
+    ensures closed { (h : Header) → IsViewOf view.entry h → AreClosed h.declarations marks.old
+        → AreClosed h.declarations marks.new }
     ensures names { (h : Header) → IsViewOf view.entry h
         → result ≡ first_unmatched (map string_bytes names.now) h.declarations }
     ensures within { IfSome result (λ position. position < length names.now) }
@@ -163,11 +136,9 @@ fn mark_selected(view: HeadView<'_>, names: &[String], marks: &mut [u8]) -> Opti
     let mut inside = [Inside::outermost(&group); MAX_OPEN];
     let mut open = Open::new(&group, &mut inside);
     let mut matched = [false; GROUP_NAMES];
-    // 1 plus the row of a scope that is marked, with those around it; 0 before.
-    let mut marked = 0;
     for row in 0..view.rows.len() {
         if open.take(view, row, &group, &mut matched) {
-            marked = mark_row(view, row, marked, marks);
+            mark(view, row, marks);
         }
     }
     first_false(&matched, names.len())

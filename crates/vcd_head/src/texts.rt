@@ -23,6 +23,7 @@ pub(crate) fn skip_to_end<S: Source>(feed: &mut Feed<'_, '_, '_, '_, S>) -> Resu
 
 /// Reads tokens up to and with the next `$end`, and appends those before it to the text, a space
 /// before each. Fails if there is no `$end`, if a token cannot be read, or if there is no memory.
+#[inline(always)]
 pub(crate) fn append_to_end<S: Source>(
     feed: &mut Feed<'_, '_, '_, '_, S>,
     text: &mut Vec<u8>,

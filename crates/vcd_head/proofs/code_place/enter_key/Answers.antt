@@ -11,11 +11,11 @@ no_items : {X : Type 0} (xs : List X) → length xs ≡ 0 → xs ≡ []
 no_items [] e = refl
 no_items (x ∷ xs) e = absurd (omega (arith, e))
 
-pub returns-then-number-last_of-clause-enters : goal.returns-then-number-last_of-clause-enters
-returns-then-number-last_of-clause-enters c = λ h.
+pub returns-then-number-last_rising-clause-enters : goal.returns-then-number-last_rising-clause-enters
+returns-then-number-last_rising-clause-enters c = λ h.
     let none : c.args.known.now.keys.keys ≡ [] = no_items c.args.known.now.keys.keys (omega arith) in
-    let last : c.last_of.result ≡ last_in 0 c.args.known.now.rising.items = c.last_of.ensures ∙ last_is c.deref.result.now ∙ ap (last_in 0) c.deref.ensures.value in
-    enters_number c.args.bytes.now c.args.known.now _ refl h c.key_of-number.result c.len-position.result c.key_of-number.ensures none none c.in_ok-push.ensures.items (omega (arith, last)) (omega arith)
+    let last : c.last_rising.result ≡ last_in 0 c.args.known.now.rising.items = c.last_rising.ensures ∙ last_is c.deref.result.now ∙ ap (last_in 0) c.deref.ensures.value in
+    enters_number c.args.bytes.now c.args.known.now _ refl h c.key_of-number.result c.len-position.result c.key_of-number.ensures none none c.in_ok-append.ensures.items (omega (arith, last)) (omega arith)
 
 pub returns-in-Some-clause-enters : goal.returns-in-Some-clause-enters
 returns-in-Some-clause-enters c = λ h.
@@ -28,11 +28,11 @@ returns-clause-enters c = λ h.
     let none : position (nat_eq (key_in c.args.bytes.now)) c.args.known.now.rising.items ≡ None = found ∙ sym (c.index_in_rising.ensures (subst Rises (sym c.deref-2.ensures.value) h)) ∙ c.in_default.is in
     c.enter_in_set.ensures.enters h (none_there (nat_eq (key_in c.args.bytes.now)) c.args.known.now.rising.items none)
 
-pub returns-in_err-push-clause-refused : goal.returns-in_err-push-clause-refused
-returns-in_err-push-clause-refused c = λ h.
+pub returns-in_err-append-clause-refused : goal.returns-in_err-append-clause-refused
+returns-in_err-append-clause-refused c = λ h.
     let xs = c.args.known.now.rising.items in
     let none : c.args.known.now.keys.keys ≡ [] = no_items c.args.known.now.keys.keys (omega arith) in
-    let last : c.last_of.result ≡ last_in 0 xs = c.last_of.ensures ∙ last_is c.deref.result.now ∙ ap (last_in 0) c.deref.ensures.value in
+    let last : c.last_rising.result ≡ last_in 0 xs = c.last_rising.ensures ∙ last_is c.deref.result.now ∙ ap (last_in 0) c.deref.ensures.value in
     let absent = none_keyed c.args.bytes.now xs c.args.known.now.keys.keys (none_above 0 (key_in c.args.bytes.now) xs h (omega (arith, last))) ∙ ap (list_any (is_key c.args.bytes.now)) none in
     let p = err_from_is_err_and c.from_residual.result c.from_residual.ensures.1 in
     rw p.1 (λ _. absent)

@@ -2,8 +2,8 @@ use Rattle.std.proofs.Common.{Ok, Err, sym, arith}
 use Rattle.vcd_head.proofs.RisingLemmas.{last_is, place_above, place_searched}
 use Rattle.vcd_head.proofs.rising.index_in_rising.Goals as goal
 
-pub returns-then-number-last_of : goal.returns-then-number-last_of
-returns-then-number-last_of c = λ h. sym (place_above c.args.number c.args.rising.now h (omega (arith, last_is c.args.rising.now, c.last_of.ensures)))
+pub returns-then-number-last_rising : goal.returns-then-number-last_rising
+returns-then-number-last_rising c = λ h. sym (place_above c.args.number c.args.rising.now h (omega (arith, last_is c.args.rising.now, c.last_rising.ensures)))
 
 pub returns-in-Ok : goal.returns-in-Ok
 returns-in-Ok c = λ h. sym (place_searched c.args.number c.args.rising.now (Ok c.in-Ok.position) h c.in-Ok.ensures.position)

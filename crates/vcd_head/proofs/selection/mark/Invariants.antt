@@ -1,4 +1,4 @@
-use Rattle.std.proofs.Common.{◌≤◌, ◌<◌, List, ℕ, suc, ◌∷◌, length, take}
+use Rattle.std.proofs.Common.{◌≡◌, ◌≤◌, ◌<◌, List, ℕ, suc, ◌∷◌, get_or, length, take}
 use Rattle.vcd_model.specs.Declarations.{enclosing}
 use Rattle.vcd_model.specs.Header.{Header}
 use Rattle.vcd_head.specs.Marks.{Marked}
@@ -10,6 +10,8 @@ use Rattle.vcd_head.proofs.selection.mark.Given as goal
 abbrev pub invariant-loop-next : goal.invariant-loop-next
 invariant-loop-next l = record {
   within : counted_from_one l.next ≤ suc l.row;
+  same : (i : ℕ) → i < counted_from_one l.next → get_or l.marks i 0 ≡ get_or l.initial.marks i 0;
+  grown : (i : ℕ) → get_or l.initial.marks i 0 ≡ 1 → get_or l.marks i 0 ≡ 1;
   left : (h : Header) (new : List ℕ) → Views (parts l.view) h → l.row < length h.declarations → Marked (with_scopes h.declarations l.next) l.marks new → Marked (l.row ∷ enclosing (take l.row h.declarations)) l.initial.marks new;
 }
 

@@ -1,13 +1,13 @@
 use Rattle.std.proofs.Common.{[], take}
 use Rattle.vcd_model.specs.Header.{Header}
 use Rattle.vcd_model.specs.Selection.{marked_places}
-use Rattle.vcd_head.specs.Marks.{AllMarked, Marked, scopes_at}
+use Rattle.vcd_head.specs.Marks.{AreClosed, Marked}
 use Rattle.vcd_view.specs.Shown.{parts}
 use Rattle.vcd_view.specs.Views.{Views}
 use Rattle.vcd_head.proofs.selection.mark_all.Given as goal
 
 abbrev pub invariant-loop-row : goal.invariant-loop-row
 invariant-loop-row l = record {
-  marks : (h : Header) → Views (parts l.view) h → Marked (marked_places [] (take l.row h.declarations)) l.initial.marks l.marks;
-  around : (h : Header) → Views (parts l.view) h → AllMarked (scopes_at h.declarations l.marked) l.marks;
+  marks : (h : Header) → Views (parts l.view) h → AreClosed h.declarations l.initial.marks → Marked (marked_places [] (take l.row h.declarations)) l.initial.marks l.marks;
+  closed : (h : Header) → Views (parts l.view) h → AreClosed h.declarations l.initial.marks → AreClosed h.declarations l.marks;
 }

@@ -2,11 +2,11 @@ use Rattle.std.proofs.Common.{[], ◌∷◌, map, take, length, string_bytes, fa
 use Rattle.std.proofs.lemmas.List.{length-map, take_all}
 use Rattle.vcd_model.specs.Declarations.{enclosing}
 use Rattle.vcd_model.specs.Selection.{is_selected, marked_places}
-use Rattle.vcd_head.specs.Marks.{AllMarked, Marked, scopes_at}
+use Rattle.vcd_head.specs.Marks.{AreClosed, Marked}
 use Rattle.vcd_head.specs.Matched.{HaveMatched, Matched}
 use Rattle.vcd_head.specs.NameOrder.{IsOrder}
 use Rattle.vcd_view.proofs.RowLemmas.{rows_len}
-use Rattle.vcd_head.proofs.MarkLemmas.{marked_both, marked_first}
+use Rattle.vcd_head.proofs.MarkLemmas.{closed_after, marked_both, marked_first}
 use Rattle.vcd_head.proofs.MatchLemmas.{first_is, first_within, matched_next, none_matched}
 use Rattle.vcd_head.proofs.OrderLemmas.{read_same}
 use Rattle.vcd_head.proofs.SelectionLemmas.{marks_more, marks_same}
@@ -15,11 +15,11 @@ use Rattle.vcd_head.proofs.selection.mark_selected.Goals.{then-take, else-take}
 use Rattle.vcd_view.proofs.ListLemmas.{there}
 
 pub loop-row-init : goal.loop-row-init
-loop-row-init c = record { marks = λ h v. marked_first (map string_bytes c.args.names.now) h.declarations c.args.marks.now; around = λ h v i l b. cc; matched = λ h v. none_matched (map string_bytes c.args.names.now) h.declarations 16384 (omega (arith, length-map c.args.names.now string_bytes)); held = λ h v. c.new-open.ensures h _ (subst (λ ns. IsOrder (map string_bytes ns) c.new-group.result.order.now) (sym c.new-group.ensures.names) (subst (IsOrder (map string_bytes c.args.names.now)) (sym c.new-group.ensures.order) c.put_names.ensures)) (λ p q name a b. read_same false 16384 p ∙ sym (read_same false 16384 q)) }
+loop-row-init c = record { marks = λ h v closed. marked_first (map string_bytes c.args.names.now) h.declarations c.args.marks.now; closed = λ h v closed. closed; matched = λ h v. none_matched (map string_bytes c.args.names.now) h.declarations 16384 (omega (arith, length-map c.args.names.now string_bytes)); held = λ h v. c.new-open.ensures h _ (subst (λ ns. IsOrder (map string_bytes ns) c.new-group.result.order.now) (sym c.new-group.ensures.names) (subst (IsOrder (map string_bytes c.args.names.now)) (sym c.new-group.ensures.order) c.put_names.ensures)) (λ p q name a b. read_same false 16384 p ∙ sym (read_same false 16384 q)) }
 
 pub loop-row-preserved : goal.loop-row-preserved
 loop-row-preserved c = record {
-  marks = λ h v.
+  marks = λ h v closed.
       let ds = h.declarations in
       let names = map string_bytes c.args.names.now in
       let row = c.loop-row.row in
@@ -29,19 +29,18 @@ loop-row-preserved c = record {
       let selected = c.take.ensures.selected h d.0 v d.1 (c.loop-row.invariant.held h v) ∙ ap (λ ns. is_selected (map string_bytes ns) (take row ds) d.0) c.new-group.ensures.names in
       elim c.if-take.branch [
         | then-take w ↦
-            let more = subst (Marked (row ∷ enclosing (take row ds)) c.loop-row.marks) (sym w.marks-is) (w.mark_row-marked.ensures.marks h v (omega (arith, rows)) (c.loop-row.invariant.around h v)) in
+            let more = subst (Marked (row ∷ enclosing (take row ds)) c.loop-row.marks) (sym w.marks-is) (w.mark.ensures.marks h v (omega (arith, rows)) (c.loop-row.invariant.closed h v closed)) in
             subst (λ ps. Marked ps zeros c.if-take.marks) (sym (marks_more names ds row d.0 d.1 (sym selected ∙ w.if-take.true)))
-            (marked_both (marked_places names (take row ds)) (row ∷ enclosing (take row ds)) zeros c.loop-row.marks c.if-take.marks (c.loop-row.invariant.marks h v) more)
+            (marked_both (marked_places names (take row ds)) (row ∷ enclosing (take row ds)) zeros c.loop-row.marks c.if-take.marks (c.loop-row.invariant.marks h v closed) more)
         | else-take w ↦
             subst (λ ps. Marked ps zeros c.if-take.marks) (sym (marks_same names ds row d.0 d.1 (sym selected ∙ w.if-take.false)))
-            (subst (Marked (marked_places names (take row ds)) zeros) (sym w.marks-is) (c.loop-row.invariant.marks h v))
+            (subst (Marked (marked_places names (take row ds)) zeros) (sym w.marks-is) (c.loop-row.invariant.marks h v closed))
       ];
-  around = λ h v.
-      let ds = h.declarations in
+  closed = λ h v closed.
       let rows = rows_len c.args.view.text.now h.codes [] c.args.view.rows.now h.declarations v.rows in
       elim c.if-take.branch [
-        | then-take w ↦ subst (λ n. AllMarked (scopes_at ds n) c.if-take.marks) (sym w.marked-is) (subst (AllMarked (scopes_at ds w.mark_row-marked.result)) (sym w.marks-is) (w.mark_row-marked.ensures.around h v (omega (arith, rows)) (c.loop-row.invariant.around h v)))
-        | else-take w ↦ subst (λ n. AllMarked (scopes_at ds n) c.if-take.marks) (sym w.marked-is) (subst (AllMarked (scopes_at ds c.loop-row.marked)) (sym w.marks-is) (c.loop-row.invariant.around h v))
+        | then-take w ↦ subst (AreClosed h.declarations) (sym w.marks-is) (closed_after h.declarations c.loop-row.row c.loop-row.marks w.mark.new.marks (c.loop-row.invariant.closed h v closed) (w.mark.ensures.marks h v (omega (arith, rows)) (c.loop-row.invariant.closed h v closed)))
+        | else-take w ↦ subst (AreClosed h.declarations) (sym w.marks-is) (c.loop-row.invariant.closed h v closed)
       ];
   matched = λ h v.
       let ds = h.declarations in
@@ -54,11 +53,11 @@ loop-row-preserved c = record {
 }
 
 pub returns-clause-marks : goal.returns-clause-marks
-returns-clause-marks c = λ h v.
+returns-clause-marks c = λ h v closed.
     let ds = h.declarations in
     let names = map string_bytes c.args.names.now in
     let rows = rows_len c.args.view.text.now h.codes [] c.args.view.rows.now h.declarations v.rows in
-    subst (λ l. Marked (marked_places names l) c.args.marks.now c.loop-row.marks) (take_all c.loop-row.row ds (omega (arith, rows))) (c.loop-row.invariant.marks h v)
+    subst (λ l. Marked (marked_places names l) c.args.marks.now c.loop-row.marks) (take_all c.loop-row.row ds (omega (arith, rows))) (c.loop-row.invariant.marks h v closed)
 
 pub returns-clause-names : goal.returns-clause-names
 returns-clause-names c = λ h v.

@@ -2,7 +2,7 @@ use Rattle.std.proofs.Common.{map, take, string_bytes}
 use Rattle.vcd_model.specs.Header.{Header}
 use Rattle.vcd_model.specs.Selection.{marked_places}
 use Rattle.vcd_head.specs.Inside.{AreOpen}
-use Rattle.vcd_head.specs.Marks.{AllMarked, Marked, scopes_at}
+use Rattle.vcd_head.specs.Marks.{AreClosed, Marked}
 use Rattle.vcd_head.specs.Matched.{HaveMatched}
 use Rattle.vcd_view.specs.Shown.{parts}
 use Rattle.vcd_view.specs.Views.{Views}
@@ -10,8 +10,8 @@ use Rattle.vcd_head.proofs.selection.mark_selected.Given as goal
 
 abbrev pub invariant-loop-row : goal.invariant-loop-row
 invariant-loop-row l = record {
-  marks : (h : Header) → Views (parts l.view) h → Marked (marked_places (map string_bytes l.names) (take l.row h.declarations)) l.initial.marks l.marks;
-  around : (h : Header) → Views (parts l.view) h → AllMarked (scopes_at h.declarations l.marked) l.marks;
+  marks : (h : Header) → Views (parts l.view) h → AreClosed h.declarations l.initial.marks → Marked (marked_places (map string_bytes l.names) (take l.row h.declarations)) l.initial.marks l.marks;
+  closed : (h : Header) → Views (parts l.view) h → AreClosed h.declarations l.initial.marks → AreClosed h.declarations l.marks;
   matched : (h : Header) → Views (parts l.view) h → HaveMatched (map string_bytes l.names) (take l.row h.declarations) l.matched;
   held : (h : Header) → Views (parts l.view) h → AreOpen h (map string_bytes l.group.names.now) l.group.order.now l.matched l.open;
 }

@@ -5,7 +5,7 @@ use Rattle.vcd_model.specs.Selection.{first_unmatched, marked_places}
 use Rattle.vcd_head.specs.Marks.{Marked, marks_of}
 use Rattle.vcd_view.proofs.RowLemmas.{rows_len}
 use Rattle.vcd_head.proofs.InsideLemmas.{take_group, some_taken, some_grouped}
-use Rattle.vcd_head.proofs.MarkLemmas.{marked_all, marked_group}
+use Rattle.vcd_head.proofs.MarkLemmas.{closed_zeros, marked_all, marked_group}
 use Rattle.vcd_head.proofs.MatchLemmas.{unmatched_first, unmatched_later}
 use Rattle.vcd_head.proofs.selection.select.Goals as goal
 
@@ -23,12 +23,13 @@ loop-done-preserved c =
           let now = sym (c.mark_selected-in-loop-done.ensures.names h v) ∙ c.in_default-mark_selected.is in
           ap (λ l. first_unmatched l ds) (ap (map string_bytes) (take_group from to names (omega arith) (omega arith)) ∙ map-append string_bytes (take from names) (slice_range names from to))
           ∙ unmatched_later (map string_bytes (take from names)) (map string_bytes (slice_range names from to)) ds None (c.loop-done.invariant.matched h v) (sym now);
-      marks = λ h zeros v first.
+      closed = λ h v closed. c.mark_selected-in-loop-done.ensures.closed h v (c.loop-done.invariant.closed h v closed);
+      marks = λ h zeros v closed first.
           let split = ap (map string_bytes) (take_group from to names (omega arith) (omega arith)) ∙ map-append string_bytes (take from names) (slice_range names from to) in
           subst (λ l. Marked (marked_places l h.declarations) zeros c.mark_selected-in-loop-done.new.marks) (sym split)
           (marked_group (map string_bytes (take from names)) (map string_bytes (slice_range names from to)) h.declarations zeros c.loop-done.marks c.mark_selected-in-loop-done.new.marks
           (some_taken string_bytes from names (c.loop-done.invariant.some c.loop-done-test.true) (omega arith)) (some_grouped string_bytes from to names (omega arith) (omega arith))
-          (c.loop-done.invariant.marks h zeros v first) (c.mark_selected-in-loop-done.ensures.marks h v));
+          (c.loop-done.invariant.marks h zeros v closed first) (c.mark_selected-in-loop-done.ensures.marks h v (c.loop-done.invariant.closed h v closed)));
     }
 
 no_element : {X : Type 0} (xs : List X) → (length xs == 0) ≡ true → xs ≡ []
@@ -43,7 +44,7 @@ returns-then-is_empty-clause-marks c = λ h v.
     let rows = rows_len c.args.view.text.now h.codes [] c.args.view.rows.now h.declarations v.rows in
     let none = no_element c.args.names.now (sym c.is_empty.ensures ∙ c.if-is_empty.true) in
     subst (λ ns. c.mark_all.new.marks ≡ marks_of (map string_bytes ns) ds) (sym none)
-    (marked_all (marked_places [] ds) zeros c.mark_all.new.marks (length ds) (omega (arith, rows, c.fill.ensures.len)) (λ i l. c.fill.ensures.clones i 0 (omega (arith, rows)) refl) (c.mark_all.ensures.marks h v))
+    (marked_all (marked_places [] ds) zeros c.mark_all.new.marks (length ds) (omega (arith, rows, c.fill.ensures.len)) (λ i l. c.fill.ensures.clones i 0 (omega (arith, rows)) refl) (c.mark_all.ensures.marks h v (closed_zeros ds zeros (λ i l. c.fill.ensures.clones i 0 (omega (arith, l, c.fill.ensures.len)) refl))))
 
 pub returns-clause-marks : goal.returns-clause-marks
 unfolding marks_of
@@ -52,7 +53,8 @@ returns-clause-marks c = λ h v.
     let names = c.args.names.now in
     let zeros = c.fill.new.self in
     let rows = rows_len c.args.view.text.now h.codes [] c.args.view.rows.now h.declarations v.rows in
-    let whole = subst (λ l. Marked (marked_places (map string_bytes l) ds) zeros c.loop-done.marks) (take_all c.loop-done.done names (omega arith)) (c.loop-done.invariant.marks h zeros v (c.mark_selected.ensures.marks h v)) in
+    let closed = closed_zeros ds zeros (λ i l. c.fill.ensures.clones i 0 (omega (arith, l, c.fill.ensures.len)) refl) in
+    let whole = subst (λ l. Marked (marked_places (map string_bytes l) ds) zeros c.loop-done.marks) (take_all c.loop-done.done names (omega arith)) (c.loop-done.invariant.marks h zeros v (c.mark_selected.ensures.closed h v closed) (c.mark_selected.ensures.marks h v closed)) in
     marked_all (marked_places (map string_bytes names) ds) zeros c.loop-done.marks (length ds) (omega (arith, rows, c.fill.ensures.len)) (λ i l. c.fill.ensures.clones i 0 (omega (arith, rows)) refl) whole
 
 -- the names in two groups, by a number of them

@@ -1,7 +1,7 @@
 use Rattle.std.proofs.Common.{◌≡◌, None, ◌-◌, ◌<◌, ◌≤◌, List, ℕ, length, map, take, string_bytes}
 use Rattle.vcd_model.specs.Header.{Header}
 use Rattle.vcd_model.specs.Selection.{first_unmatched, marked_places}
-use Rattle.vcd_head.specs.Marks.{Marked}
+use Rattle.vcd_head.specs.Marks.{AreClosed, Marked}
 use Rattle.vcd_view.specs.Shown.{parts}
 use Rattle.vcd_view.specs.Views.{Views}
 use Rattle.vcd_head.proofs.selection.select.Given as goal
@@ -12,7 +12,8 @@ invariant-loop-done l = record {
   some : l.done < length l.names → 0 < l.done;
   len : length l.marks ≡ length l.view.rows.now;
   matched : (h : Header) → Views (parts l.view) h → first_unmatched (map string_bytes (take l.done l.names)) h.declarations ≡ None;
-  marks : (h : Header) (zeros : List ℕ) → Views (parts l.view) h → Marked (marked_places (map string_bytes (take l.initial.done l.names)) h.declarations) zeros l.initial.marks
+  closed : (h : Header) → Views (parts l.view) h → AreClosed h.declarations l.initial.marks → AreClosed h.declarations l.marks;
+  marks : (h : Header) (zeros : List ℕ) → Views (parts l.view) h → AreClosed h.declarations l.initial.marks → Marked (marked_places (map string_bytes (take l.initial.done l.names)) h.declarations) zeros l.initial.marks
       → Marked (marked_places (map string_bytes (take l.done l.names)) h.declarations) zeros l.marks;
 }
 
