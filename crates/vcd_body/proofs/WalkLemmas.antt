@@ -1,15 +1,28 @@
 -- A walk over the items ahead, step by step.
-use Rattle.std.proofs.Common.{◌≡◌, ◌≤◌, ◌<◌, ◌+◌, Bool, true, false, List, ℕ, [], ◌++◌, length, Result, Ok, Err, refl, sym, ap, subst, ◌∙◌, append_assoc, append-nil, arith}
+use Rattle.std.proofs.Common.{◌≡◌, ◌≤◌, ◌<◌, ◌+◌, Bool, true, false, List, ℕ, [], ◌++◌, length, Result, Ok, Err, IfOk, refl, sym, ap, subst, ◌∙◌, append_assoc, append-nil, arith}
 use Rattle.vcd_model.specs.Tokens.{Token}
 use Rattle.vcd_text.specs.Ahead.{bytes_of, passed_of}
-use Rattle.vcd_text.specs.Device.{Counts}
+use Rattle.vcd_text.specs.Device.{Counts, Device}
 use Rattle.vcd_text.specs.Passed.{Passed}
 use Rattle.vcd_text.specs.declared.ahead.Ahead.{Ahead}
 use Rattle.vcd_text.specs.declared.device.WriteFailed.{WriteFailed}
 use Rattle.vcd_view.specs.declared.view.HeadView.{HeadView}
 use Rattle.vcd_body.specs.Ahead.{LooksOver, PassesNoItem}
-use Rattle.vcd_body.specs.Walk.{Begins, Further, HasCome, Past, Stage, TakesOne, Trail, Walks, stage_at}
+use Rattle.vcd_body.specs.Walk.{Begins, Further, HasCome, Past, Stage, TakesOne, Trail, Walks, as_done, stage_at}
+use Rattle.vcd_body.specs.Taken.{TakesItem}
+use Rattle.vcd_body.specs.declared.ahead.ScannedItem.{ScannedItem}
 use Rattle.vcd_body.specs.declared.item.Regs.{Regs}
+
+module _ {V C : Type 0} (takes : HeadView → Stage V C → Stage V C → Result (Unit {0}) WriteFailed → Type 0) (stands : V → C → List ℕ → Regs → Type 0) (v : HeadView) (a a' : Ahead) (r : Regs) (p : ScannedItem) (item : TakesItem v a a' r p) where
+  -- the visit may take the item that lies in these bytes
+  pub stands_there : (visit : V) (command : C) → stands visit command (bytes_of a) r → stands visit command p.bytes.now r
+  stands_there visit command s = subst (λ bs. stands visit command bs r) (sym (item.bytes ∙ item.same.0)) s
+
+  -- it has taken it
+  pub one_taken : (r' : Regs) (visit visit' : V) (command command' : C) (out out' : Device) (result : Result (Unit {0}) WriteFailed) → takes v (stage_at a r visit command out) (stage_at a' r' visit' command' out') result → Counts out out' result → IfOk result (λ _. stands visit' command' p.bytes.now r')
+      → TakesOne takes stands v (stage_at a r visit command out) (stage_at a' r' visit' command' out') (as_done result)
+  one_taken r' visit visit' command command' out out' (Ok tt) did counts on = record { scanned = p; item = item; did = did; counts = counts; on = subst (λ bs. stands visit' command' bs r') item.bytes on }
+  one_taken r' visit visit' command command' out out' (Err e) did counts on = record { scanned = p; item = item; did = did; counts = counts; on = tt }
 
 module _ {V C : Type 0} (takes : HeadView → Stage V C → Stage V C → Result (Unit {0}) WriteFailed → Type 0) (stands : V → C → List ℕ → Regs → Type 0) (over : V → Bool) (v : HeadView) where
   -- it begins with no item
