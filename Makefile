@@ -2,10 +2,13 @@
 #     a sample. An idle processor proves vcd_changes too, which `make library` needs
 # make CPU=x86-64-v3    the same for newer processors, whose instructions the program may use. On a
 #     processor without them, it says so and ends
+# make trial   builds the program as ./vcdkit-unproved, for trying code. Nothing of it is proved: two
+#     CPU minutes
 # make test    the gate: all proofs, the must-fail edits, the tests, and the program as two compilers
 #     build it: about an hour
 # make hostile runs the program while memory, reads and writes fail, with closed streams, and on
-#     dumps that are truncated, crafted or random: some minutes
+#     dumps that are truncated, crafted or random, and asks the package and the scripts about every
+#     small dump: some minutes
 # make docs-check runs the commands on the pages with ./vcdkit, and compares what they print with
 #     the pages. It also looks for links that lead nowhere: seconds
 # make static  links ./vcdkit-static, a program that needs no shared library: seconds after make
@@ -27,8 +30,8 @@
 
 sample := samples/counter.vcd
 
-.PHONY: all test hostile docs-check clean vcdkit toolchain sources static library dist dist-check \
-    install uninstall completions-check extras-check
+.PHONY: all trial test hostile docs-check clean vcdkit toolchain sources static library dist \
+    dist-check install uninstall completions-check extras-check
 
 # The processor to build for. If it is empty, any x86-64 with SSE4.2 runs the program.
 CPU ?=
@@ -37,7 +40,7 @@ DESTDIR ?=
 bin := $(DESTDIR)$(PREFIX)/bin
 man := $(DESTDIR)$(PREFIX)/share/man/man1
 bash_words := $(DESTDIR)$(PREFIX)/share/bash-completion/completions
-# On Debian, zsh has one folder for what packages bring and another one for everything else.
+# On Debian, zsh has one directory for what packages bring and another one for everything else.
 ZSH_FOLDER ?= $(PREFIX)/share/zsh/$(if $(filter /usr,$(PREFIX)),vendor-completions,site-functions)
 zsh_words := $(DESTDIR)$(ZSH_FOLDER)
 scripts := $(notdir $(wildcard extras/vcdkit-*))
@@ -45,7 +48,7 @@ scripts := $(notdir $(wildcard extras/vcdkit-*))
 commands := $(patsubst python/vcdkit/commands/%.py,vcdkit-%, \
     $(filter-out %/__init__.py,$(wildcard python/vcdkit/commands/*.py)))
 commands := $(subst _,-,$(commands))
-# The folder of the Python package. The scripts look there, and then where Python looks.
+# The directory of the Python package. The scripts look there, and then where Python looks.
 PYTHON_FOLDER ?= $(PREFIX)/share/vcdkit/python
 python := $(DESTDIR)$(PYTHON_FOLDER)/vcdkit
 documents := $(DESTDIR)$(PREFIX)/share/doc/vcdkit
@@ -63,6 +66,9 @@ vcdkit: toolchain
 	packaging/prove.py vcdkit_main run $(addprefix --cpu=,$(CPU)) -- check < $(sample)
 	cp crates/vcdkit_main/out/vcdkit_main $@
 
+trial: toolchain
+	packaging/unproved.py
+
 test: toolchain
 	.ci/run
 
@@ -71,6 +77,7 @@ hostile: vcdkit
 	hostile/hostile.py ./vcdkit $$devices memory large devices cut_off pipes && \
 	hostile/machine.py ./vcdkit $$devices && hostile/streams.py ./vcdkit && \
 	hostile/random_runs.py ./vcdkit --runs 50000 && hostile/crafted.py ./vcdkit && \
+	VCDKIT=./vcdkit python/tests/test_every_small_dump.py && \
 	{ [ ! -e libvcdkit.so ] || hostile/library.py ./vcdkit ./libvcdkit.so; }; \
 	status=$$?; rm -f $$devices; exit $$status
 
@@ -101,7 +108,7 @@ clean:
 
 # A tarball contains the built program, and no crates.
 sources:
-	@test -d crates || { echo "make: this folder has the built program, and not its sources:" \
+	@test -d crates || { echo "make: this directory has the built program, and not its sources:" \
 	    "run make install, or ./vcdkit" >&2; exit 1; }
 
 toolchain: sources

@@ -1,4 +1,4 @@
-# The scripts that measure time source this file. It has the program under test, a folder that is
+# The scripts that measure time source this file. It has the program under test, a directory that is
 # removed at the end, and the way to measure one run. A script sets `here` before that, and defines
 # find_command, which sets `command` to the program and arguments of a run.
 vcdkit=${VCDKIT:-$here/../vcdkit}

@@ -5,7 +5,7 @@ line.
 
 valgrind counts, so other work on the machine does not change the figures. Each body has 2.5 MB. A
 second run reads only half of it, and a figure is the difference of the two runs, for each byte that
-only the first one reads. VCDKIT names the program, else it is the vcdkit in the folder above. It
+only the first one reads. VCDKIT names the program, else it is the vcdkit in the directory above. It
 takes a minute or two."""
 import os
 import sys

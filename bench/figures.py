@@ -11,7 +11,7 @@ valgrind counts, so other work on the machine does not change the figures. Of ea
 only half of that body, and a figure is the difference of the two runs, for each item that only the
 first one reads. So what the header takes is not in it, nor what a command writes at the end of a
 run, such as the rows of edges. All programs run in the C locale. VCDKIT names the program, else it
-is the vcdkit in the folder above. It takes two or three minutes for each dump."""
+is the vcdkit in the directory above. It takes two or three minutes for each dump."""
 import os
 import re
 import shutil

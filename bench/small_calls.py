@@ -6,7 +6,7 @@ are 1,000 calls in a loop of the shell.
 
 CPU time is user and system time, the least of 100 runs, of 30 for merges. Instructions are those of
 the process, with the loader's. All programs run in the C locale. VCDKIT names the program, else it
-is the vcdkit in the folder above."""
+is the vcdkit in the directory above."""
 import os
 import re
 import shutil

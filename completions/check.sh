@@ -67,7 +67,7 @@ same 'options, bash' "$(help_options)" "$(completed "$program" - | sorted)"
 for command in $help_commands; do
     options=$(help_options "$command")
     same "options of $command, bash" "$options" "$(completed "$program" "$command" - | sorted)"
-    usage=$("$program" "$command" --help | sed -n 's/^Usage: //p' | sed 's/ > OUT$//; s/\.\./.../g')
+    usage=$("$program" "$command" --help | sed -n 's/^Usage: //p')
     same "usage of $command in the man page" 1 "$(grep -cxF -- "$usage" <<< "$manual")"
     same "$command in the man page" 1 \
         "$(in_manual "^\.B[RI]? \"?vcdkit $command|^\.SS $command|^\.B vcdkit $command")"

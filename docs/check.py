@@ -2,14 +2,14 @@
 """check.py [PAGE..]: runs the commands that the pages show, and compares what they print.
 
 In each ```console block of the pages for users (DOCUMENTS), bash runs each line that begins with a
-dollar sign and a blank, in the top folder of the repository. The lines below it, up to the next
+dollar sign and a blank, in the top directory of the repository. The lines below it, up to the next
 command, have to be what it prints, standard output and standard error together. If the line of a
 command ends in `\\`, the command continues in the next line; if it contains << 'END', the command
-ends with the line END. The variable T names an empty folder for the files that a page writes; it is
-removed at the end. If a block begins with ```console PROGRAM .. and one of these programs (or
+ends with the line END. The variable T names an empty directory for the files that a page writes; it
+is removed at the end. If a block begins with ```console PROGRAM .. and one of these programs (or
 modules of Python) is missing, the block is skipped, and the last line of the output says so. As the
-pages say, the top folder and extras/ are on the PATH, and python/ is on PYTHONPATH; so `vcdkit` is
-the ./vcdkit that `make` leaves.
+pages say, the top directory and extras/ are on the PATH, and python/ is on PYTHONPATH, so `vcdkit`
+is the ./vcdkit that `make` built.
 
 The exit status is 0 if everything is as written, 1 if some output differs, and 2 if there is no
 ./vcdkit."""

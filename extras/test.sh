@@ -81,6 +81,8 @@ later 'the package, against another reader' python3 python/tests/test_against_re
 for script in when diff; do
     later "vcdkit-$script, against another reader" python3 "python/tests/test_$script.py"
 done
+later 'the package and the scripts, on every 60th small dump' env STRIDE=60 PROCESSES=1 \
+    VCDKIT_LIBRARY="$library" python3 python/tests/test_every_small_dump.py
 later 'the scripts, at any argument, file and stream' python3 python/tests/test_scripts.py
 later 'the pages of vcdkit-wave and vcdkit-diff' python3 python/tests/test_page.py
 [[ -n $(type -P chromium chromium-browser google-chrome) ]] ||

@@ -33,7 +33,7 @@ LITTLE = [1, 2, 3, 5, 7]
 
 
 class Place:
-    """The program, and a folder with the inputs of the cases."""
+    """The program, and a directory with the inputs of the cases."""
 
     def __init__(self, program, devices, folder):
         self.program, self.devices, self.folder = program, devices, folder

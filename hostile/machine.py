@@ -45,8 +45,8 @@ LIMITED = CASES + [
 
 
 def failing_files(program):
-    """A read of a folder fails, and so does one of the memory at address 0: neither is the end of a
-    dump."""
+    """A read of a directory fails, and so does one of the memory at address 0: neither is the end
+    of a dump."""
     for name in ("/", "/proc/self/mem"):
         line = b"vcdkit: " + name.encode() + b": read failed\n"
         for before, after in COMMANDS:

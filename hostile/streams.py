@@ -41,7 +41,7 @@ SECONDS = 20
 
 @contextmanager
 def files_with(texts):
-    """A folder with files of these names and texts."""
+    """A directory with files of these names and texts."""
     with tempfile.TemporaryDirectory() as folder:
         for name, text in texts.items():
             with open(os.path.join(folder, name), "wb") as f:
@@ -117,7 +117,7 @@ def closed_input_of_a_merge(program):
 
 def places_of_closed(program):
     """What the descriptors of a process are whose streams were closed, while it waits for a FIFO:
-    the folder / is in their place, and files come after it."""
+    the directory / is in their place, and files come after it."""
     with files_with({"a.vcd": CLOCK}) as folder:
         os.mkfifo(os.path.join(folder, "fifo"))
         for streams, shell in CLOSED.items():

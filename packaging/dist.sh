@@ -1,6 +1,6 @@
 #!/usr/bin/env bash
 # dist.sh PROGRAM FOLDER [LIBRARY]: packs a program with documents, man page, completions, samples,
-# scripts and the Python package, and writes to the folder:
+# scripts and the Python package, and writes to the directory:
 #   vcdkit-VERSION-x86_64-linux.tar.gz   to unpack and run, or `make install` in it
 #   vcdkit_VERSION_amd64.deb             a Debian package of the program, if there is dpkg-deb
 #   python3-vcdkit_VERSION_*.deb         one of the Python package and of vcdkit-diff, ..
@@ -26,7 +26,7 @@ version=$("$program" --version | cut -d ' ' -f 2)
 folder=$(mktemp -d)
 trap 'rm -rf "$folder"' EXIT
 
-# packed NAME: the folder NAME as a tarball
+# packed NAME: the directory NAME as a tarball
 packed() {
     find "$folder/$1" -exec touch -h -d "@$SOURCE_DATE_EPOCH" {} +
     tar -C "$folder" --sort=name --format=gnu --owner=0 --group=0 --numeric-owner \
@@ -68,8 +68,8 @@ packed "$name"
 # The wheel: all for pip.
 "$folder/$name/packaging/wheel.py" "$out" "$folder/$name/vcdkit" $library
 
-# deb PACKAGE ARCHITECTURE < CONTROL: the folder PACKAGE as a Debian package, with its changelog and
-# its copyright file
+# deb PACKAGE ARCHITECTURE < CONTROL: the directory PACKAGE as a Debian package, with its changelog
+# and its copyright file
 deb() {
     local tree=$folder/$1 documents=$folder/$1/usr/share/doc/$1 size
     mkdir -p "$tree/DEBIAN" "$documents"

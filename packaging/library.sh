@@ -2,7 +2,7 @@
 # library.sh ARCHIVE FOLDER: makes these files from a static library of rt, for callers in C:
 #   libvcdkit.a      the library with the C archives of the kit that it needs
 #   libvcdkit.so.0   the same as a shared library; libvcdkit.so is a link to it
-#   vcdkit.pc        for pkg-config, with the folders of PREFIX (/usr/local)
+#   vcdkit.pc        for pkg-config, with the directories of PREFIX (/usr/local)
 # Both libraries export only the functions that extras/c/vcdkit.h declares.
 set -eu
 [ $# = 2 ] || { sed -n '2,/^set/s/^# //p' "$0"; exit 2; }

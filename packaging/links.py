@@ -1,9 +1,9 @@
 #!/usr/bin/env python3
-"""links.py FOLDER: looks for the target of each link of the pages (*.md) below a folder, and for
+"""links.py FOLDER: looks for the target of each link of the pages (*.md) below a directory, and for
 the heading that it names.
 
-It prints each link that leads nowhere or out of the folder. It ignores links to the web. The status
-is 0 if there is no such link."""
+It prints each link that leads nowhere or out of the directory, and ignores links to the web. The
+status is 0 if there is no such link."""
 import os
 import re
 import sys

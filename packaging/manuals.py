@@ -1,5 +1,5 @@
 #!/usr/bin/env python3
-"""manuals.py FOLDER SCRIPT..: writes a man page for each script to the folder, from its --help.
+"""manuals.py FOLDER SCRIPT..: writes a man page for each script to the directory, from its --help.
 
 A help consists of blocks with empty lines between them: first the usage, then the line that whatis
 shows. A later block is text, or it has a heading in small letters with a colon, such as options or

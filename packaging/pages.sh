@@ -1,6 +1,6 @@
 #!/bin/sh
-# pages.sh FOLDER: copies the pages for users and the samples into the folder. Links to pages that
-# only the repository has, such as those for developers, become plain text.
+# pages.sh FOLDER: copies the pages for users and the samples into the directory. Links to pages
+# that only the repository has, such as those for developers, become plain text.
 set -eu
 [ $# = 1 ] || { sed -n '2,/^set/s/^# //p' "$0"; exit 2; }
 cd "$(dirname "$0")/.."
@@ -9,7 +9,7 @@ inner='ARCHITECTURE|AUDIT|DEFINITIONS|PROOFS|DECISIONS|PERFORMANCE|OWN_CRATES|CO
 inner="$inner|bench/README|hostile/README|crates/[a-z_]*/README"
 for page in README.md CHANGELOG.md NOTICE.md docs/TUTORIAL.md docs/FAQ.md docs/MANUAL.md \
     docs/RECIPES.md docs/MANY_DUMPS.md docs/PYTHON.md docs/PRODUCERS.md extras/README.md; do
-    sed -E "s,\[([^][]+)\]\([^()]*($inner)\.md[^()]*\),\1,g" "$page" > "$1/$page"
+    sed -E "s,\[([^][]+)\]\([^()]*(($inner)\.md|/answers\.py)[^()]*\),\1,g" "$page" > "$1/$page"
     chmod 644 "$1/$page"
 done
 for picture in docs/*.svg docs/*.png; do

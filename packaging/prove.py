@@ -4,11 +4,11 @@
 
 Crates that do not need each other are proved at the same time: one for each processor, if there are
 4 GB of available memory for each. An idle processor proves a crate of the library (BESIDE). While
-rt works, it locks the folders of a crate and of those below it. So a crate that is proved at the
-same time as another one is proved in a copy in the temporary folder (TMPDIR). Most of the copy is
-links, and what rt built and kept there is moved back.
+rt works, it locks the directories of a crate and of those below it, so a crate that is proved at
+the same time as another one is proved in a copy in the temporary directory (TMPDIR). Most of the
+copy is links, and what rt built and kept there is moved back.
 
-What rt, the prover and the program write goes to the file make.log in the top folder; each line
+What rt, the prover and the program write goes to the file make.log in the top directory; each line
 begins with the name of its crate. The screen shows a line for each crate that was proved: 'crate k
 of n, NAME: so many functions proved, so many minutes'. A terminal also shows what is being proved.
 The program gets the standard input. The first failure ends the other proofs: then the last lines of
@@ -32,7 +32,7 @@ MEMORY_EACH = 4_000_000_000
 # rt replaces files with these ends and writes to none, so a copy may have links to them.
 LINKED = (".oantt", ".a")
 # Each process of a proof loads the crates below again. If that is most of the work, one process is
-# faster: it proves vcd_program in 121 s of processor time, and four processes take 265 s.
+# faster: it proves vcd_program in 121 s of CPU time, and four processes take 265 s.
 BY_ONE = ("vcd_program",)
 # Crates that one process proves at the same time as a crate that does not need them. The last
 # crates of the program leave three of four processors idle, and `make library` then has one crate
@@ -90,7 +90,7 @@ def is_built(crates, crate):
 
 
 def copied(crates, part, to):
-    """Copies a part of these crates, if they have it, to another top folder."""
+    """Copies a part of these crates, if they have it, to another top directory."""
 
     def copy(one, other):
         if one.endswith(LINKED):

@@ -1,9 +1,9 @@
 #!/usr/bin/env bash
-# try_dist.sh FOLDER: tests what dist.sh left in the folder, without the kit on the PATH. All checks
-# have to pass in the unpacked tarball. The program has to run in a folder with no other file. The
-# Debian packages need the right contents, and the links of their pages have to lead somewhere. The
-# wheel can be installed, and relink.sh links. In the repository, packing again has to give the same
-# bytes.
+# try_dist.sh FOLDER: tests what dist.sh left in the directory, without the kit on the PATH. All
+# checks have to pass in the unpacked tarball. The program has to run in a directory with no other
+# file. The Debian packages need the right contents, and the links of their pages have to lead
+# somewhere. The wheel can be installed, and relink.sh links. In the repository, packing again has
+# to give the same bytes.
 set -u
 [[ $# == 1 ]] || { sed -n '2,/^set/s/^# //p' "$0"; exit 2; }
 top=$(cd "$(dirname "$0")/.." && pwd)
@@ -59,8 +59,8 @@ into_root=(chroot)
 tries 'the program alone in a root' bash -c '"$@" | grep -qx "last 1220"' - \
     "${into_root[@]}" "$folder/root" /vcdkit check -i nested.vcd
 
-# The files that `make install` put into the current folder, by their names in the packages, but for
-# what the packages add or leave to the tarball.
+# The files that `make install` put into the current directory, by their names in the packages, but
+# for what the packages add or leave to the tarball.
 installed() {
     find . ! -type d | sed 's/\.1$/&.gz/' | grep -vE '/include/|/lib/(libvcdkit|pkgconfig)'
 }

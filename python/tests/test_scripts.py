@@ -360,6 +360,19 @@ class Answers(Case):
                     b"vcdkit-%s: %s" % (name.encode(), message) if message else b""), messages)
                 self.assertEqual(bool(messages), bool(message))
 
+    def test_a_window_before_a_fault(self):
+        file = self.file("torn.vcd", TORN + b"#40\n2!\n")
+        rows = ["20,0,1", "30,1,0"]
+        for words, wanted in ((["--from=20"], [*rows, "status 1"]),
+                              (["--from=30"], ["30,1,0", "status 1"]),
+                              (["--from=20", "--to=39"], [*rows, "status 0"]),
+                              (["--from=40"], ["status 1"])):
+            self.assertEqual(said("vcdkit-table", *words, file, "a", "b")[1:], wanted, words)
+        self.assertEqual(said("vcdkit-when", "--from=25", file, "a"), ["30ns", "status 2"])
+        self.assertEqual(said("vcdkit-x", "--from=20", "--to=35", file, "a"), ["status 0"])
+        self.assertEqual(said("vcdkit-stats", "--to=35", file, "a")[1:2], ["  changes 3"])
+        self.assertEqual(said("vcdkit-values", "--at=30", "--hex", file, "a"), ["a 1", "status 0"])
+
     def test_words_that_do_not_fit(self):
         file = self.file("whole.vcd", TORN)
         good = os.path.join(self.folder.name, "good.vcd")

@@ -491,6 +491,20 @@ class Questions:
                 broken.cut().save(os.path.join(folder, "x.vcd"))
             self.assertEqual(os.listdir(folder), [])
 
+    def test_a_window_before_a_fault(self):
+        dump = Dump(BROKEN.replace(b"#x", b"#5\n0!\n#x"))
+        for part, wanted in ((dump, [(0, ["1"]), (5, ["0"])]), (dump.cut(3), [(3, ["1"]), (5, ["0"])]),
+                             (dump.cut(3).pick("a"), [(3, ["1"]), (5, ["0"])]),
+                             (dump.cut(4, 9).cut(3, 4), [(4, ["1"])]),
+                             (merge(dump.cut(3), dump), [(0, [None, "1"]), (3, ["1", "1"])])):
+            names = [one.path for one in part.signals]
+            found = []
+            with self.subTest(part=part), self.assertRaises(DumpFault):
+                for row in part.rows(names):
+                    found.append((*row,))
+            self.assertEqual(found, wanted)
+        self.assertEqual(list(dump.cut(3, 4).rows("a")), [(3, ["1"])])
+
     def test_errors_say_what_to_do(self):
         dump = Dump(NESTED)
         no_scale = Dump(b"$var reg 2 ! q[1:0] $end $enddefinitions $end\n", "n.vcd")

@@ -176,19 +176,24 @@ def changes(text: Text, code: bytes, room: int = 1 << 18) -> Optional["array[int
 
 def _data(text: Text) -> Data:
     """Returns the bytes of a text, those of a plain file as a map."""
-    if isinstance(text, Bytes):
-        return text.data
-    if isinstance(text, File):
-        return _bytes_of(text)
-    out, error = _made(text)
+    out, error = _read(text)
     if error:
         raise error
     return out
 
 
+def _read(text: Text) -> Tuple[Data, Optional[VcdkitError]]:
+    """Returns the bytes of a text up to its end, or up to the error with which it ends."""
+    if isinstance(text, Bytes):
+        return text.data, None
+    return _made(text) if isinstance(text, Made) else (_bytes_of(text), None)
+
+
 def _made(text: Made) -> Tuple[bytes, Optional[VcdkitError]]:
-    """Returns what a command writes, and its error."""
-    inputs = [_data(one) for one in text.of]
+    """Returns what a command writes, and its error. As in a pipe, it gets what its input has before
+    an error, and that error comes first."""
+    read = [_read(one) for one in text.of]
+    inputs, errors = [data for data, _ in read], [error for _, error in read if error]
     # Twice the dump is mostly enough; room that is not written costs nothing.
     room = 2 * sum(map(len, inputs)) + (1 << 16)
     if text.command == "merge":
@@ -201,7 +206,7 @@ def _made(text: Made) -> Tuple[bytes, Optional[VcdkitError]]:
     error = error_of(said.decode(errors="backslashreplace"), status, names) if status else None
     if isinstance(error, UnknownName):
         error.of = text.of[0]
-    return out, error
+    return out, errors[0] if errors else error
 
 
 def _bytes_of(file: File) -> Data:

@@ -134,8 +134,22 @@ class Dump:
         """The variables of the header, in the order of declaration: a sequence. Its columns() are
         lists of the paths, types, sizes and codes."""
         if self._signals is None:
-            self._signals = _rows.Signals(self._answer("list"))
+            of = _dump_of(self._front(self._text), self._options)
+            self._signals = _rows.Signals(of._answer("list"))
         return self._signals
+
+    def _front(self, text: Text) -> Text:
+        """Returns a text with the header of another one. If that is a part, no fault of a body is
+        in it, so that the variables of a part of a faulty dump are known."""
+        while isinstance(text, Made) and text.command == "cut":
+            text = text.of[0]
+        return text if not isinstance(text, Made) else text._replace(
+            of=tuple(self._header_of(self._front(one)) for one in text.of))
+
+    def _header_of(self, text: Text) -> Bytes:
+        """Returns the bytes of the header of a text."""
+        with _dump_of(text, self._options)._head() as out:
+            return Bytes(b"".join(_body.head(out)) + _body.BODY, text.name)
 
     def find(self, pattern: str, flags: int = 0) -> List[Signal]:
         """Returns the signals whose paths match a regular expression anywhere (re.search).

@@ -1,17 +1,17 @@
 -- Changes that are in some bytes, and their lines.
-use Rattle.std.proofs.Common.{◌≡◌, ◌≢◌, ℕ, zero, suc, ◌+◌, ◌-◌, max, ◌≤◌, ◌<◌, ◌==◌, Bool, true, false, not, ◌&&◌, List, [], ◌∷◌, ◌++◌, length, take, drop, get_or, Some, Result, Ok, Err, IfOk, ◌⊎◌, inl, inr, refl, sym, ap, ap₂, subst, ◌∙◌, append_assoc, arith}
+use Rattle.std.proofs.Common.{◌≡◌, ◌≢◌, ℕ, zero, suc, ◌+◌, ◌-◌, ◌≤◌, ◌<◌, ◌==◌, Bool, true, false, not, ◌&&◌, List, [], ◌∷◌, ◌++◌, length, take, drop, get_or, Some, Result, Ok, Err, IfOk, ◌⊎◌, inl, inr, refl, sym, ap, ap₂, subst, ◌∙◌, append_assoc, arith}
 use Rattle.std.specs.Prelude.{bit_and, nat_le, ◌^◌, slice_get, slice_index, slice_range}
 use Rattle.std.specs.Char.{to_ascii_lowercase}
 use Rattle.std.specs.Str.{str_to_ascii_lowercase}
 use Rattle.std.specs.Result.{result_ok}
-use Rattle.std.proofs.lemmas.Bool.{and_parts, cases_lt, eqb-true, eqb-false, ne_eqb}
+use Rattle.std.proofs.lemmas.Bool.{and_parts, cases_lt, eqb-true, ne_eqb}
 use Rattle.std.proofs.lemmas.List.{drop-drop, drop-take, take-take}
 use Rattle.std.proofs.lemmas.Slice.Eq.{bytes_eq-Decides}
 use Rattle.vcd_model.specs.Bytes.{decimal_value, is_decimal, is_white_space}
 use Rattle.vcd_model.specs.Header.{Header}
 use Rattle.vcd_model.specs.Declarations.{IdCode, has_text}
 use Rattle.vcd_model.specs.Items.{BodyItem, ChangeForm}
-use Rattle.vcd_model.specs.Values.{extend, extension, short}
+use Rattle.vcd_model.specs.Values.{extend, short}
 use Rattle.vcd_model.specs.ItemText.{item_line}
 use Rattle.vcd_model.proofs.HeaderGrammar.{find_passes}
 use Rattle.vcd_text.specs.Passed.{AreWhite}
@@ -30,7 +30,6 @@ use Rattle.vcd_body.specs.Items.{model_form}
 use Rattle.vcd_body.specs.Given.{IsItem}
 use Rattle.vcd_body.proofs.FindLemmas.{code_at}
 use Rattle.vcd_body.specs.Spelled.{HasToken, HasChange, HasTimestamp, HasPlaces, Names}
-use Rattle.vcd_body.proofs.Shortest.{IsBare, bare_is_short, extend_where_fits}
 use Rattle.vcd_body.proofs.WordLemmas.{byte_there, lower_alone}
 
 -- ---- what was found

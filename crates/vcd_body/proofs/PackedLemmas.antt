@@ -11,7 +11,7 @@ use Rattle.std.proofs.lemmas.List.FromFn.{get_or-map-range_with_len, length-map-
 use Rattle.std.proofs.lemmas.Option.{slice_get-get_or, slice_get_past}
 use Rattle.vcd_model.specs.BodyPhrases.{is_value_digit}
 use Rattle.vcd_model.proofs.BodyGrammar.{any_of}
-use Rattle.vcd_body.specs.Packed.{code_among, code_of, code_or, digit_of, digits_in, four_codes, held_digit, quarter_of}
+use Rattle.vcd_body.specs.Packed.{two_bits_at, two_bits_of, two_bits_or, digit_of, digits_in, packed_byte, held_digit, quarter_of}
 
 -- ---- one digit
 
@@ -29,7 +29,7 @@ lower_digits (d ∷ text) h =
     let es = lower_digits text p.1 in
     rw (e, es) refl
 
-code_small : (d : ℕ) → code_of d < 4
+code_small : (d : ℕ) → two_bits_of d < 4
 code_small d = by_tests (d % 16 == 0) (d % 16 == 1) (d % 16 == 8)
   where
     by_tests : (a b c : Bool) → cond a 0 (cond b 1 (cond c 3 2)) < 4
@@ -38,10 +38,10 @@ code_small d = by_tests (d % 16 == 0) (d % 16 == 1) (d % 16 == 8)
     by_tests false false true = omega arith
     by_tests false false false = omega arith
 
-pub or_small : (text : List ℕ) (position : ℕ) → code_or text position < 4
+pub or_small : (text : List ℕ) (position : ℕ) → two_bits_or text position < 4
 or_small text position = by_test (nat_lt position (length text)) (code_small (get_or text position 0))
   where
-    by_test : (b : Bool) → code_of (get_or text position 0) < 4 → cond b (code_of (get_or text position 0)) 0 < 4
+    by_test : (b : Bool) → two_bits_of (get_or text position 0) < 4 → cond b (two_bits_of (get_or text position 0)) 0 < 4
     by_test true h = h
     by_test false h = omega arith
 
@@ -53,21 +53,21 @@ below_test a b x y h = ap (λ t. cond t x y) (lt-ltb a b h)
 pub above_test : (a b x y : ℕ) → b ≤ a → cond (nat_lt a b) x y ≡ y
 above_test a b x y h = ap (λ t. cond t x y) (le-ltb a b h)
 
-pub in_text : (text : List ℕ) (position : ℕ) → position < length text → code_or text position ≡ code_of (get_or text position 0)
-in_text text position h = below_test position (length text) (code_of (get_or text position 0)) 0 h
+pub in_text : (text : List ℕ) (position : ℕ) → position < length text → two_bits_or text position ≡ two_bits_of (get_or text position 0)
+in_text text position h = below_test position (length text) (two_bits_of (get_or text position 0)) 0 h
 
 -- the code at an index of the last quarter
-pub in_last : (n : ℕ) (bytes : List ℕ) (p : ℕ) → n - quarter_of n ≤ p → code_among n bytes p ≡ get_or bytes (p - (n - quarter_of n)) 0 / 64
+pub in_last : (n : ℕ) (bytes : List ℕ) (p : ℕ) → n - quarter_of n ≤ p → two_bits_at n bytes p ≡ get_or bytes (p - (n - quarter_of n)) 0 / 64
 in_last n bytes p h = above_test p (n - quarter_of n) _ _ h
 
 -- ---- a text
 
 -- each byte of the first ones holds the digits of its index
 abbrev pub Packs : List ℕ → ℕ → List ℕ → Type 0
-Packs text count bytes = (j : ℕ) → j < count → get_or bytes j 0 ≡ four_codes text (quarter_of (length text)) j
+Packs text count bytes = (j : ℕ) → j < count → get_or bytes j 0 ≡ packed_byte text (quarter_of (length text)) j
 
 -- the codes of a byte
-codes_in : (text : List ℕ) (q j : ℕ) → (four_codes text q j % 4 ≡ code_or text j) × (four_codes text q j / 4 % 4 ≡ code_or text (j + q)) × (four_codes text q j / 16 % 4 ≡ code_or text (j + 2 * q)) × (four_codes text q j / 64 ≡ code_or text (j + (length text - q)))
+codes_in : (text : List ℕ) (q j : ℕ) → (packed_byte text q j % 4 ≡ two_bits_or text j) × (packed_byte text q j / 4 % 4 ≡ two_bits_or text (j + q)) × (packed_byte text q j / 16 % 4 ≡ two_bits_or text (j + 2 * q)) × (packed_byte text q j / 64 ≡ two_bits_or text (j + (length text - q)))
 codes_in text q j =
     let a = or_small text j in
     let b = or_small text (j + q) in
@@ -77,18 +77,18 @@ codes_in text q j =
 
 -- the byte that has a code, and what takes the code from this byte, also where it is that of a text
 abbrev Place : ℕ → ℕ → Type 0
-Place n p = (j : ℕ) × (f : ℕ → ℕ) × (j < quarter_of n) × ((bytes : List ℕ) → code_among n bytes p ≡ f (get_or bytes j 0)) × ((text : List ℕ) → length text ≡ n → f (four_codes text (quarter_of n) j) ≡ code_or text p)
+Place n p = (j : ℕ) × (f : ℕ → ℕ) × (j < quarter_of n) × ((bytes : List ℕ) → two_bits_at n bytes p ≡ f (get_or bytes j 0)) × ((text : List ℕ) → length text ≡ n → f (packed_byte text (quarter_of n) j) ≡ two_bits_or text p)
 
 place : (n p : ℕ) → p < n → Place n p
 place n p less = elim (cases_lt p (n - q)) [
   | inl before ↦ elim (cases_lt p q) [
     | inl a ↦ (p, (λ y. y % 4), a, (λ bytes. below_test p (n - q) _ _ before ∙ below_test p q _ _ a), (λ text is. (codes_in text q p).0))
     | inr a ↦ elim (cases_lt p (2 * q)) [
-      | inl b ↦ (p - q, (λ y. y / 4 % 4), omega arith, (λ bytes. below_test p (n - q) _ _ before ∙ above_test p q _ _ a ∙ below_test p (2 * q) _ _ b), (λ text is. (codes_in text q (p - q)).1 ∙ ap (code_or text) (omega arith)))
-      | inr b ↦ (p - 2 * q, (λ y. y / 16 % 4), omega (arith, whole, before), (λ bytes. below_test p (n - q) _ _ before ∙ above_test p q _ _ a ∙ above_test p (2 * q) _ _ b), (λ text is. (codes_in text q (p - 2 * q)).2 ∙ ap (code_or text) (omega arith)))
+      | inl b ↦ (p - q, (λ y. y / 4 % 4), omega arith, (λ bytes. below_test p (n - q) _ _ before ∙ above_test p q _ _ a ∙ below_test p (2 * q) _ _ b), (λ text is. (codes_in text q (p - q)).1 ∙ ap (two_bits_or text) (omega arith)))
+      | inr b ↦ (p - 2 * q, (λ y. y / 16 % 4), omega (arith, whole, before), (λ bytes. below_test p (n - q) _ _ before ∙ above_test p q _ _ a ∙ above_test p (2 * q) _ _ b), (λ text is. (codes_in text q (p - 2 * q)).2 ∙ ap (two_bits_or text) (omega arith)))
     ]
   ]
-  | inr behind ↦ (p - (n - q), (λ y. y / 64), omega (arith, less, behind), (λ bytes. in_last n bytes p behind), (λ text is. (codes_in text q (p - (n - q))).3 ∙ ap (code_or text) (omega (arith, is, behind, less))))
+  | inr behind ↦ (p - (n - q), (λ y. y / 64), omega (arith, less, behind), (λ bytes. in_last n bytes p behind), (λ text is. (codes_in text q (p - (n - q))).3 ∙ ap (two_bits_or text) (omega (arith, is, behind, less))))
 ]
   where
     q : ℕ
@@ -98,16 +98,16 @@ place n p less = elim (cases_lt p (n - q)) [
     whole = let d = div_ceil_times n 4 (omega arith) in omega (arith, d)
 
 -- the code at each index is that of the text's digit
-code_again : (text bytes : List ℕ) (p : ℕ) → Packs text (quarter_of (length text)) bytes → p < length text → code_among (length text) bytes p ≡ code_of (get_or text p 0)
+code_again : (text bytes : List ℕ) (p : ℕ) → Packs text (quarter_of (length text)) bytes → p < length text → two_bits_at (length text) bytes p ≡ two_bits_of (get_or text p 0)
 code_again text bytes p packs less =
     let at = place (length text) p less in
     at.3 bytes ∙ ap at.1 (packs at.0 at.2) ∙ at.4 text refl ∙ in_text text p less
 
 pub length_digits : (n : ℕ) (bytes : List ℕ) → length (digits_in n bytes) ≡ n
-length_digits n bytes = length-map-range_with_len (λ position. digit_of (code_among n bytes position)) 0 n
+length_digits n bytes = length-map-range_with_len (λ position. digit_of (two_bits_at n bytes position)) 0 n
 
-digit_there : (n : ℕ) (bytes : List ℕ) (p : ℕ) → p < n → get_or (digits_in n bytes) p 0 ≡ digit_of (code_among n bytes p)
-digit_there n bytes p less = get_or-map-range_with_len (λ position. digit_of (code_among n bytes position)) 0 n p p 0 less (omega arith)
+digit_there : (n : ℕ) (bytes : List ℕ) (p : ℕ) → p < n → get_or (digits_in n bytes) p 0 ≡ digit_of (two_bits_at n bytes p)
+digit_there n bytes p less = get_or-map-range_with_len (λ position. digit_of (two_bits_at n bytes position)) 0 n p p 0 less (omega arith)
 
 packs_again : (text bytes : List ℕ) → Packs text (quarter_of (length text)) bytes → digits_in (length text) bytes ≡ map held_digit text
 packs_again text bytes packs =
@@ -120,11 +120,11 @@ packs_again text bytes packs =
     ∙ ap digit_of (code_again text bytes p packs less)
     ∙ sym (get_or-map held_digit text p 0 0 less))
 
-pub packs_by : (text bytes : List ℕ) (q : ℕ) → q ≡ quarter_of (length text) → ((j : ℕ) → j < q → get_or bytes j 0 ≡ four_codes text q j) → digits_in (length text) bytes ≡ map held_digit text
-packs_by text bytes q is packs = packs_again text bytes (subst (λ k. (j : ℕ) → j < k → get_or bytes j 0 ≡ four_codes text k j) is packs)
+pub packs_by : (text bytes : List ℕ) (q : ℕ) → q ≡ quarter_of (length text) → ((j : ℕ) → j < q → get_or bytes j 0 ≡ packed_byte text q j) → digits_in (length text) bytes ≡ map held_digit text
+packs_by text bytes q is packs = packs_again text bytes (subst (λ k. (j : ℕ) → j < k → get_or bytes j 0 ≡ packed_byte text k j) is packs)
 
 -- digits with `0` after them have the same codes before 64
-pub padded_is : (text : List ℕ) (k : ℕ) → length text ≤ 64 → k < 64 → code_or (text ++ drop (length text) (replicate 64 48)) k ≡ code_or text k
+pub padded_is : (text : List ℕ) (k : ℕ) → length text ≤ 64 → k < 64 → two_bits_or (text ++ drop (length text) (replicate 64 48)) k ≡ two_bits_or text k
 padded_is text k few less = in_text (text ++ rest) k (omega (arith, long, less)) ∙ by_place (cases_lt k (length text))
   where
     rest : List ℕ
@@ -133,16 +133,16 @@ padded_is text k few less = in_text (text ++ rest) k (omega (arith, long, less))
     long : length (text ++ rest) ≡ 64
     long = let a = length-append text rest in let d = length-drop {A = ℕ} (length text) (replicate 64 48) in let r = length-replicate {A = ℕ} 64 48 in omega (arith, a, d, r, few)
 
-    by_place : (k < length text) ⊎ (length text ≤ k) → code_of (get_or (text ++ rest) k 0) ≡ code_or text k
-    by_place (inl h) = ap code_of (get_or_append_left text rest 0 k h) ∙ sym (in_text text k h)
+    by_place : (k < length text) ⊎ (length text ≤ k) → two_bits_of (get_or (text ++ rest) k 0) ≡ two_bits_or text k
+    by_place (inl h) = ap two_bits_of (get_or_append_left text rest 0 k h) ∙ sym (in_text text k h)
     by_place (inr h) =
         let i : length text + (k - length text) ≡ k = omega arith in
-        ap code_of (get_or-append_right text rest (length text) k 0 refl h ∙ get_or-drop (length text) (replicate 64 48) (k - length text) 0 ∙ ap (λ (j : ℕ). get_or {A = ℕ} (replicate 64 48) j 0) i ∙ get_or-replicate 64 k 48 0 less)
-        ∙ sym (above_test k (length text) (code_of (get_or text k 0)) 0 h)
+        ap two_bits_of (get_or-append_right text rest (length text) k 0 refl h ∙ get_or-drop (length text) (replicate 64 48) (k - length text) 0 ∙ ap (λ (j : ℕ). get_or {A = ℕ} (replicate 64 48) j 0) i ∙ get_or-replicate 64 k 48 0 less)
+        ∙ sym (above_test k (length text) (two_bits_of (get_or text k 0)) 0 h)
 
 -- ---- one digit of a share
 
-pub digit_among : (n : ℕ) (bytes : List ℕ) (p : ℕ) → p < n → slice_get (digits_in n bytes) p ≡ Some (digit_of (code_among n bytes p))
+pub digit_among : (n : ℕ) (bytes : List ℕ) (p : ℕ) → p < n → slice_get (digits_in n bytes) p ≡ Some (digit_of (two_bits_at n bytes p))
 digit_among n bytes p less =
     let t = length_digits n bytes in
     slice_get-get_or (digits_in n bytes) p 0 (omega (arith, t, less)) ∙ ap (λ d. Some d) (digit_there n bytes p less)

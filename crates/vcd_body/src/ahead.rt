@@ -9,11 +9,11 @@ use crate::bits::Bits;
 use crate::item::{Form, Item, Regs};
 use crate::phrases::{has_room, real_text, scalar_code, vector_text};
 use crate::words::{
-    KeywordUse, PhraseKind, after_first, are_binary_or_known, bits_at, command_of, first_byte_of,
-    is_comment, is_end, kind_by, kind_of, rest_of,
+    KeywordUse, PhraseKind, after_first, are_binary_or_known, bits_at, first_byte_of, is_comment,
+    is_end, keyword_use_of, kind_by, kind_of, rest_of,
 };
 use vcd_text::{Ahead, Feed, Sink, Source, WriteFailed, decimal_at};
-use vcd_view::{Found, HeadView, find_in_own_entry, find_sized};
+use vcd_view::{Found, HeadView, find_in_entry, find_sized};
 
 /// An item that was taken ahead, and the bytes of the chunk in which it lies. Only a change has a
 /// text, a size and `bits`: of any other item `code_at` is `at`, the offset after its first byte.
@@ -290,7 +290,7 @@ fn short_code(token: &[u8], view: HeadView<'_>) -> Option<Found>
     if code.is_empty() {
         return None;
     }
-    let found = find_in_own_entry(view, code)?;
+    let found = find_in_entry(view, code, 0)?;
     Some(found)
 }
 
@@ -562,7 +562,7 @@ pub(crate) fn section_ahead<'a>(
     ensures section { IfSome result (λ scanned. IsSection scanned.item) }
     ensures regs { LeavesRegs regs.old regs.new result }
 {
-    match command_of(opening.token)? {
+    match keyword_use_of(opening.token)? {
         KeywordUse::Begin(section) => {
             if regs.section.is_some() {
                 return None;

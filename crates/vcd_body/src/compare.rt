@@ -3,7 +3,7 @@ ghost use Rattle.std.specs.Prelude.{◌≡◌, ◌≤◌, ◌<◌, length, true,
 ghost use Rattle.vcd_body.specs.Names.{AreTwo, Decides, HasDigits, are_two, differs, digits_of, extend, extended, extension, held_in, model_form, str_to_ascii_lowercase, value_at_size, value_with};
 
 use crate::change::extended_by;
-use crate::held::{count_of, digit_held, digit_shown, last_held};
+use crate::held::{count_of, digit_or, digit_shown, last_held};
 use crate::item::Form;
 use crate::packed::holds_packed;
 use crate::slot::{HeldValue, State};
@@ -48,17 +48,15 @@ fn shown_digit(held: HeldValue<'_>, size: usize, index: usize) -> u8
 /// Returns true only if some held digit differs from that of a text at the same place, counted from
 /// the last digit. If it returns false, the values may still differ, in digits that only one of
 /// them has.
-// It extends neither of them, so it takes fewer steps for each digit than `are_same`.
+// It extends neither of them, so it takes fewer steps for each digit than `are_same`: without it
+// `edges` of a dump of SystemC's types takes 21 % more.
 fn places_differ(held: HeldValue<'_>, text: &[u8]) -> bool
     ensures { result ≡ true → AreTwo (digits_of held.entry) text.now }
 {
     let count = count_of(held);
     for back in 0..count.min(text.len()) {
         let digit = text[text.len() - 1 - back].to_ascii_lowercase();
-        let Some(own) = digit_held(held, count - 1 - back) else {
-            return false;
-        };
-        if own != digit {
+        if digit_or(held, count - 1 - back) != digit {
             return true;
         }
     }

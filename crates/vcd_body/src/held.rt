@@ -1,5 +1,5 @@
 // The digits that are held, and those of the value.
-ghost use Rattle.std.specs.Prelude.{◌≡◌, ℕ, length, slice_get};
+ghost use Rattle.std.specs.Prelude.{◌≡◌, ℕ, get_or, length, slice_get};
 ghost use Rattle.vcd_body.specs.Names.{digit_in, digits_of, held_in, last_digit_in, value_at_size};
 
 use crate::bits::{binary_digit, count_in, last_binary};
@@ -32,6 +32,15 @@ pub(crate) fn digit_held(held: HeldValue<'_>, index: usize) -> Option<u8>
         state if index == 0 => digit_of_state(state),
         _ => None,
     }
+}
+
+/// Returns the held digit at `index`, counted from the left, as a byte (`b'0'`, `b'1'`, `b'x'` or
+/// `b'z'`), or the byte 0 after the last.
+#[inline(always)]
+pub(crate) fn digit_or(held: HeldValue<'_>, index: usize) -> u8
+    ensures { result ≡ get_or (digits_of held.entry) index 0 }
+{
+    digit_held(held, index).unwrap_or(0)
 }
 
 /// Returns the digit at `index`, counted from the left, of a held value that is extended to `size`

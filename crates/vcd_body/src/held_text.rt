@@ -3,7 +3,7 @@ ghost use Rattle.std.specs.Prelude.{◌≡◌, ℕ, ◌+◌, ◌-◌, ◌^◌, �
 ghost use Rattle.vcd_body.specs.Names.{Puts, PutsTo, PutsWhere, digits_of, extend, held_in, line_if_set, short, shown, value_at_size};
 
 use crate::change::{extension_of, put_end, put_real};
-use crate::held::{count_of, digit_held};
+use crate::held::{count_of, digit_or};
 use crate::slot::{HeldValue, State};
 use vcd_text::{Sink, WriteFailed, put};
 
@@ -23,15 +23,6 @@ fn put_repeated<W: Sink>(digit: u8, count: usize, w: &mut W) -> Result<(), Write
         rest -= some;
     }
     Ok(())
-}
-
-/// Returns the held digit at `index`, counted from the left, as a byte (`b'0'`, `b'1'`, `b'x'` or
-/// `b'z'`), or the byte 0 after the last.
-#[inline(always)]
-fn digit_or(held: HeldValue<'_>, index: usize) -> u8
-    ensures { result ≡ get_or (digits_of held.entry) index 0 }
-{
-    digit_held(held, index).unwrap_or(0)
 }
 
 /// Fills `to` with the held digits from index `from` on, counted from the left. There have to be at

@@ -45,28 +45,39 @@
 //!
 //! # The modules
 //!
-//! - `read`: `next_item`, `change_text`
+//! Items are read from the feed, or taken ahead of it in its chunk:
+//!
+//! - `read`: `next_item`, `change_text`; `phrases`, `tokens`: phrases by what they begin with, and
+//!   the next token
 //! - `walk`: `walk_ahead`, `Visit`: the loop over the items ahead
 //! - `ahead`: an item ahead, by what it begins with; `ScannedItem`, `item_comes`, `pass_on`,
 //!   `pass_items`
-//! - `phrases`, `tokens`, `words`: phrases by what they begin with; the next token; what a token
-//!   is, by its first byte
+//! - `words`: what a token is, by its first byte, and which bytes are digits
 //! - `item`, `fault`: `Item`, `Form`, `Section`, `Regs`; `BodyFault`
-//! - `answer`: `Done`, `More`, `Stop`: how a run over a body or several ends, and whether it goes
-//!   on
+//!
+//! The table keeps values:
+//!
+//! - `table`: `Table`; `value`: `Value`, what a change gives
+//! - `slot`: `Slot`, `Share`, `Shown`; `store`: how slots and shares are set; `counters`: the
+//!   counters of a code, which are in parts in its slot and its share
+//! - `bits`: `Bits`, up to 32 binary digits as a number, and how a slot holds them; `packed`:
+//!   digits in a share, four to a byte
+//! - `held`: the digits of a held value; `compare`: whether a change gives another one; `several`:
+//!   several digits that are set over several others; `step`: `Step`, what became of a value
+//!
+//! Lines are written:
+//!
 //! - `id`: `put_change`, under an `Id`; `put_line`: the line of a change from its form and text;
 //!   `change`: its digits, and a code's own bytes at its end; `renamed`: a new code at its end
-//! - `lines`: `left_out`; `time_line`: `put_time`
-//! - `value`: `Value`, what a change gives
-//! - `table`, `slot`: `Table`, `Shown`; `Slot`, `Share`; `table_text`: `put_short`, `put_full`;
-//!   `step`: `Step`, what became of a value that was set
-//! - `store`: slots and shares of the values, and how they are set; `packed`: digits in a share,
-//!   four to a byte
-//! - `counters`: the counters of a code, which are in parts in its slot and its share
-//! - `bits`: `Bits`, up to 32 binary digits as a number, and how a slot holds them
-//! - `held`, `held_text`: the digits of a held value, and how it is written; `compare`: whether a
-//!   change gives another one
-//! - `laws`: each function has a law over bodies and values as its contract
+//! - `lines`: `left_out`: how the bytes of a change are its line; `time_line`: `put_time`
+//! - `table_text`, `held_text`: `put_short`, `put_full`: a held value
+//!
+//! A run ends:
+//!
+//! - `answer`: `Done`, `More`, `Stop`: how a run over a body or several ends, and whether it goes
+//!   on
+//!
+//! `laws`: each function has a law over bodies and values as its contract.
 //!
 //! In `specs/` callers read `Items`, `Reads`, `Given`, `Ahead`, `Taken`, `Walk`, `Spelled` and
 //! `Fault`; of a run's end `Answer`, and of what was written `Device` and `Id`; for the table
@@ -119,7 +130,7 @@ pub use id::{Id, put_change};
 pub use item::{Form, Item, Regs, Section};
 pub use lines::{is_timestamp_line, left_out};
 pub use read::{change_text, next_item};
-pub use renamed::{bit_of, put_code_line, put_renamed, put_renamed_ahead};
+pub use renamed::{only_digit, put_code_line, put_renamed, put_renamed_ahead};
 pub use slot::{Share, Shown, Slot};
 pub use step::Step;
 pub use table::Table;

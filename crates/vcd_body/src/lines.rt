@@ -1,6 +1,6 @@
 // Changes whose bytes in the chunk are the line that would be written.
 ghost use Rattle.std.specs.Prelude.{◌≡◌, ◌≢◌, ℕ, ◌+◌, ◌-◌, ◌^◌, ◌<◌, ◌≤◌, List, [], true, false, drop, length, slice_range, Some, IfSome};
-ghost use Rattle.vcd_body.specs.Names.{AreBinaryIf, BodyItem, HasChange, HasTimestamp, HeadView, Header, IsDigitLine, IsItem, IsNeedless, IsSizedItem, IsSpelled, IsSpelledAs, IsTextLine, IsViewOf, LeavesFront, LeavesLine, LeavesShortest, LeavesText, StandsAt, bit_at, byte, bytes_without, extend, extended, is_white_space, item_line, line_without, short, str_to_ascii_lowercase, time_line, to_ascii_lowercase as lower};
+ghost use Rattle.vcd_body.specs.Names.{AreBinaryIf, BodyItem, HasChange, HasTimestamp, HeadView, Header, IsDigitLine, IsItem, IsNeedless, IsSizedItem, IsSpelled, IsSpelledAs, IsTextLine, IsViewOf, LeavesFront, LeavesLine, LeavesShortest, LeavesText, StandsAt, bit_at, byte, bytes_without, extend, extended, is_value_digit, is_white_space, item_line, line_without, short, str_to_ascii_lowercase, time_line, to_ascii_lowercase as lower};
 ghost use Rattle.vcd_body.specs.declared.item.Item.TheVariants as item;
 
 use crate::ahead::ScannedItem;
@@ -19,7 +19,8 @@ fn are_lower(digits: &[u8]) -> bool
 /// Returns whether a digit is no capital letter: whether bit 5 is set, as in `0`, `1`, `x` and `z`.
 #[inline(always)]
 pub(crate) fn is_lower(digit: u8) -> bool
-    ensures { result ≡ true → lower digit ≡ digit }
+    ensures yes { result ≡ true → lower digit ≡ digit }
+    ensures no { result ≡ false → is_value_digit digit ≡ true → lower digit ≢ digit }
 {
     digit & 0x20 != 0
 }

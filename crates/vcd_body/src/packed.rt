@@ -1,6 +1,6 @@
 // Digits in a share: four to a byte, one of each quarter of them.
 ghost use Rattle.std.specs.Prelude.{◌≡◌, ◌≢◌, ◌≤◌, ◌<◌, ◌+◌, ◌-◌, ◌*◌, ◌/◌, ℕ, Some, get_or, length, map, slice_get, false, true};
-ghost use Rattle.vcd_body.specs.Names.{ArePacked, AreTwo, HasFour, MayPack, chunk, code_among, code_of, code_or, digit_of, digits_in, four_codes, held_digit, quarter_of, shifted, str_to_ascii_lowercase};
+ghost use Rattle.vcd_body.specs.Names.{ArePacked, AreTwo, HasFour, MayPack, chunk, two_bits_at, two_bits_of, two_bits_or, digit_of, digits_in, packed_byte, held_digit, quarter_of, shifted, str_to_ascii_lowercase};
 
 use crate::words::are_all_digits;
 use std::simd::prelude::*;
@@ -21,7 +21,7 @@ fn digit_of(code: u8) -> u8
 
 // For each value of a byte's lowest four bits, the digit with these bits as two bits: 0 for `0`, 1
 // for `1`, 3 for an x, and 2 for a z and all others.
-const CODES: [u8; 16] = [0, 1, 2, 2, 2, 2, 2, 2, 3, 2, 2, 2, 2, 2, 2, 2];
+const TWO_BITS: [u8; 16] = [0, 1, 2, 2, 2, 2, 2, 2, 3, 2, 2, 2, 2, 2, 2, 2];
 
 /// Returns the two bits of each of the 16 digits from offset `at` on, moved to the left by `shift`
 /// bits: 0 for `0`, 1 for `1`, 3 for `x` and `X`, and 2 for `z` and `Z`. All 16 bytes have to be
@@ -29,23 +29,23 @@ const CODES: [u8; 16] = [0, 1, 2, 2, 2, 2, 2, 2, 3, 2, 2, 2, 2, 2, 2, 2];
 // It moves the table, which takes no instruction, since `shift` is known when the program is built.
 // With additions that move the codes, `cut` before its window takes 3 % more of wide vectors.
 #[inline(always)]
-fn codes_16(bytes: &[u8], at: usize, shift: u8) -> u8x16
+fn two_bits_16(bytes: &[u8], at: usize, shift: u8) -> u8x16
     requires there { at + 16 ≤ length bytes.now }
     requires shift { shift < 8 }
-    ensures { result ≡ map (λ d. shifted shift (code_of d)) (chunk at 16 bytes.now) }
+    ensures { result ≡ map (λ d. shifted shift (two_bits_of d)) (chunk at 16 bytes.now) }
 {
     let v = u8x16::from_slice(&bytes[at..]);
-    let codes = u8x16::from_array(CODES) << u8x16::splat(shift);
+    let codes = u8x16::from_array(TWO_BITS) << u8x16::splat(shift);
     codes.swizzle_dyn(v & u8x16::splat(15))
 }
 
 /// Returns the two bits of a digit: 0 for `0`, 1 for `1`, 3 for `x` and `X`, and 2 for `z` and `Z`.
 /// It takes no branch.
 #[inline(always)]
-fn code_of(digit: u8) -> u8
-    ensures { result ≡ code_of digit }
+fn two_bits_of(digit: u8) -> u8
+    ensures { result ≡ two_bits_of digit }
 {
-    CODES[usize::from(digit % 16)]
+    TWO_BITS[usize::from(digit % 16)]
 }
 
 /// Returns whether one of the last digits of `bytes`, which are digits packed by `pack`, differs
@@ -58,7 +58,7 @@ pub(crate) fn ends_differ(bytes: &[u8], text: &[u8]) -> bool
     ensures some { result ≡ true → 1 ≤ length text.now }
 {
     for back in 0..bytes.len().min(text.len()).min(8) {
-        if bytes[bytes.len() - 1 - back] / 64 != code_of(text[text.len() - 1 - back]) {
+        if bytes[bytes.len() - 1 - back] / 64 != two_bits_of(text[text.len() - 1 - back]) {
             return true;
         }
     }
@@ -76,14 +76,14 @@ fn packed_from(text: &[u8], first: usize, second: usize, third: usize, last: usi
     requires third { third + 16 ≤ length text.now }
     requires last { last + 16 ≤ length text.now }
     ensures long { length result ≡ 16 }
-    ensures each { (k : ℕ) → k < 16 → get_or result k 0 ≡ code_or text.now (first + k)
-        + 4 * code_or text.now (second + k) + 16 * code_or text.now (third + k)
-        + 64 * code_or text.now (last + k) }
+    ensures each { (k : ℕ) → k < 16 → get_or result k 0 ≡ two_bits_or text.now (first + k)
+        + 4 * two_bits_or text.now (second + k) + 16 * two_bits_or text.now (third + k)
+        + 64 * two_bits_or text.now (last + k) }
 {
-    codes_16(text, first, 0)
-        + codes_16(text, second, 2)
-        + codes_16(text, third, 4)
-        + codes_16(text, last, 6)
+    two_bits_16(text, first, 0)
+        + two_bits_16(text, second, 2)
+        + two_bits_16(text, third, 4)
+        + two_bits_16(text, last, 6)
 }
 
 /// Returns 16 bytes of packed digits (`pack`): byte k has those at index `at + k` of each quarter
@@ -94,7 +94,7 @@ fn packed_16(text: &[u8], quarter: usize, at: usize) -> u8x16
     requires within { at + 16 ≤ quarter }
     requires quarter { 3 * quarter ≤ length text.now }
     ensures long { length result ≡ 16 }
-    ensures each { (k : ℕ) → k < 16 → get_or result k 0 ≡ four_codes text.now quarter (at + k) }
+    ensures each { (k : ℕ) → k < 16 → get_or result k 0 ≡ packed_byte text.now quarter (at + k) }
 {
     packed_from(
         text,
@@ -110,7 +110,7 @@ fn packed_16(text: &[u8], quarter: usize, at: usize) -> u8x16
 #[inline(always)]
 fn padded(text: &[u8]) -> [u8; 64]
     requires { length text.now ≤ 64 }
-    ensures { (k : ℕ) → k < 64 → code_or result k ≡ code_or text.now k }
+    ensures { (k : ℕ) → k < 64 → two_bits_or result k ≡ two_bits_or text.now k }
 {
     let mut block = [b'0'; 64];
     block[..text.len()].copy_from_slice(text);
@@ -250,7 +250,7 @@ pub(crate) fn digit_at(bytes: &[u8], len: usize, index: usize) -> Option<u8>
     if index >= len {
         return None;
     }
-    Some(digit_of(code_among(bytes, len, index)))
+    Some(digit_of(two_bits_at(bytes, len, index)))
 }
 
 /// Returns the last digit, in lower case, of `bytes`, which are digits packed by `pack`. There has
@@ -268,10 +268,10 @@ pub(crate) fn last_packed(bytes: &[u8]) -> u8
 /// `bytes`, which are `len` digits packed by `pack`. The last quarter ends where the digits do, so
 /// it may have some digits of the third one again.
 #[inline(always)]
-fn code_among(bytes: &[u8], len: usize, index: usize) -> u8
+fn two_bits_at(bytes: &[u8], len: usize, index: usize) -> u8
     requires there { index < len }
     requires room { quarter_of len ≤ length bytes.now }
-    ensures { result ≡ code_among len bytes.now index }
+    ensures { result ≡ two_bits_at len bytes.now index }
 {
     let quarter = len.div_ceil(4);
     let last = len - quarter;

@@ -63,7 +63,8 @@ fn put_other<W: Sink>(
 /// that is no event. `size` and `event` are those of its code.
 #[inline(always)]
 pub(crate) fn is_bit(size: usize, event: bool, form: Form) -> bool
-    ensures { result ≡ true → (size ≡ 1) × (event ≡ false) × (form ≡ Form.Scalar) }
+    ensures bit { result ≡ true → (size ≡ 1) × (event ≡ false) × (form ≡ Form.Scalar) }
+    ensures other { result ≡ false → size ≡ 1 → event ≡ false → form ≢ Form.Scalar }
 {
     (size == 1) & !event & (form == Form::Scalar)
 }

@@ -7,7 +7,7 @@ use crate::fault::BodyFault;
 use crate::item::{Form, Item, Regs};
 use crate::phrases::{read_real, read_timestamp, read_vector, scalar_code, skip_comment};
 use crate::tokens::next_token;
-use crate::words::{KeywordUse, PhraseKind, command_of, first_byte_of, kind_of, rest_of};
+use crate::words::{KeywordUse, PhraseKind, first_byte_of, keyword_use_of, kind_of, rest_of};
 use vcd_text::{Feed, Source};
 use vcd_view::HeadView;
 
@@ -31,7 +31,7 @@ fn read_command<S: Source>(
     ensures further { OnOk result (seen feed.old ≤ seen feed.new) }
     ensures bounded { seen feed.old < 2 ^ 63 → seen feed.new < 2 ^ 63 }
 {
-    match command_of(feed.token()) {
+    match keyword_use_of(feed.token()) {
         Some(KeywordUse::Comment) => {
             skip_comment(feed)?;
             Ok(None)

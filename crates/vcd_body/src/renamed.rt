@@ -1,6 +1,6 @@
 // Lines that end with a new code, given by its number.
-ghost use Rattle.std.specs.Prelude.{◌≡◌, ◌≢◌, ℕ, ◌+◌, ◌-◌, ◌%◌, ◌^◌, ◌<◌, ◌≤◌, ◌++◌, ◌∷◌, [], List, take, false, true, length, IfSome};
-ghost use Rattle.vcd_body.specs.Names.{AreBinaryIf, Puts, PutsTo, bytes_without, line_under, new_code, HeadView, IsSpelledAs};
+ghost use Rattle.std.specs.Prelude.{◌≡◌, ◌≢◌, ℕ, ◌+◌, ◌-◌, ◌%◌, ◌^◌, ◌<◌, ◌≤◌, ◌++◌, ◌∷◌, [], List, take, false, true, length, IfSome, None};
+ghost use Rattle.vcd_body.specs.Names.{AreBinaryIf, Puts, PutsTo, bytes_without, is_value_digit, line_under, new_code, to_ascii_lowercase as lower, HeadView, IsSpelledAs};
 ghost use Rattle.vcd_body.specs.declared.item.Item.TheVariants as item;
 
 use crate::ahead::ScannedItem;
@@ -15,7 +15,7 @@ use vcd_view::NewCode;
 /// Returns the first byte of the code that a merged dump has for this number: its lowest digit in
 /// base 94, from `!` on.
 #[inline(always)]
-fn digit_of(number: u64) -> u8
+fn code_byte(number: u64) -> u8
     ensures { result ≡ 33 + number % 94 }
 {
     (number % 94) as u8 + 33
@@ -45,7 +45,7 @@ fn short_end(first: u8, number: u64) -> Option<End>
             len: 3,
         });
     }
-    let low = digit_of(number);
+    let low = code_byte(number);
     let rest = number / 94;
     if rest < 94 {
         let high = rest as u8 + 33;
@@ -56,7 +56,7 @@ fn short_end(first: u8, number: u64) -> Option<End>
     }
     let high = rest / 94;
     if high < 94 {
-        let middle = digit_of(rest);
+        let middle = code_byte(rest);
         let high = high as u8 + 33;
         return Some(End {
             bytes: [first, low, middle, high, b'\n', 0, 0, 0],
@@ -188,13 +188,17 @@ fn put_renamed_text<W: Sink>(
 }
 
 /// Returns the digit of a change of this form that was taken ahead, if its line is only this digit,
-/// a code and a line feed: its code has one bit, and the digit is in lower case. Otherwise `None`.
+/// a code and a line feed. `None` if it is no scalar, if the size of its code is not 1, or if its
+/// digit is a capital letter.
 #[inline(always)]
-pub fn bit_of(scanned: ScannedItem<'_>, form: Form) -> Option<u8>
+pub fn only_digit(scanned: ScannedItem<'_>, form: Form) -> Option<u8>
     ensures size { IfSome result (λ _. scanned.entry.size_or_zero ≡ 1) }
     ensures line { IfSome result (λ digit. (id : List ℕ)
         → line_under id scanned.entry.size_or_zero false form scanned.entry.text.now
         ≡ digit ∷ id ++ 10 ∷ []) }
+    ensures none { result ≡ None → (digit : ℕ) → scanned.entry.text.now ≡ digit ∷ []
+        → is_value_digit digit ≡ true → scanned.entry.size_or_zero ≡ 1 → form ≡ Form.Scalar
+        → lower digit ≢ digit }
 {
     match scanned.text {
         [digit] if is_bit(scanned.size_or_zero, false, form) && is_lower(*digit) => Some(*digit),

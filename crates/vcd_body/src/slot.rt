@@ -159,7 +159,7 @@ pub(crate) fn number_of(state: State) -> u8
 
 /// Returns whether a digit is `0` or `1`.
 #[inline(always)]
-pub(crate) fn is_bit(digit: u8) -> bool
+pub(crate) fn is_zero_or_one(digit: u8) -> bool
     ensures yes { result ≡ true → (digit ≡ 48) ⊎ (digit ≡ 49) }
     ensures no { result ≡ false → (digit ≢ 48) × (digit ≢ 49) }
 {

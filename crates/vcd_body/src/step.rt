@@ -30,7 +30,7 @@ fn is_edge(from: u8, to: u8, before: Option<u8>, after: Option<u8>) -> bool
 /// Returns the last digit of a change of this form and text, in lower case; `None` for a real
 /// number, and for an empty text.
 #[inline(always)]
-fn last_of(form: Form, text: &[u8]) -> Option<u8>
+fn last_digit_of(form: Form, text: &[u8]) -> Option<u8>
     ensures { 0 < length text.now → (size : ℕ)
         → result ≡ last_digit_in (Some (value_with size (model_form form) text.now)) }
 {
@@ -50,7 +50,7 @@ pub(crate) fn step_to_text(differs: bool, before: Option<u8>, form: Form, text: 
     ensures falls { 0 < length text.now → (size : ℕ) → result.falls ≡ goes_from 49 48 before
         (last_digit_in (Some (value_with size (model_form form) text.now))) }
 {
-    let after = last_of(form, text);
+    let after = last_digit_of(form, text);
     Step {
         differs,
         rises: is_edge(b'0', b'1', before, after),

@@ -7,8 +7,8 @@ use crate::counters::{count_step, count_steps};
 use crate::item::Form;
 use crate::packed::pack;
 use crate::slot::{
-    HeldValue, Holding, Share, Slot, State, UPPER, digit_of_state, flipped, holding_of, is_bit,
-    number_of, number_of_flipped, state_in,
+    HeldValue, Holding, Share, Slot, State, UPPER, digit_of_state, flipped, holding_of,
+    is_zero_or_one, number_of, number_of_flipped, state_in,
 };
 use crate::step::{way_between, way_to};
 use crate::table::Table;
@@ -87,7 +87,7 @@ fn hold(bytes: &mut [u8], form: Form, text: &[u8]) -> State
 {
     match form {
         Form::RealText => {
-            copy_front(bytes, text);
+            copy_text(bytes, text);
             State::Real
         }
         _ => {
@@ -98,7 +98,7 @@ fn hold(bytes: &mut [u8], form: Form, text: &[u8]) -> State
 }
 
 /// Copies `from` to the first bytes of `to`, which has to be at least as long.
-fn copy_front(to: &mut [u8], from: &[u8])
+fn copy_text(to: &mut [u8], from: &[u8])
     requires { length from.now ≤ length to.old }
     ensures { take (length from.now) to.new ≡ from.now }
 {
@@ -134,7 +134,7 @@ impl<'a> Table<'a> {
     /// exist, ends: where the next one begins, or all values end. In a table that `Table::new` has
     /// not made it may be any number.
     #[inline(always)]
-    pub(crate) fn end_of(&self, code: usize) -> usize
+    pub(crate) fn share_end(&self, code: usize) -> usize
         requires { code < length self.now.shares.now }
         ensures { result ≡ end_at self.now.shares.now (bytes_in self.now) code }
     {
@@ -145,7 +145,7 @@ impl<'a> Table<'a> {
     }
 
     /// Sets the value of the code at index `code`, which must exist, to the text of a change. Its
-    /// share ends at offset `end` of the values (`end_of`). A text of digits must not have exactly
+    /// share ends at offset `end` of the values (`share_end`). A text of digits must not have exactly
     /// one. Nothing changes if the text is empty or does not fit into the share, or if the share
     /// does not lie within the values.
     #[inline(always)]
@@ -178,7 +178,7 @@ impl<'a> Table<'a> {
         ensures { SetsCode code (with_text form text.now) self.old self.new }
     {
         if code < self.slots.len() && code < self.shares.len() {
-            self.set_text_in(code, self.end_of(code), form, text);
+            self.set_text_in(code, self.share_end(code), form, text);
         }
     }
 
@@ -189,7 +189,7 @@ impl<'a> Table<'a> {
     // takes 2 to 5 % more.
     #[cold]
     #[inline(never)]
-    pub(crate) fn add(&mut self, code: usize, more: u64, rises: bool, falls: bool)
+    pub(crate) fn add_steps(&mut self, code: usize, more: u64, rises: bool, falls: bool)
         ensures keeps { KeepsTable self.old self.new }
         ensures changes { ChangesCode code (with_steps more rises falls) self.old self.new }
     {
@@ -265,7 +265,7 @@ pub(crate) fn flip_at(slots: &mut [Slot], code: usize, digit: u8) -> Stepped
         return Stepped::Not;
     }
     let before = slots[code].tag;
-    if !is_bit(digit) || before != number_of_flipped(digit) {
+    if !is_zero_or_one(digit) || before != number_of_flipped(digit) {
         return if digit_of_state(state_in(before)) == Some(digit.to_ascii_lowercase()) {
             Stepped::Counted
         } else {

@@ -119,11 +119,11 @@ impl<'a> Table<'a> {
         match text {
             [digit] => match flip_at(self.slots, code, *digit) {
                 Stepped::Counted => {}
-                Stepped::Uncounted { rises, falls } => self.add(code, CARRY, rises, falls),
+                Stepped::Uncounted { rises, falls } => self.add_steps(code, CARRY, rises, falls),
                 Stepped::Not => self.follow_any(code, size, Form::Vector, text),
             },
             _ => {
-                if !self.change(code, text) {
+                if !self.follow_by_ends(code, text) {
                     self.follow_any(code, size, Form::Vector, text);
                 }
             }
@@ -139,7 +139,7 @@ impl<'a> Table<'a> {
     {
         match step_at(self.slots, code, size, bits) {
             Stepped::Counted => {}
-            Stepped::Uncounted { rises, falls } => self.add(code, CARRY, rises, falls),
+            Stepped::Uncounted { rises, falls } => self.add_steps(code, CARRY, rises, falls),
             Stepped::Not => self.follow_any_bits(code, size, bits),
         }
     }
@@ -277,11 +277,11 @@ impl<'a> Table<'a> {
     {
         // No step does both, and a slot has no counter for it.
         if rises & falls {
-            self.add(code, 1, rises, falls);
+            self.add_steps(code, 1, rises, falls);
             return;
         }
         if !count_in_slot(self.slots, code, way_of(rises, falls)) {
-            self.add(code, CARRY, rises, falls);
+            self.add_steps(code, CARRY, rises, falls);
         }
     }
 

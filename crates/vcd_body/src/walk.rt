@@ -234,11 +234,11 @@ fn take_section<'a, C, V: Visit<C>, W: Sink>(
     }
 }
 
-/// Has the visitor handle the change that the two tokens of a vector spell, which end at `to`. Fails
-/// if a write fails. `None` if the header does not declare the code, or if the digits are bad or too
-/// many for it; then nothing has changed.
-// The arm for digits of a known number takes 5 % off `merge` of 27,505 codes, and adds 6 % to
-// `check`.
+/// Has the visitor handle the change that the two tokens of a vector spell, which end at `to`, and
+/// returns whether a write failed. `None` if the header does not declare the code, or if the digits
+/// are bad or too many for it; then nothing has changed.
+// Two arms, so that the compiler knows in each whether the digits have a number: without numbers
+// `edges` of 27,505 codes takes 53 % more, and in one arm `check` takes 4 % more of Verilator's.
 #[inline(always)]
 fn take_vector<C, V: Visit<C>, W: Sink>(
     command: &mut C,
@@ -321,8 +321,8 @@ fn take_next<C, V: Visit<C>, W: Sink>(
 }
 
 /// Has the visitor handle the next item ahead, if it is a change by `0` or `1` with a code of one
-/// byte, on a line of its own, whose code a look at one entry finds. Then it passes it. Otherwise
-/// `None`, and nothing has changed. Fails if a write fails.
+/// byte, on a line of its own, whose code a look at one entry finds. Then it passes it and returns
+/// whether a write failed. Otherwise `None`, and nothing has changed.
 #[inline(always)]
 fn take_short<C, V: Visit<C>, W: Sink, const CR_LF: bool>(
     command: &mut C,

@@ -134,7 +134,7 @@ fn use_of(keyword: Keyword) -> KeywordUse
 /// Returns what the token means at the beginning of a phrase of a body, if it is a keyword. `None`
 /// if it is none.
 #[inline(always)]
-pub(crate) fn command_of(token: &[u8]) -> Option<KeywordUse>
+pub(crate) fn keyword_use_of(token: &[u8]) -> Option<KeywordUse>
     ensures { StandsFor token.now result }
 {
     Some(use_of(keyword_of(token)?))

@@ -9,7 +9,7 @@ ghost use Rattle.vcd_body.specs.Whole.{IsPrompt};
 use crate::order::Turn;
 use crate::seat::Seat;
 use vcd_body::{
-    Form, Item, Regs, ScannedItem, Stop, Visit, bit_of, change_text, next_item, pass_items,
+    Form, Item, Regs, ScannedItem, Stop, Visit, change_text, next_item, only_digit, pass_items,
     pass_on, put_code_line, put_renamed, put_renamed_ahead, put_time, walk_ahead,
 };
 use vcd_head::Head;
@@ -190,7 +190,7 @@ impl Visit<Option<u64>> for Merging {
         let Item::Change { code, form } = change.item else {
             return Ok(());
         };
-        if let Some(digit) = bit_of(change, form) {
+        if let Some(digit) = only_digit(change, form) {
             self.put_due_line(written, out)?;
             let number = self.first.wrapping_add(code as u64);
             return put_code_line(digit, number, out);

@@ -145,8 +145,7 @@ static ROWS: [Row; 29] = [
         err: Said::Just(
             b"error: the argument '-i <FILE>' cannot be used multiple times\n\n  \
                 tip: FILE and '-i FILE' are the same argument of check, list and cut\n\n\
-                Usage: vcdkit check [--token-limit N] FILE\n       \
-                vcdkit check [--token-limit N] < FILE\n\n\
+                Usage: vcdkit check [OPTIONS] [FILE]\n\n\
                 For more information, try '--help'.\n",
         ),
         status: 2,
@@ -158,7 +157,7 @@ static ROWS: [Row; 29] = [
         err: Said::Just(
             b"error: unexpected argument '-o' found\n\n  \
                 tip: output goes to standard output; use '> FILE'\n\n\
-                Usage: vcdkit merge [--token-limit N] FILE.. > OUT\n\n\
+                Usage: vcdkit merge [OPTIONS] FILE...\n\n\
                 For more information, try '--help'.\n",
         ),
         status: 2,
@@ -170,8 +169,7 @@ static ROWS: [Row; 29] = [
         err: Said::Just(
             b"error: unexpected argument '-a' found\n\n  \
                 tip: to pass '-a' as a file or a name, use '-- -a'\n\n\
-                Usage: vcdkit pick -i FILE [--token-limit N] NAME.. > OUT\n       \
-                vcdkit pick [--token-limit N] NAME.. < FILE > OUT\n\n\
+                Usage: vcdkit pick [OPTIONS] [-i FILE] NAME...\n\n\
                 For more information, try '--help'.\n",
         ),
         status: 2,
@@ -184,8 +182,7 @@ static ROWS: [Row; 29] = [
             b"error: unexpected argument '-1' found\n\n  \
                 tip: times and limits are not negative\n  \
                 tip: to pass '-1' as a file or a name, use '-- -1'\n\n\
-                Usage: vcdkit sample -i FILE --at N,N,.. [--token-limit N] [NAME..]\n       \
-                vcdkit sample --at N,N,.. [--token-limit N] [NAME..] < FILE\n\n\
+                Usage: vcdkit sample [OPTIONS] [-i FILE] --at TIME,... [NAME...]\n\n\
                 For more information, try '--help'.\n",
         ),
         status: 2,
@@ -197,7 +194,7 @@ static ROWS: [Row; 29] = [
         err: Said::Just(
             b"error: unrecognized subcommand 'help'\n\n  \
                 tip: use 'vcdkit --help' or 'vcdkit COMMAND --help'\n\n\
-                Usage: vcdkit COMMAND ..\n\n\
+                Usage: vcdkit COMMAND [ARGUMENT...]\n\n\
                 For more information, try '--help'.\n",
         ),
         status: 2,
@@ -210,7 +207,7 @@ static ROWS: [Row; 29] = [
         err: Said::Just(
             b"error: unrecognized subcommand 'diff'\n\n  \
                 tip: see 'vcdkit-diff --help'\n\n\
-                Usage: vcdkit COMMAND ..\n\n\
+                Usage: vcdkit COMMAND [ARGUMENT...]\n\n\
                 For more information, try '--help'.\n",
         ),
         status: 2,
@@ -222,7 +219,7 @@ static ROWS: [Row; 29] = [
         err: Said::Just(
             b"error: unrecognized subcommand 'table'\n\n  \
                 tip: see 'vcdkit-table --help'\n\n\
-                Usage: vcdkit COMMAND ..\n\n\
+                Usage: vcdkit COMMAND [ARGUMENT...]\n\n\
                 For more information, try '--help'.\n",
         ),
         status: 2,

@@ -6,6 +6,7 @@ use crate::answer::{Halt, Next};
 use crate::device::Source;
 use crate::registers::{Parked, Phase};
 use crate::scan::{is_white_space, low_16, lowest, run_len, white_len};
+use std::simd::prelude::*;
 
 /// How much of a token the chunk had.
 #[derive(Clone, Copy)]
@@ -110,11 +111,24 @@ pub(crate) fn collect_short(chunk: &[u8], token: &mut [u8], parked: &mut Parked)
     if n == 0 || !is_white_space(chunk[at + n]) {
         return false;
     }
-    token[..16].copy_from_slice(&chunk[at..at + 16]);
+    copy_16(token, chunk, at);
     parked.size = n;
     parked.line = parked.line_feeds + 1;
     step_past(chunk, at + n, parked);
     true
+}
+
+/// Copies the 16 bytes of `from` at offset `at` to the front of `to`. Both have to have as many.
+// One load and one store. With `copy_from_slice` here and in `copy_front`, the header of 184,002
+// codes takes 5 % more.
+#[inline(always)]
+pub(crate) fn copy_16(to: &mut [u8], from: &[u8], at: usize)
+    requires to { 16 ≤ length to.old }
+    requires from { at + 16 ≤ length from.now }
+    ensures copied { take 16 to.new ≡ slice_range from.now at (at + 16) }
+    ensures len { length to.new ≡ length to.old }
+{
+    u8x16::from_slice(&from[at..]).copy_to_slice(to);
 }
 
 /// Moves `parked` past the byte of white space at `end` in the chunk, at which a token ends, and

@@ -24,8 +24,8 @@ impl CodeSeed {
         ensures more { result.more ≡ drawn B.BuildHasher B.Hasher.Hasher hasher.now 2 }
     {
         CodeSeed {
-            factor: number_of(hasher, 0),
-            more: number_of(hasher, 2),
+            factor: drawn(hasher, 0),
+            more: drawn(hasher, 2),
         }
     }
 
@@ -77,7 +77,7 @@ impl CodeSeed {
 
 /// Returns a number of 128 bits: its upper half is the hash of `first` that `hasher` gives, and its
 /// lower half the one of `first + 1`.
-fn number_of<B: BuildHasher>(hasher: &B, first: u64) -> u128
+fn drawn<B: BuildHasher>(hasher: &B, first: u64) -> u128
     requires { first < 2 ^ 32 }
     ensures { result ≡ drawn B.BuildHasher B.Hasher.Hasher hasher.now first }
 {

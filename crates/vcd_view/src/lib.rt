@@ -48,7 +48,7 @@ pub use entries::{
 };
 pub use key::key_of;
 pub use keyword::{Keyword, is, keyword_of, pass_words};
-pub use look_up::{Found, find, find_counted, find_in_own_entry, find_sized};
+pub use look_up::{Found, find, find_counted, find_in_entry, find_sized};
 pub use new_code::{NewCode, put_code};
 pub use probes::Probes;
 pub use room::need;

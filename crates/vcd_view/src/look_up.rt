@@ -30,7 +30,8 @@ pub fn find(view: HeadView<'_>, code: &[u8]) -> Option<usize>
     ensures found { (h : Header) → IsViewOf view.entry h → Finds h.codes code.now result }
     ensures within { IfSome result (λ position. position < length view.entry.codes.now) }
 {
-    find_counted(view, code, &mut Probes::new())
+    let found = find_sized(view, code)?;
+    Some(found.position)
 }
 
 /// Returns the index of an identifier code in `view.codes`, and its size; `None` if the header does
@@ -41,7 +42,13 @@ pub fn find_sized(view: HeadView<'_>, code: &[u8]) -> Option<Found>
         → Finds h.codes code.now (option_map (λ found. found.position) result) }
     ensures sized { IfSome result (λ found. IsSized view.entry.codes.now found) }
 {
-    find_sized_counted(view, code, &mut Probes::new())
+    if let Some(found) = find_in_entry(view, code, 0) {
+        return Some(found);
+    }
+    if let Some(found) = find_in_entry(view, code, 1) {
+        return Some(found);
+    }
+    find_beyond(view, code, &mut Probes::new())
 }
 
 /// Returns the index of an identifier code in `view.codes`; `None` if the header does not declare
@@ -61,14 +68,21 @@ pub fn find_counted(view: HeadView<'_>, code: &[u8], probes: &mut Probes) -> Opt
         → probes.old.count < probes.new.count }
     ensures few { AnyHeader view.entry (λ h. AreFew (length h.codes) probes.old.count probes.new.count) }
 {
-    let found = find_sized_counted(view, code, probes)?;
+    if let Some(found) = find_in_entry(view, code, 0) {
+        return Some(found.position);
+    }
+    if let Some(found) = find_in_entry(view, code, 1) {
+        return Some(found.position);
+    }
+    let found = find_beyond(view, code, probes)?;
     Some(found.position)
 }
 
-/// Returns the index of an identifier code in `view.codes`, and its size; `None` if the header does
-/// not declare it. `probes` counts how often the bytes of two codes are compared.
+/// Returns the index of an identifier code in `view.codes`, and its size, without a look at the
+/// first two entries; `None` if the header does not declare it. `probes` counts how often the bytes
+/// of two codes are compared.
 #[inline(always)]
-fn find_sized_counted(view: HeadView<'_>, code: &[u8], probes: &mut Probes) -> Option<Found>
+fn find_beyond(view: HeadView<'_>, code: &[u8], probes: &mut Probes) -> Option<Found>
     ensures found { (h : Header) → IsViewOf view.entry h
         → Finds h.codes code.now (option_map (λ found. found.position) result) }
     ensures sized { IfSome result (λ found. IsSized view.entry.codes.now found) }
@@ -79,12 +93,6 @@ fn find_sized_counted(view: HeadView<'_>, code: &[u8], probes: &mut Probes) -> O
         → probes.old.count < probes.new.count }
     ensures few { AnyHeader view.entry (λ h. AreFew (length h.codes) probes.old.count probes.new.count) }
 {
-    if let Some(found) = find_in_own_entry(view, code) {
-        return Some(found);
-    }
-    if let Some(found) = find_in_entry(view, code, 1) {
-        return Some(found);
-    }
     let position = find_slowly(
         view.text,
         view.codes,
@@ -101,26 +109,13 @@ fn find_sized_counted(view: HeadView<'_>, code: &[u8], probes: &mut Probes) -> O
     })
 }
 
-/// Returns the index and size of an identifier code, by a look at only the entry that its number
-/// leads to. `None` if another code has that entry, if it is empty, or if the code has more than 7
-/// bytes; then `find_sized` may find it.
-#[inline(always)]
-pub fn find_in_own_entry(view: HeadView<'_>, code: &[u8]) -> Option<Found>
-    ensures found { (h : Header) → IsViewOf view.entry h
-        → IfSome result (λ found. Finds h.codes code.now (Some found.position)) }
-    ensures sized { IfSome result (λ found. IsSized view.entry.codes.now found) }
-    ensures short { IfSome result (λ _. 0 < key_in code.now) }
-{
-    find_in_entry(view, code, 0)
-}
-
 /// Returns the index and size of an identifier code, by a look at only one entry: the one that its
 /// number leads to if `other` is 0, and the first one beside it if `other` is 1. `None` if that is
-/// not the entry of the code, or if the code has more than 7 bytes.
+/// not the entry of the code, or if the code has more than 7 bytes; then `find_sized` may find it.
 // Most changes that rtl_433 writes are of a code that the entry beside its own holds. If
 // `find_slowly` looks there, `check` takes 27 % more.
 #[inline(always)]
-fn find_in_entry(view: HeadView<'_>, code: &[u8], other: usize) -> Option<Found>
+pub fn find_in_entry(view: HeadView<'_>, code: &[u8], other: usize) -> Option<Found>
     ensures found { (h : Header) → IsViewOf view.entry h
         → IfSome result (λ found. Finds h.codes code.now (Some found.position)) }
     ensures sized { IfSome result (λ found. IsSized view.entry.codes.now found) }
@@ -199,7 +194,7 @@ fn search(
     while low < high {
         let middle = low + (high - low) / 2;
         let position = index[middle];
-        match probes.probe(text_of(text, codes, position), code) {
+        match probes.probe(text_of_code(text, codes, position), code) {
             Ordering::Less => low = middle + 1,
             Ordering::Greater => high = middle,
             Ordering::Equal => return (position < codes.len()).then_some(position),
@@ -210,7 +205,7 @@ fn search(
 
 /// Returns the bytes of the code at index `position` of `codes`; no bytes if there is no such code.
 /// The bytes lie in `text`.
-fn text_of<'a>(text: &'a [u8], codes: &[Code], position: usize) -> &'a [u8]
+fn text_of_code<'a>(text: &'a [u8], codes: &[Code], position: usize) -> &'a [u8]
     ensures { AnyCodes text.now codes.now (λ ks. position < length ks → result.now ≡ code_text ks position) }
 {
     match code_in(codes, position) {

@@ -35,8 +35,8 @@ const INSTEAD: [(&str, &str); 6] = [
 
 /// The scripts that are installed besides the program, without the `vcdkit-` of their names.
 const SCRIPTS: [&str; 13] = [
+    "close-sections",
     "diff",
-    "endmend",
     "explain",
     "find",
     "four-state",

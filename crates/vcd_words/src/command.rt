@@ -15,7 +15,7 @@ fn token_limit<'a>(alloc: Global) -> Arg<'a>
     Arg::new(alloc, "token-limit")
         .long("token-limit")
         .value_name("N")
-        .help("How long a token may be, in bytes: 64 to 16777216 [default: 1048576]")
+        .help("Longest token: 64 to 16777216 bytes [default: 1048576]")
 }
 
 /// Returns the definition of a command of this name for `clap`, with these help texts, and no
@@ -34,9 +34,10 @@ fn new_command<'a>(alloc: Global, name: &'a str, help: Help<'a>) -> Command<'a>
 fn one_input<'a>(alloc: Global, name: &'a str, help: Help<'a>) -> Result<Command<'a>, AllocError>
     ensures { IfOk result (λ command. IsWhole command (one_input_app name.entry.now)) }
 {
-    let input = Arg::new(alloc, "input").short('i').value_name("FILE").help(
-        "Reads this file instead of standard input; - means standard input",
-    );
+    let input = Arg::new(alloc, "input")
+        .short('i')
+        .value_name("FILE")
+        .help("The dump; - means standard input, the default");
     new_command(alloc, name, help)
         .arg(input)?
         .arg(token_limit(alloc))
@@ -52,7 +53,7 @@ fn with_file<'a>(alloc: Global, name: &'a str, help: Help<'a>) -> Result<Command
 {
     let file = Arg::new(alloc, "input")
         .value_name("FILE")
-        .help("The dump; the same as -i FILE");
+        .help("The dump, with or without -i");
     one_input(alloc, name, help)?.arg(file)
 }
 
@@ -93,21 +94,10 @@ fn time<'a>(alloc: Global, name: &'a str, value_name: &'a str, help: &'a str) ->
 fn cut<'a>(alloc: Global) -> Result<Command<'a>, AllocError>
     ensures { IfOk result (λ command. IsWhole command cut_app) }
 {
-    let from = time(
-        alloc,
-        "from",
-        "N",
-        "The first time: a number of ticks, or of s, ms, us, ns, ps or fs, such as 15ns",
-    )
-    .default_value("0");
-    let to = time(
-        alloc,
-        "to",
-        "N",
-        "The last time, written like the first [default: the end]",
-    )
-    .default_value("18446744073709551615")
-    .hide_default_value(true);
+    let from = time(alloc, "from", "TIME", "The first time").default_value("0");
+    let to = time(alloc, "to", "TIME", "The last time [default: the end]")
+        .default_value("18446744073709551615")
+        .hide_default_value(true);
     with_file(alloc, "cut", help::CUT)?.arg(from)?.arg(to)
 }
 
@@ -116,13 +106,7 @@ fn cut<'a>(alloc: Global) -> Result<Command<'a>, AllocError>
 fn sample<'a>(alloc: Global) -> Result<Command<'a>, AllocError>
     ensures { IfOk result (λ command. IsWhole command sample_app) }
 {
-    let at = time(
-        alloc,
-        "at",
-        "N,N,..",
-        "Increasing times: numbers of ticks, or of s, ms, us, ns, ps or fs, such as 5ns,15ns",
-    )
-    .required(true);
+    let at = time(alloc, "at", "TIME,...", "Times in increasing order").required(true);
     named(alloc, "sample", help::SAMPLE, false)?.arg(at)
 }
 
@@ -135,7 +119,7 @@ fn merge<'a>(alloc: Global) -> Result<Command<'a>, AllocError>
         .value_name("FILE")
         .num_args(1..)
         .required(true)
-        .help("A dump; - means standard input. The changes of all are merged in the order of time");
+        .help("Up to 64 dumps; - means standard input");
     new_command(alloc, "merge", help::MERGE)
         .arg(token_limit(alloc))?
         .arg(files)

@@ -1,6 +1,6 @@
 //! What `--help` prints for each command: what it does, its usage, examples, and exit statuses.
 
-/// The texts of one command.
+/// The texts of one command. No line is longer than 80 columns.
 #[derive(Clone, Copy)]
 pub struct Help<'a> {
     pub about: &'a str,
@@ -11,8 +11,7 @@ pub struct Help<'a> {
 
 pub const CHECK: Help<'static> = Help {
     about: "Checks a dump and counts what is in it",
-    usage: "vcdkit check [--token-limit N] FILE
-       vcdkit check [--token-limit N] < FILE",
+    usage: "vcdkit check [OPTIONS] [FILE]",
     after: "Examples:
   vcdkit check sim.vcd
   gzip -dc sim.vcd.gz | vcdkit check
@@ -23,20 +22,21 @@ Exit status:
   2  usage error
   3  I/O error or out of memory
 
-A dump has no end mark, so a dump that was truncated between two lines is valid too. The line
-'last' shows how far the simulation went. A CI job can ask for a time that must be reached:
-  vcdkit check sim.vcd | awk '$1 == \"last\" && $2 >= 1220 { ok = 1 } END { exit !ok }'",
+Because a dump has no end mark, one that was truncated between two lines is
+valid. The line 'last' shows how far the simulation went. In a script, this
+fails unless the dump reaches tick 1220:
+  vcdkit check sim.vcd | awk '$1 == \"last\" && $2 >= 1220' | grep -q .",
 };
 
 pub const LIST: Help<'static> = Help {
     about: "Lists the variables of a dump",
-    usage: "vcdkit list [--token-limit N] FILE
-       vcdkit list [--token-limit N] < FILE",
+    usage: "vcdkit list [OPTIONS] [FILE]",
     after: "Examples:
   vcdkit list sim.vcd
   vcdkit list sim.vcd | grep clk
 
-Each line has the path, the type, the size and the code of a variable. Only the header is read.
+Each line has the path, type, size and identifier code of a variable. Only the
+header is read.
 
 Exit status:
   0  everything was written
@@ -47,50 +47,52 @@ Exit status:
 
 pub const PICK: Help<'static> = Help {
     about: "Writes a dump of some of the variables",
-    usage: "vcdkit pick -i FILE [--token-limit N] NAME.. > OUT
-       vcdkit pick [--token-limit N] NAME.. < FILE > OUT",
+    usage: "vcdkit pick [OPTIONS] [-i FILE] NAME...",
     after: "Examples:
   vcdkit pick -i sim.vcd top.clk top.cpu > some.vcd
   vcdkit pick -i sim.vcd 'top.mem[0]' | vcdkit check
 
-Names are the paths that vcdkit list writes. An argument without -i is a name, not a file.
+Names are the paths that vcdkit list writes. An argument without -i is a name,
+not a file.
 
 Exit status:
   0  everything was written
-  1  a name selects nothing, or not a valid dump: the output ends before the fault
+  1  not a valid dump: the output ends before the fault; or a name selects
+     nothing
   2  usage error
   3  I/O error or out of memory",
 };
 
 pub const CUT: Help<'static> = Help {
     about: "Writes a dump of a time window",
-    usage: "vcdkit cut [--from N] [--to N] [--token-limit N] FILE > OUT
-       vcdkit cut [--from N] [--to N] [--token-limit N] < FILE > OUT",
+    usage: "vcdkit cut [OPTIONS] [FILE]",
     after: "Examples:
   vcdkit cut --from 100us --to 200us sim.vcd > window.vcd
   vcdkit cut --from 5000 sim.vcd > end.vcd
 
-If the dump ends before --to, the cut ends at the last timestamp of the dump, or at --from if that
-is later. The status is 0.
+A time is a number of ticks, or has a unit: s, ms, us, ns, ps or fs. If the dump
+ends before --to, the cut ends at the last timestamp of the dump, or at --from
+if that is later, with status 0.
 
 Exit status:
   0  everything was written
-  1  a unit without a time scale, or not a valid dump: the output ends before the fault
+  1  not a valid dump: the output ends before the fault; or a time with a unit,
+     and no time scale
   2  usage error
   3  I/O error or out of memory",
 };
 
 pub const SAMPLE: Help<'static> = Help {
     about: "Writes the values of variables at some times",
-    usage: "vcdkit sample -i FILE --at N,N,.. [--token-limit N] [NAME..]
-       vcdkit sample --at N,N,.. [--token-limit N] [NAME..] < FILE",
+    usage: "vcdkit sample [OPTIONS] [-i FILE] --at TIME,... [NAME...]",
     after: "Examples:
   vcdkit sample -i sim.vcd --at 0,15ns,2us top.cpu.pc
   vcdkit sample -i sim.vcd --at 5000
 
-If no names are given, all variables are sampled.
-Names are the paths that vcdkit list writes. An argument without -i is a name, not a file.
-At a time after the end of the dump, the values are the last ones. The status is 0.
+A time is a number of ticks, or has a unit: s, ms, us, ns, ps or fs. After the
+end of the dump, the values are the last ones, with status 0.
+Names are the paths that vcdkit list writes; without one, all variables are
+sampled. An argument without -i is a name, not a file.
 
 Exit status:
   0  everything was written
@@ -101,15 +103,14 @@ Exit status:
 
 pub const EDGES: Help<'static> = Help {
     about: "Counts changes, rises and falls of variables",
-    usage: "vcdkit edges -i FILE [--token-limit N] [NAME..]
-       vcdkit edges [--token-limit N] [NAME..] < FILE",
+    usage: "vcdkit edges [OPTIONS] [-i FILE] [NAME...]",
     after: "Examples:
   vcdkit edges -i sim.vcd top.clk
   vcdkit edges -i sim.vcd | sort -k 2,2nr | head
 
-If no names are given, all variables are counted.
-Names are the paths that vcdkit list writes. An argument without -i is a name, not a file.
 The rises and falls of a vector are those of its least significant bit.
+Names are the paths that vcdkit list writes; without one, all variables are
+counted. An argument without -i is a name, not a file.
 
 Exit status:
   0  everything was written
@@ -120,12 +121,13 @@ Exit status:
 
 pub const MERGE: Help<'static> = Help {
     about: "Writes several dumps as one",
-    usage: "vcdkit merge [--token-limit N] FILE.. > OUT",
+    usage: "vcdkit merge [OPTIONS] FILE...",
     after: "Examples:
   vcdkit merge cpu.vcd bus.vcd > both.vcd
   gzip -dc cpu.vcd.gz | vcdkit merge - bus.vcd > both.vcd
 
-The variables of the first file are in the scope in1, those of the second in in2, and so on.
+The variables of the first file are in the scope in1, those of the second in
+in2, and so on. All changes are in the order of time.
 
 Exit status:
   0  everything was written
@@ -136,16 +138,30 @@ Exit status:
 
 pub const PROGRAM: Help<'static> = Help {
     about: "Reads value change dumps (VCD), and answers questions about them",
-    usage: "vcdkit COMMAND ..",
-    after: "A command reads the dump from the file after -i, or from standard input. check, list and
-cut also take the file without -i, and merge reads the files that are named. Output goes to standard
-output. Each command has its own help, with examples: vcdkit check --help
+    usage: "vcdkit COMMAND [ARGUMENT...]",
+    after: "check, list and cut take the dump as an argument; pick, sample and edges take it
+after -i, because their arguments are names; merge takes several dumps. Without
+a file, a command reads standard input. Output goes to standard output.
+Each command has its own help, with examples: vcdkit check --help
 
-There are scripts too, each with its own --help: vcdkit-info, -find and -explain sum a dump up, find
-names and explain faults; -values, -table, -stats, -wave, -x and -when show values, periods,
-waveforms, unknown values and when a condition holds; -diff compares two dumps; -four-state,
--endmend and -join-bits repair dumps. They are in extras/ of the sources and of the tarball.
+Scripts, each with its own --help:
+  vcdkit-info            What is in this dump?
+  vcdkit-find            Which variables match a pattern?
+  vcdkit-values          Which values do signals have at a given time?
+  vcdkit-table           Which values at each change or clock edge? (CSV)
+  vcdkit-when            When does a condition hold?
+  vcdkit-x               Which signals are unknown, and when?
+  vcdkit-stats           Which periods, duty cycles and pulses do signals have?
+  vcdkit-wave            What do their waveforms look like? (SVG, HTML)
+  vcdkit-diff            Where do two dumps differ?
+  vcdkit-explain         What is wrong with this dump, and what helps?
+  vcdkit-four-state      Converts nine-state values of VHDL to four states
+  vcdkit-close-sections  Adds the missing $end of sections
+  vcdkit-join-bits       Joins variables of one bit into vectors
 
-The man page is vcdkit(1). The manual, recipes and notes on simulators are in share/doc/vcdkit below
-the prefix of the installation, such as /usr/local/share/doc/vcdkit, or in docs/ of the sources.",
+All but the last three also read packed dumps (gzip, xz, bzip2, zstd). In the
+sources and the tarball, the scripts are in extras/.
+
+The man page is vcdkit(1). The manual and recipes are in share/doc/vcdkit below
+the prefix of the installation, or in docs/ of the sources.",
 };

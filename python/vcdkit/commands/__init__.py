@@ -20,10 +20,7 @@ exit status:
   2  %s
   3  I/O error, out of memory, or no vcdkit
 
-A dump may be compressed (gzip, xz, bzip2, zstd; FST if fst2vcd is on the PATH), a pipe, or - for
-standard input. A pipe is stored in a temporary file in TMPDIR or /tmp, because it is read more than
-once. The variable VCDKIT names the program. Without it, the vcdkit beside this command is run, or
-the one on the PATH.
+A dump may be compressed, a pipe, or - for standard input: see SCRIPTS in vcdkit(1).
 """
 STATUSES_OF_A_FILTER = """
 exit status:
@@ -129,7 +126,12 @@ def after_end(dump: Dump, time: str) -> str:
     """Returns what to say of a time that is after the last timestamp of a dump; of another one an
     empty text. It reads up to that time, and raises a fault that comes before it."""
     ticks = dump.ticks(time, is_up=True)
-    if not ticks or dump.cut(ticks - 1, ticks).check().last == ticks:
+    try:
+        if not ticks or dump.cut(ticks - 1, ticks).check().last == ticks:
+            return ""
+    except DumpFault:
+        with dump.cut(ticks, ticks).body() as out:
+            out.read(1)  # `cut` writes nothing if the fault comes before this time
         return ""
     last = dump.check().last
     return "%s is after the end of the dump%s" % (

@@ -122,7 +122,7 @@ def statistics_of(dump, asked):
     signals = dump.select(asked.names)
     found = {one.code.encode(): Statistics(one) for one in signals}
     for time, before, changes in _body.steps(
-            dump._part(asked.names).cut(asked.begin, asked.end), found, is_cut=True):
+            dump.cut(asked.begin, asked.end)._part(asked.names), found, is_cut=True):
         for code, text in before:
             found[code].start(time, text)
         for code, text in dict(changes).items():

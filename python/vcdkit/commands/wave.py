@@ -279,8 +279,9 @@ def last_of(dump, window):
 def lanes_of(dump, chosen, names, window, count):
     """Returns the lanes of a window."""
     begin, end = window
-    lanes, part = Lanes(chosen, begin, last_of(dump, window), count), dump._part(names)
-    with (part if window == (0, LAST_TICK) else part.cut(begin, end)).body() as out:
+    lanes = Lanes(chosen, begin, last_of(dump, window), count)
+    part = dump if window == (0, LAST_TICK) else dump.cut(begin, end)
+    with part._part(names).body() as out:
         lanes.read(out)
     return lanes
 

@@ -35,7 +35,7 @@ def main(words: List[str]) -> int:
     check_begin(dump, asked)
     letters, count = (b"x", b"z") if asked.z else (b"x",), 0
     last: Dict[bytes, Optional[bytes]] = {}  # the last value of each code, if it is shown
-    part = dump._part(asked.names).cut(asked.begin, asked.end)
+    part = dump.cut(asked.begin, asked.end)._part(asked.names)
     lines = Lines(letters)
     for time, before, found in _body.steps(part, signals, is_cut=True, lines=lines):
         ends: Dict[bytes, bytes] = {}  # the last value of each code, in the order of these

@@ -1,6 +1,6 @@
-use Rattle.std.proofs.Common.{◌≡◌, ◌≢◌, ℕ, ◌++◌, List, [], length, sym, subst}
+use Rattle.std.proofs.Common.{◌≢◌, ℕ, ◌++◌, List, [], length}
 use Rattle.vcd_model.specs.Tokens.{Token, end_of_tokens}
-use Rattle.vcd_text.specs.Feed.{HasReadTo, chunk_len_of, limit_of, source_of}
+use Rattle.vcd_text.specs.Feed.{HasReadTo, limit_of}
 use Rattle.vcd_text.specs.Ahead.{ahead_of, lines_of}
 use Rattle.vcd_text.specs.Passed.{Passed}
 use Rattle.vcd_text.specs.Registers.{looked}

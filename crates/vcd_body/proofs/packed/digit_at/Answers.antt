@@ -8,5 +8,5 @@ returns-then-index-len c = sym (none_behind c.args.len c.args.bytes.now c.args.i
 
 pub returns : goal.returns
 returns c =
-    ap (λ d. Some d) (c.digit_of.ensures ∙ ap digit_of c.code_among.ensures)
+    ap (λ d. Some d) (c.digit_of.ensures ∙ ap digit_of c.two_bits_at.ensures)
     ∙ sym (digit_among c.args.len c.args.bytes.now c.args.index c.if-index-len.false)

@@ -1,6 +1,6 @@
 use Rattle.std.proofs.Common.{◌≡◌, ◌+◌, ◌-◌, inl, inr, get_or, subst, ◌∙◌, arith}
 use Rattle.std.proofs.lemmas.Bool.{cases_lt}
-use Rattle.vcd_body.specs.Packed.{four_codes}
+use Rattle.vcd_body.specs.Packed.{packed_byte}
 use Rattle.vcd_body.proofs.packed.pack_many.Goals as goal
 
 pub loop-at-preserved : goal.loop-at-preserved
@@ -9,7 +9,7 @@ loop-at-preserved c = λ j less. elim (cases_lt j c.loop-at.at) [
   | inr late ↦
       let at = c.loop-at.at in
       let back : at + (j - at) ≡ j = omega arith in
-      subst (λ i. get_or c.pack_16.new.bytes i 0 ≡ four_codes c.args.text.now c.args.quarter i) back (c.pack_16.ensures.packed (j - at) (omega arith))
+      subst (λ i. get_or c.pack_16.new.bytes i 0 ≡ packed_byte c.args.text.now c.args.quarter i) back (c.pack_16.ensures.packed (j - at) (omega arith))
 ]
 
 pub returns : goal.returns
@@ -18,5 +18,5 @@ returns c = λ j less. elim (cases_lt j (c.args.quarter - 16)) [
   | inr late ↦
       let last = c.args.quarter - 16 in
       let back : last + (j - last) ≡ j = omega arith in
-      subst (λ i. get_or c.pack_16-2.new.bytes i 0 ≡ four_codes c.args.text.now c.args.quarter i) back (c.pack_16-2.ensures.packed (j - last) (omega (arith, c.requires.many)))
+      subst (λ i. get_or c.pack_16-2.new.bytes i 0 ≡ packed_byte c.args.text.now c.args.quarter i) back (c.pack_16-2.ensures.packed (j - last) (omega (arith, c.requires.many)))
 ]

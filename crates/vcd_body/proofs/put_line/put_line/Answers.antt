@@ -6,7 +6,7 @@ use Rattle.vcd_body.proofs.put_line.put_line.Goals as goal
 
 pub returns-in-len1 : goal.returns-in-len1
 returns-in-len1 g c =
-    let (size, event, form) = c.is_bit.ensures c.if-is_bit.true in
+    let (size, event, form) = c.is_bit.ensures.bit c.if-is_bit.true in
     let id = id_text c.args.id in
     let line = bit_line c.args.text.now id c.args.size c.args.event c.args.form size event form c.in-len1.len_at_least c.in-len1.len_below in
     let same = ap (λ d. d ∷ id ++ 10 ∷ []) c.to_ascii_lowercase.ensures.value in

@@ -13,11 +13,11 @@ returns-then-rest-lt94-clause-text c =
     let rest = c.args.number / 94 in
     let code = two_digits c.args.number (omega (arith, c.if-number-lt94.false)) c.if-rest-lt94.true in
     let last : rest + 33 ≡ 33 + rest % 94 = omega arith in
-    rw (code, sym c.digit_of-low.ensures, sym last) refl
+    rw (code, sym c.code_byte-low.ensures, sym last) refl
 
 pub returns-then-high-lt94-clause-text : goal.returns-then-high-lt94-clause-text
 returns-then-high-lt94-clause-text c =
     let high = c.args.number / 94 / 94 in
     let code = three_digits c.args.number (omega (arith, c.if-number-lt94.false)) (omega (arith, c.if-rest-lt94.false)) c.if-high-lt94.true in
     let last : high + 33 ≡ 33 + high % 94 = omega arith in
-    rw (code, sym c.digit_of-low.ensures, sym c.digit_of-middle.ensures, sym last) refl
+    rw (code, sym c.code_byte-low.ensures, sym c.code_byte-middle.ensures, sym last) refl

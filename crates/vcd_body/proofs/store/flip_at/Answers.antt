@@ -32,7 +32,7 @@ returns-then-count_in_slot-clause-counted c = λ _ form digits size shares value
     let turns = way_flips one way c.way_to.ensures in
     let counts = subst (λ (b : Bool). ChangesAt code (with_step one b) values c.set_tag.new.slots shares values c.count_in_slot.new.slots shares) turns.1
     (subst (λ (b : Bool). ChangesAt code (with_step b (way == 0)) values c.set_tag.new.slots shares values c.count_in_slot.new.slots shares) turns.0 (c.if-count_in_slot.ensures.counts refl shares values)) in
-    let bit = bit_is c.args.digit (c.if-not-is_bit.ensures.yes refl) in
+    let bit = bit_is c.args.digit (c.if-not-is_zero_or_one.ensures.yes refl) in
     subst (λ d. ChangesAt code (with_change size form (d ∷ [])) values slots shares values c.count_in_slot.new.slots shares) bit
     (change_as code (λ k. with_step one (not one) (with_held (Held.Digits (cond one 49 48 ∷ [])) k)) (with_change size form (cond one 49 48 ∷ [])) values values slots c.count_in_slot.new.slots shares shares
     (λ k kept. kept_flips values slots shares code slot at k kept one (other_bit slot.tag one (c.if-before-number_of_flipped.false ∙ c.number_of_flipped.ensures)) form digits size)
@@ -61,7 +61,7 @@ returns-clause-uncounted c = λ rises falls is form digits size shares values af
     let step = subst (λ (b : Bool). ChangesAt code (with_step one b) values c.set_tag.new.slots shares after counted with) turns.1
     (subst (λ (b : Bool). ChangesAt code (with_step b (way == 0)) values c.set_tag.new.slots shares after counted with) turns.0
     (c.if-count_in_slot.ensures.left refl shares values after counted with rest)) in
-    let bit = bit_is c.args.digit (c.if-not-is_bit.ensures.yes refl) in
+    let bit = bit_is c.args.digit (c.if-not-is_zero_or_one.ensures.yes refl) in
     subst (λ d. ChangesAt code (with_change size form (d ∷ [])) values slots shares after counted with) bit
     (change_as code (λ k. with_step one (not one) (with_held (Held.Digits (cond one 49 48 ∷ [])) k)) (with_change size form (cond one 49 48 ∷ [])) values after slots counted shares with
     (λ k kept. kept_flips values slots shares code slot at k kept one (other_bit slot.tag one (c.if-before-number_of_flipped.false ∙ c.number_of_flipped.ensures)) form digits size)

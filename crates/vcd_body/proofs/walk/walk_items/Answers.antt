@@ -1,4 +1,4 @@
-use Rattle.std.proofs.Common.{◌≡◌, ◌∙◌, false, sym}
+use Rattle.std.proofs.Common.{◌∙◌, sym}
 use Rattle.vcd_body.specs.Walk.{HasCome, stage_at}
 use Rattle.vcd_body.proofs.CommentLemmas.{same_place}
 use Rattle.vcd_body.proofs.WalkLemmas.{come_begins, come_on, come_past}

@@ -1,6 +1,6 @@
-use Rattle.std.proofs.Common.{◌≡◌, ◌<◌, ◌+◌, ◌-◌, ◌++◌, true, length, take, drop, ap, sym, ◌∙◌, arith, rules, length-drop}
+use Rattle.std.proofs.Common.{◌≡◌, ◌<◌, ◌+◌, ◌-◌, true, take, drop, ap, sym, ◌∙◌, arith, rules}
 use Rattle.std.specs.Prelude.{slice_index}
-use Rattle.std.proofs.lemmas.List.{length-take-le, take-append-le, take-take}
+use Rattle.std.proofs.lemmas.List.{take-take}
 use Rattle.vcd_model.specs.Bytes.{is_white_space}
 use Rattle.vcd_text.specs.Window.{stepped_past}
 use Rattle.vcd_text.proofs.window.collect_short.Goals as goal
@@ -13,10 +13,8 @@ returns-clause-takes c = λ _.
     let short : n < 16 = c.low_16-low.ensures.inside n c.lowest-n.ensures.set in
     let white : is_white_space (slice_index chunk (p.at + n)) ≡ true = sym c.is_white_space.ensures ∙ c.if-not-is_white_space.false in
     let size : n ≡ 0 + n = omega arith in
-    let copied = c.copy_from_slice.new.self in
-    let after = drop 16 c.args.token.now in
+    let copied = c.copy_16.new.to in
     let rest = drop p.at chunk in
-    let long : length copied ≡ 16 = ap length c.copy_from_slice.ensures.after ∙ length-take-le (p.at + 16 - p.at) rest (omega (arith, c.if-parked-at-lt16.false, c.requires.within, length-drop p.at chunk)) ∙ (omega arith) in
     let back : n ≡ p.at + n - p.at = omega arith in
     record {
       going = c.in-Going.is;
@@ -27,7 +25,7 @@ returns-clause-takes c = λ _.
           to = omega (arith, c.if-parked-at-lt16.false, short);
           room = omega (arith, c.if-token-lt16.false, short);
           other = λ k lt. c.low_16-low.ensures.other k (omega (arith, short)) (c.lowest-n.ensures.below k lt);
-          bytes = ap (λ k. take k (copied ++ after)) (sym size) ∙ take-append-le n copied after (omega (arith, short, long)) ∙ ap (take n) c.copy_from_slice.ensures.after ∙ take-take n (p.at + 16 - p.at) rest (omega (arith, short)) ∙ ap (λ k. take k rest) back;
+          bytes = ap (λ k. take k copied) (sym size) ∙ sym (take-take n 16 copied (omega (arith, short))) ∙ ap (take n) c.copy_16.ensures.copied ∙ take-take n (p.at + 16 - p.at) rest (omega (arith, short)) ∙ ap (λ k. take k rest) back;
         },
         omega (arith, c.if-parked-at-lt16.false, short),
         white,

@@ -25,7 +25,7 @@ loop-low-preserved-in-Less c =
       within = omega arith;
       end = c.loop-low.invariant.end;
       between = λ ks a x. between_above ks c.args.index.now c.args.code.now low high middle x (c.loop-low.invariant.between ks a x) inside
-          (ap (λ t. slice_cmp nat_cmp t c.args.code.now) (sym (c.text_of.ensures ks a (place_below ks c.args.index.now middle x inside))) ∙ sym c.in-Less.ensures.order);
+          (ap (λ t. slice_cmp nat_cmp t c.args.code.now) (sym (c.text_of_code.ensures ks a (place_below ks c.args.index.now middle x inside))) ∙ sym c.in-Less.ensures.order);
       grown = omega (arith, c.loop-low.invariant.grown);
       counted = λ l. omega (arith, c.loop-low.invariant.grown);
       few = omega (arith, c.loop-low.invariant.few);
@@ -41,7 +41,7 @@ loop-low-preserved c =
       within = omega arith;
       end = omega (arith, c.loop-low.invariant.end);
       between = λ ks a x. between_below ks c.args.index.now c.args.code.now low high middle x (c.loop-low.invariant.between ks a x)
-          (ap (λ t. slice_cmp nat_cmp t c.args.code.now) (sym (c.text_of.ensures ks a (place_below ks c.args.index.now middle x inside))) ∙ sym c.in-Greater.ensures.order);
+          (ap (λ t. slice_cmp nat_cmp t c.args.code.now) (sym (c.text_of_code.ensures ks a (place_below ks c.args.index.now middle x inside))) ∙ sym c.in-Greater.ensures.order);
       grown = omega (arith, c.loop-low.invariant.grown);
       counted = λ l. omega (arith, c.loop-low.invariant.grown);
       few = omega (arith, c.loop-low.invariant.few);
@@ -57,7 +57,7 @@ returns-in-Equal-clause-found c = λ ks a x.
     let is : c.then_some.result ≡ Some (get_or index middle 0) = search rules in
     rw is
     (found_equal ks index c.args.code.now middle x inside
-    (ap (λ t. slice_cmp nat_cmp t c.args.code.now) (sym (c.text_of.ensures ks a below)) ∙ sym c.in-Equal.ensures.order))
+    (ap (λ t. slice_cmp nat_cmp t c.args.code.now) (sym (c.text_of_code.ensures ks a below)) ∙ sym c.in-Equal.ensures.order))
 
 pub returns-in-Equal-clause-few : goal.returns-in-Equal-clause-few
 returns-in-Equal-clause-few c = λ ks x.

@@ -4,9 +4,9 @@ use Rattle.vcd_body.proofs.table.Table.follow_bits.Goals as goal
 pub returns-in-Uncounted : goal.returns-in-Uncounted
 returns-in-Uncounted c =
     let old = c.args.self.now in
-    let new = c.add.new.self in
-    let k = c.add.ensures.keeps in
+    let new = c.add_steps.new.self in
+    let k = c.add_steps.ensures.keeps in
     record {
       keeps = record { laid = λ laid. k.laid (c.step_at.ensures.laid old.shares.now (length old.values.now) laid); codes = cc; bytes = cc };
-      changes = λ laid. c.in-Uncounted.ensures.uncounted c.in-Uncounted.rises c.in-Uncounted.falls refl old.shares.now old.values.now new.values.now laid new.slots.now new.shares.now c.add.ensures.changes;
+      changes = λ laid. c.in-Uncounted.ensures.uncounted c.in-Uncounted.rises c.in-Uncounted.falls refl old.shares.now old.values.now new.values.now laid new.slots.now new.shares.now c.add_steps.ensures.changes;
     }

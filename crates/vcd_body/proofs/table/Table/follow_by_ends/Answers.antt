@@ -1,6 +1,6 @@
 use Rattle.vcd_body.proofs.FollowLemmas.{keeps_twice, set_and_counted}
 use Rattle.vcd_body.specs.declared.item.Form.TheVariants as form
-use Rattle.vcd_body.proofs.table.Table.change.Goals as goal
+use Rattle.vcd_body.proofs.table.Table.follow_by_ends.Goals as goal
 
 pub returns-clause-sets : goal.returns-clause-sets
 returns-clause-sets c = λ told size.

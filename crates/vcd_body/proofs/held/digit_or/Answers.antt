@@ -2,7 +2,7 @@ use Rattle.std.proofs.Common.{ℕ, Option, ap, ◌∙◌}
 use Rattle.std.specs.Prelude.{unwrap_or}
 use Rattle.std.proofs.lemmas.Option.{unwrap_or-slice_get}
 use Rattle.vcd_body.specs.Held.{digits_of}
-use Rattle.vcd_body.proofs.held_text.digit_or.Goals as goal
+use Rattle.vcd_body.proofs.held.digit_or.Goals as goal
 
 pub returns : goal.returns
 returns c = c.unwrap_or.ensures ∙ ap (λ (o : Option ℕ). unwrap_or o 0) c.digit_held.ensures ∙ unwrap_or-slice_get (digits_of c.args.held) c.args.index 0

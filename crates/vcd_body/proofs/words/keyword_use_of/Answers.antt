@@ -2,7 +2,7 @@ use Rattle.std.proofs.Common.{◌≡◌, Some, rules}
 use Rattle.vcd_model.specs.Keywords.{keyword_of}
 use Rattle.vcd_view.specs.Keywords.{model_keyword}
 use Rattle.vcd_body.proofs.WordLemmas.{stands_for}
-use Rattle.vcd_body.proofs.words.command_of.Goals as goal
+use Rattle.vcd_body.proofs.words.keyword_use_of.Goals as goal
 
 pub returns : goal.returns
 returns c =

@@ -6,7 +6,7 @@ use Rattle.vcd_body.specs.Steps.{with_steps}
 use Rattle.vcd_body.specs.Stored.{whole}
 use Rattle.vcd_body.proofs.StoreLemmas.{blank_share, counted_laid, more_kept, no_share_there, share_alone_changes}
 use Rattle.vcd_body.proofs.TableLemmas.{keeps_laid}
-use Rattle.vcd_body.proofs.table.Table.add.Goals as goal
+use Rattle.vcd_body.proofs.table.Table.add_steps.Goals as goal
 
 pub returns-then-code-self-clause-keeps : goal.returns-then-code-self-clause-keeps
 returns-then-code-self-clause-keeps c =

@@ -1,0 +1,112 @@
+#!/usr/bin/env python3
+"""turns.py PROGRAM PROGRAM DUMP..   says which of two programs is faster, on a busy machine too:
+for each dump, the user time of both, and the ratio of the second to the first with its spread.
+
+    bench/turns.py old/vcdkit ./vcdkit /tmp/dumps/*.vcd
+    bench/turns.py --runs 200 --command 'cut --from 5 --to 9' old/vcdkit ./vcdkit dump.vcd
+
+The programs run in turn, in pairs whose order alternates, so that other work on the machine meets
+both. After each pair comes a process that only reads the dump (os.read of 64 KB in a fresh child of
+this script, timed from its first read to its last): its least time is taken off each time, so a
+ratio is about the work, and not about the copy out of the page cache. A time is user and system
+time together: Linux measures the sum, and estimates how it is divided.
+
+A line says what a run took at least and in the middle (median), for each program, net of the read,
+and the ratio of the least times. Its spread is the range of the ratios of the least times of ten
+parts of the runs, without the lowest and the highest part. If 1 lies within that range, or within 1
+per cent of it, the line says 'no difference'."""
+import argparse
+import os
+import resource
+import statistics
+import sys
+
+PARTS = 10
+WITHIN = 0.01
+
+
+def cpu_of(work):
+    """Returns the CPU seconds of a child that does this work."""
+    pid = os.fork()
+    if pid == 0:
+        try:
+            work()
+        finally:
+            os._exit(127)
+    _, status, used = os.wait4(pid, 0)
+    if os.WIFSIGNALED(status) or os.WEXITSTATUS(status) == 127:
+        sys.exit("turns.py: a run failed, with the wait status %d" % status)
+    return used.ru_utime + used.ru_stime
+
+
+def run_of(program, words, dump):
+    """Returns the work of a run over this dump, whose output goes nowhere."""
+    def work():
+        os.dup2(os.open(dump, os.O_RDONLY), 0)
+        os.dup2(os.open(os.devnull, os.O_WRONLY), 1)
+        os.execv(program, [program] + words)
+    return work
+
+
+def read_only(dump):
+    """Returns the CPU seconds that reading this dump takes, without those of starting a process."""
+    reading, writing = os.pipe()
+
+    def work():
+        source = os.open(dump, os.O_RDONLY)
+        before = resource.getrusage(resource.RUSAGE_SELF)
+        while os.read(source, 65536):
+            pass
+        after = resource.getrusage(resource.RUSAGE_SELF)
+        took = after.ru_utime + after.ru_stime - before.ru_utime - before.ru_stime
+        os.write(writing, b"%.9f" % took)
+        os._exit(0)
+    cpu_of(work)
+    os.close(writing)
+    took = float(os.read(reading, 64))
+    os.close(reading)
+    return took
+
+
+def spread_of(first, second):
+    """Returns the range of the ratios of the parts, without the lowest and the highest one."""
+    ratios = sorted(min(second[k::PARTS]) / min(first[k::PARTS]) for k in range(PARTS))
+    return ratios[1], ratios[-2]
+
+
+def measure(programs, words, dump, runs):
+    """Prints the line of one dump."""
+    times, reads = ([], []), []
+    for turn in range(runs):
+        for which in (0, 1) if turn % 2 == 0 else (1, 0):
+            times[which].append(cpu_of(run_of(programs[which], words, dump)))
+        reads.append(read_only(dump))
+    read = min(reads)
+    net = [[max(time - read, 1e-6) for time in one] for one in times]
+    low, high = spread_of(*net)
+    same = low - WITHIN <= 1 <= high + WITHIN
+    print("%-20s %s  ratio %.3f (%.3f to %.3f)%s" % (
+        os.path.basename(dump)[:20],
+        "  ".join("%.1f, %.1f ms" % (min(one) * 1000, statistics.median(one) * 1000)
+                  for one in net),
+        min(net[1]) / min(net[0]), low, high, "  no difference" if same else ""), flush=True)
+
+
+def main():
+    parser = argparse.ArgumentParser(description=__doc__,
+                                     formatter_class=argparse.RawDescriptionHelpFormatter)
+    parser.add_argument("programs", nargs=2, metavar="PROGRAM")
+    parser.add_argument("dumps", nargs="+", metavar="DUMP")
+    parser.add_argument("--runs", type=int, default=100, help="runs of each program (100)")
+    parser.add_argument("--command", default="check", help="command and arguments (check)")
+    asked = parser.parse_args()
+    if asked.runs < 2 * PARTS:
+        parser.error("--runs is at least %d" % (2 * PARTS))
+    programs = [os.path.abspath(program) for program in asked.programs]
+    print("dump                 first: least, median; second; ratio of the least (its spread)")
+    for dump in asked.dumps:
+        measure(programs, asked.command.split(), dump, asked.runs)
+
+
+if __name__ == "__main__":
+    main()
