@@ -1,4 +1,4 @@
-use Rattle.std.proofs.Common.{◌∙◌, ap, refl, subst, sym}
+use Rattle.std.proofs.Common.{◌≡◌, ◌∙◌, ap, refl, subst, sym}
 use Rattle.vcd_model.specs.Items.{BodyItem}
 use Rattle.vcd_body.specs.Given.{IsItem}
 use Rattle.vcd_body.specs.Items.{regs_after}
