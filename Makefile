@@ -43,11 +43,8 @@ bash_words := $(DESTDIR)$(PREFIX)/share/bash-completion/completions
 # On Debian, zsh has one directory for what packages bring and another one for everything else.
 ZSH_FOLDER ?= $(PREFIX)/share/zsh/$(if $(filter /usr,$(PREFIX)),vendor-completions,site-functions)
 zsh_words := $(DESTDIR)$(ZSH_FOLDER)
+# Under the name of each script the same file is installed.
 scripts := $(notdir $(wildcard extras/vcdkit-*))
-# The scripts of the Python package. Under each of their names the same file is installed.
-commands := $(patsubst python/vcdkit/commands/%.py,vcdkit-%, \
-    $(filter-out %/__init__.py,$(wildcard python/vcdkit/commands/*.py)))
-commands := $(subst _,-,$(commands))
 # The directory of the Python package. The scripts look there, and then where Python looks.
 PYTHON_FOLDER ?= $(PREFIX)/share/vcdkit/python
 python := $(DESTDIR)$(PYTHON_FOLDER)/vcdkit
@@ -120,8 +117,8 @@ toolchain: sources
 install:
 	@test -x vcdkit || { echo "make: there is no ./vcdkit to install. Run make first." >&2; exit 1; }
 	install -d "$(bin)" "$(man)" "$(bash_words)" "$(zsh_words)" "$(python)/commands"
-	install -m 755 vcdkit $(addprefix extras/,$(filter-out $(commands),$(scripts))) "$(bin)"
-	for name in $(commands); do install -m 755 extras/launch "$(bin)/$$name"; done
+	install -m 755 vcdkit "$(bin)"
+	for name in $(scripts); do install -m 755 extras/launch "$(bin)/$$name"; done
 	install -m 644 man/vcdkit.1 "$(man)/vcdkit.1"
 	if command -v python3 > /dev/null; then \
 	    packaging/manuals.py "$(man)" $(addprefix extras/,$(scripts)); fi

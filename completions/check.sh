@@ -141,9 +141,12 @@ for script in $scripts; do
 done
 export VCDKIT=$program
 same 'an option of a script' '--salvage' "$(completed extras/vcdkit-explain --sal)"
-same 'options of a script' '--help --version --first --count --z --from --to --four-state' \
+same 'options of a script' "--help --version --first --count --trace --z --from --to --hex \
+--decimal --signed --ascii --binary --unit --json --four-state --names" \
     "$(completed extras/vcdkit-x --)"
 same 'the file of a script' ' (default)' "$(completed extras/vcdkit-x sam)"
+same 'files of vcdkit-explain' ' (default)' "$(completed extras/vcdkit-explain $dump sam)"
+same 'a file of names' ' (default)' "$(completed extras/vcdkit-table --names '')"
 same 'both files of vcdkit-diff' ' (default)' "$(completed extras/vcdkit-diff $dump '')"
 same 'a file of an option' ' (default)' "$(completed extras/vcdkit-explain --salvage '')"
 same 'a time' '' "$(completed extras/vcdkit-table --from '')"

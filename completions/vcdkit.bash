@@ -131,10 +131,11 @@ _vcdkit() {
 }
 
 # A script: its help says which options there are, and which words they take. The first word is a
-# dump, of vcdkit-diff the second too, and further ones are names of it.
+# dump, of vcdkit-diff the second too, and further ones are names of it. All those of vcdkit-explain
+# are dumps.
 _vcdkit_script() {
     COMPREPLY=()
-    local words current word help kind= file= count=0
+    local words current word help kind= file= count=0 files=1
     local script=${1/#~\//$HOME/}
     _vcdkit_split
     help=$(_vcdkit_options "$script")
@@ -148,9 +149,13 @@ _vcdkit_script() {
         COMPREPLY=($(compgen -W "$(sed 's/ .*//' <<< "$help")" -- "$current"))
         return
     fi
-    [[ -n $kind || ($count -gt 0 && ${1##*/} != vcdkit-diff) || $count -gt 1 ]] || kind=FILE
+    case ${1##*/} in
+        vcdkit-diff) files=2 ;;
+        vcdkit-explain) files=$((count + 1)) ;;
+    esac
+    [[ -n $kind || $count -ge $files ]] || kind=FILE
     case $kind in
-        FILE | FOLDER | OUT) compopt -o default 2> /dev/null ;;
+        FILE | DIRECTORY | OUT) compopt -o default 2> /dev/null ;;
         '' | CLOCK | NAME)
             [[ -f $file ]] && _vcdkit_complete_names "${script%"${script##*/}"}vcdkit-find" "$file"
             ;;
@@ -158,6 +163,6 @@ _vcdkit_script() {
 }
 
 complete -F _vcdkit vcdkit
-complete -F _vcdkit_script vcdkit-diff vcdkit-endmend vcdkit-explain vcdkit-find vcdkit-four-state \
-    vcdkit-info vcdkit-join-bits vcdkit-stats vcdkit-table vcdkit-values vcdkit-wave vcdkit-when \
-    vcdkit-x
+complete -F _vcdkit_script vcdkit-close-sections vcdkit-diff vcdkit-explain vcdkit-find \
+    vcdkit-four-state vcdkit-info vcdkit-join-bits vcdkit-stats vcdkit-table vcdkit-values \
+    vcdkit-wave vcdkit-when vcdkit-x

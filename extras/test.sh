@@ -104,14 +104,26 @@ reset reg 1 \"
 count0 reg 1 #
 count1 reg 1 \$
 lowest wire 1 #" "$(vcdkit-find --json samples/counter.vcd | python3 -c \
-    'import json, sys; [print(*row.values()) for row in json.load(sys.stdin)]')"
+    'import json, sys; [print(*json.loads(row).values()) for row in sys.stdin]')"
 printf '$var wire 1 ! a\377 $end\n$enddefinitions $end\n' > "$folder/bytes.vcd"
 same 'vcdkit-find: a name that is no UTF-8' 'a\xff' "$(vcdkit-find --json "$folder/bytes.vcd" |
-    python3 -c 'import json, sys; print(json.load(sys.stdin)[0]["path"])')"
+    python3 -c 'import json, sys; print(json.load(sys.stdin)["path"])')"
 same 'vcdkit-find: its bytes' "$("$VCDKIT" list -i "$folder/bytes.vcd" | cksum)" \
     "$(vcdkit-find - < "$folder/bytes.vcd" | cksum)"
-same 'vcdkit-find --csv' 'path,type,size,code
-reset,reg,1,""""' "$(vcdkit-find --csv samples/counter.vcd reset)"
+printf '[timestart] 0\n@28\nbench.clock\n@22\nbench.slow.count[3:0]\n+{a b} bench.level\n%s\n' \
+    '-a comment' '#{low} (2)bench.bus[7:0] (3)bench.bus[7:0]' bench.clock > "$folder/view.gtkw"
+same 'vcdkit-find --pick --names: a save file of GTKWave' \
+    'bench.bus bench.clock bench.level bench.slow.count' \
+    "$(vcdkit-find --pick --names "$folder/view.gtkw" $dump | "$VCDKIT" list | cut -d ' ' -f 1 |
+        paste -s -d ' ')"
+"$VCDKIT" list -i $dump | grep ^bench.slow.c > "$folder/names"
+same 'vcdkit-table --names: rows of list' 'time (ps),bench.bus,bench.slow.clock,bench.slow.count
+115000,xxxxxxxx,1,1011' "$(vcdkit-table --at 115ns --names "$folder/names" $dump bench.bus)"
+same 'vcdkit-x --names: no such file' 'vcdkit-x: none: No such file or directory
+status 3' "$(status vcdkit-x --names none $dump)"
+same 'vcdkit-wave: no name' 'vcdkit-wave: error: the following arguments are required: NAME, or '\
+'--names
+status 2' "$(status vcdkit-wave $dump | tail -n 2)"
 
 same 'vcdkit-info' 'timescale 100ps
 types wire 12, reg 7, event 3, real 1, integer 1
@@ -222,10 +234,10 @@ same 'vcdkit-diff: packed, from a pipe' 'differs 35ns bench.slow.count 0011 1011
 status 1' "$(gzip -c "$folder/other.vcd" | status vcdkit-diff $dump -)"
 same 'vcdkit-diff: of some' 'status 0' \
     "$(status vcdkit-diff $dump "$folder/other.vcd" bench.level)"
-same 'vcdkit-diff --window' "window $folder/diff.a.vcd
+same 'vcdkit-diff --context' "window $folder/diff.a.vcd
 window $folder/diff.b.vcd
-status 1" "$(status vcdkit-diff --window 5ns --into "$folder" $dump "$folder/other.vcd" | sed 1d)"
-same 'vcdkit-diff --window: the cut' "$("$VCDKIT" cut --from 300 --to 400 < $dump)" \
+status 1" "$(status vcdkit-diff --context 5ns --into "$folder" $dump "$folder/other.vcd" | sed 1d)"
+same 'vcdkit-diff --context: the cut' "$("$VCDKIT" cut --from 300 --to 400 < $dump)" \
     "$(cat "$folder/diff.a.vcd")"
 "$VCDKIT" pick -i "$folder/other.vcd" bench.slow bench.clock > "$folder/part.vcd"
 same 'vcdkit-diff: what one alone has' 'alone A bench.step 1
@@ -283,9 +295,9 @@ print(*[text for text in texts if text in ("9", "a", "b")],
       sum(one.get("class") == "mark" for one in of.iter()))
 END
 )"
-same 'vcdkit-wave --around, --span: as much on each side' \
+same 'vcdkit-wave --around, --context: as much on each side' \
     "$(vcdkit-wave --from 65ns --to 75ns --mark 70ns $dump bench.slow | cksum)" \
-    "$(vcdkit-wave --around 70ns --span 5ns $dump bench.slow | cksum)"
+    "$(vcdkit-wave --around 70ns --context 5ns $dump bench.slow | cksum)"
 same 'vcdkit-wave --html: a page of all signals' '</html> 24' \
     "$(vcdkit-wave --html $dump bench > "$folder/wave.html"
        echo "$(tail -n 1 "$folder/wave.html") $(grep -o '"bench[^"]*",' "$folder/wave.html" |
@@ -322,7 +334,7 @@ same 'vcdkit-wave: a window after the end' 'vcdkit-wave: --from: 2us is after th
 'dump, 122ns
 status 2' "$(status vcdkit-wave --from 2us --to 3us $dump bench.slow)"
 same 'vcdkit-wave --around: a window after the end' 'status 2' \
-    "$(status vcdkit-wave --around 2us --span 5ns $dump bench.slow | tail -n 1)"
+    "$(status vcdkit-wave --around 2us --context 5ns $dump bench.slow | tail -n 1)"
 printf '$var wire 1 ! a $end $var real 64 " v $end $enddefinitions $end\n#0 r1.5 ! b101 "\n' \
     > "$folder/odd.vcd"
 vcdkit-wave "$folder/odd.vcd" a v > "$folder/odd.svg"
@@ -465,7 +477,7 @@ $end
 $dumpall
 0!
 END
-same 'vcdkit-endmend' '$var wire 1 ! a $end
+same 'vcdkit-close-sections' '$var wire 1 ! a $end
 $enddefinitions $end
 #0
 $dumpvars
@@ -485,9 +497,9 @@ $end
 #9
 $dumpall
 0!
-$end' "$(vcdkit-endmend < "$folder/open.vcd")"
-same 'vcdkit-endmend: read by the program' 'sections 4' \
-    "$(vcdkit-endmend < "$folder/open.vcd" | "$VCDKIT" check | grep sections)"
+$end' "$(vcdkit-close-sections < "$folder/open.vcd")"
+same 'vcdkit-close-sections: read by the program' 'sections 4' \
+    "$(vcdkit-close-sections < "$folder/open.vcd" | "$VCDKIT" check | grep sections)"
 
 # explained FILE: the cause that vcdkit-explain names, and its status. Where its help is a pipe into
 # vcdkit check, that is run, and has to accept the dump; with the word `unable` it is not.
@@ -580,13 +592,8 @@ for script in extras/vcdkit-*; do
         "$(said=$("$name" --help 2>&1); echo "$? $(head -n 1 <<< "$said" | grep -c "$name")")"
     same "$name: usage" 2 "$("$name" --no-such-option 2> /dev/null; echo $?)"
     case $name in
-        vcdkit-four-state | vcdkit-endmend)
-            for out in '> /dev/full' '>&-'; do
-                same "$name $out" "3 $name: read or write failed" \
-                    "$(said=$(eval "$name samples/nested.vcd 2>&1 $out"); echo "$? $said")"
-            done
-            continue ;;
-        vcdkit-join-bits) words=() ;;
+        vcdkit-four-state | vcdkit-close-sections | vcdkit-join-bits)
+            words=(samples/counter.vcd) ;;
         vcdkit-diff) words=(samples/counter.vcd samples/counter.vcd) ;;
         vcdkit-table | vcdkit-wave | vcdkit-stats | vcdkit-when) words=(samples/counter.vcd clk) ;;
         *) words=(samples/counter.vcd) ;;
@@ -594,18 +601,18 @@ for script in extras/vcdkit-*; do
     cp extras/launch "$folder/$name"
     same "$name: no package" "3 $name: it needs the Python package vcdkit" \
         "$(said=$("$folder/$name" "${words[@]}" 2>&1); echo "$? ${said%%: install*}")"
-    [[ $name != vcdkit-join-bits ]] || continue
+    same "$name: a closed output" "3 $name: write failed" \
+        "$(said=$("$name" "${words[@]}" 2>&1 >&-); echo "$? $said")"
+    [[ $name == vcdkit-diff ]] ||
+        same "$name: a full device" "3 $name: write failed" \
+            "$(said=$("$name" "${words[@]}" 2>&1 > /dev/full); echo "$? $said")"
+    [[ " vcdkit-four-state vcdkit-close-sections vcdkit-join-bits " != *" $name "* ]] || continue
     same "$name: no program" "3 $name: there is no program none, which VCDKIT names" \
         "$(said=$(VCDKIT=none VCDKIT_LIBRARY='' "$name" "${words[@]}" 2>&1 > /dev/null)
            echo "$? $said")"
     same "$name: another program" "3 $name: $(type -P true), which VCDKIT names, is no vcdkit" \
         "$(said=$(VCDKIT=$(type -P true) VCDKIT_LIBRARY='' "$name" "${words[@]}" 2>&1 \
             > /dev/null); echo "$? $said")"
-    [[ $name == vcdkit-diff ]] ||
-        same "$name: a full device" "3 $name: write failed" \
-            "$(said=$("$name" "${words[@]}" 2>&1 > /dev/full); echo "$? $said")"
-    same "$name: a closed output" "3 $name: write failed" \
-        "$(said=$("$name" "${words[@]}" 2>&1 >&-); echo "$? $said")"
 done
 
 # The times at which a dump on standard input gives a code a value, by its lines.
@@ -666,9 +673,10 @@ for dump in samples/counter.vcd samples/nested.vcd samples/verilator.vcd "$folde
     "$VCDKIT" cut -i "$dump" --from 0 --to 18446744073709551615 > "$folder/cut.vcd"
     same "$dump: no difference from itself, cut" 'status 0' \
         "$(status vcdkit-diff "$dump" "$folder/cut.vcd")"
-    same "$dump: vcdkit-join-bits and vcdkit-endmend leave the changes of all" \
+    same "$dump: vcdkit-join-bits and vcdkit-close-sections leave the changes of all" \
         "$("$VCDKIT" sample -i "$dump" --at 0,7,1000000 | cksum)" \
-        "$(vcdkit-endmend < "$dump" | vcdkit-join-bits | "$VCDKIT" sample --at 0,7,1000000 | cksum)"
+        "$(vcdkit-close-sections < "$dump" | vcdkit-join-bits |
+            "$VCDKIT" sample --at 0,7,1000000 | cksum)"
     same "$dump: vcdkit-explain has the report of check" "$("$VCDKIT" check -i "$dump")" \
         "$(vcdkit-explain "$dump")"
     vcdkit-four-state < "$dump" | cmp -s - "$dump"

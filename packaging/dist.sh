@@ -100,7 +100,6 @@ if command -v dpkg-deb > /dev/null; then
     mv "$tree/usr/lib/python3" "$python/usr/lib"
     rm -rf "$tree/usr/lib" "$tree/usr/include"  # the library for C is in the tarball
     for script in "$tree"/usr/bin/vcdkit-*; do
-        head -n 1 "$script" | grep -q python3 || continue
         sed '1s,.*,#!/usr/bin/python3,' "$script" > "$python/usr/bin/${script##*/}"
         chmod 755 "$python/usr/bin/${script##*/}"
         rm "$script"
@@ -138,10 +137,10 @@ Recommends: python3 (>= 3.8), python3-numpy
 Suggests: gtkwave, zstd
 Description: value change dumps (VCD) in Python, and commands over them
  The Python package vcdkit, which gets its answers from the program vcdkit or
- its library, and the commands of the package: vcdkit-diff, vcdkit-explain,
- vcdkit-find, vcdkit-info, vcdkit-stats, vcdkit-table, vcdkit-values,
- vcdkit-wave, vcdkit-when and vcdkit-x. They need Python 3.8. They are tested,
- not proved.
+ its library, and the commands of the package: vcdkit-close-sections,
+ vcdkit-diff, vcdkit-explain, vcdkit-find, vcdkit-four-state, vcdkit-info,
+ vcdkit-join-bits, vcdkit-stats, vcdkit-table, vcdkit-values, vcdkit-wave,
+ vcdkit-when and vcdkit-x. They need Python 3.8. They are tested, not proved.
 END
 fi
 

@@ -115,6 +115,8 @@ tries 'the wheel is installed, and answers' bash -c 'python3 -m venv "$2/venv" &
     vcdkit-info samples/nested.vcd | grep -q "last 122ns" &&
     vcdkit-values --four-state --at 20ns samples/ghdl.vcd tb.reset | grep -qx "tb.reset 0" &&
     vcdkit-wave --html samples/nested.vcd bench | tail -n 1 | grep -q html &&
+    vcdkit-explain samples/counter.vcd samples/nested.vcd | grep -qx "2 dumps: 2 valid" &&
+    vcdkit-close-sections samples/nested.vcd | cmp - samples/nested.vcd &&
     python3 -m vcdkit find samples/counter.vcd count0 | grep -q count0 &&
     python3 -c "import vcdkit; print(vcdkit.Dump(\"samples/nested.vcd\").check())"' - \
     "$wheel" "$folder"

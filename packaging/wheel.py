@@ -16,8 +16,6 @@ import zipfile
 TOP = os.path.dirname(os.path.dirname(os.path.abspath(__file__)))
 PACKAGE = os.path.join(TOP, "python", "vcdkit")
 TAG = "py3-none-linux_x86_64"
-# The scripts of a shell, which are copied; those of Python are entry points.
-SHELL = ("vcdkit-four-state", "vcdkit-endmend")
 METADATA = """Metadata-Version: 2.1
 Name: vcdkit
 Version: %s
@@ -46,8 +44,6 @@ def files_of(version, program, library):
         yield "vcdkit/libvcdkit.so", read(library), False
     scripts = "vcdkit-%s.data/scripts/" % version
     yield scripts + "vcdkit", read(program), True
-    for name in SHELL:
-        yield scripts + name, read(TOP, "extras", name), True
     commands = sorted(name[:-3] for name in os.listdir(os.path.join(PACKAGE, "commands"))
                       if name.endswith(".py") and name != "__init__.py")
     about = "vcdkit-%s.dist-info/" % version

@@ -575,7 +575,7 @@ def shares(spans: Spans, form: str) -> List[Dict[str, Any]]:
 # ---- vcdkit-diff.
 
 class Compare(NamedTuple):
-    """What is asked of vcdkit-diff: NAMEs, --except, --common, --all, an edge ("01", "10", or
+    """What is asked of vcdkit-diff: NAMEs, --except, --common, --every, an edge ("01", "10", or
     none) and its clock, and --real-tolerance."""
 
     names: Sequence[str]
@@ -693,7 +693,7 @@ def in_a_line(value: Optional[Value], of: Variable) -> str:
     """A value in a line of vcdkit-diff."""
     if is_event(of):
         return "triggered" if value else "-"
-    return str(value) if isinstance(value, float) else shown(value)
+    return shown(value)
 
 
 def factors_of(scales: Sequence[Optional[int]]) -> List[int]:

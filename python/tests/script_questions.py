@@ -191,17 +191,17 @@ class Scripts:
         part = by_definition.cut(self.dump, window.begin, window.end)
         its = by_definition.chosen(self.dump.variables, names)
         found = by_definition.unknown(part, its, letters)
-        if form == ["--first"]:
-            found = [one for at, one in enumerate(found)
-                     if one[1] not in [other[1] for other in found[:at]]]
+        fault = part.fault
+        if form == ["--first"] and found:
+            found, fault = found[:1], ""
         lines = ["%s %s %s" % (by_definition.time_text(self.dump.tick, time), path, value)
                  for time, path, value in found]
         if form == ["--count"]:
-            lines = [] if part.fault else ["%d" % len(found)]
+            lines = [] if fault else ["%d" % len(found)]
         late = self.late(window.begin)
         self.same("x", [*form, *["--z"] * (letters == "xz"), *window.words, self.path, *names],
-                  [] if late else lines, 2 if late or part.fault else int(bool(found)),
-                  late[1] if late else part.fault or False)
+                  [] if late else lines, 2 if late or fault else int(bool(found)),
+                  late[1] if late else fault or False)
 
     def ask_statistics(self) -> None:
         """Asks how signals change."""
@@ -214,7 +214,7 @@ class Scripts:
             for one in by_definition.chosen(self.dump.variables, self.names)]
         self.same("stats", ["--json", "--" + form, *window.words, self.path, *self.names], [
             repr(found)], late[0] if late else int(bool(fault)), fault or False,
-            lambda lines: [repr(json.loads("\n".join(lines) or "[]"))])
+            lambda lines: [repr([json.loads(line) for line in lines])])
 
     def ask_info(self) -> None:
         """Asks for the first and the last timestamp."""
@@ -268,7 +268,7 @@ class Scripts:
             names, exceptions, self.number % 4 == 0, self.number % 3 == 0,
             self.turn(["", "01", "10"]) if self.of.clock else "", self.of.clock,
             self.turn([0.0, 0.5], 3))
-        words += ["--except=" + one for one in exceptions] + ["--all"] * asked.every
+        words += ["--except=" + one for one in exceptions] + ["--every"] * asked.every
         words += ["--common"] * asked.is_common + ["--real-tolerance=0.5"] * bool(asked.tolerance)
         if asked.edge:
             words.append({"01": "--rise=", "10": "--fall="}[asked.edge] + self.of.clock)

@@ -351,7 +351,7 @@ def wrong(seed):
     if of.random() < .3:
         asked["except"] = of.sample(["t.q", "t.k[3:0]", "t.u.v", "t.u"], of.randint(1, 2))
     words = ["--map=TOP.t=t"] * asked["map"] + ["--common"] * asked["common"] + [
-        "--all"] * asked["all"] + ["--except=" + name for name in asked["except"]] + [
+        "--every"] * asked["all"] + ["--except=" + name for name in asked["except"]] + [
         "--real-tolerance=%g" % asked["tolerance"]] * (asked["tolerance"] > 0) + {
         "": [], "01": ["--rise=t.c"], "10": ["--fall=t.c"]}[asked["edge"]]
     if asked["common"] and not is_mapped:
@@ -375,23 +375,23 @@ HEADER = ("$scope module t $end $var wire 1 ! c $end $var real 64 @ r $end $var 
 FILES = {"a": HEADER + "#0\n0!\nr1 @\n#1\n1!\n", "b": HEADER + "#0\n0!\nr1.5 @\n#1\n1!\nb1 \"\n",
          "other": HEADER.replace("module t", "module u<&"), "empty": "", "fault": HEADER + "#x",
          "binary": "".join(map(chr, range(256))) * 9}
-LINES = "differs 0 t.r 1.0 1.5\n"
+LINES = "differs 0 t.r 1 1.5\n"
 REFUSED = ["a none", "none a", "a .", "a empty", "empty a", "a fault", "a binary", "binary binary",
            "a b none", "a b t.none", "a b t.q.q", "a other t", "--map=none=t a b",
-           "--except=none a b", "--window=foo a b", "--window=1ns a b", "--window= a b",
+           "--except=none a b", "--context=foo a b", "--context=1ns a b", "--context= a b",
            "--common a other", "--rise=none a b", "--rise=t a b", "--rise=t.r a b", "--fall=t.q a b",
            "--fall=t.c a b",
            "--rise=t.c a other", "--junit=none/j.xml a a", "--junit=. a a"]
 MISUSED = ["", "a", "--into=x a b", "--map=t a b", "--map==t a b", "--real-tolerance=x a b",
            "--real-tolerance=-1 a b", "--real-tolerance=nan a b", "--rise=t.c --fall=t.c a b",
            "--none a b", "--common=1 a b"]
-ANSWERED = [("a a", "", 0), ("a b", LINES, 1), ("--all a b", LINES + "differs 1 t.q - 0001\n", 1),
+ANSWERED = [("a a", "", 0), ("a b", LINES, 1), ("--every a b", LINES + "differs 1 t.q - 0001\n", 1),
             ("--real-tolerance=.5 a b", "differs 1 t.q - 0001\n", 1), ("a b t.c", "", 0),
             ("--except=t.r --except=t.q a b", "", 0),
             ("--rise=t.c a b", LINES.replace("0", "1", 1), 1),
             ("--map=t=x --map=t.c=x.d a b x.d", "", 0),
             ("--map=t=x a b x.c", "", 0), ("--map=t= a a c", "", 0),
-            ("--map=u<&=t --common a other", "differs 0 t.c 0 -\ndiffers 0 t.r 1.0 -\n", 1)]
+            ("--map=u<&=t --common a other", "differs 0 t.c 0 -\ndiffers 0 t.r 1 -\n", 1)]
 # The errors, failures, and the messages of a JUnit file.
 REPORTS = [("a a", "0", "0", []), ("a b", "0", "1", [LINES.strip()]),
            ("a fault", "1", "0", ["fault:2: bad time"]),

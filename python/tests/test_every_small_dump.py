@@ -1,6 +1,6 @@
 #!/usr/bin/env python3
 """Asks the package and the scripts about all small dumps, and compares what they say with
-answers.py, which defines the answers.
+answers.py and answers_of_jobs.py, which define the answers.
 
 The bodies are all of up to four lines of an alphabet, over each of some declarations; nothing comes
 after a fault. Each question has a grid of options: windows that begin before, at, between and after
@@ -19,6 +19,7 @@ import tempfile
 from typing import Counter, Dict, List, Tuple
 
 from asking import DECLARATIONS, Asked, Difference, Ways, bodies
+from job_questions import Jobs
 from name_questions import ask_names
 from package_questions import Case
 from script_questions import Scripts
@@ -35,12 +36,13 @@ def work(job: Tuple[str, int, int]) -> Tuple[Counter[str], int, int, Dict[str, D
             ask_names(asked, folder, stride)
             return asked.counts, asked.again, asked.wrong, asked.differ
         of = DECLARATIONS[name]
-        scripts = Scripts(asked, of, folder)
+        scripts, jobs = Scripts(asked, of, folder), Jobs(asked, of, folder)
         for number, body in enumerate(itertools.islice(bodies(of.lines, 4), 0, None, stride)):
             if number % JOBS == part:
                 case = Case(asked, of, body, number)
                 case.ask()
                 scripts.ask(case)
+                jobs.ask(case)
     return asked.counts, asked.again, asked.wrong, asked.differ
 
 

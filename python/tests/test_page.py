@@ -147,7 +147,7 @@ class Data(Case):
     def test_nested(self):
         self.assertGreater(self.compare(NESTED, ["bench"]), 500)
         self.compare(NESTED, ["bench.slow", "bench.level"], "--from", "30ns", "--to", "110ns")
-        data = data_of(self.page("--around", "70ns", "--span", "5ns", "--signed", "--light", NESTED,
+        data = data_of(self.page("--around", "70ns", "--context", "5ns", "--signed", "--light", NESTED,
                                  "bench.slow"))
         self.assertEqual([data[key] for key in ("begin", "span", "mark", "radix", "light", "tick")],
                          ["650", 100, 50, "signed", True, "100000"])
@@ -214,8 +214,8 @@ class Data(Case):
             other = self.file("other.vcd", re.sub(
                 rb"(?m)^(b?)[01](?=\S* ?[!\"%)]\n)", rb"\g<1>" + of.choice([b"1", b"x"]), text))
             page = os.path.join(self.folder.name, "page.html")
-            words = ["--html", page] + ["--all"] * (seed % 2) + (
-                [] if seed % 3 else ["--window", "4", "--into", self.folder.name])
+            words = ["--html", page] + ["--every"] * (seed % 2) + (
+                [] if seed % 3 else ["--context", "4", "--into", self.folder.name])
             status, said, messages = run(diff, *words, path, other)
             self.assertEqual((status, messages), ("differs" in said or "ends" in said, ""), seed)
             if "differs" not in said:
@@ -266,7 +266,7 @@ class Data(Case):
                 data = data_of(file.read())
             self.assertLess(data["span"], 500)
             self.assertEqual(int(data["begin"]) + data["mark"], 350)
-            self.assertEqual(run(diff, "--window", "100ns", "--html", page, "--into",
+            self.assertEqual(run(diff, "--context", "100ns", "--html", page, "--into",
                                  self.folder.name, NESTED, fast)[0], 2)
         finally:
             _page.MAX_CHANGES = was

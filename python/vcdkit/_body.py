@@ -1,9 +1,10 @@
 """The text that vcdkit writes of a dump: a header, and then on each line a timestamp, a section's
 command or a value."""
 import functools
+import io
 import re
 from typing import (TYPE_CHECKING, Any, BinaryIO, Callable, Collection, Dict, Iterable, Iterator,
-                    List, NamedTuple, Optional, Set, Tuple)
+                    List, NamedTuple, Optional, Set, Tuple, cast)
 
 from .errors import DumpFault
 from .times import Timescale
@@ -129,8 +130,68 @@ def change(line: bytes) -> Tuple[bytes, bytes]:
     return line[1:-1], first
 
 
+def timed(part: "Dump") -> Iterator[Tuple[int, List[bytes]]]:
+    """Returns each timestamp of a part of a dump with the lines up to the next one, without line
+    feeds, as soon as that comes. What comes before the first has time 0. A timestamp that is there
+    twice is one. A time that a fault leaves unfinished is left out."""
+    now, lines = 0, []
+    fault: Optional[DumpFault] = None
+    try:
+        with part.body() as out:
+            for block in blocks(out):
+                first, *pieces = block[:-1].split(b"\n#")
+                if first[:1] == b"#":
+                    pieces.insert(0, first[1:])
+                else:
+                    lines += first.split(b"\n")
+                for piece in pieces:
+                    head, *rest = piece.split(b"\n")
+                    time = int(head)
+                    if time == now:
+                        lines += rest
+                    else:
+                        if lines:
+                            yield now, lines
+                        now, lines = time, rest
+    except DumpFault as error:
+        fault = error
+    if lines and (fault is None or part.is_finished(now, fault)):
+        yield now, lines
+    if fault:
+        raise fault
+
+
+def blocks(text: BinaryIO) -> Iterator[bytes]:
+    """Returns a text in blocks of whole lines, as they come."""
+    read = cast(io.BufferedReader, text).read1
+    for block in iter(lambda: read(FEW), b""):
+        yield block if block.endswith(b"\n") else block + text.readline()
+
+
+def of_lines(part: "Dump", lines: Lines) -> Iterator[Tuple[int, List[bytes]]]:
+    """As timed, of the lines that a reader takes of a body."""
+    now, found = 0, []
+    fault: Optional[DumpFault] = None
+    try:
+        with part.body() as out:
+            for line in lines(out):
+                if line[:1] != b"#":
+                    found.append(line[:-1])
+                elif int(line[1:]) != now:
+                    if found:
+                        yield now, found
+                    now, found = int(line[1:]), []
+    except DumpFault as error:
+        fault = error
+    if found and (fault is None or part.is_finished(now, fault)):
+        yield now, found
+    if fault:
+        raise fault
+
+
 def steps(part: "Dump", codes: Collection[bytes], lead: Collection[bytes] = (),
-          is_cut: bool = False, lines: Lines = iter) -> Iterator[Tuple[int, Changes, Changes]]:
+          is_cut: bool = False, lines: Optional[Lines] = None
+          ) -> Iterator[Tuple[int, Changes, Changes]]:
     """Returns of each timestamp of a part of a dump the changes of some codes: those that are
     values from before it, and the others. What comes before the first timestamp has time 0. No two
     steps that follow each other have one time. A time that a fault leaves unfinished has no step.
@@ -139,39 +200,33 @@ def steps(part: "Dump", codes: Collection[bytes], lead: Collection[bytes] = (),
     in `lead`: `cut` begins with the values just before its first time, and goes on with what
     changes at it. With `is_cut`, only the section with which `cut` begins has such values. `lines`
     may leave out lines of the body that do not matter."""
-    time, is_begin, has_section = 0, False, False
-    before: Changes = []
-    found: Changes = []
-    left, begun = set(lead), set()
-    fault: Optional[DumpFault] = None
-    try:
-        with part.body() as out:
-            for line in lines(out):
-                first = line[:1]
-                if first == b"#":
-                    now = int(line[1:])
-                    if now != time:
-                        if before or found:
-                            yield time, before, found
-                        time, before, found = now, [], []
-                elif first == b"$":
-                    is_begin = line == b"$dumpvars\n" and not (is_cut and has_section)
+    is_begin = has_section = False
+    left, waiting = set(lead), set(codes)  # waiting: those that have no value yet
+    known: Dict[bytes, Any] = {}  # of a line what it is: a change, or an empty tuple
+    for time, its in of_lines(part, lines) if lines else timed(part):
+        before: Changes = []
+        found: Changes = []
+        for line in its:
+            one = known.get(line)
+            if one is None:
+                if line[:1] == b"$":
+                    is_begin = line == b"$dumpvars" and not (is_cut and has_section)
                     has_section = True
-                else:
-                    one = change(line)
-                    code = one[0]
-                    if code in codes:
-                        if code not in begun:
-                            begun.add(code)
-                            (before if is_begin or code in left else found).append(one)
-                        else:
-                            found.append(one)
-    except DumpFault as error:
-        fault = error
-    if (before or found) and (fault is None or part.is_finished(time, fault)):
-        yield time, before, found
-    if fault:
-        raise fault
+                    continue
+                one = change(line + b"\n")
+                one = one if one[0] in codes else ()
+                if len(known) >= MAX_SEEN:
+                    known.clear()
+                known[line] = one
+            if one:
+                if waiting and one[0] in waiting:
+                    waiting.discard(one[0])
+                    if is_begin or one[0] in left:
+                        before.append(one)
+                        continue
+                found.append(one)
+        if before or found:
+            yield time, before, found
 
 
 def lead_of(out: BinaryIO, codes: Collection[bytes]) -> Set[bytes]:

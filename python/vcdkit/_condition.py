@@ -186,7 +186,7 @@ def _found(dump: "Dump", names: Iterable[str]) -> Dict[str, List[Signal]]:
     return {name: found[path] for name, path in full.items()}
 
 
-def _declared(dump: "Dump", paths: List[str]) -> Dict[str, Tuple[int, int]]:
+def declared(dump: "Dump", paths: List[str]) -> Dict[str, Tuple[int, int]]:
     """Returns of each path the range that its declaration has."""
     scopes: List[str] = []
     found: Dict[str, Tuple[int, int]] = {}
@@ -232,7 +232,7 @@ class _Names:
         if signal.is_real or signal.type == "event":
             raise _bad("%s: %s has no bits" % (name, signal.path))
         if self._ranges is None:
-            self._ranges = _declared(self._dump, [one.path for its in self._found.values()
+            self._ranges = declared(self._dump, [one.path for its in self._found.values()
                                                   for one in its])
         left, right = self._ranges.get(signal.path, (signal.size - 1, 0))
         if abs(left - right) + 1 != signal.size:

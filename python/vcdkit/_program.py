@@ -7,7 +7,7 @@ import shutil
 import signal
 import subprocess
 import tempfile
-from typing import BinaryIO, Dict, Iterator, List, Optional, Sequence, Union, cast
+from typing import Any, BinaryIO, Dict, Iterator, List, Optional, Sequence, Union, cast
 
 from ._texts import Bytes, File, Text, installed
 from .errors import RunFailed, UnknownName, VcdkitError, error_of
@@ -90,7 +90,7 @@ class _Pipe:
     def __init__(self) -> None:
         self.files: List[File] = []
         self.parts: List[_Part] = []
-        _running.append(self)
+        running.append(self)
 
     def start(self, words: Sequence[str], stdin: Optional[BinaryIO], names: Dict[str, str],
               of: Optional[Text], pass_fds: Sequence[int] = ()) -> BinaryIO:
@@ -146,7 +146,7 @@ class _Pipe:
 
     def finish(self) -> None:
         """Waits for all; raises the error of the one nearest to the files."""
-        _running.remove(self)
+        running.remove(self)
         for part in self.parts:
             part.finish()
         for file in self.files:
@@ -158,19 +158,19 @@ class _Pipe:
 
     def stop(self) -> None:
         """Ends all that still run."""
-        _running.remove(self)
+        running.remove(self)
         for part in self.parts:
             part.process.terminate()
             part.out.close()
             part.finish()
 
 
-_running: List[_Pipe] = []
+running: List[Any] = []  # what has part_read()
 
 
 def part_read() -> Optional[float]:
     """Returns how much of a dump is read by what runs now; of several the smallest part."""
-    parts = [pipe.part_read() for pipe in tuple(_running)]
+    parts = [pipe.part_read() for pipe in tuple(running)]
     return min((part for part in parts if part is not None), default=None)
 
 

@@ -5,6 +5,8 @@ from typing import Any, Optional
 
 from . import _program
 
+stage = ""  # how far a command is, if it says so itself
+
 
 class Progress:
     """Says on a terminal how far a command has read the dump, if it takes longer than a second. If
@@ -37,8 +39,8 @@ class Progress:
             part = _program.part_read()
             with self._lock:
                 if self._is_at_begin:
-                    self._say("\r\033[K%s: %s" % (self._name, "reads the dump" if part is None
-                                                  else "%d%%" % (100 * part)))
+                    self._say("\r\033[K%s: %s" % (self._name, stage or (
+                        "reads the dump" if part is None else "%d%%" % (100 * part))))
                     self._is_shown = True
 
     def _clear(self) -> None:

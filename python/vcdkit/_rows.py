@@ -8,6 +8,7 @@ from . import _body
 from .values import Cell, Edges, Row, Signal
 
 if TYPE_CHECKING:
+    from ._condition import Condition
     from .dump import Dump
 
 Tuples = TypeVar("Tuples", bound=Tuple[Any, ...])
@@ -136,23 +137,36 @@ def _is_same(now: float, was: Cell) -> bool:
     return isinstance(was, float) and (now == was or now != now and was != was)
 
 
-def at_changes(part: "Dump", columns: Sequence[Signal]) -> Iterator[Row]:
+def at_changes(part: "Dump", columns: Sequence[Signal], only: Optional["Condition"]
+               ) -> Iterator[Row]:
     """Returns a row for each time at whose end a value is another one than before it, with the
-    values at its end."""
+    values at its end; only those at which a condition holds, if there is one."""
     values = _Values(columns)
-    for time, before, changes in _body.steps(part, values.signals):
-        if values.take(before + changes):
+    codes = {*values.signals, *(only.codes if only else ())}
+    for time, before, changes in _body.steps(part, codes):
+        is_other = values.take(before + changes)
+        if only:
+            only.take(before + changes)
+        if is_other and (only is None or only.test(only.values) is True):
             yield Row(time, values.row())
+        if only:
+            only.end_events()
 
 
 def at_edges(part: "Dump", columns: Sequence[Signal], edges: Collection[_body.Edge],
-             lead: Collection[bytes]) -> Iterator[Row]:
+             lead: Collection[bytes], only: Optional["Condition"]) -> Iterator[Row]:
     """Returns a row for each time at which one of some edges is, with the values just before that
-    time. `lead` is that of _body.steps."""
+    time; only those at which a condition holds, if there is one. `lead` is that of _body.steps."""
     values = _Values(columns)
-    codes = {*values.signals, *(code for code, _, _ in edges)}
+    codes = {*values.signals, *(code for code, _, _ in edges), *(only.codes if only else ())}
     for time, before, changes, is_edge in _body.edge_steps(part, codes, edges, lead):
         values.take(before)
-        if is_edge:
+        if only:
+            only.take(before)
+        if is_edge and (only is None or only.test(only.values) is True):
             yield Row(time, values.row())
         values.take(changes)
+        if only:
+            if is_edge:
+                only.end_events()
+            only.take(changes)

@@ -13,7 +13,11 @@ from .errors import RunFailed
 UNPACKERS = [(b"\x1f\x8b", ["gzip", "-dc"]), (b"\xfd7zXZ\0", ["xz", "-dc"]),
              (b"BZh", ["bzip2", "-dc"]), (b"\x28\xb5\x2f\xfd", ["zstd", "-dcq"]),
              (b"\0\0\0\0\0\0\0\x01\x49", ["fst2vcd", "/dev/stdin"])]
-FOUR_STATE = "vcdkit-four-state"
+# The program that is vcdkit-four-state.
+FOUR_STATE = """import sys
+sys.path.insert(0, %r)
+from vcdkit.commands.four_state import main
+sys.exit(main([]))""" % os.path.dirname(os.path.dirname(os.path.abspath(__file__)))
 BLOCK = 1 << 16
 
 
@@ -129,7 +133,7 @@ class File:
     def filters(self) -> List[List[str]]:
         """Returns the words of the programs that make a plain dump of it, one after the other."""
         unpacker = self.unpacker()
-        last = [[installed(FOUR_STATE) or FOUR_STATE]] if self._four_state else []
+        last = [[sys.executable, "-IBc", FOUR_STATE]] if self._four_state else []
         return [unpacker, *last] if unpacker else last
 
 

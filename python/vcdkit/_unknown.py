@@ -3,11 +3,10 @@ each such value, and the next value of its code, which ends it. Few lines are th
 regular expression finds them, and the others are never looked at one by one."""
 import io
 import re
-from typing import BinaryIO, Collection, Dict, Iterator, Set, cast
+from typing import BinaryIO, Collection, Dict, Iterator, Set
 
-from ._body import change
+from ._body import blocks, change
 
-BLOCK = 1 << 16
 MAX_STARTS = 64  # values of a block; if there are more, each line is looked at
 MAX_CODES = 16  # codes that are looked for one by one
 CODES = re.compile(rb"\n(?:[01xz]|[br]\S* )(.*)")  # of the lines that have a value
@@ -28,7 +27,7 @@ class Lines:
         return value[:1] != b"r" and any(letter in value for letter in self._letters)
 
     def __call__(self, out: BinaryIO) -> Iterator[bytes]:
-        for block in _blocks(out):
+        for block in blocks(out):
             text = b"\n" + block
             starts = [found.start() for found in self._find(text)]
             if len(starts) > MAX_STARTS:
@@ -68,13 +67,6 @@ class Lines:
                 yield line
                 last = at
         yield from _time(text, last, len(text))
-
-
-def _blocks(out: BinaryIO) -> Iterator[bytes]:
-    """Returns a text in blocks of whole lines, as they come."""
-    read = cast(io.BufferedReader, out).read1
-    for block in iter(lambda: read(BLOCK), b""):
-        yield block if block.endswith(b"\n") else block + out.readline()
 
 
 def _line(text: bytes, at: int) -> bytes:

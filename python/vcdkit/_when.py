@@ -1,6 +1,7 @@
-"""The times at which a condition holds."""
+"""The times at which a condition holds, and how long answers take."""
 import collections
-from typing import TYPE_CHECKING, Collection, Deque, Iterator, List, Optional, Tuple
+from typing import (TYPE_CHECKING, Collection, Deque, Iterable, Iterator, List, NamedTuple,
+                    Optional, Set, Tuple)
 
 from . import _body
 from ._condition import Condition, Span
@@ -10,18 +11,130 @@ if TYPE_CHECKING:
     from .dump import Dump
 
 MAX_WAITING = 1_000_000  # starts without an answer
-Waiting = Deque[Tuple[int, int]]  # a start, and until when it waits: a time, or the count of edges
+Waiting = Deque[Tuple[int, int]]  # a request, and until when it waits: a time, or a count of edges
+
+
+class Outcome(NamedTuple):
+    """What becomes of a request: when it begins, when its answer comes (`None` if none comes in
+    time), and how long that is: in edges if the condition counts them, else in ticks."""
+
+    begin: int
+    answer: Optional[int]
+    length: int
+
+
+class _Question:
+    """A condition, and where it is looked at."""
+
+    def __init__(self, dump: "Dump", text: str, rise: Optional[str], fall: Optional[str],
+                 every: bool):
+        self.dump, self.every = dump, every
+        self.clocks = [name for name in (rise, fall) if name is not None]
+        if every and not self.clocks:
+            raise UsageError("every edge: name a clock by rise or fall")
+        self.condition = Condition(text, dump)
+        self.ticks = _ticks_of(self.condition.span, dump, bool(self.clocks))
+        self.edges = dump._edges(rise, fall)
+
+    def looks(self) -> Iterator[int]:
+        """Returns the times at which the condition is looked at."""
+        condition, edges = self.condition, self.edges
+        lead = self.dump._lead({*condition.codes, *(code for code, _, _ in edges)} if edges else ())
+        part = self.dump._part([*condition.paths, *self.clocks])
+        return _at_edges(part, condition, edges, lead) if edges else _at_changes(part, condition)
+
+    def starts(self) -> Iterator[Tuple[int, bool]]:
+        """Returns each of these times, and whether the condition begins to hold."""
+        condition, held = self.condition, False
+        for time in self.looks():
+            holds = condition.test(condition.values) is True
+            yield time, holds and (self.every or not held)
+            held = holds
+            if not self.edges and condition.end_events():  # over before the next time
+                held = condition.test(condition.values) is True
+
+    def outcomes(self, wants_late: bool) -> Iterator[Outcome]:
+        """Returns the requests that get their answer in time, as they do, and those that get none,
+        as soon as that is known. What the end of the dump leaves open is neither. If nobody wants
+        the late ones, the last of them may be left out."""
+        condition, ticks, now = self.condition, self.ticks, 0
+        assert condition.answer and condition.span
+        waiting: Waiting = collections.deque()
+        for count, (time, is_start) in enumerate(self.starts()):
+            now = time if condition.span.unit else count
+            yield from _late(waiting, now)
+            if is_start:
+                waiting.append((time, now + ticks))
+            if waiting and condition.answer(condition.values) is True:
+                yield from [Outcome(begin, time, now - until + ticks) for begin, until in waiting]
+                waiting.clear()
+            if len(waiting) > MAX_WAITING:
+                raise UsageError("more than %d times wait for an answer: give a shorter time"
+                                 % MAX_WAITING)
+        if wants_late and waiting:
+            last = (self.dump.check().last or 0) if condition.span.unit else now
+            yield from _late(waiting, last + 1)
+
+
+def _late(waiting: Waiting, now: int) -> Iterator[Outcome]:
+    """Takes out the requests that waited until a time before this one, and returns them."""
+    while waiting and waiting[0][1] < now:
+        yield Outcome(waiting.popleft()[0], None, 0)
 
 
 def when(dump: "Dump", text: str, rise: Optional[str], fall: Optional[str],
          every: bool) -> Iterator[int]:
     """Returns the times of Dump.when."""
-    clocks = [name for name in (rise, fall) if name is not None]
-    if every and not clocks:
-        raise UsageError("every edge: name a clock by rise or fall")
+    question = _Question(dump, text, rise, fall, every)
+    if question.condition.answer is None:
+        return (time for time, is_start in question.starts() if is_start)
+    is_refusal = question.condition.is_refusal
+    return (one.begin for one in question.outcomes(is_refusal)
+            if (one.answer is None) == is_refusal)
+
+
+class Latencies:
+    """The requests of `req -> ack within N` that get their answer in time, as they do: when each
+    begins, when its answer comes, and how long that is. At the end `late` is how many got none."""
+
+    def __init__(self, dump: "Dump", text: str, rise: Optional[str], fall: Optional[str],
+                 every: bool):
+        self._question = _Question(dump, text, rise, fall, every)
+        condition = self._question.condition
+        if condition.answer is None or condition.is_refusal or condition.span is None:
+            raise UsageError("latencies are those of a condition such as req -> ack within 50")
+        self.counts_edges, self.late = not condition.span.unit, 0
+
+    def __iter__(self) -> Iterator[Tuple[int, int, int]]:
+        for one in self._question.outcomes(True):
+            if one.answer is None:
+                self.late += 1
+            else:
+                yield one.begin, one.answer, one.length
+
+
+def state(dump: "Dump", text: str) -> Condition:
+    """Returns a condition that holds at a time or does not."""
     condition = Condition(text, dump)
-    ticks = _ticks_of(condition.span, dump, bool(clocks))
-    return _times(dump, condition, ticks, clocks, dump._edges(rise, fall), every)
+    if condition.answer is not None:
+        raise UsageError("bad condition: -> is of several times, and a row has one")
+    return condition
+
+
+def holding(dump: "Dump", condition: Condition, times: Iterable[int]) -> Set[int]:
+    """Returns those of some times at whose end a condition holds."""
+    waiting, found, held = sorted(set(times), reverse=True), set(), False
+    part = dump.cut(0, max(waiting, default=0))._part(condition.paths)
+    for time in _at_changes(part, condition):
+        while waiting and waiting[-1] <= time:
+            if waiting[-1] == time:
+                held = condition.test(condition.values) is True
+            one = waiting.pop()
+            if held:
+                found.add(one)
+        condition.end_events()
+        held = condition.test(condition.values) is True
+    return found.union(waiting if held else ())
 
 
 def _ticks_of(span: Optional[Span], dump: "Dump", has_clock: bool) -> int:
@@ -32,17 +145,6 @@ def _ticks_of(span: Optional[Span], dump: "Dump", has_clock: bool) -> int:
         raise UsageError("within %s counts edges: name a clock by rise or fall, or give a time, as "
                          "%sns" % (span.text, span.text))
     return dump.ticks(span.number + span.unit.replace("tick", ""))
-
-
-def _times(dump: "Dump", condition: Condition, ticks: int, clocks: List[str],
-           edges: Collection[_body.Edge], every: bool) -> Iterator[int]:
-    lead = dump._lead({*condition.codes, *(code for code, _, _ in edges)} if edges else ())
-    part = dump._part([*condition.paths, *clocks])
-    looks = _at_edges(part, condition, edges, lead) if edges else _at_changes(part, condition)
-    if condition.answer is None:
-        yield from _begins(looks, condition, bool(edges), every)
-    else:
-        yield from _answered(looks, condition, ticks, dump, bool(edges), every)
 
 
 def _at_changes(part: "Dump", condition: Condition) -> Iterator[int]:
@@ -65,56 +167,3 @@ def _at_edges(part: "Dump", condition: Condition, edges: Collection[_body.Edge],
             yield time
             condition.end_events()
         condition.take(changes)
-
-
-def _starts(looks: Iterator[int], condition: Condition, has_clock: bool, every: bool
-            ) -> Iterator[Tuple[int, bool]]:
-    """Returns each time, and whether the condition begins to hold."""
-    held = False
-    for time in looks:
-        holds = condition.test(condition.values) is True
-        yield time, holds and (every or not held)
-        held = holds
-        if not has_clock and condition.end_events():  # an event is over before the next time
-            held = condition.test(condition.values) is True
-
-
-def _begins(looks: Iterator[int], condition: Condition, has_clock: bool, every: bool
-            ) -> Iterator[int]:
-    for time, is_start in _starts(looks, condition, has_clock, every):
-        if is_start:
-            yield time
-
-
-def _late(waiting: Waiting, now: int) -> List[int]:
-    """Takes out the starts that waited until a time before this one, and returns them."""
-    found = []
-    while waiting and waiting[0][1] < now:
-        found.append(waiting.popleft()[0])
-    return found
-
-
-def _answered(looks: Iterator[int], condition: Condition, ticks: int, dump: "Dump",
-              has_clock: bool, every: bool) -> Iterator[int]:
-    """Returns the starts that have an answer in time; of a refusal those that have none. What the
-    end of the dump leaves open is neither."""
-    assert condition.answer and condition.span
-    counts_edges, now = not condition.span.unit, 0
-    waiting: Waiting = collections.deque()
-    for count, (time, is_start) in enumerate(_starts(looks, condition, has_clock, every)):
-        now = count if counts_edges else time
-        late = _late(waiting, now)
-        if condition.is_refusal:
-            yield from late
-        if is_start:
-            waiting.append((time, now + ticks))
-        if waiting and condition.answer(condition.values) is True:
-            if not condition.is_refusal:
-                yield from [start for start, _ in waiting]
-            waiting.clear()
-        if len(waiting) > MAX_WAITING:
-            raise UsageError("more than %d times wait for an answer: give a shorter time"
-                             % MAX_WAITING)
-    if condition.is_refusal and waiting:
-        last = now if counts_edges else dump.check().last or 0
-        yield from _late(waiting, last + 1)

@@ -4,6 +4,7 @@ import importlib
 import os
 import re
 import stat
+import sys
 import warnings
 from types import ModuleType
 from typing import (IO, Any, BinaryIO, Collection, ContextManager, Dict, Iterable, Iterator, List,
@@ -11,6 +12,7 @@ from typing import (IO, Any, BinaryIO, Collection, ContextManager, Dict, Iterabl
 
 from . import _body, _library, _program, _rows, _when
 from ._body import Header
+from ._condition import Condition
 from ._names import places_of, with_range
 from ._texts import Bytes, File, Made, Text
 from .errors import (AT_A_TIMESTAMP, DumpFault, NoTimescale, RunFailed, UnknownName, UsageError,
@@ -318,7 +320,7 @@ class Dump:
             return _body.arrays(out, signal, _words_for([name]) == [name], numpy)
 
     def rows(self, names: Names, at: Optional[Iterable[Time]] = None, rise: Optional[str] = None,
-             fall: Optional[str] = None) -> Iterator[Row]:
+             fall: Optional[str] = None, condition: Optional[str] = None) -> Iterator[Row]:
         """Returns rows of a table, as they come: a time in ticks, and the value of each signal that
         the names select, as sample() returns it. Events are left out.
 
@@ -331,7 +333,8 @@ class Dump:
         even if the clock comes back within its time. The first value of a signal is from before its
         time if it is in a `$dumpvars`, as at the beginning of a dump or a cut. Raises UsageError if
         a path is not such a clock. With `at` there is a row for each of these times, in this order,
-        also if one is there twice."""
+        also if one is there twice. With `condition`, as when() takes it, there are only those of
+        these rows at which it holds, by the values that the row has."""
         its = self._full(names)
         if not its:
             raise UsageError("rows() needs a name")
@@ -339,26 +342,31 @@ class Dump:
         edges = self._edges(rise, fall)
         if at is not None and edges:
             raise UsageError("rows are at times or at edges: give `at`, or `rise` and `fall`")
+        only = None if condition is None else _when.state(self, condition)
         if at is not None:
-            return self._rows_at(columns, [self.ticks(time) for time in _each(at)], its)
-        clocks = [name for name in (rise, fall) if name is not None]
-        return self._rows([*its, *clocks], list(columns.values()), edges)
+            return self._rows_at(columns, [self.ticks(time) for time in _each(at)], its, only)
+        names = [*its, *(name for name in (rise, fall) if name is not None),
+                 *(only.paths if only else ())]
+        return self._rows(names, list(columns.values()), edges, only)
 
-    def _rows_at(self, columns: Collection[int], times: List[int], names: List[str]
-                 ) -> Iterator[Row]:
+    def _rows_at(self, columns: Collection[int], times: List[int], names: List[str],
+                 only: Optional[Condition]) -> Iterator[Row]:
+        if only:
+            holding = _when.holding(self, only, times)
+            times = [time for time in times if time in holding]
         found = self._sampled(times, names) if columns else {}
         for time in times:
             yield Row(time, [found[time][place] for place in columns])
 
-    def _rows(self, names: List[str], columns: List[Signal], edges: Set[_body.Edge]
-              ) -> Iterator[Row]:
-        lead = self._lead({*(code for code, _, _ in edges), *(one.code.encode() for one in columns)}
-                          if edges else ())
+    def _rows(self, names: List[str], columns: List[Signal], edges: Set[_body.Edge],
+              only: Optional[Condition]) -> Iterator[Row]:
+        codes = {one.code.encode() for one in columns}.union(only.codes if only else ())
+        lead = self._lead(codes.union(code for code, _, _ in edges) if edges else ())
         part = self._part(names)
         if edges:
-            yield from _rows.at_edges(part, columns, edges, lead)
+            yield from _rows.at_edges(part, columns, edges, lead, only)
         else:
-            yield from _rows.at_changes(part, columns)
+            yield from _rows.at_changes(part, columns, only)
 
     def _lead(self, codes: Collection[bytes]) -> Set[bytes]:
         """Returns those of some codes of a merge whose values begin with a `$dumpvars`, as a merge
@@ -396,11 +404,12 @@ class Dump:
         return clock
 
     def table(self, names: Names, at: Optional[Iterable[Time]] = None, rise: Optional[str] = None,
-              fall: Optional[str] = None) -> Dict[str, List[Any]]:
+              fall: Optional[str] = None, condition: Optional[str] = None
+              ) -> Dict[str, List[Any]]:
         """Returns the rows() as columns of numbers: "time", in ticks, and one for each path. A
         value with an x or a z is `None`. pandas.DataFrame() accepts the result."""
         its = self._full(names)
-        rows = list(self.rows(its, at, rise, fall))
+        rows = list(self.rows(its, at, rise, fall, condition))
         keys = _rows.keys_of(_states(self._places(its)).values(), ["time"])
         columns = zip(*(row.values for row in rows)) if rows else ([] for _ in keys)
         return {"time": [row.time for row in rows],
@@ -488,12 +497,23 @@ def write(path: Union[str, "os.PathLike[str]"], blocks: Iterable[bytes]) -> None
         if mode is None or stat.S_ISREG(mode) and not _is_open_file(name):
             _replace(os.path.realpath(name), mode, blocks)
         else:
-            with open(name, "wb") as file:
+            with open(_own(name), "ab") as file:  # what was written there stays
                 file.writelines(blocks)
     except OSError as error:
         if isinstance(error, VcdkitError):
             raise
         raise RunFailed("%s: %s" % (name, error.strerror)) from error
+
+
+def _own(name: str) -> Union[str, int]:
+    """Returns a copy of this process's standard output if a path leads to it, else the path."""
+    try:
+        if os.path.samestat(os.stat(name), os.fstat(1)):
+            sys.stdout.flush()
+            return os.dup(1)
+    except (OSError, AttributeError):  # it is closed
+        pass
+    return name
 
 
 def _is_open_file(name: str) -> bool:

@@ -69,7 +69,7 @@ class Timescale(NamedTuple):
         part = str(per + span % per)[1:].rstrip("0")
         return "%d" % (span // per) + ("." + part if part else "")
 
-    def seconds(self, ticks: int) -> float:
+    def seconds(self, ticks: float) -> float:
         """Returns ticks in seconds, to the precision of a float."""
         return ticks * self.femtoseconds / 1e15
 

@@ -2,16 +2,20 @@
 import argparse
 import functools
 import io
+import json
+import math
 import os
 import re
 import shlex
 import sys
-from typing import Any, Callable, List, Optional, TextIO, Tuple
+from typing import Any, Callable, Dict, List, Optional, TextIO, Tuple, Union
 
 from .. import Dump, Value, __version__, _program
 from .._progress import Progress
+from .._saved import names_of
 from ..errors import DumpFault, RunFailed, UsageError, VcdkitError
 from ..times import UNITS
+from ..values import Cell
 
 STATUSES = """
 exit status:
@@ -40,6 +44,8 @@ FORMS = {"hex": "in hexadecimal", "decimal": "in decimal",
 class _Parser(argparse.ArgumentParser):
     """A parser that takes options and other arguments in any order."""
 
+    needs_names = False
+
     def format_help(self) -> str:
         text = super().format_help()
         return text + TIMES if "TIME" in text else text
@@ -59,6 +65,8 @@ class _Parser(argparse.ArgumentParser):
         asked, rest = self.parsed(words)
         if rest:
             self.error("unrecognized arguments: " + " ".join(rest))
+        if self.needs_names and not asked.names and asked.names_of is None:
+            self.error("the following arguments are required: NAME, or --names")
         return asked
 
 
@@ -78,12 +86,12 @@ def parser(name: str, text: str, done: str = "everything was written", failed: s
     made = _Parser(
         prog=name, description=first, epilog=rest.strip("\n") + "\n" + statuses,
         formatter_class=argparse.RawDescriptionHelpFormatter, allow_abbrev=False)
-    made.add_argument("--version", action="version", version="%s %s" % (name, __version__))
+    made.add_argument("-V", "--version", action="version", version="%s %s" % (name, __version__))
     return made
 
 
-def add_file(to: argparse.ArgumentParser, names: str = "") -> None:
-    """Adds FILE, which dump_of opens, and NAMEs, whose count is as of argparse: + or *."""
+def add_file(to: _Parser, names: str = "") -> None:
+    """Adds FILE, which dump_of opens, and NAMEs: + if there has to be one, else *."""
     add_four_state(to)
     to.add_argument("file", metavar="FILE", help="the dump")
     if names:
@@ -96,15 +104,42 @@ def add_four_state(to: argparse.ArgumentParser) -> None:
                     help="convert VHDL's nine states, as vcdkit-four-state does")
 
 
+def filter_of(name: str, text: str, words: List[str]) -> argparse.Namespace:
+    """Reads the words of a filter."""
+    of = parser(name, text, failed="")
+    of.add_argument("file", metavar="FILE", nargs="?", default="-",
+                    help="the dump, which may be compressed; without it, plain standard input")
+    return of.parse_args(words)
+
+
 def dump_of(asked: argparse.Namespace, file: Optional[str] = None, **options) -> Dump:
-    """Returns the dump of FILE, or of another file that is asked for."""
-    return Dump(asked.file if file is None else file, four_state=asked.four_state, **options)
+    """Returns the dump of FILE, or of another file that is asked for. Then `names` also has those
+    of --names."""
+    dump = Dump(asked.file if file is None else file, four_state=asked.four_state, **options)
+    path, asked.names_of = getattr(asked, "names_of", None), None
+    if path is not None:
+        asked.names = [*asked.names, *names_of(path, dump)]
+    return dump
 
 
-def add_names(to: argparse.ArgumentParser, count: str) -> None:
-    """Adds NAMEs."""
-    to.add_argument("names", metavar="NAME", nargs=count, default=[],
+def add_names(to: _Parser, count: str) -> None:
+    """Adds NAMEs, and --names."""
+    to.needs_names = count == "+"
+    add_names_of(to)
+    to.add_argument("names", metavar="NAME", nargs="*", default=[],
                     help="a path that vcdkit list shows, or a scope for all that is in it")
+
+
+def add_names_of(to: argparse.ArgumentParser) -> None:
+    """Adds --names."""
+    to.add_argument("--names", dest="names_of", metavar="FILE", help="also take the names in this "
+                    "file: the first word of each line, or the signals of a GTKWave save file")
+
+
+def add_clock(to: argparse._ActionsContainer, what: str) -> None:
+    """Adds --rise and --fall."""
+    for option, edge in ("--rise", "rising"), ("--fall", "falling"):
+        to.add_argument(option, metavar="CLOCK", help=what % edge)
 
 
 def add_window(to: argparse.ArgumentParser) -> None:
@@ -170,11 +205,69 @@ def text_of(number: int) -> str:
                    for one in text)
 
 
-def unit(text: str) -> str:
+def add_unit(to: argparse.ArgumentParser) -> None:
+    """Adds --unit."""
+    to.add_argument("--unit", type=_unit, metavar="UNIT",
+                    help="show times in this unit: tick, s, ms, us, ns, ps or fs")
+
+
+def _unit(text: str) -> str:
     """Reads the word of --unit."""
     if text not in UNITS + ("tick",):
         raise argparse.ArgumentTypeError("it may be tick, %s" % ", ".join(UNITS))
     return text
+
+
+def times_of(dump: Dump, asked: argparse.Namespace) -> Callable[[int], str]:
+    """Returns what shows ticks as a time, such as 115ns, or in the unit of --unit. A unit needs a
+    time scale."""
+    if asked.unit is None:
+        return dump.time
+    if asked.unit == "tick":
+        return str
+    dump.ticks("0" + asked.unit)
+    return lambda ticks: dump.time(ticks, asked.unit)
+
+
+def mean_text(dump: Dump, ticks: float, unit: Optional[str]) -> str:
+    """Returns a mean length of time to six digits: in a unit that is given, else in the largest one
+    of which it has one."""
+    scale = dump.timescale
+    if scale is None or unit == "tick":
+        return "%.6g" % ticks
+    lengths = [(scale.seconds(ticks) * 1000**power, its) for power, its in enumerate(UNITS)]
+    its = [pair for pair in lengths if pair[1] == unit] or [
+        pair for pair in lengths if pair[0] >= 1] or lengths[-1:]
+    return "%.6g%s" % its[0]
+
+
+def add_json(to: argparse._ActionsContainer) -> None:
+    """Adds --json."""
+    to.add_argument("--json", action="store_true", help="write a JSON object on each line, with "
+                    "times in ticks")
+
+
+def natural(text: str) -> int:
+    """Reads a number from 0."""
+    if not text.isascii() or not text.isdigit():
+        raise argparse.ArgumentTypeError("it is a number")
+    return int(text)
+
+
+def write_json(row: Dict[str, Any]) -> None:
+    """Writes a row as JSON, on a line of its own. A byte that is no UTF-8 is written as \\xNN."""
+    text = json.dumps(row, ensure_ascii=False)
+    print(re.sub("[\udc80-\udcff]", lambda byte: "\\\\x%02x" % (ord(byte.group()) - 0xdc00), text))
+
+
+def in_json(value: Cell, form: Optional[str]) -> Union[int, float, str, None]:
+    """Returns a value as JSON has it: a real number and one in decimal as a number, digits as a
+    text, and null if there is none."""
+    if value is None or isinstance(value, float) and math.isfinite(value):
+        return value
+    text = shown(value, form)
+    is_number = form in ("decimal", "signed") and isinstance(value, Value) and value.is_known
+    return int(text) if is_number else text
 
 
 def command(function: Callable[[List[str]], int]) -> Callable[[Optional[List[str]]], int]:
@@ -226,7 +319,7 @@ def _remedy(error: VcdkitError, words: List[str]) -> str:
         return " (the first argument is the dump; - is standard input)" if is_name else ""
     if not isinstance(error, DumpFault):
         return ""
-    from .explain import NINE, STRING, look_at  # only a message needs it
+    from .._causes import NINE, STRING, look_at  # only a message needs it
     if error.file == "(stdin)":
         return "\nsee: .. | vcdkit-explain -"
     if "--four-state" not in words and os.path.isfile(error.file):

@@ -21,26 +21,35 @@ the other. If you give NAMEs, only these are compared. With --map, the NAMEs are
 
 examples:
   vcdkit-diff golden.vcd.gz sim.vcd
-  vcdkit-diff --window 20ns --into /tmp golden.vcd sim.vcd tb.dut
+  vcdkit-diff --context 20ns --into /tmp golden.vcd sim.vcd tb.dut
   vcdkit-diff --html failure.html --rise tb.clk golden.vcd sim.vcd
   vcdkit-diff --map TOP.tb=tb --common --rise tb.clk verilator.vcd icarus.vcd
-  vcdkit-diff --all --junit diff.xml --except tb.dut.seed golden.vcd sim.vcd"""
+  vcdkit-diff --every --junit diff.xml --except tb.dut.seed golden.vcd sim.vcd"""
 import argparse
 import os
 import sys
-import xml.etree.ElementTree as xml
 from concurrent.futures import ThreadPoolExecutor
-from typing import Dict, Iterable, Iterator, List, Optional, Sequence, Tuple
+from typing import Any, Callable, Dict, Iterable, List, Optional, Sequence, Tuple
 
 from .. import RunFailed, UsageError, VcdkitError, _body, _page_of_two
 from .._compare import (Comparison, Difference, Pair, Side, Sides, choose, hint_among, in_common,
                         kind, same_within)
+from .._junit import Test, write_tests
+from ..dump import write
 from ..times import word
-from ..values import Signal
-from . import FAULT, add_four_state, add_names, command, dump_of, parser, question
-from .wave import NOT_OF_XML
+from ..values import Cell, Signal
+from . import (FAULT, add_clock, add_form, add_four_state, add_json, add_names, add_unit, command,
+               dump_of, in_json, parser, question, times_of, write_json)
+from . import shown as value_text
 
 MAX_LINES = 20
+
+
+# What the words of a line are, by its first one.
+FIELDS = {"timescale": ("a", "b"), "alone": ("dump", "path", "variables"),
+          "size": ("path", "a", "b"), "differs": ("time", "path", "a", "b"), "ends": ("a", "b"),
+          "edges": ("a", "b"), "window": ("file",), "page": ("file",)}
+Line = Tuple[Any, ...]  # a kind, and its fields; a time is in ticks of A
 
 
 class Report:
@@ -48,70 +57,83 @@ class Report:
 
     def __init__(self, asked: argparse.Namespace):
         self._asked = asked
+        self.time: Callable[[int], str] = str  # what shows ticks
         self.lines: Dict[str, List[str]] = {}
         self.fault = ""
 
-    def say(self, of: str, lines: Iterable[str]) -> None:
-        """Writes lines of a kind, without --all not more than MAX_LINES."""
+    def _text(self, line: Line) -> str:
+        """Returns a line as a reader sees it."""
+        of, *fields = line
+        if of == "differs":
+            fields[0] = self.time(fields[0])
+            fields[2:] = [one if isinstance(one, str) and one in ("-", "triggered")
+                          else value_text(one, self._asked.form) for one in fields[2:]]
+        return " ".join(map(str, [of, *("-" if one is None else one for one in fields)]))
+
+    def say(self, of: str, lines: Iterable[Line]) -> None:
+        """Writes lines of a kind."""
         kept = self.lines.setdefault(of, [])
         for line in lines:
-            kept.append(line)
-            print(line)
+            kept.append(self._text(line))
+            if self._asked.json:
+                values = [in_json(one, self._asked.form) if of == "differs" and at > 2 else one
+                          for at, one in enumerate(line)]
+                write_json(dict(zip(("kind", *FIELDS[of]), values)))
+            else:
+                print(kept[-1])
         sys.stdout.flush()
 
-    def say_some(self, of: str, lines: List[str]) -> None:
-        """Writes lines of a kind, the first ones if they are many and --all is not given."""
-        rest = 0 if self._asked.all else len(lines) - MAX_LINES
-        self.say(of, lines if rest <= 0 else lines[:MAX_LINES] + [
-            "%s .. %d more (--all)" % (" ".join(lines[0].split(" ")[:1 + (of == "alone")]), rest)])
+    def say_some(self, of: str, lines: List[Line]) -> None:
+        """Writes lines of a kind, the first ones if they are many and --every is not given."""
+        rest = 0 if self._asked.every else len(lines) - MAX_LINES
+        self.say(of, lines if rest <= 0 else lines[:MAX_LINES])
+        if rest > 0:
+            front = " ".join(map(str, lines[0][:1 + (of == "alone")]))
+            self.lines[of].append("%s .. %d more (--every)" % (front, rest))
+            if self._asked.json:
+                write_json({"kind": "more", "of": front, "lines": rest})
+            else:
+                print(self.lines[of][-1])
+
+    def say_file(self, of: str, path: str) -> None:
+        """Says that a file was written."""
+        if self._asked.json:
+            write_json({"kind": of, "file": path})
+        else:
+            print(of, path)
 
     def differs(self) -> bool:
         return any(self.lines.values())
 
     def write(self, path: str) -> None:
         """Writes a JUnit file: a test for each kind of line that was looked for."""
-        found = sum(map(bool, self.lines.values()))
-        suite = xml.Element("testsuite", name="vcdkit-diff", errors=str(int(bool(self.fault))),
-                            tests=str(len(self.lines) + bool(self.fault)), failures=str(found))
-        files = clean("%s %s" % (self._asked.one, self._asked.other))
-        for of, lines in self.lines.items():
-            test = xml.SubElement(suite, "testcase", classname=files, name=of)
-            if lines:
-                xml.SubElement(test, "failure", message=clean(lines[0])).text = clean(
-                    "\n".join(lines))
+        files = "%s %s" % (self._asked.one, self._asked.other)
+        tests = [Test(files, of, "failure" if lines else "", "".join(lines[:1]), "\n".join(lines))
+                 for of, lines in self.lines.items()]
         if self.fault:
-            test = xml.SubElement(suite, "testcase", classname=files, name="fault")
-            xml.SubElement(test, "error", message=clean(self.fault))
-        try:
-            xml.ElementTree(suite).write(path, encoding="utf-8", xml_declaration=True)
-        except OSError as error:
-            raise RunFailed("%s: %s" % (path, error.strerror)) from error
+            tests.append(Test(files, "fault", "error", self.fault, ""))
+        write_tests(path, "vcdkit-diff", tests)
 
 
-def clean(text: str) -> str:
-    """Returns a text as XML can have it."""
-    return NOT_OF_XML.sub("\ufffd", text)
-
-
-def shown(value: Optional[bytes], signal: Signal) -> str:
-    """Returns a value as a line has it."""
+def shown(value: Optional[bytes], signal: Signal) -> Cell:
+    """Returns a value of a line; of an event whether it is triggered."""
     if signal.type == "event":
         return "triggered" if value else "-"
-    return "-" if value is None else str(_body.value(value.lstrip(b"b"), signal))
+    return None if value is None else _body.value(value.lstrip(b"b"), signal)
 
 
-def lines_of(differences: Iterable[Difference], sides: Sides) -> List[str]:
-    return sorted("differs %s %s %s %s" % (
-        sides[0].dump.time(one.times[0]), one.pair.name,
-        *(shown(value, signal) for value, signal in zip(one.values, one.pair.signals)))
-        for one in differences)
+def lines_of(differences: Iterable[Difference]) -> List[Line]:
+    """Returns the lines of differences of one time, in the order of their names."""
+    return sorted((("differs", one.times[0], one.pair.name,
+                    *(shown(value, signal) for value, signal in zip(one.values, one.pair.signals)))
+                   for one in differences), key=lambda line: [*map(str, line[2:])])
 
 
 def sides_of(asked: argparse.Namespace) -> Sides:
     """Reads both dumps, and looks for all names that were given."""
+    dumps = [dump_of(asked, file) for file in (asked.one, asked.other)]  # --names of the first
     with ThreadPoolExecutor(2) as pool:
-        one, other = pool.map(lambda file: Side(dump_of(asked, file), asked.maps),
-                              (asked.one, asked.other))
+        one, other = pool.map(lambda dump: Side(dump, asked.maps), dumps)
     choose((one, other), asked.names, asked.exceptions)
     for side in one, other:
         for name in asked.names:
@@ -135,29 +157,30 @@ def say_headers(report: Report, sides: Sides, apart: Sequence[Pair], is_common: 
     """Says what the headers do not have in common."""
     if not is_common:
         scales = [side.scale for side in sides]
-        report.say("timescale", ["timescale %s %s" % tuple(scale or "-" for scale in scales)]
-                   if scales[0] != scales[1] else [])
+        texts = [str(scale) if scale else None for scale in scales]
+        report.say("timescale", [("timescale", *texts)] if scales[0] != scales[1] else [])
         for letter, side in zip("AB", sides):
-            report.say_some("alone", ["alone %s %s %d" % (letter, *one) for one in side.alone()])
-    report.say("size", ["size %s %s %s" % (pair.name, *map(kind, pair.signals))
-                        for pair in apart])
+            report.say_some("alone", [("alone", letter, *one) for one in side.alone()])
+    report.say("size", [("size", pair.name, *map(kind, pair.signals)) for pair in apart])
 
 
-def say_ends(report: Report, sides: Sides, comparison: Comparison, has_clock: bool) -> None:
-    """Says whether one of them is longer."""
+def say_ends(report: Report, sides: Sides, comparison: Comparison, has_clock: bool,
+             texts: Sequence[Callable[[int], str]]) -> None:
+    """Says whether one of them is longer. `texts` show a time of each."""
     if has_clock:
-        report.say("edges", ["edges %d %d" % tuple(comparison.counts)]
+        report.say("edges", [("edges", *comparison.counts)]
                    if len(set(comparison.counts)) > 1 else [])
         return
     ends = [side.report.last for side in sides]
     spans = {end if end is None else end * factor
              for end, factor in zip(ends, comparison.factors)}
-    report.say("ends", ["ends %s %s" % tuple(
-        "-" if end is None else side.dump.time(end) for side, end in zip(sides, ends))]
-        if len(spans) > 1 else [])
+    report.say("ends", [("ends", *(None if end is None else text(end)
+                                   for text, end in zip(texts, ends)))]
+               if len(spans) > 1 else [])
 
 
-def write_window(sides: Sides, times: Sequence[int], spans: Sequence[int], into: str) -> None:
+def write_parts(report: Report, sides: Sides, times: Sequence[int], spans: Sequence[int],
+                into: str) -> None:
     """Writes the cuts around a time of both, and says where they are."""
     try:
         os.makedirs(into, exist_ok=True)
@@ -166,23 +189,15 @@ def write_window(sides: Sides, times: Sequence[int], spans: Sequence[int], into:
     for letter, side, at, span in zip("ab", sides, times, spans):
         path = os.path.join(into, "diff.%s.vcd" % letter)
         side.dump.around(at, span).save(path)
-        print("window", path)
-
-
-def write_page(path: str, texts: Iterable[str]) -> None:
-    """Writes a page, and says where it is."""
-    try:
-        with open(path, "w", encoding="ascii") as file:
-            file.writelines(texts)
-    except OSError as error:
-        raise RunFailed("%s: %s" % (path, error.strerror)) from error
-    print("page", path)
+        report.say_file("window", path)
 
 
 def compare(asked: argparse.Namespace, report: Report) -> None:
     """Says all that differs."""
     sides = sides_of(asked)
-    spans = [side.dump.ticks(asked.window) for side in sides] if asked.window else []
+    texts = [times_of(side.dump, asked) for side in sides]
+    report.time = texts[0]
+    spans = [side.dump.ticks(asked.context) for side in sides] if asked.context else []
     name = asked.rise or asked.fall
     clocks = [side.clock(name) for side in sides] if name else []
     pairs, apart = in_common(sides)
@@ -197,8 +212,8 @@ def compare(asked: argparse.Namespace, report: Report) -> None:
     for found in differences:
         first = first or found
         every += found
-        report.say_some("differs", lines_of(found, sides))
-        if not asked.all:
+        report.say_some("differs", lines_of(found))
+        if not asked.every:
             break
     report.say("differs", [])
     for side, count in zip(sides, comparison.counts):
@@ -206,13 +221,15 @@ def compare(asked: argparse.Namespace, report: Report) -> None:
             raise UsageError("%s: %s never %s" % (
                 side.dump.name, name, "rises" if asked.rise else "falls"))
     if not asked.common and not (clocks and first):
-        say_ends(report, sides, comparison, bool(clocks))
-    if first and asked.window:
-        write_window(sides, first[0].times, spans, asked.into or ".")
+        say_ends(report, sides, comparison, bool(clocks), texts)
+    if first and asked.context:
+        write_parts(report, sides, first[0].times, spans, asked.into or ".")
     if first and asked.html is not None:
-        write_page(asked.html, _page_of_two.texts_of(
+        page = _page_of_two.texts_of(
             sides, comparison.factors, every, clocks, same_within(asked.tolerance),
-            spans[0] * comparison.factors[0] if spans else None))
+            spans[0] * comparison.factors[0] if spans else None)
+        write(asked.html, (text.encode("ascii") for text in page))
+        report.say_file("page", asked.html)
 
 
 def map_of(text: str) -> Tuple[str, str]:
@@ -246,32 +263,31 @@ def words_of(words: List[str]) -> argparse.Namespace:
                     help="leave out this signal or scope")
     of.add_argument("--real-tolerance", dest="tolerance", metavar="T", type=tolerance, default=0.0,
                     help="real numbers may differ by T, or by T times the larger one")
-    clock = of.add_mutually_exclusive_group()
-    clock.add_argument("--rise", metavar="CLOCK",
-                       help="compare at the rising edges of this signal")
-    clock.add_argument("--fall", metavar="CLOCK",
-                       help="compare at the falling edges of this signal")
-    of.add_argument("--all", action="store_true", help="show the first difference of each signal, "
-                    "and not only %d lines of a kind" % MAX_LINES)
+    add_clock(of.add_mutually_exclusive_group(), "compare at the %s edges of this signal")
+    of.add_argument("--every", action="store_true", help="show the first difference of each "
+                    "signal, and not only %d lines of a kind" % MAX_LINES)
     of.add_argument("--junit", metavar="FILE", help="also write a JUnit file, with a test for "
                     "each kind of line")
-    of.add_argument("--window", metavar="TIME", help="if values differ, write the parts of both "
+    of.add_argument("--context", metavar="TIME", help="if values differ, write the parts of both "
                     "dumps from TIME before to TIME after that, as diff.a.vcd and diff.b.vcd")
-    of.add_argument("--into", metavar="FOLDER", help="the folder of these files (.)")
+    of.add_argument("--into", metavar="DIRECTORY", help="the directory of these files (.)")
     of.add_argument("--html", metavar="FILE", help="if values differ, write a page of HTML with "
                     "the waveforms of both, as vcdkit-wave --html does: of the signals that the "
-                    "lines name and of the clock, in the time of --window, else as much as it "
+                    "lines name and of the clock, in the time of --context, else as much as it "
                     "has room for")
+    add_form(of)
+    add_unit(of)
+    add_json(of)
     add_four_state(of)
     of.add_argument("one", metavar="A", help="the first dump")
     of.add_argument("other", metavar="B", help="the second dump")
     add_names(of, "*")
     asked = of.parse_args(words)
     asked.maps.sort(key=lambda pair: -len(pair[0]))
-    if asked.into is not None and not asked.window:
-        of.error("--into is for the files of --window")
-    if asked.window is not None:
-        word(asked.window)
+    if asked.into is not None and not asked.context:
+        of.error("--into is for the files of --context")
+    if asked.context is not None:
+        word(asked.context)
     return asked
 
 

@@ -10,131 +10,32 @@ some changes of that time may be missing. If the fault is in the next timestamp,
 timestamp itself. If there is no fault, or the header has the fault, no file is written. With -, the
 dump goes to standard output, also if it has no fault, and all else goes to standard error.
 
-With NAMEs it also looks whether each of them selects something. If one does not, it lists similar
-paths.
+With several FILEs, or a directory, which stands for the dumps in it and below it (.vcd and .fst,
+also packed), there is a line for each dump: its end, or its fault and the cause. The last line
+counts them, and the exit status is the highest of all. --reach makes a fault of a dump that ends
+before a time. --junit writes a file with a test for each dump.
 
 examples:
   vcdkit-explain sim.vcd
   vcdkit-explain --salvage good.vcd sim.vcd
-  vcdkit-explain sim.vcd tb.clk
+  vcdkit-explain --reach 1ms --junit dumps.xml dumps/
   ssh lab cat sim.vcd.gz | vcdkit-explain -"""
 import contextlib
-import itertools
+import os
 import re
 import shlex
 import sys
 
-from .. import DumpFault, RunFailed, UnknownName, _body
+from .. import DumpFault, RunFailed, _body
+from .._causes import CUT_OFF, NO_HEADER, look_at
+from .._junit import write_tests
+from .._verdicts import files_of, summary, verdict_on, verdicts
 from ..dump import write
-from . import add_file, command, dump_of, parser
+from ..times import word
+from . import add_four_state, add_json, add_unit, command, dump_of, natural, parser, times_of
+from . import write_json
 
-WIDTH = 100
 OUTPUT = ("-", "/dev/stdout")
-FRONT = 1 << 16  # how much before a fault is looked at
-NINE = ("a nine-state value of VHDL",
-        "vcdkit-four-state < FILE | vcdkit check    (or run ghdl again with --vcd-4states)")
-STRING = ("a string, which four-state VCD does not have",
-          "vcdkit-four-state < FILE | vcdkit check    (it leaves strings out)")
-PORTS = ("extended VCD, of $dumpports",
-         "evcd2vcd FILE | vcdkit check    (of GTKWave; or take $dumpvars in its place)")
-CUT_OFF = "vcdkit-explain --salvage LEFT.vcd FILE    (what is before the fault)"
-TORN = "the dump is cut off", "run again, or " + CUT_OFF
-NO_HEADER = "run again, or mend the header by hand: without a whole header no value can be read"
-PRODUCER = "let the producer write it anew, or mend the line by hand"
-SECTION = ("a section ($dumpvars, $dumpall, $dumpoff, $dumpon) whose $end is missing",
-           "vcdkit-endmend < FILE | vcdkit check")
-
-# How files begin that are no text: pattern, cause, help.
-BINARY = [
-    (rb"\A\xef\xbb\xbf", "the file begins with a byte order mark",
-     r"sed '1s/^\xEF\xBB\xBF//' < FILE | vcdkit check"),
-    (rb"\A(\xff\xfe|\xfe\xff)", "the file is UTF-16",
-     "iconv -f UTF-16 -t UTF-8 < FILE | vcdkit check"),
-    (rb"\A\x00\x00\x00\x00\x00\x00\x00\x01\x49", "a binary file: FST",
-     "fst2vcd FILE | vcdkit check    (fst2vcd: GTKWave)"),
-    (rb"\A\x13\x80", "a binary file: LXT2", "lxt2vcd FILE | vcdkit check    (lxt2vcd: GTKWave)"),
-    (rb"\AVZ", "a binary file: VZT", "vzt2vcd FILE | vcdkit check    (vzt2vcd: GTKWave)"),
-    (rb"\APK\x03\x04", "a zip archive", "unzip -p FILE | vcdkit check"),
-    (rb"(?s)\A.{0,1024}?[\x00-\x06\x0e-\x1a]", "a binary file, no text of VCD: FSDB, WLF, SHM, or "
-     "damaged", "convert it by a tool of its producer: fsdb2vcd, wlf2vcd, simvisdbutil"),
-]
-# Of a fault: its name, what its line matches, what the text up to it has, the cause and what helps.
-# The first that fits is shown; an empty pattern fits all.
-CAUSES = [
-    ("", rb"", rb"(?im)^(?![br]\S+\s)(.*\s)?\$(?!end\s)(ned|edn|en|nd|end[a-z;.,]?)\s*$",
-     "a misspelt $end", PRODUCER),
-    ("unknown command", rb"\AMETA ", rb"", "sigrok-cli wrote a line of its own before the dump",
-     "tail -n +2 < FILE | vcdkit check"),
-    ("unknown command", rb"^\s*[\w.]+: +[-+\d.]", rb"",
-     "an analog line of sigrok-cli among those of the dump",
-     "grep -vE '^[A-Za-z0-9_.]+: ' < FILE | vcdkit check    (or leave analog channels out by -C)"),
-    ("unknown command", rb"^\s*[UuWwLlHh-][!-~]+\s*$", rb"", *NINE),
-    ("unknown command", rb"^\s*s\S*\s+\S+\s*$", rb"", *STRING),
-    ("unknown command", rb"\$dumpports|^\s*p\S+ +\d", rb"", *PORTS),
-    ("unknown command", rb"\$vcdclose", rb"", "extended VCD: $vcdclose ends such a dump",
-     "grep -v '^\\$vcdclose' < FILE | vcdkit check"),
-    ("unknown command", rb"\A\$\w+\s*\n\Z", rb"", "a command that no body has", PRODUCER),
-    ("unknown command", rb"", rb"\A[^$#]*\Z", "no text of VCD", "look at it: head -c 200 FILE"),
-    ("command out of place", rb"", rb"\$enddefinitions\s+(?!\$end\s)\S", "$enddefinitions without "
-     "its $end", r"sed 's/^\$enddefinitions[ \t]*$/$enddefinitions $end/' < FILE | vcdkit check"),
-    ("command out of place", rb"^\s*\$end\s*$", rb"", "an $end that ends nothing",
-     "vcdkit-endmend < FILE | vcdkit check"),
-    ("command out of place", rb"^\s*[#01bxzr]", rb"",
-     "no header: a later part of a dump that was split, or a cut-off begin",
-     "cat FIRST FILE .. | vcdkit check    (all parts in order)"),
-    ("command out of place", rb"^\s*\$", rb"", "a header in the midst: two dumps in one file",
-     "vcdkit merge ONE OTHER    (of the two dumps by themselves)"),
-    ("bad value", rb"^\s*[bB][01xXzZ]*[UuWwLlHh-][01xXzZUuWwLlHh-]*\s", rb"", *NINE),
-    ("bad value", rb"^\s*[01xXzZ]\s+\S", rb"",
-     "white space between a value of one bit and its code",
-     r"sed -E 's/^([01xXzZ])[ \t]+/\1/' < FILE | vcdkit check"),
-    ("bad scope", rb"\$scope\s+\S+\s+\$end", rb"",
-     "a scope without a name, or one that is named $end",
-     "give it a name in the source: \\$end and the like are words of VCD"),
-    ("bad scope", rb"\$scope\s+\S+\s+\S+\s+(?!\$end)\S", rb"", "a scope's name with a space in it",
-     PRODUCER),
-    ("bad variable", rb"\$var\s+string\s", rb"", *STRING),
-    ("bad variable", rb"\$var\s+port\s|\$var\s+\S+\s+\[", rb"", *PORTS),
-    ("bad variable", rb"\$var\s+\S+\s+0\s", rb"", "a variable of no bits",
-     "leave it out of the dump, in the source"),
-    ("bad timescale", rb"\b1(0|00)?\s*[MUNPF]?S\b", rb"", "a unit in upper case",
-     r"sed -E '/\$timescale/,/\$end/s/([MUNPF]?S)\b/\L\1/' < FILE | vcdkit check    (GNU sed)"),
-    ("bad timescale", rb"", rb"",
-     "a number that is not 1, 10 or 100, or a unit that is none of s, ms, us, ns, ps, fs",
-     "mend the line, by sed for one"),
-    ("time inside a section", rb"", rb"", *SECTION),
-    ("bad time", rb"[^\n]\Z", rb"", *TORN),
-    ("time goes back", rb"[^\n]\Z", rb"", *TORN),
-    ("bad time", rb"#-", rb"", "a negative time",
-     "sed '/^#-/d' < FILE | vcdkit check    (what it had comes before the first timestamp)"),
-    ("bad time", rb"#\d+\.", rb"", "a time with a fraction",
-     "take a finer time scale in the simulation"),
-    ("time goes back", rb"", rb"", "lines in another order", CUT_OFF),
-    ("unexpected end of input", rb"", rb"\A\s*\Z", "there is no dump: nothing was "
-     "written to the pipe, or the simulation never came to $dumpvars", "look at its messages"),
-    ("unexpected end of input", rb"", rb"", *TORN),
-    ("unknown code", rb"", rb"", "header and body do not belong together, or the line is damaged",
-     PRODUCER),
-    ("value too wide", rb"", rb"", "more digits than the variable has bits", PRODUCER),
-    ("token too long", rb"", rb"", "a value of very many digits, or a binary file",
-     "vcdkit check --token-limit 16777216 < FILE"),
-]
-
-
-def cause_of(fault, front, before, bad):
-    """Returns cause and help of a fault, by the front of the file, what is before the bad line, and
-    that line; None where none is known."""
-    for pattern, cause, remedy in BINARY:
-        if re.search(pattern, front):
-            return cause, remedy
-    for of, pattern, earlier, cause, remedy in CAUSES:
-        if of in ("", fault) and re.search(pattern, bad) and re.search(earlier, before + bad):
-            return cause, remedy
-    if re.search(rb"[\x00-\x06\x0e-\x1a\x7f-\xff]", bad):
-        return "bytes that are no text: the file is damaged here", CUT_OFF
-    if not bad.endswith(b"\n"):  # the last line of the file
-        return TORN
-    return None
 
 
 def has_header(dump):
@@ -143,12 +44,6 @@ def has_header(dump):
         return dump.signals is not None
     except DumpFault:
         return False
-
-
-def printable(line):
-    """Returns the begin of a line as text."""
-    text = line[:WIDTH].rstrip(b"\r\n").decode("ascii", "backslashreplace")
-    return "".join(c if " " <= c <= "~" or c == "\t" else "\\x%02x" % ord(c) for c in text)
 
 
 def with_file(remedy, name, unpacker):
@@ -166,23 +61,6 @@ def with_file(remedy, name, unpacker):
     if is_pipe:
         remedy = re.sub(r"(vcdkit-explain .*) FILE", r".. | \1 -", remedy)
     return remedy.replace("FILE", file)
-
-
-def look_at(dump, fault, say=lambda line: None):
-    """Returns what is before the line of a fault, and the cause as of cause_of. `say` gets the
-    lines around it."""
-    before, bad, front = b"", b"", b""
-    with dump.open() as text:
-        for number, line in enumerate(itertools.islice(text, fault.line + 1), 1):
-            if number >= fault.line - 2:
-                say("%s %6d | %s" % (">" if number == fault.line else " ", number,
-                                     printable(line)))
-            if len(front) < FRONT:
-                front += line[:FRONT]
-            if number < fault.line:
-                before = (before + line)[-FRONT:]
-            bad = line if number == fault.line else bad
-    return before, cause_of(fault.fault, front, before, bad)
 
 
 def explain(dump, fault, unpacker):
@@ -243,7 +121,7 @@ class Good:
         return time if self.dump.goes_beyond(time - 1) else None
 
 
-def salvage(dump, fault, before, path, out):
+def salvage(dump, fault, before, path, out, time):
     """Writes what is before the fault of a dump, to `out` if that is given, and says until which
     time it has all values."""
     if not has_header(dump):
@@ -255,19 +133,62 @@ def salvage(dump, fault, before, path, out):
     else:
         write(path, good)
     last = -1 if good.last is None else good.last - (not dump.is_finished(good.last, fault))
-    print("wrote: %s, %s" % (path, "good until " + dump.time(last) if last >= 0 else
+    print("wrote: %s, %s" % (path, "good until " + time(last) if last >= 0 else
                              "but it has all values of no time"))
 
 
-@command
-def main(words):
-    of = parser("vcdkit-explain", __doc__, "a valid dump, as far as it goes", "not a valid dump")
+def words_of(words):
+    """Reads the command line."""
+    of = parser("vcdkit-explain", __doc__, "valid dumps, as far as they go", "not a valid dump")
     of.add_argument("--salvage", metavar="OUT",
                     help="write what is before the fault (-: to standard output)")
     of.add_argument("--token-limit", type=int, metavar="N",
                     help="the longest token that is allowed, in bytes")
-    add_file(of, "*")
+    of.add_argument("--reach", metavar="TIME", help="a dump that ends before TIME has a fault")
+    of.add_argument("--jobs", type=natural, default=os.cpu_count() or 1, metavar="N",
+                    help="how many dumps to check at a time (the number of processors)")
+    of.add_argument("--junit", metavar="FILE", help="write a JUnit file, with a test for each dump")
+    add_unit(of)
+    add_json(of)
+    add_four_state(of)
+    of.add_argument("files", metavar="FILE", nargs="+", help="a dump, or a directory of dumps")
     asked = of.parse_args(words)
+    if asked.reach is not None:
+        word(asked.reach)
+    asked.is_many = (len(asked.files) > 1 or asked.json or asked.junit is not None
+                     or asked.reach is not None or os.path.isdir(asked.files[0]))
+    if asked.is_many and asked.salvage is not None:
+        of.error("--salvage is for one dump, without --reach, --json and --junit")
+    return asked
+
+
+def explain_all(asked):
+    """Writes a line for each dump, and how many have a fault; returns the highest status."""
+    files = files_of(asked.files)
+
+    def verdict(file):
+        return verdict_on(dump_of(asked, file, token_limit=asked.token_limit), file, asked.reach,
+                          lambda dump, ticks: times_of(dump, asked)(ticks))
+
+    found = []
+    for one in verdicts(files, verdict, asked.jobs):
+        found.append(one)
+        if asked.json:
+            write_json({"file": one.file, "kind": one.kind, **one.facts})
+        else:
+            print(one.text, flush=True)
+    if not asked.json and len(found) > 1:
+        print(summary([one.kind for one in found]))
+    if asked.junit is not None:
+        write_tests(asked.junit, "vcdkit-explain", [one.test for one in found])
+    return max(one.status for one in found)
+
+
+@command
+def main(words):
+    asked = words_of(words)
+    if asked.is_many:
+        return explain_all(asked)
     if asked.salvage not in OUTPUT:
         return answer(asked, None)
     out = sys.stdout
@@ -277,18 +198,12 @@ def main(words):
 
 def answer(asked, out):
     """Says what is asked; returns the status. `out` gets what is salvaged if it is given."""
-    dump = dump_of(asked, token_limit=asked.token_limit)
+    dump = dump_of(asked, asked.files[0], token_limit=asked.token_limit)
     unpacker = dump.unpacker()
     if unpacker:
         print("packed: " + with_file("vcdkit check < FILE", dump.name, unpacker), flush=True)
     try:
-        dump.select(asked.names)  # as other commands do, before they read the body
         report = dump.check()
-    except UnknownName as error:
-        what, _, near = str(error).rpartition("; ")
-        print("vcdkit: " + what, file=sys.stderr, flush=True)
-        print("cause: no variable and no scope has this path\nhelp:  " + near)
-        return error.status
     except RunFailed:
         if unpacker and asked.salvage is not None:  # the packed file is cut off
             print("help:  " + with_file("vcdkit-explain --salvage %s - < FILE" % shlex.quote(
@@ -298,7 +213,7 @@ def answer(asked, out):
         print("vcdkit: %s" % fault, file=sys.stderr, flush=True)
         before = explain(dump, fault, unpacker)
         if asked.salvage is not None:
-            salvage(dump, fault, before, asked.salvage, out)
+            salvage(dump, fault, before, asked.salvage, out, times_of(dump, asked))
         return fault.status
     if out:
         out.buffer.writelines(dump._blocks())

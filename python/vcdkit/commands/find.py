@@ -2,24 +2,24 @@
 
 A REGEX is a regular expression of Python, which may match anywhere in a path: 'count$',
 '^tb\\.cpu\\.', '(?i)clk'. If there are several, a path has to match one of them; if there is none,
-all variables are listed. Each line has path, type, size and code, as in vcdkit list. With --tree,
-each line has a scope, indented below the scope that contains it, and the number of matching
-variables in it and in the scopes below it.
+all variables are listed. With --names, those that the names in a file select are listed too. Each
+line has path, type, size and code, as in vcdkit list. With --tree, each line has a scope, indented
+below the scope that contains it, and the number of matching variables in it and in the scopes below
+it.
 
 examples:
   vcdkit-find sim.vcd 'count$'
   vcdkit-find --pick sim.vcd.gz 'clk$' '\\.state$' > some.vcd
-  vcdkit-find --json sim.vcd
+  vcdkit-find --pick --names view.gtkw sim.vcd > view.vcd
+  vcdkit-find --json sim.vcd | jq -r 'select(.size > 8).path'
   vcdkit-find --tree sim.vcd | head -n 20"""
-import csv
-import json
 import shutil
 import sys
 from typing import Dict, Iterable, List, Sequence
 
 from .. import Signal, _body
 from ..dump import compiled
-from . import add_file, command, dump_of, parser
+from . import add_file, add_json, add_names_of, command, dump_of, parser, write_json
 
 MAX_NAMES = 1 << 17  # bytes of names on a command line
 
@@ -57,14 +57,6 @@ def write_tree(top, is_found):
         depths.update((id(inner), depth + 1) for inner in scope.scopes)
         if counts[id(scope)] and scope is not top:
             print("%s%s %d" % ("  " * depth, scope.name, counts[id(scope)]))
-
-
-def write_json(found):
-    """Writes rows as JSON; a byte that is no UTF-8 as \\xNN."""
-    texts = [{key: getattr(one, key).encode("utf-8", "surrogateescape").decode(
-        "utf-8", "backslashreplace") for key in ("path", "type")} for one in found]
-    json.dump([{**one._asdict(), **its} for one, its in zip(found, texts)], sys.stdout, indent=1)
-    print()
 
 
 def write_picked(dump, places):
@@ -116,35 +108,32 @@ def body_of(text, codes):
 def main(words):
     of = parser("vcdkit-find", __doc__, failed="no path matches, or not a valid dump")
     form = of.add_mutually_exclusive_group()
-    for name, what in (("pick", "write a dump of only these variables"),
-                       ("json", "list them as JSON"), ("csv", "list them as CSV"),
-                       ("tree", "list scopes, with how many are in each")):
-        form.add_argument("--" + name, dest="form", action="store_const", const=name, help=what)
+    form.add_argument("--pick", action="store_true", help="write a dump of only these variables")
+    form.add_argument("--tree", action="store_true", help="list scopes, with how many are in each")
+    add_json(form)
+    add_names_of(of)
     add_file(of)
     of.add_argument("patterns", metavar="REGEX", nargs="*", default=[],
                     help="an expression that paths have to match")
     asked = of.parse_args(words)
+    asked.names = []
     dump, patterns = dump_of(asked), list(map(compiled, asked.patterns))
+    named, is_all = {one.path for one in dump.select(asked.names)}, not patterns and not asked.names
 
     def is_found(one):
-        return not patterns or any(pattern.search(one.path) for pattern in patterns)
+        return is_all or one.path in named or any(
+            pattern.search(one.path) for pattern in patterns)
 
     places = [at for at, one in enumerate(dump.signals) if is_found(one)]
     found = [dump.signals[at] for at in places]
-    if patterns and not found:
+    if not is_all and not found:
         hint = "; brackets of a path are \\[ and \\]" if "[" in "".join(asked.patterns) else ""
         print("vcdkit-find: no path matches" + hint, file=sys.stderr)
         return 1
-    if asked.form == "pick":
+    if asked.pick:
         write_picked(dump, places)
-    elif asked.form == "json":
-        write_json(found)
-    elif asked.form == "csv":
-        out = csv.writer(sys.stdout, lineterminator="\n")
-        out.writerows([("path", "type", "size", "code"), *found])
-    elif asked.form == "tree":
+    elif asked.tree:
         write_tree(dump.tree, is_found)
-    else:
-        for one in found:
-            print(*one)
+    for one in found if not asked.pick and not asked.tree else ():
+        write_json(one._asdict()) if asked.json else print(*one)
     return 0

@@ -9,11 +9,10 @@ standard error.
 examples:
   vcdkit-info sim.vcd.xz
   vcdkit-info --json sim.vcd | jq .last"""
-import json
 from collections import Counter
 
 from .. import _body
-from . import add_file, command, dump_of, parser
+from . import add_file, add_json, add_unit, command, dump_of, parser, times_of, write_json
 
 
 def first_tick(dump):
@@ -48,12 +47,14 @@ def shown(key, value):
 @command
 def main(words):
     of = parser("vcdkit-info", __doc__, failed="not a valid dump")
-    of.add_argument("--json", action="store_true", help="write one JSON object")
     of.add_argument("--scopes", type=int, default=5, metavar="N",
                     help="how many of the largest scopes to list (5)")
+    add_unit(of)
+    add_json(of)
     add_file(of)
     asked = of.parse_args(words)
     dump = dump_of(asked)
+    time_text = times_of(dump, asked)
     facts = {"file": dump.name, **dict(of_header(dump, asked.scopes))}
     if not asked.json:
         for key, value in facts.items():
@@ -62,7 +63,7 @@ def main(words):
     report = dump.check()
     counts = {key: value for key, value in report._asdict().items() if key != "last"}
     for key, tick in ("first", first_tick(dump)), ("last", report.last):
-        text = None if tick is None else dump.time(tick)
+        text = None if tick is None else time_text(tick)
         counts[key] = text
         counts[key + "_tick"] = tick
         if not asked.json and text not in (None, str(tick)):
@@ -70,7 +71,7 @@ def main(words):
         if not asked.json:
             print(key, text or "-")
     if asked.json:
-        print(json.dumps({**facts, **counts}, indent=1))
+        write_json({**facts, **counts})
     else:
         for key in ("scopes", "variables", "codes", "times", "sections", "changes"):
             print(key, counts[key])

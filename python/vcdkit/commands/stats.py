@@ -16,17 +16,25 @@ The values that it has longest come first. Only the values at the end of each ti
 comes and goes within one time is not seen. Real numbers are compared as numbers. The window ends
 with the dump, if that is earlier. A --from after the end of the dump is a usage error.
 
+With --toggle there is a line for each bit: its path, how often it goes from 0 to 1 and from 1 to 0,
+and how often it becomes x. Bits that toggle most come first, and those that never do come last. The
+last line counts them. Bits are numbered as in the declaration. A bit that has no value yet is x.
+--saif writes how long each bit is 0, 1, x and z (T0, T1, TX, TZ) and how often it toggles (TC) into
+a backward SAIF file, which power tools read. Both leave out real numbers and events.
+
 examples:
   vcdkit-stats sim.vcd tb.clk
   vcdkit-stats --hex --from 1us sim.vcd.gz tb.cpu.state
-  vcdkit-stats --json sim.vcd tb.clk | jq '.[0].period'"""
-import argparse
-import json
+  vcdkit-stats --json sim.vcd tb.clk | jq .period
+  vcdkit-stats --toggle --from 1us sim.vcd tb.cpu | head
+  vcdkit-stats --saif power.saif --from 1us --to 2us sim.vcd tb.cpu"""
 import math
+import sys
 
-from .. import _body
-from ..times import UNITS
-from . import add_file, add_form, add_window, check_begin, command, dump_of, parser, shown
+from .. import _body, _toggles
+from ..dump import write
+from . import (add_file, add_form, add_json, add_unit, add_window, check_begin, command, dump_of,
+               mean_text, natural, parser, shown, times_of, write_json)
 
 MAX_VALUES = 1 << 16  # of one signal; further ones count as one
 OTHERS = b"others"
@@ -127,7 +135,7 @@ def statistics_of(dump, asked):
             found[code].start(time, text)
         for code, text in dict(changes).items():
             found[code].change(time, text)
-    last = dump.cut(asked.begin, asked.end).check().last or 0
+    last = end_of(dump, asked)
     for one in found.values():
         one.end(last)
     return [(one, found[one.code.encode()]) for one in signals]
@@ -171,29 +179,21 @@ def facts_of(signal, of, form):
             "range": of_reals(of), "values": of_values(of, form)}
 
 
-def length_text(dump, ticks):
-    """Returns a mean length of time, to six digits of the largest unit of which it has one."""
-    scale = dump.timescale
-    if scale is None:
-        return "%.6g" % ticks
-    lengths = [(scale.seconds(ticks) * 1000**power, unit) for power, unit in enumerate(UNITS)]
-    return "%.6g%s" % next((pair for pair in lengths if pair[0] >= 1), lengths[-1])
-
-
 def times(count):
     """Returns how often, in words."""
     return "%d time%s" % (count, "s" * (count != 1))
 
 
-def lines_of(dump, facts, most):
-    """Returns the lines of a signal, with at most so many values."""
+def lines_of(dump, facts, asked):
+    """Returns the lines of a signal."""
+    time, most = times_of(dump, asked), asked.values
     yield "%(path)s %(type)s %(size)d" % facts
     yield "  changes %d" % facts["changes"]
     period, of = facts["period"], facts["range"]
     if period:
         yield "  period %s to %s, mean %s, %s" % (
-            dump.time(period["shortest"]), dump.time(period["longest"]),
-            length_text(dump, period["mean"]), times(period["times"]))
+            time(period["shortest"]), time(period["longest"]),
+            mean_text(dump, period["mean"], asked.unit), times(period["times"]))
     if facts["duty"] is not None:
         yield "  duty %.4g%%" % (100 * facts["duty"])
     if of:
@@ -201,42 +201,74 @@ def lines_of(dump, facts, most):
                                                of["mean"])
     for value in facts["values"][:most]:
         pulses = "" if value["shortest"] is None else ", %s to %s" % (
-            dump.time(value["shortest"]), dump.time(value["longest"]))
+            time(value["shortest"]), time(value["longest"]))
         yield "  value %s %s %.4g%%, %s%s" % (
-            value["value"], dump.time(value["ticks"]), 100 * value["share"],
+            value["value"], time(value["ticks"]), 100 * value["share"],
             times(value["times"]), pulses)
     rest = len(facts["values"]) - most
     if rest > 0:
         yield "  and %d other value%s" % (rest, "s" * (rest != 1))
 
 
-def natural(text):
-    """Reads the word of --values."""
-    if not text.isascii() or not text.isdigit():
-        raise argparse.ArgumentTypeError("it is a number")
-    return int(text)
+def end_of(dump, asked):
+    """Returns the end of the window, which ends with the dump if that is earlier."""
+    last = dump.cut(asked.begin, asked.end).check().last or 0
+    return max(last, dump.ticks(asked.begin, is_up=True))
+
+
+def write_toggles(rows, asked):
+    """Writes a line for each bit, those that toggle most first, and how many did."""
+    counted = sorted(((row, row.counts) for row in rows), key=lambda pair: -sum(pair[1][:2]))
+    for row, (rises, falls, unknowns) in counted:
+        if asked.json:
+            write_json({"path": row.signal.path, "bit": row.place, "rises": rises, "falls": falls,
+                        "x": unknowns})
+        else:
+            print(row.name, rises, falls, unknowns)
+    if not asked.json:
+        both = sum(bool(rises and falls) for _, (rises, falls, _) in counted)
+        never = sum(not rises and not falls for _, (rises, falls, _) in counted)
+        print("%d bits: %d rise and fall, %d do one of these, %d do neither" % (
+            len(rows), both, len(rows) - both - never, never))
+
+
+def write_bits(dump, asked):
+    """Writes what each bit does."""
+    begin, end = dump.ticks(asked.begin, is_up=True), end_of(dump, asked)
+    rows = _toggles.rows_of(dump, asked.names, begin, end)
+    if asked.toggle:
+        write_toggles(rows, asked)
+    texts = _toggles.saif(dump, rows, end - begin)
+    if asked.saif == "-":
+        sys.stdout.writelines(texts)
+    elif asked.saif is not None:
+        write(asked.saif, (text.encode("utf-8", "surrogateescape") for text in texts))
 
 
 @command
 def main(words):
     of = parser("vcdkit-stats", __doc__)
-    of.add_argument("--json", action="store_true",
-                    help="write a JSON array, with times in ticks and with all values")
     of.add_argument("--values", type=natural, default=10, metavar="N",
-                    help="how many values to list for a signal (10)")
+                    help="how many values to list for a signal (10; --json lists all)")
+    of.add_argument("--toggle", action="store_true", help="list how often each bit toggles")
+    of.add_argument("--saif", metavar="FILE", help="write a SAIF file (-: to standard output)")
     add_window(of)
     add_form(of)
+    add_unit(of)
+    add_json(of)
     add_file(of, "+")
     asked = of.parse_args(words)
     dump = dump_of(asked)
+    times_of(dump, asked)  # a unit needs a time scale
     dump.select(asked.names)
     check_begin(dump, asked)
-    found = [facts_of(signal, counted, asked.form)
-             for signal, counted in statistics_of(dump, asked)]
-    if asked.json:
-        print(json.dumps(found, indent=1))
+    if asked.toggle or asked.saif is not None:
+        write_bits(dump, asked)
         return 0
-    for facts in found:
-        for line in lines_of(dump, facts, asked.values):
-            print(line)
+    for signal, counted in statistics_of(dump, asked):
+        facts = facts_of(signal, counted, asked.form)
+        if asked.json:
+            write_json(facts)
+        else:
+            print(*lines_of(dump, facts, asked), sep="\n")
     return 0

@@ -9,6 +9,10 @@ are written again, are not seen, but for edges of the clock: one also counts if 
 within its time. Events have no column. While a pipe is read, each row is written as soon as it is
 known. A --from after the end of the dump is a usage error.
 
+With --if, only those of these rows are written at which a condition holds, by the values as the row
+shows them: --rise clk --if 'valid & ready' lists the transfers of a bus. `vcdkit-when --help`
+describes conditions. At an edge an event is triggered if it was so since the last edge.
+
 Values are written with all their digits, as numbers (--hex, --decimal, --signed) or as text
 (--ascii). If a value has an x or a z, --hex writes x or z for four such digits and X for a mixture,
 and the other options write all digits. `-` means that there is no value yet. Real numbers are
@@ -19,6 +23,7 @@ written as 1.5, 3, 1e-09, nan or inf. Times are whole numbers in the unit of the
 examples:
   vcdkit-table --hex --at 10ns,20ns,30ns sim.vcd tb.pc tb.bus
   vcdkit-table --decimal --rise tb.clk --from 1us sim.vcd.gz tb.cpu
+  vcdkit-table --rise tb.clk --if 'tb.valid & tb.ready' sim.vcd tb.address tb.data
   vcdkit-table --unit tick sim.vcd tb.count"""
 import csv
 import io
@@ -26,19 +31,22 @@ import os
 import sys
 from typing import List
 
-from . import (add_file, add_form, add_window, check_begin, command, dump_of, parser, shown,
-               unit)
+from .. import _rows
+from . import (add_clock, add_file, add_form, add_json, add_unit, add_window, check_begin, command,
+               dump_of, in_json, parser, shown, write_json)
 
 
 @command
 def main(words: List[str]) -> int:
     of = parser("vcdkit-table", __doc__)
     add_form(of)
-    of.add_argument("--rise", metavar="CLOCK", help="a row for each rising edge of this signal")
-    of.add_argument("--fall", metavar="CLOCK", help="a row for each falling edge of this signal")
+    add_clock(of, "a row for each %s edge of this signal")
     of.add_argument("--at", metavar="TIME,..", help="a row for each of these times")
+    of.add_argument("--if", dest="condition", metavar="CONDITION",
+                    help="only the rows at which this holds")
     add_window(of)
-    of.add_argument("--unit", type=unit, help="the unit of the times: tick, s, ms, us, ns, ps, fs")
+    add_unit(of)
+    add_json(of)
     add_file(of, "+")
     asked = of.parse_args(words)
     is_part = (asked.begin, asked.end) != (of.get_default("begin"), of.get_default("end"))
@@ -53,10 +61,16 @@ def main(words: List[str]) -> int:
     # Values at the begin of a cut are a section, and none that changed.
     dump = whole.cut(asked.begin, asked.end) if is_part else whole
     rows = dump.rows(asked.names, None if asked.at is None else asked.at.split(","), asked.rise,
-                     asked.fall)
+                     asked.fall, asked.condition)
     is_file = os.path.isfile("/dev/stdin" if asked.file == "-" else asked.file)
     if not is_file and isinstance(sys.stdout, io.TextIOWrapper):
         sys.stdout.reconfigure(line_buffering=True)  # the rows of a pipe are seen as they come
+    keys = _rows.keys_of(columns, ["time"])
+    if asked.json:
+        for time, values in rows:
+            write_json({"time": time, **dict(zip(keys, (
+                in_json(value, asked.form) for value in values)))})
+        return 0
     out = csv.writer(sys.stdout, lineterminator="\n")
     out.writerow(["time (%s)" % in_unit] + [one.path for one in columns])
     for time, values in rows:

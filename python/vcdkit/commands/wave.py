@@ -12,16 +12,16 @@ the form of the values are those with which the page begins.
 
 examples:
   vcdkit-wave --from 100ns --to 200ns --mark 158ns sim.vcd tb.clk tb.bus > failure.svg
-  vcdkit-wave --light --around 158ns --span 20ns sim.vcd.gz tb.cpu > failure.svg
+  vcdkit-wave --light --around 158ns --context 20ns sim.vcd.gz tb.cpu > failure.svg
   vcdkit-wave --html --mark 158ns sim.vcd tb > failure.html"""
 import argparse
 import math
 import os
-import re
 import sys
 from xml.sax.saxutils import escape
 
 from .. import UsageError, Value, _page
+from .._junit import clean
 from .._lanes import Lanes, Several
 from ..times import LAST_TICK, UNITS
 from . import (add_file, add_form, add_window, after_end, check_begin, command, dump_of, parser,
@@ -32,7 +32,6 @@ CURVE = 3 * HIGH  # pixels: how high a curve is
 LEAST_WIDTH, MAX_WIDTH = 100, 20000  # pixels: room for a time of the axis; that of bins
 MAX_SIGNALS, MAX_NAME = 200, 40  # rows; letters
 LEAST_ROOM = 3  # letters of a value that is cut
-NOT_OF_XML = re.compile("[^\t\n\r -\ud7ff\ue000-\ufffd\U00010000-\U0010ffff]")
 DARK = {"back": "#10161d", "text": "#d8dee4", "axis": "#8b98a5", "grid": "#2b3540",
         "bit": "#3fd07f", "lane": "#58a6ff", "curve": "#d2a8ff", "x": "#ff4040", "z": "#ffa020",
         "several": "#5b6570", "mark": "#ff6060"}
@@ -103,7 +102,7 @@ class Picture:
 
     def text(self, x, y, text, kind="", anchor="start", title=""):
         """Writes a text, and a longer one where the mouse is over it."""
-        text, title = (escape(NOT_OF_XML.sub("\ufffd", one)) for one in (text, title))
+        text, title = (escape(clean(one)) for one in (text, title))
         self.add('<text x="%.1f" y="%.1f" class="%s" text-anchor="%s">%s%s</text>', x, y, kind,
                  anchor, "<title>%s</title>" % title if title else "", text)
 
@@ -227,7 +226,7 @@ class Picture:
         size = self.right + 3 * PAD, bottom + 2 * PAD
         print('<svg xmlns="http://www.w3.org/2000/svg" width="%d" height="%d" viewBox="0 0 %d %d" '
               'role="img">' % (*size, *size))
-        print("<title>%s</title>" % escape(NOT_OF_XML.sub("\ufffd", title)))
+        print("<title>%s</title>" % escape(clean(title)))
         print('<style>%s</style><rect width="100%%" height="100%%" fill="%s"/>'
               % (STYLE % colours, colours["back"]))
         print("\n".join(self.out) + "\n</svg>")
@@ -251,9 +250,9 @@ def window_of(dump, asked):
     if asked.around is None:
         check_begin(dump, asked)
         return dump.ticks(asked.begin, is_up=True), dump.ticks(asked.end)
-    at, span = dump.ticks(asked.around), dump.ticks(asked.span or "0")
+    at, span = dump.ticks(asked.around), dump.ticks(asked.context or "0")
     if not span:
-        raise UsageError("--around needs --span TIME, how much before and after it")
+        raise UsageError("--around needs --context TIME, how much before and after it")
     is_late = after_end(dump, dump.time(max(at - span, 0)))
     if is_late:
         raise UsageError("--around: " + is_late)
@@ -340,7 +339,8 @@ def main(words):
     add_window(of)
     of.add_argument("--around", metavar="TIME",
                     help="the middle of the window, where a mark is drawn")
-    of.add_argument("--span", metavar="TIME", help="how much time to show before and after it")
+    of.add_argument("--context", metavar="TIME",
+                    help="how much time to show before and after it")
     of.add_argument("--mark", metavar="TIME", help="draw a line at this time")
     of.add_argument("--width", type=width, default=1000, metavar="N",
                     help="width of the traces, in pixels (1000; %d to %d)"
@@ -354,8 +354,8 @@ def main(words):
     is_part = (asked.begin, asked.end) != (of.get_default("begin"), of.get_default("end"))
     if asked.around is not None and is_part:
         of.error("--around goes with none of --from and --to")
-    if asked.span is not None and asked.around is None:
-        of.error("--span goes with --around")
+    if asked.context is not None and asked.around is None:
+        of.error("--context goes with --around")
     dump = dump_of(asked)
     chosen = dump.select(asked.names)
     if asked.html:

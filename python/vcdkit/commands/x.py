@@ -6,37 +6,27 @@ So what comes and goes within one time is not seen. --z lists values with a z to
 signals are searched. A --from after the end of the dump is a usage error. With this command, a CI
 job can require that nothing is unknown after reset.
 
+--trace lists only the first such value of each path, so the signals come in the order in which they
+become unknown: the cause is often at the top. The order is that of time only, as a dump does not
+say which signal drives which.
+
 examples:
   vcdkit-x --from 100ns sim.vcd tb.cpu
+  vcdkit-x --trace --from 100ns sim.vcd | head
   vcdkit-x --z --from 1us --to 2us sim.vcd | head"""
-from typing import Dict, List, Optional
+from typing import Dict, Iterator, List, Optional, Tuple
 
-from .. import Signal, _body
+from .. import Dump, Signal, _body
 from .._unknown import Lines
-from . import FAULT, add_file, add_window, check_begin, command, dump_of, parser, question
+from . import (FAULT, add_file, add_form, add_json, add_unit, add_window, check_begin, command,
+               dump_of, in_json, parser, question, shown, times_of, write_json)
+
+Signals = Dict[bytes, List[Signal]]
 
 
-@command
-@question
-def main(words: List[str]) -> int:
-    of = parser("vcdkit-x", __doc__, "no such value", "there is one", "usage error, " + FAULT)
-    form = of.add_mutually_exclusive_group()
-    form.add_argument("--first", action="store_true", help="list only the first of each path")
-    form.add_argument("--count", action="store_true", help="write only how many there are")
-    of.add_argument("--z", action="store_true", help="list values with a z too")
-    add_window(of)
-    add_file(of, "*")
-    asked = of.parse_args(words)
-    dump = dump_of(asked)
-    signals: Dict[bytes, List[Signal]] = {}
-    for one in dump.select(asked.names) if asked.names else dump.signals:
-        if not one.is_real and one.type != "event":
-            signals.setdefault(one.code.encode(), []).append(one)
-    check_begin(dump, asked)
-    letters, count = (b"x", b"z") if asked.z else (b"x",), 0
+def unknown(part: Dump, signals: Signals, lines: Lines) -> Iterator[Tuple[int, bytes, bytes]]:
+    """Returns the time, the code and the text of each value that is listed."""
     last: Dict[bytes, Optional[bytes]] = {}  # the last value of each code, if it is shown
-    part = dump.cut(asked.begin, asked.end)._part(asked.names)
-    lines = Lines(letters)
     for time, before, found in _body.steps(part, signals, is_cut=True, lines=lines):
         ends: Dict[bytes, bytes] = {}  # the last value of each code, in the order of these
         for code, text in before + found:
@@ -45,12 +35,46 @@ def main(words: List[str]) -> int:
         for code, text in ends.items():
             is_shown = lines.has_letter(text)
             if is_shown and last.get(code) != text:
-                count += len(signals[code])
-                for one in () if asked.count else signals[code]:
-                    print(dump.time(time), one.path, _body.value(text, one))
-                if asked.first:
-                    signals[code] = []
+                yield time, code, text
             last[code] = text if is_shown else None
+
+
+@command
+@question
+def main(words: List[str]) -> int:
+    of = parser("vcdkit-x", __doc__, "no such value", "there is one", "usage error, " + FAULT)
+    form = of.add_mutually_exclusive_group()
+    form.add_argument("--first", action="store_true", help="list only the first of all")
+    form.add_argument("--count", action="store_true", help="write only how many there are")
+    of.add_argument("--trace", action="store_true", help="list only the first of each path")
+    of.add_argument("--z", action="store_true", help="list values with a z too")
+    add_window(of)
+    add_form(of)
+    add_unit(of)
+    add_json(of)
+    add_file(of, "*")
+    asked = of.parse_args(words)
+    dump = dump_of(asked)
+    text_of = times_of(dump, asked)
+    signals: Signals = {}
+    for one in dump.select(asked.names) if asked.names else dump.signals:
+        if not one.is_real and one.type != "event":
+            signals.setdefault(one.code.encode(), []).append(one)
+    check_begin(dump, asked)
+    part = dump.cut(asked.begin, asked.end)._part(asked.names)
+    count = 0
+    for time, code, text in unknown(part, signals, Lines((b"x", b"z") if asked.z else (b"x",))):
+        for one in signals[code][:1 if asked.first else None]:
+            count += 1
+            value = _body.value(text, one)
+            if asked.json and not asked.count:
+                write_json({"time": time, "path": one.path, "value": in_json(value, asked.form)})
+            elif not asked.count:
+                print(text_of(time), one.path, shown(value, asked.form))
+        if asked.trace:
+            signals[code] = []
+        if asked.first:
+            break
     if asked.count:
-        print(count)
+        write_json({"count": count}) if asked.json else print(count)
     return 1 if count else 0

@@ -1,0 +1,156 @@
+"""What the options of the scripts answer that do a whole job, by definition: --if, --latency,
+--toggle, --saif, --trace, --reach and --names. As in answers.py, each function is over the whole
+lists and imports nothing of the package."""
+import re
+from fractions import Fraction
+from typing import Dict, List, NamedTuple, Optional, Sequence, Set, Tuple
+
+from answers import (FOREVER, UNITS, Clocks, Dump, Row, Tree, Value, Variable, bare, changes_of,
+                     edge_times, holds, is_event, is_real, last_time, looks, selected, starts, states,
+                     unknown, value_at, value_before)
+
+
+# ---- vcdkit-table --if.
+
+def values_of_row(dump: Dump, codes: Set[str], time: int, clocks: Clocks) -> Dict[str, Value]:
+    """The values by which a condition is evaluated for a row: those that the row would have of its
+    signals. An event is triggered if that is at the time of the row; at an edge, if it is since the
+    last edge."""
+    events = {one.code for one in dump.variables if is_event(one)} & codes
+    since = max([0, *(one for one in edge_times(dump, clocks) if one < time)])
+    found = {code: (value_before if clocks else value_at)(dump, code, time)
+             for code in codes - events}
+    now = {code: "%d" % any(since <= one.time < time if clocks else one.time == time
+                            for one in changes_of(dump, code)) for code in events}
+    return {**{code: one for code, one in found.items() if one is not None}, **now}
+
+
+def rows_if(dump: Dump, rows: Sequence[Row], tree: Tree, codes: Set[str], clocks: Clocks = ()
+            ) -> List[Row]:
+    """Those of some rows at which a condition holds. Decided: it chooses among the rows, and makes
+    none where it begins to hold."""
+    return [row for row in rows if holds(tree, values_of_row(dump, codes, row[0], clocks)) is True]
+
+
+# ---- vcdkit-when --latency.
+
+class Latency(NamedTuple):
+    """When a request begins, when its answer comes, and how long that is."""
+
+    begin: int
+    answer: int
+    length: int
+
+
+def latencies(dump: Dump, tree: Tree, codes: Set[str], clocks: Clocks, every: bool, after: Tree,
+              wait: int, is_of_edges: bool) -> Tuple[List[Latency], int]:
+    """Each request that gets its answer in time: the first look from its begin on at which the
+    answer holds; in the order of the answers, and of the requests of one answer. The length is that
+    in edges, or in ticks. Then how many requests got none in time; what the end of the dump leaves
+    open does not count."""
+    its = looks(dump, codes, clocks)
+    place = [at if is_of_edges else one.time for at, one in enumerate(its)]
+    at_end = len(its) - 1 if is_of_edges else last_time(dump)
+    found, late = [], 0
+    for start in starts(its, tree, bool(clocks), every):
+        answers = [at for at in range(start, len(its)) if holds(after, its[at].values) is True
+                   and place[at] <= place[start] + wait]
+        if answers:
+            found.append((answers[0], start))
+        elif place[start] + wait <= at_end:
+            late += 1
+    return [Latency(its[start].time, its[at].time, place[at] - place[start])
+            for at, start in sorted(found)], late
+
+
+def mean_text(tick: Optional[int], mean: Fraction) -> str:
+    """A mean length of time to six digits of the largest unit of which it has one."""
+    if tick is None:
+        return "%.6g" % mean
+    units = [(unit, mean * Fraction(tick, 10**power)) for unit, power in UNITS.items()]
+    unit, number = next((one for one in units if one[1] >= 1), units[-1])
+    return "%.6g%s" % (number, unit)
+
+
+# ---- vcdkit-stats --toggle and --saif.
+
+class Toggles(NamedTuple):
+    """A bit: its name, how often it goes from 0 to 1, from 1 to 0 and to x, and the ticks for which
+    it is 0, 1, x and z."""
+
+    name: str
+    rises: int
+    falls: int
+    unknowns: int
+    ticks: List[int]
+
+
+def bit_names(of: Variable) -> List[str]:
+    """The bits of a variable from the left to the right, as the declaration numbers them; a bit
+    that is declared without a range has the name of the variable."""
+    in_path = re.search(r"\[(-?\d+):(-?\d+)\]\Z", of.path)
+    left, right = ((int(in_path[1]), int(in_path[2])) if in_path
+                   else of.range or (of.size - 1, 0))
+    left, right = (left, right) if abs(left - right) + 1 == of.size else (of.size - 1, 0)
+    if of.size == 1 and not in_path and not of.range:
+        return [of.path]
+    step = 1 if left <= right else -1
+    return ["%s[%d]" % (bare(of.path), left + step * at) for at in range(of.size)]
+
+
+def toggles(dump: Dump, of: Variable, begin: int, end: int) -> List[Toggles]:
+    """What each bit does in a window: the values at the ends of its times, after the value just
+    before it. Decided: only 0 and then 1 is a rise, whatever comes later; a bit is x until it has a
+    value, which is no change; and a real number that is written for a bit is not seen."""
+    last = max(begin, min(end, last_time(dump)))
+    its = [(time, value) for time, value in states(dump, of.code, begin, end)
+           if isinstance(value, str) and value[0] != "r"]
+    spans = [*zip([begin, *(time for time, _ in its)], [*(time for time, _ in its), last],
+                  ["x" * of.size, *(str(value) for _, value in its)])]
+    found = []
+    for at, name in enumerate(bit_names(of)):
+        pairs = [(one[1][at], other[1][at]) for one, other in zip(its, its[1:])]
+        found.append(Toggles(
+            name, pairs.count(("0", "1")), pairs.count(("1", "0")),
+            sum(now == "x" != was for was, now in pairs),
+            [sum(to - time for time, to, value in spans if value[at] == letter)
+             for letter in "01xz"]))
+    return found
+
+
+def all_toggles(dump: Dump, of: Sequence[Variable], begin: int, end: int) -> List[Toggles]:
+    """The bits of all variables that have some, in the order of the names."""
+    return [bit for one in of if not is_real(one) and not is_event(one)
+            for bit in toggles(dump, one, begin, end)]
+
+
+def most_active(bits: Sequence[Toggles]) -> List[Toggles]:
+    """Those that toggle most come first."""
+    return sorted(bits, key=lambda bit: -(bit.rises + bit.falls))
+
+
+# ---- vcdkit-x --trace, vcdkit-explain FILE FILE, --names.
+
+def trace(part: Dump, variables: Sequence[Variable], letters: str) -> List[Tuple[int, str, str]]:
+    """The first line of each path."""
+    every = unknown(part, variables, letters)
+    return [one for at, one in enumerate(every) if one[1] not in [path for _, path, _ in every[:at]]]
+
+
+def verdict(dump: Dump, reach: Optional[int]) -> Tuple[str, object]:
+    """What a dump is, and its last time or the name of its fault: `short` if it ends before a
+    time that it has to reach. Decided: a dump without a timestamp reaches no time."""
+    last = dump.times[-1] if dump.times else None
+    if dump.fault:
+        return "fault", dump.fault
+    is_short = reach is not None and (last is None or last < reach)
+    return "short" if is_short else "valid", last
+
+
+def saved_names(variables: Sequence[Variable], lines: Sequence[str]) -> List[str]:
+    """The names in a save file of GTKWave: of each line that is a signal, without the range if that
+    selects nothing."""
+    names = [line for line in lines if re.match(r"[A-Za-z_\\$]", line)]
+    return list(dict.fromkeys(
+        name if any((one.path + ".").startswith(name + ".") for one in variables)
+        else re.sub(r"\[-?\d+(:-?\d+)?\]\Z", "", name) for name in names))

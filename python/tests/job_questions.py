@@ -1,0 +1,143 @@
+"""What test_every_small_dump.py asks of the options that do a whole job."""
+import json
+import re
+from fractions import Fraction
+from typing import Any, List, Tuple
+
+import answers as by_definition
+import answers_of_jobs as of_jobs
+from asking import codes_of
+from package_questions import Case
+from script_questions import FORMS, Scripts
+
+SAIF = re.compile(r"\(([^\s()]+)\n\s*\(T0 (\d+)\) \(T1 (\d+)\) \(TX (\d+)\) \(TZ (\d+)\) \(TC (\d+)\)")
+
+
+class Jobs(Scripts):
+    """The scripts with these options."""
+
+    def ask(self, case: Case) -> None:
+        """Asks everything of a dump."""
+        self.case, self.dump = case, case.dump
+        self.fault, self.last = self.dump.fault, by_definition.last_time(self.dump)
+        with open(self.path, "wb") as file:
+            file.write(case.text)
+        for turn in range(min(case.more, 3)):
+            self.number = case.number + turn
+            self.names = self.of.names[(self.number // 2) % len(self.of.names)]
+            self.ask_rows()
+            self.ask_latencies()
+            self.ask_toggles()
+            self.ask_trace()
+            self.ask_verdicts()
+
+    def clocks(self, turn: int) -> Tuple[List[str], List[Tuple[str, str]]]:
+        """Returns options for clocks, and their edges."""
+        which = self.turn([(), ("rise",), ("rise", "fall")], turn) if self.of.clock else ()
+        return (["--%s=%s" % (one, self.of.clock) for one in which],
+                [("!", "01" if one == "rise" else "10") for one in which])
+
+    def ask_rows(self) -> None:
+        """Asks for the rows of a table at which a condition holds."""
+        its = self.states(self.names)
+        if not its:
+            return
+        codes, (text, tree) = [one.code for one in its], self.turn(self.of.conditions, 3)
+        window, (words, clocks) = self.window(), self.clocks(2)
+        part, late = by_definition.cut(self.dump, window.begin, window.end), None
+        if self.number % 4 == 1:
+            part, words, clocks = self.dump, ["--at=12,5,0,5,3"], []
+            fault = self.fault_by(12)
+            rows = [] if fault else [by_definition.row_at(part, codes, time)
+                                     for time in (12, 5, 0, 5, 3)]
+        else:
+            words, late, fault = [*words, *window.words], self.late(window.begin), part.fault
+            rows = (by_definition.rows_at_edges(part, codes, clocks) if clocks
+                    else by_definition.rows_at_changes(part, codes))
+        rows = of_jobs.rows_if(part, rows, tree, codes_of(tree), clocks)
+        lines = ["time (tick),%s" % ",".join(one.path for one in its)] + [
+            ",".join(["%d" % time, *map(by_definition.shown, row)]) for time, row in rows]
+        self.same("table", ["--if=" + text, "--unit=tick", *words, self.path, *self.names],
+                  [] if late else lines, late[0] if late else int(bool(fault)),
+                  late[1] if late else fault or False)
+
+    def ask_latencies(self) -> None:
+        """Asks how long answers take."""
+        (text, tree), (after_text, after) = (self.turn(self.of.conditions, by) for by in (1, 5))
+        window, (words, clocks) = self.window(), self.clocks(3)
+        part = by_definition.cut(self.dump, window.begin, window.end)
+        is_of_edges, wait = bool(clocks) and self.number % 2 == 0, self.turn([0, 1, 5, 7], 2)
+        every = bool(clocks) and self.number % 3 == 0
+        found, late = of_jobs.latencies(part, tree, codes_of(tree) | codes_of(after), clocks, every,
+                                        after, wait, is_of_edges)
+        tick, time = self.dump.tick, by_definition.time_text
+        shown: Any = (lambda _, length: str(length)) if is_of_edges else time
+        lines = ["%s %s %s" % (time(tick, one.begin), time(tick, one.answer),
+                               shown(tick, one.length)) for one in found]
+        if found and not part.fault:
+            lengths = [one.length for one in found]
+            mean = Fraction(sum(lengths), len(lengths))
+            lines.append("least %s, mean %s, greatest %s, %d in time, %d late" % (
+                shown(tick, min(lengths)), "%.6g" % mean if is_of_edges else
+                of_jobs.mean_text(tick, mean), shown(tick, max(lengths)), len(found), late))
+        is_late = self.late(window.begin)
+        condition = "%s -> %s within %d%s" % (text, after_text, wait, "tick" * (not is_of_edges))
+        self.same("when", ["--latency", *["--every"] * every, *words, *window.words, self.path,
+                           condition], [] if is_late else lines,
+                  2 if is_late or part.fault else int(not found),
+                  is_late[1] if is_late else part.fault or False)
+
+    def ask_toggles(self) -> None:
+        """Asks what bits do."""
+        window = self.window()
+        late = self.late(window.begin)
+        fault = late[1] if late else by_definition.cut(self.dump, window.begin, window.end).fault
+        bits = of_jobs.all_toggles(self.dump, by_definition.chosen(
+            self.dump.variables, self.names), window.begin, window.end)
+        lines = ["%s %d %d %d" % bit[:4] for bit in of_jobs.most_active(bits)]
+        both, never = (sum(test(bit) for bit in bits) for test in (
+            lambda bit: bit.rises > 0 and bit.falls > 0, lambda bit: bit.rises + bit.falls == 0))
+        lines.append("%d bits: %d rise and fall, %d do one of these, %d do neither" % (
+            len(bits), both, len(bits) - both - never, never))
+        status = late[0] if late else int(bool(fault))
+        self.same("stats", ["--toggle", *window.words, self.path, *self.names],
+                  [] if fault else lines, status, fault or False)
+        if len({bit.name for bit in bits}) < len(bits):
+            return
+        nets = sorted(repr((re.sub(r"(\W)", r"\\\1", bit.name.rpartition(".")[2]), *bit.ticks,
+                            bit.rises + bit.falls)) for bit in bits)
+        self.same("stats", ["--saif=-", *window.words, self.path, *self.names],
+                  [] if fault else nets, status, fault or False,
+                  lambda got: sorted(repr((name, *map(int, numbers))) for name, *numbers in
+                                     SAIF.findall("\n".join(got))))
+
+    def ask_trace(self) -> None:
+        """Asks in which order signals become unknown."""
+        window, letters, form = self.window(), self.turn(["x", "xz"], 2), self.turn(FORMS)
+        part = by_definition.cut(self.dump, window.begin, window.end)
+        found = of_jobs.trace(part, by_definition.chosen(self.dump.variables, self.names), letters)
+        late = self.late(window.begin)
+        lines = ["%s %s %s" % (by_definition.time_text(self.dump.tick, time), path,
+                               by_definition.shown(value, form)) for time, path, value in found]
+        self.same("x", ["--trace", "--" + form, *["--z"] * (letters == "xz"), *window.words,
+                        self.path, *self.names], [] if late else lines,
+                  2 if late or part.fault else int(bool(found)),
+                  late[1] if late else part.fault or False)
+
+    def ask_verdicts(self) -> None:
+        """Asks about two dumps at a time, and for the values of names in a save file."""
+        reach = self.turn([None, "0", "5", "7", "12"])
+        kind, fact = of_jobs.verdict(self.dump, None if reach is None else int(reach))
+        words = ["--jobs=2", "--json"] + ["--reach=%s" % reach] * (reach is not None)
+        self.same("explain", [*words, self.path, self.path], [repr((kind, fact))] * 2,
+                  int(kind != "valid"), False, lambda lines: [repr((one["kind"], one.get(
+                      "fault", one.get("last")))) for one in map(json.loads, lines)])
+        lines = ["[timestart] 0", "@28", *self.names, "-comment"]
+        with open(self.saved, "w", encoding="ascii") as file:
+            file.write("\n".join(lines))
+        names = of_jobs.saved_names(self.dump.variables, lines)
+        its, fault = self.states(names), self.fault_by(7)
+        if not fault and its:
+            self.same("values", ["--at=7", "--names=" + self.saved, self.path], [
+                "%s %s" % (one.path, by_definition.shown(by_definition.value_at(
+                    self.dump, one.code, 7))) for one in its], 0, self.last < 7)

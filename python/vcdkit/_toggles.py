@@ -1,0 +1,248 @@
+"""What each bit of some signals does in a window: how often it rises, falls and becomes x, and how
+long it has each value; and these as SAIF, which power tools read."""
+import itertools
+import re
+from operator import lt
+from typing import TYPE_CHECKING, Dict, Iterator, List, NamedTuple, Optional, Sequence, Tuple
+
+from . import __version__, _body
+from ._condition import declared
+from ._names import RANGE, bare
+from .values import Scope, Signal, full
+
+if TYPE_CHECKING:
+    from .dump import Dump
+
+ODD = re.compile(r"([^A-Za-z0-9_])")  # what SAIF has a backslash before
+BATCH = 1 << 14  # times that are looked at together
+ONES, UNKNOWNS, FLOATS = (str.maketrans("01xz", digits) for digits in ("0100", "0010", "0001"))
+BIT = (b"0", b"1", b"x", b"z")
+
+
+class Counts:
+    """A number for each bit of a vector: digit p of that of bit b is bit b of planes[p]."""
+
+    def __init__(self) -> None:
+        self._planes: List[int] = []
+
+    def add(self, bits: int, number: int = 1) -> None:
+        """Adds a number to that of each of some bits."""
+        place = 0
+        while bits and number:
+            if number & 1:
+                carry, at = bits, place
+                while carry:
+                    while at >= len(self._planes):
+                        self._planes.append(0)
+                    self._planes[at], carry = self._planes[at] ^ carry, self._planes[at] & carry
+                    at += 1
+            number, place = number >> 1, place + 1
+
+    def of(self, bit: int) -> int:
+        """Returns the number of a bit."""
+        return sum((plane >> bit & 1) << at for at, plane in enumerate(self._planes))
+
+
+class Bits:
+    """What the bits of one code do, bit 0 the rightmost. Each is x until it has a value, which is
+    no change. A value counts when the next one comes, as only the last one of a time does."""
+
+    def __init__(self, size: int, begin: int):
+        self.size, self._all = size, (1 << size) - 1
+        self.rises, self.falls, self.unknowns = Counts(), Counts(), Counts()
+        self.high, self.unknown, self.floating = Counts(), Counts(), Counts()  # ticks
+        self._ones, self._xs, self._zs = 0, self._all, 0
+        self._since, self._time, self._next, self._is_new = begin, begin, b"", True
+
+    def start(self, text: bytes) -> None:
+        """Takes a value from before the window."""
+        self._set(text)
+
+    def take(self, time: int, text: bytes) -> None:
+        """Takes a value that is written at a time."""
+        if time != self._time:
+            self.settle()
+            self._time = time
+        self._next = text
+
+    def settle(self) -> None:
+        """Takes the last value as that at the end of its time."""
+        text, self._next = self._next, b""
+        if not text or text[:1] == b"r":
+            return
+        was_new, ones, xs, zs = self._is_new, self._ones, self._xs, self._zs
+        self.pass_to(self._time)
+        self._set(text)
+        if not was_new:
+            self.rises.add(self._ones & ~(ones | xs | zs))
+            self.falls.add(ones & ~(self._ones | self._xs | self._zs))
+            self.unknowns.add(self._xs & ~xs)
+
+    def pass_to(self, time: int) -> None:
+        """Counts the time up to another one."""
+        ticks, self._since = time - self._since, time
+        self.high.add(self._ones, ticks)
+        if self._xs or self._zs:
+            self.unknown.add(self._xs, ticks)
+            self.floating.add(self._zs, ticks)
+
+    def _set(self, text: bytes) -> None:
+        """Takes a value as the one that there is."""
+        self._is_new = False
+        if text.strip(b"01"):
+            digits = full(text.decode(), self.size)
+            self._ones, self._xs, self._zs = (
+                int(digits.translate(table), 2) for table in (ONES, UNKNOWNS, FLOATS))
+        else:
+            self._ones, self._xs, self._zs = int(text, 2), 0, 0
+
+    def takes_all(self, falls: List[int], rises: List[int]) -> bool:
+        """Takes the times at which a known bit is written 0 and 1, if it is another one each time;
+        whether it is."""
+        self.settle()
+        first, second = (falls, rises) if self._ones else (rises, falls)
+        if self._xs or self._zs or not 0 <= len(first) - len(second) <= 1 or not all(
+                map(lt, first, second)) or not all(map(lt, second, first[1:])):
+            return False
+        self.rises.add(1, len(rises))
+        self.falls.add(1, len(falls))
+        last = max(first[-1:] + second[-1:], default=self._since)
+        is_high = len(first) == len(second) if self._ones else len(first) != len(second)
+        self.high.add(1, sum(falls) - sum(rises) + last * is_high - self._since * self._ones)
+        self._since, self._ones = last, int(is_high)
+        return True
+
+
+class Row(NamedTuple):
+    """A bit of a signal: its place by the declaration (`None` if the signal has no other), what its
+    code does, and where it is there, counted from the right."""
+
+    signal: Signal
+    place: Optional[int]
+    of: Bits
+    bit: int
+
+    @property
+    def name(self) -> str:
+        """The path of the bit."""
+        return self.signal.path if self.place is None else "%s[%d]" % (
+            bare(self.signal.path), self.place)
+
+    @property
+    def counts(self) -> Tuple[int, int, int]:
+        """How often it rises, falls and becomes x."""
+        of, bit = self.of, self.bit
+        return of.rises.of(bit), of.falls.of(bit), of.unknowns.of(bit)
+
+
+def rows_of(dump: "Dump", names: List[str], begin: int, end: int) -> List[Row]:
+    """Returns the bits of the signals that names select, in the order of declaration, from the left
+    to the right, with what they do from one time to another. Real numbers and events have none."""
+    signals = [one for one in dump.select(names) if not one.is_real and one.type != "event"]
+    found = {one.code.encode(): Bits(one.size, begin) for one in signals}
+    times = _body.timed(dump.cut(begin, end)._part(names))
+    for time, lines in itertools.islice(times, 1):
+        _start(lines, found)
+        _take([(time, lines[lines.index(b"$end"):] if lines[0] == b"$dumpvars" else lines)], found)
+    for batch in iter(lambda: list(itertools.islice(times, BATCH)), []):
+        _take(batch, found)
+    for bits in found.values():
+        bits.settle()
+        bits.pass_to(end)
+    ranges = declared(dump, [one.path for one in signals])
+    return [Row(one, place, found[one.code.encode()], bit) for one in signals
+            for bit, place in zip(reversed(range(one.size)), places_of(one, ranges))]
+
+
+def _start(lines: List[bytes], found: Dict[bytes, Bits]) -> None:
+    """Takes the values with which a cut begins."""
+    for line in lines[1:] if lines[0] == b"$dumpvars" else ():
+        if line == b"$end":
+            break
+        code, text = _body.change(line + b"\n")
+        if code in found and text[:1] != b"r":
+            found[code].start(text)
+
+
+def _take(batch: List[Tuple[int, List[bytes]]], found: Dict[bytes, Bits]) -> None:
+    """Takes the lines of some times."""
+    of_bits: Dict[bytes, Tuple[List[int], List[int], List[int]]] = {
+        code: ([], [], []) for code, bits in found.items() if bits.size == 1}
+    adders = {digit + code: its[min(at, 2)].append for code, its in of_bits.items()
+              for at, digit in enumerate(BIT)}
+    get = adders.get
+    for time, lines in batch:
+        for line in lines:
+            add = get(line)
+            if add:
+                add(time)
+            elif line[:1] in (b"b", b"r"):
+                code, text = _body.change(line + b"\n")
+                if code in of_bits:
+                    of_bits[code][2].append(time)
+                elif code in found:
+                    found[code].take(time, text)
+    odd = {code for code, (falls, rises, others) in of_bits.items()
+           if others or (falls or rises) and not found[code].takes_all(falls, rises)}
+    for time, lines in batch if odd else ():
+        for line in lines:
+            code, text = _body.change(line + b"\n") if line[:1] != b"$" else (b"", b"")
+            if code in odd:
+                found[code].take(time, text)
+
+
+def places_of(signal: Signal, ranges: Dict[str, Tuple[int, int]]) -> Sequence[Optional[int]]:
+    """Returns the places of the bits of a signal, the leftmost first."""
+    its = RANGE.search(signal.path)
+    left, right = ((int(its.group(1)), int(its.group(2))) if its else
+                   ranges.get(signal.path, (signal.size - 1, 0)))
+    if abs(left - right) + 1 != signal.size:
+        left, right = signal.size - 1, 0
+    if signal.size == 1 and not its and signal.path not in ranges:
+        return [None]
+    return range(left, right + 1) if left <= right else range(left, right - 1, -1)
+
+
+def saif(dump: "Dump", rows: Sequence[Row], ticks: int) -> Iterator[str]:
+    """Returns the lines of a SAIF file, of a window of so many ticks."""
+    scale = dump.timescale
+    yield '(SAIFILE\n(SAIFVERSION "2.0")\n(DIRECTION "backward")\n(DESIGN )\n'
+    yield '(DATE "%s")\n(VENDOR "vcdkit")\n(PROGRAM_NAME "vcdkit-stats")\n' % _quoted(
+        dump.header.date or "")
+    yield '(VERSION "%s")\n(DIVIDER / )\n(TIMESCALE %s)\n(DURATION %d)\n' % (
+        __version__, "%d %s" % scale if scale else "1 s", ticks)
+    its: Dict[str, List[Row]] = {}
+    for row in rows:
+        its.setdefault(row.signal.path, []).append(row)
+    yield from _instance(dump.tree, its, ticks, "")
+    yield ")\n"
+
+
+def _quoted(text: str) -> str:
+    return text.replace("\\", "\\\\").replace('"', '\\"')
+
+
+def _instance(scope: Scope, rows: Dict[str, List[Row]], ticks: int, indent: str) -> Iterator[str]:
+    """Returns the lines of a scope; nothing if no row is in it."""
+    inner = indent + "  " * bool(scope.name)
+    nets = [row for path in dict.fromkeys(one.path for one in scope.signals)
+            for row in rows.get(path, ())]
+    below = [line for one in scope.scopes for line in _instance(one, rows, ticks, inner)]
+    if not nets and not below:
+        return
+    if scope.name:
+        yield "%s(INSTANCE %s\n" % (indent, ODD.sub(r"\\\1", scope.name))
+    if nets:
+        yield inner + "(NET\n"
+    front = len(scope.path) + 1 if scope.path else 0
+    for row in nets:
+        of, bit = row.of, row.bit
+        one, unknown, floating = of.high.of(bit), of.unknown.of(bit), of.floating.of(bit)
+        yield "%s  (%s\n%s    (T0 %d) (T1 %d) (TX %d) (TZ %d) (TC %d) (IG 0)\n%s  )\n" % (
+            inner, ODD.sub(r"\\\1", row.name[front:]), inner, ticks - one - unknown - floating, one,
+            unknown, floating, of.rises.of(bit) + of.falls.of(bit), inner)
+    if nets:
+        yield inner + ")\n"
+    yield from below
+    if scope.name:
+        yield indent + ")\n"
