@@ -73,7 +73,8 @@ hostile: vcdkit
 	devices=$$(mktemp --suffix=.so) && cc -O1 -shared -fPIC -o $$devices hostile/devices.c -ldl && \
 	hostile/hostile.py ./vcdkit $$devices memory large devices cut_off pipes && \
 	hostile/machine.py ./vcdkit $$devices && hostile/streams.py ./vcdkit && \
-	hostile/random_runs.py ./vcdkit --runs 50000 && hostile/crafted.py ./vcdkit && \
+	hostile/random_runs.py ./vcdkit --devices $$devices --runs 50000 && \
+	hostile/crafted.py ./vcdkit && \
 	VCDKIT=./vcdkit python/tests/test_every_small_dump.py && \
 	{ [ ! -e libvcdkit.so ] || hostile/library.py ./vcdkit ./libvcdkit.so; }; \
 	status=$$?; rm -f $$devices; exit $$status

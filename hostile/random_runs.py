@@ -1,8 +1,9 @@
 #!/usr/bin/env python3
-"""random_runs.py PROGRAM [--runs N] [--seed S] [--commands a,b]
+"""random_runs.py PROGRAM [--devices DEVICES] [--runs N] [--seed S] [--commands a,b]
 
 Runs the program on random dumps, and compares output, message and status with those of the
-evaluator."""
+evaluator. DEVICES is devices.c, built as a shared library: with it, one file in five grows or
+shrinks while the program runs."""
 import argparse, os, random, subprocess, sys, tempfile
 from concurrent.futures import ThreadPoolExecutor
 
@@ -64,6 +65,18 @@ def padded(r, text):
     return text[:at] + b" " * more + text[at:]
 
 
+def change(r, folder, name, text):
+    """Lets the file have another text at first, and returns the environment in which it gets this
+    one. Until then, a run reads only bytes that both texts have."""
+    first = r.choice([text[:r.randrange(len(text) // 2, len(text) + 1)], text + text[-99:] * 9])
+    call, path = r.randrange(1, 7), os.path.join(folder, name)
+    for at, its in ((path, first), (path + ".new", text)):
+        with open(at, "wb") as f:
+            f.write(its)
+    return {"CHANGED": path, "BECOMES": path + ".new", "CHANGED_AT": str(call),
+            "READ_MOST": str(max(1, min(len(first), len(text)) // call))}
+
+
 def put_input(r, folder, seed, command, text):
     """The name of the input, the words that ask for it, and the bytes of standard input."""
     ways = [[], [], ["-i", "-"], ["-i", "FILE"]]
@@ -78,9 +91,9 @@ def put_input(r, folder, seed, command, text):
     return name.encode(), [name if w == "FILE" else w for w in words], b""
 
 
-def case(seed, commands, folder):
-    """Arguments, the bytes of standard input and whether they come from a file, and what the
-    evaluator says."""
+def case(seed, commands, folder, devices):
+    """Arguments, the bytes of standard input and whether they come from a file, the environment,
+    and what the evaluator says."""
     d = Dumps(seed)
     r = d.r
     command = r.choice(commands)
@@ -124,44 +137,52 @@ def case(seed, commands, folder):
     else:
         arguments = ["--token-limit", str(limit), "--"] + arguments
     want = evaluator.run(command, [model(m) for m in options], names, inputs, limit)
-    return [command] + arguments, given, r.random() < 0.3, want
+    files = [(name, text) for name, text in inputs if name != b"(stdin)"]
+    how = {}
+    if devices and files and r.random() < 0.2:
+        name, text = r.choice(files)
+        how = {"LD_PRELOAD": devices, **change(r, folder, name.decode(), text)}
+    return [command] + arguments, given, r.random() < 0.3, how, want
 
 
-def run(words, given, is_file, folder):
+def run(words, given, is_file, folder, how):
     """Output, message and status of a run whose standard input is a pipe or a file."""
+    options = {"capture_output": True, "cwd": folder, "timeout": 60, "env": how}
     if not is_file:
-        p = subprocess.run(words, input=given, capture_output=True, cwd=folder, timeout=60)
+        p = subprocess.run(words, input=given, **options)
     else:
         with tempfile.TemporaryFile(dir=folder) as file:
             file.write(given)
             file.seek(0)
-            p = subprocess.run(words, stdin=file, capture_output=True, cwd=folder, timeout=60)
+            p = subprocess.run(words, stdin=file, **options)
     return p.stdout, p.stderr, p.returncode
 
 
-def differs(program, folder, commands, seed):
-    arguments, given, is_file, want = case(seed, commands, folder)
-    got = run([program] + arguments, given, is_file, folder)
-    for name in arguments:
-        if name.endswith(".vcd") and os.path.exists(os.path.join(folder, name)):
-            os.remove(os.path.join(folder, name))
+def differs(program, folder, commands, devices, seed):
+    arguments, given, is_file, how, want = case(seed, commands, folder, devices)
+    got = run([program] + arguments, given, is_file, folder, how)
+    for path in {os.path.join(folder, it) for name in arguments for it in (name, name + ".new")}:
+        if ".vcd" in path and os.path.exists(path):
+            os.remove(path)
     if got == want:
         return None
-    return "seed %d: vcdkit %s\n input %.3000r\n want  %.3000r\n got   %.3000r" % (
-        seed, " ".join(arguments), given, want, got)
+    return "seed %d: vcdkit %s\n %s\n input %.3000r\n want  %.3000r\n got   %.3000r" % (
+        seed, " ".join(arguments), how, given, want, got)
 
 
 def main():
     parser = argparse.ArgumentParser(description=__doc__)
     parser.add_argument("program")
+    parser.add_argument("--devices", type=os.path.abspath)
     parser.add_argument("--runs", type=int, default=10_000)
     parser.add_argument("--seed", type=int, default=1)
     parser.add_argument("--commands", default=",".join(COMMANDS))
     a = parser.parse_args()
     program, bad = os.path.abspath(a.program), 0
     with tempfile.TemporaryDirectory() as folder, ThreadPoolExecutor(os.cpu_count()) as pool:
-        for found in pool.map(lambda s: differs(program, folder, a.commands.split(","), s),
-                              range(a.seed, a.seed + a.runs)):
+        for found in pool.map(
+                lambda s: differs(program, folder, a.commands.split(","), a.devices, s),
+                range(a.seed, a.seed + a.runs)):
             if found:
                 bad += 1
                 if bad <= 5:

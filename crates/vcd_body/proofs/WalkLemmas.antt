@@ -1,5 +1,6 @@
 -- A walk over the items ahead, step by step.
 use Rattle.std.proofs.Common.{◌≡◌, ◌≤◌, ◌<◌, ◌+◌, Bool, true, false, List, ℕ, [], ◌++◌, length, Result, Ok, Err, IfOk, refl, sym, ap, subst, ◌∙◌, append_assoc, append-nil, arith}
+use Rattle.std.specs.Result.{result_and}
 use Rattle.vcd_model.specs.Tokens.{Token}
 use Rattle.vcd_text.specs.Ahead.{bytes_of, passed_of}
 use Rattle.vcd_text.specs.Device.{Counts, Device}
@@ -12,6 +13,11 @@ use Rattle.vcd_body.specs.Walk.{Begins, Further, HasCome, Past, Stage, TakesOne,
 use Rattle.vcd_body.specs.Taken.{TakesItem}
 use Rattle.vcd_body.specs.declared.ahead.ScannedItem.{ScannedItem}
 use Rattle.vcd_body.specs.declared.item.Regs.{Regs}
+
+-- what a result is done with does not matter
+pub and_done : {A : Type 0} (result : Result (Unit {0}) WriteFailed) (a : A) → as_done (result_and result (Ok a)) ≡ as_done result
+and_done (Ok tt) a = refl
+and_done (Err e) a = refl
 
 module _ {V C : Type 0} (takes : HeadView → Stage V C → Stage V C → Result (Unit {0}) WriteFailed → Type 0) (stands : V → C → List ℕ → Regs → Type 0) (v : HeadView) (a a' : Ahead) (r : Regs) (p : ScannedItem) (item : TakesItem v a a' r p) where
   -- the visit may take the item that lies in these bytes

@@ -314,10 +314,7 @@ fn take_next<C, V: Visit<C>, W: Sink>(
         }
     };
     *ahead = to;
-    match taken {
-        Ok(()) => Some(Ok(false)),
-        Err(failed) => Some(Err(failed)),
-    }
+    Some(taken.and(Ok(false)))
 }
 
 /// Has the visitor handle the next item ahead, if it is a change by `0` or `1` with a code of one
