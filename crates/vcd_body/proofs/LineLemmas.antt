@@ -84,6 +84,13 @@ of_sized v h view position most (y, there, is) some f text code bytes from to at
 pub token_there : (bytes : List ℕ) (from to : ℕ) (token : List ℕ) → from + length token + 1 ≤ to → to ≤ length bytes → AreWhite bytes from (to - length token - 1) → token ≡ slice_range bytes (to - length token - 1) (to - 1) → HasToken bytes from to token
 token_there bytes from to token further within before position = record { start = to - length token - 1; before = before; ends = omega arith; within = within; token_is = position }
 
+-- before it there is only white space
+pub begins_after : (bytes : List ℕ) (from to : ℕ) (token : List ℕ) → HasToken bytes from to token → AreWhite bytes from (to - 1 - length token)
+begins_after bytes from to token t =
+    let ends = t.ends in
+    let start : t.start ≡ to - 1 - length token = omega arith in
+    subst (AreWhite bytes from) start t.before
+
 -- so it is from its first byte on
 pub token_begun : (bytes : List ℕ) (from to : ℕ) (token : List ℕ) → HasToken bytes from to token → HasToken bytes (to - 1 - length token) to token
 token_begun bytes from to token t =

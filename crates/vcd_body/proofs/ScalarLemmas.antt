@@ -1,5 +1,5 @@
 -- A change by a digit with its code right after it, of which the code was found.
-use Rattle.std.proofs.Common.{◌≡◌, ◌⊎◌, ℕ, ◌+◌, ◌-◌, ◌<◌, ◌≤◌, false, List, [], ◌∷◌, None, length, take, drop, sym, subst, arith}
+use Rattle.std.proofs.Common.{◌≡◌, ◌⊎◌, ℕ, ◌+◌, ◌-◌, ◌∙◌, ◌<◌, ◌≤◌, false, List, [], ◌∷◌, None, length, take, drop, sym, subst, arith}
 use Rattle.std.specs.Borrow.{Bor}
 use Rattle.std.proofs.lemmas.Bool.{false≢true}
 use Rattle.vcd_model.specs.Tokens.{Token}
@@ -15,14 +15,14 @@ use Rattle.vcd_body.specs.declared.item.Item.TheVariants as item
 use Rattle.vcd_body.specs.declared.item.Regs.{Regs}
 use Rattle.vcd_body.specs.declared.words.PhraseKind.TheVariants as kind
 use Rattle.vcd_body.proofs.AheadLemmas.{passes_same, scalar_taken}
-use Rattle.vcd_body.proofs.LineLemmas.{token_begun, token_there, scalar_there, scalar_places}
+use Rattle.vcd_body.proofs.LineLemmas.{begins_after, token_begun, token_there, scalar_there, scalar_places}
 use Rattle.vcd_body.proofs.WordLemmas.{scalar_begins}
 
 -- where its token was taken, it was
 pub scalar_takes : (v : HeadView) (a a' : Ahead) (r : Regs) (o : Opening) (f : Found) (text : Bor (List ℕ)) → Opens a a' o → (o.kind ≡ kind.Bit) ⊎ (o.kind ≡ kind.Scalar)
-    → IsFoundScalar v o.token.now f → text.now ≡ take 1 o.token.now
-    → TakesItem v a a' r (record { item = item.Change f.position form.Scalar; text = text; size_or_zero = f.size_or_zero; begin = passed_of a' - 1 - length o.token.now; at = passed_of a' - 1 - length o.token.now; code_at = passed_of a' - 1 - length o.token.now + 1; bits = None; binary = false })
-scalar_takes v a a' r o f text opens is found text_is =
+    → IsFoundScalar v o.token.now f → text.now ≡ take 1 o.token.now → (bytes : Bor (List ℕ)) → bytes.now ≡ bytes_of a' → (end : ℕ) → end ≡ passed_of a'
+    → TakesItem v a a' r (record { item = item.Change f.position form.Scalar; text = text; size_or_zero = f.size_or_zero; bytes = bytes; begin = passed_of a' - 1 - length o.token.now; at = passed_of a' - 1 - length o.token.now; code_at = passed_of a' - 1 - length o.token.now + 1; end = end; bits = None; binary = false })
+scalar_takes v a a' r o f text opens is found text_is there_in there_is end ends =
     let token = o.token.now in
     let bytes = bytes_of a in
     let from = passed_of a in
@@ -45,8 +45,10 @@ scalar_takes v a a' r o f text opens is found text_is =
       sized = found.sized;
       bits = tt;
       binary = λ e. absurd (false≢true e);
-      spelled = (drop 1 token, scalar_there bytes _ _ token _ begins.0 begins.1 begins.3 text_is there, found.names, scalar_places bytes _ _ token _ begins.0 begins.1 begins.3 text_is there);
-      begun = (drop 1 token, scalar_there bytes _ _ token _ begins.0 begins.1 begins.3 text_is begun, found.names, scalar_places bytes _ _ token _ begins.0 begins.1 begins.3 text_is begun);
+      bytes = there_is;
+      before = begins_after bytes from to token there;
+      ends = ends;
+      spelled = rw (there_is ∙ taken.same.0, ends) (drop 1 token, scalar_there bytes _ _ token _ begins.0 begins.1 begins.3 text_is begun, found.names, scalar_places bytes _ _ token _ begins.0 begins.1 begins.3 text_is begun);
       further = less;
       within = subst (λ (bs : _). to ≤ length bs) (sym taken.same.0) taken.within;
       same = taken.same;

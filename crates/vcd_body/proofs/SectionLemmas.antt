@@ -6,13 +6,13 @@ use Rattle.vcd_model.specs.Declarations.{IdCode}
 use Rattle.vcd_model.specs.Items.{BodyItem}
 use Rattle.vcd_model.specs.Tokens.{Token}
 use Rattle.vcd_text.specs.Ahead.{bytes_of, longest_of, passed_of, start_of}
-use Rattle.vcd_text.specs.Passed.{Passed, line_ahead}
+use Rattle.vcd_text.specs.Passed.{AreWhite, Passed, line_ahead}
 use Rattle.vcd_text.specs.declared.ahead.Ahead.{Ahead}
 use Rattle.vcd_view.specs.declared.view.HeadView.{HeadView}
 use Rattle.vcd_body.specs.Ahead.{GaveAhead, HasBits, IsPlain, IsSizedItem}
 use Rattle.vcd_body.specs.Given.{HasGoodText}
 use Rattle.vcd_body.specs.Items.{AreRegsAfter, model_section, regs_after}
-use Rattle.vcd_body.specs.Spelled.{HasSpelled}
+use Rattle.vcd_body.specs.Spelled.{IsSpelledAs}
 use Rattle.vcd_body.specs.Taken.{IsSection, IsSectionAt, Opens, TakesItem}
 use Rattle.vcd_body.specs.declared.ahead.Opening.{Opening}
 use Rattle.vcd_body.specs.declared.ahead.ScannedItem.{ScannedItem}
@@ -20,6 +20,7 @@ use Rattle.vcd_body.specs.declared.item.Item.{Item}
 use Rattle.vcd_body.specs.declared.item.Item.TheVariants.{Begin, Change, End, Finish, Time}
 use Rattle.vcd_body.specs.declared.item.Regs.{Regs}
 use Rattle.vcd_body.proofs.AheadLemmas.{TakesOne, one_more, passes_same}
+use Rattle.vcd_body.proofs.LineLemmas.{begins_after, token_there}
 use Rattle.vcd_body.proofs.PhraseLemmas.{begin_passes, end_passes}
 use Rattle.vcd_body.proofs.ReadLemmas.{known_begin, known_end}
 
@@ -55,12 +56,12 @@ module _ (v : HeadView) (a a' : Ahead) (r : Regs) (o : Opening) (p : ScannedItem
   less : passed_of a < passed_of a'
   less = let further = opens.token.further in omega (arith, further)
 
-  ordered : (it : Item) → IsSectionAt (is_some r.section) o.token.now it → (from to at code_at : ℕ) → from ≤ to → HasSpelled v (bytes_of a) from to at code_at p.text.now it
-  ordered (Begin s) is from to at code_at le = le
-  ordered End is from to at code_at le = le
-  ordered (Time t) is from to at code_at le = absurd is
-  ordered (Change place form) is from to at code_at le = absurd is
-  ordered Finish is from to at code_at le = absurd is
+  ordered : (it : Item) → IsSectionAt (is_some r.section) o.token.now it → p.begin ≤ p.end → IsSpelledAs v p it
+  ordered (Begin s) is le = le
+  ordered End is le = le
+  ordered (Time t) is le = absurd is
+  ordered (Change place form) is le = absurd is
+  ordered Finish is le = absurd is
 
   -- it has no text and no size
   plain : (it : Item) → IsSectionAt (is_some r.section) o.token.now it → p.text.now ≡ [] → HasGoodText v.codes.now p.text.now it × IsPlain p.text.now it × IsSizedItem v.codes.now it 0
@@ -70,8 +71,8 @@ module _ (v : HeadView) (a a' : Ahead) (r : Regs) (o : Opening) (p : ScannedItem
   plain (Change place form) is none = absurd is
   plain Finish is none = absurd is
 
-  pub section_takes : p.text.now ≡ [] → p.size_or_zero ≡ 0 → p.begin ≡ passed_of a' - 1 - length o.token.now → p.bits ≡ None → p.binary ≡ false → IsSectionAt (is_some r.section) o.token.now p.item → TakesItem v a a' r p
-  section_takes none size begin bits binary is =
+  pub section_takes : p.text.now ≡ [] → p.size_or_zero ≡ 0 → p.bytes.now ≡ bytes_of a' → p.begin ≡ passed_of a' - 1 - length o.token.now → p.end ≡ passed_of a' → p.bits ≡ None → p.binary ≡ false → IsSectionAt (is_some r.section) o.token.now p.item → TakesItem v a a' r p
+  section_takes none size there_is begin ends bits binary is =
       let token = o.token.now in
       let taken = opens.token in
       let from = passed_of a in
@@ -89,8 +90,10 @@ module _ (v : HeadView) (a a' : Ahead) (r : Regs) (o : Opening) (p : ScannedItem
         sized = subst (IsSizedItem v.codes.now p.item) (sym size) facts.2;
         bits = subst (HasBits p.item p.text.now) (sym bits) tt;
         binary = λ e. absurd (false≢true (sym binary ∙ e));
-        spelled = ordered p.item is from to _ _ (omega (arith, less));
-        begun = ordered p.item is p.begin to _ _ (omega (arith, begin));
+        bytes = there_is;
+        before = subst (AreWhite (bytes_of a) from) (sym begin) (begins_after (bytes_of a) from to token (token_there (bytes_of a) from to token taken.further taken.within taken.before taken.place));
+        ends = ends;
+        spelled = ordered p.item is (omega (arith, begin, ends));
         further = less;
         within = subst (λ (bs : List ℕ). to ≤ length bs) (sym taken.same.0) taken.within;
         same = taken.same;

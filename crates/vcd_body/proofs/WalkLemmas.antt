@@ -3,14 +3,14 @@ use Rattle.std.proofs.Common.{◌≡◌, ◌≤◌, ◌<◌, ◌+◌, Bool, true
 use Rattle.std.specs.Result.{result_and}
 use Rattle.vcd_model.specs.Tokens.{Token}
 use Rattle.vcd_text.specs.Ahead.{bytes_of, passed_of}
-use Rattle.vcd_text.specs.Device.{Counts}
+use Rattle.vcd_text.specs.Device.{Counts, Device}
 use Rattle.vcd_text.specs.Passed.{Passed}
 use Rattle.vcd_text.specs.declared.ahead.Ahead.{Ahead}
 use Rattle.vcd_text.specs.declared.device.WriteFailed.{WriteFailed}
 use Rattle.vcd_view.specs.declared.view.HeadView.{HeadView}
 use Rattle.vcd_body.specs.Ahead.{LooksOver, PassesNoItem}
+use Rattle.vcd_body.specs.Walk.{Begins, Further, HasCome, Past, Stage, TakesOne, Trail, Walks, as_done, stage_at}
 use Rattle.vcd_body.specs.Taken.{TakesItem}
-use Rattle.vcd_body.specs.Walk.{Begins, CanGoOn, Further, HasCome, Past, Stage, TakesOne, Trail, Walks, as_done, stage_at}
 use Rattle.vcd_body.specs.declared.ahead.ScannedItem.{ScannedItem}
 use Rattle.vcd_body.specs.declared.item.Regs.{Regs}
 
@@ -19,11 +19,16 @@ pub and_done : {A : Type 0} (result : Result (Unit {0}) WriteFailed) (a : A) →
 and_done (Ok tt) a = refl
 and_done (Err e) a = refl
 
-module _ {V C : Type 0} (takes : HeadView → Stage V C → Stage V C → Result (Unit {0}) WriteFailed → Type 0) (stands : V → C → List ℕ → Regs → Type 0) (v : HeadView) where
-  -- an item that the visit has taken is one item more
-  pub took_one : (a b : Stage V C) (result : Result (Unit {0}) WriteFailed) (scanned : ScannedItem) → TakesItem v a.ahead b.ahead a.regs scanned → takes v a b result → Counts a.out b.out result → IfOk result (λ _. CanGoOn takes stands b) → TakesOne takes stands v a b (as_done result)
-  took_one a b (Ok tt) scanned item did counts on = record { scanned = scanned; item = item; did = did; counts = counts; on = on }
-  took_one a b (Err e) scanned item did counts on = record { scanned = scanned; item = item; did = did; counts = counts; on = on }
+module _ {V C : Type 0} (takes : HeadView → Stage V C → Stage V C → Result (Unit {0}) WriteFailed → Type 0) (stands : V → C → List ℕ → Regs → Type 0) (v : HeadView) (a a' : Ahead) (r : Regs) (p : ScannedItem) (item : TakesItem v a a' r p) where
+  -- the visit may take the item that lies in these bytes
+  pub stands_there : (visit : V) (command : C) → stands visit command (bytes_of a) r → stands visit command p.bytes.now r
+  stands_there visit command s = subst (λ bs. stands visit command bs r) (sym (item.bytes ∙ item.same.0)) s
+
+  -- it has taken it
+  pub one_taken : (r' : Regs) (visit visit' : V) (command command' : C) (out out' : Device) (result : Result (Unit {0}) WriteFailed) → takes v (stage_at a r visit command out) (stage_at a' r' visit' command' out') result → Counts out out' result → IfOk result (λ _. stands visit' command' p.bytes.now r')
+      → TakesOne takes stands v (stage_at a r visit command out) (stage_at a' r' visit' command' out') (as_done result)
+  one_taken r' visit visit' command command' out out' (Ok tt) did counts on = record { scanned = p; item = item; did = did; counts = counts; on = subst (λ bs. stands visit' command' bs r') item.bytes on }
+  one_taken r' visit visit' command command' out out' (Err e) did counts on = record { scanned = p; item = item; did = did; counts = counts; on = tt }
 
 module _ {V C : Type 0} (takes : HeadView → Stage V C → Stage V C → Result (Unit {0}) WriteFailed → Type 0) (stands : V → C → List ℕ → Regs → Type 0) (over : V → Bool) (v : HeadView) where
   -- it begins with no item

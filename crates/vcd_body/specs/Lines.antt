@@ -3,9 +3,7 @@ use Rattle.std.specs.Prelude.{◌≡◌, ℕ, ◌+◌, ◌-◌, ◌<◌, ◌≤�
 use Rattle.std.specs.Str.{str_to_ascii_lowercase}
 use Rattle.vcd_model.specs.Values.{extend, short}
 use Rattle.vcd_body.specs.Binary.{binary_digits}
-use Rattle.vcd_body.specs.Spelled.{HasChange, HasSpelled, bytes_without}
-use Rattle.vcd_view.specs.declared.view.HeadView.{HeadView}
-use Rattle.vcd_body.specs.declared.ahead.ScannedItem.{ScannedItem}
+use Rattle.vcd_body.specs.Spelled.{HasChange, bytes_without}
 use Rattle.vcd_body.specs.Changes.{AreBinaryIf, line_under}
 use Rattle.vcd_body.specs.declared.bits.Bits.{Bits}
 use Rattle.vcd_body.specs.declared.item.Form.{Form}
@@ -47,7 +45,3 @@ LeavesText bytes from to size form text binary code_at k = (from + 2 + k ≤ to)
 -- without k bytes after the first one, the bytes before the blank before the code are the front
 abbrev pub LeavesFront : List ℕ → ℕ → ℕ → Form → List ℕ → ℕ → ℕ → Type 0
 LeavesFront bytes from size form text code_at k = (from + 2 + k ≤ code_at) × (code_at ≤ length bytes) × (front : List ℕ) × IsFront size form text front × (bytes_without bytes from (code_at - 1) k ≡ front)
-
--- an item that was taken ahead is spelled by these bytes, from one offset up to another
-abbrev pub SpellsScanned : HeadView → List ℕ → ℕ → ℕ → ScannedItem → Type 0
-SpellsScanned v bytes from to p = HasSpelled v bytes from to p.at p.code_at p.text.now p.item

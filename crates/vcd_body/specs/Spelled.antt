@@ -6,6 +6,7 @@ use Rattle.vcd_model.specs.Declarations.{IdCode}
 use Rattle.vcd_text.specs.Passed.{AreWhite}
 use Rattle.vcd_view.specs.declared.view.HeadView.{HeadView}
 use Rattle.vcd_view.specs.Views.{IsViewOf}
+use Rattle.vcd_body.specs.declared.ahead.ScannedItem.{ScannedItem}
 use Rattle.vcd_body.specs.declared.item.Form.{Form}
 use Rattle.vcd_body.specs.declared.item.Form.TheVariants.{Scalar, Vector, RealText}
 use Rattle.vcd_body.specs.declared.item.Item.{Item}
@@ -48,12 +49,17 @@ pub record HasTimestamp (bytes : List ℕ) (from to at time : ℕ) : Type 0 wher
   pub value : decimal_value (slice_range bytes at (to - 1)) ≡ time
   pub fits : time < 2 ^ 64
 
--- a change is there, with this text and with its code, at these offsets; or the digits of a
--- timestamp; of a section's keyword only the order of its offsets is said
-abbrev pub HasSpelled : HeadView → List ℕ → ℕ → ℕ → ℕ → ℕ → List ℕ → Item → Type 0
-HasSpelled v bytes from to at code_at text (Time time) = HasTimestamp bytes from to at time
-HasSpelled v bytes from to at code_at text (Change position form) = (code : List ℕ) × HasChange bytes from to form text code × Names v position code × HasPlaces bytes from to at code_at text code
-HasSpelled v bytes from to at code_at text item = from ≤ to
+-- the bytes of an item, from its first one up to its end, are a change with its text and its code at
+-- its offsets; or the digits of a timestamp; of a section's keyword only the order of its offsets is
+-- said
+abbrev pub IsSpelledAs : HeadView → ScannedItem → Item → Type 0
+IsSpelledAs v p (Time time) = HasTimestamp p.bytes.now p.begin p.end p.at time
+IsSpelledAs v p (Change position form) = (code : List ℕ) × HasChange p.bytes.now p.begin p.end form p.text.now code × Names v position code × HasPlaces p.bytes.now p.begin p.end p.at p.code_at p.text.now code
+IsSpelledAs v p item = p.begin ≤ p.end
+
+-- its bytes are what it is
+abbrev pub IsSpelled : HeadView → ScannedItem → Type 0
+IsSpelled v p = IsSpelledAs v p p.item
 
 -- the bytes from one offset up to another, without this many after the first one
 abbrev pub bytes_without : List ℕ → ℕ → ℕ → ℕ → List ℕ

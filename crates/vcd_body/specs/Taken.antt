@@ -7,7 +7,7 @@ use Rattle.vcd_model.specs.Items.{BodyItem}
 use Rattle.vcd_model.specs.Keywords.{Keyword, keyword_text}
 use Rattle.vcd_model.specs.Tokens.{Token}
 use Rattle.vcd_text.specs.Ahead.{TakesToken, bytes_of, longest_of, passed_of}
-use Rattle.vcd_text.specs.Passed.{Passed}
+use Rattle.vcd_text.specs.Passed.{AreWhite, Passed}
 use Rattle.vcd_text.specs.declared.ahead.Ahead.{Ahead}
 use Rattle.vcd_view.specs.Views.{IsViewOf}
 use Rattle.vcd_view.specs.declared.view.HeadView.{HeadView}
@@ -18,7 +18,7 @@ use Rattle.vcd_body.specs.Changes.{AreBinaryIf}
 use Rattle.vcd_body.specs.Given.{HasGoodText, IsGoodText, IsItem}
 use Rattle.vcd_body.specs.Items.{AreRegsAfter, model_form, model_section, regs_after}
 use Rattle.vcd_body.specs.Reads.{PassesScalar}
-use Rattle.vcd_body.specs.Spelled.{HasSpelled, Names}
+use Rattle.vcd_body.specs.Spelled.{IsSpelled, Names}
 use Rattle.vcd_body.specs.Words.{Begins}
 use Rattle.vcd_body.specs.declared.ahead.Opening.{Opening}
 use Rattle.vcd_body.specs.declared.ahead.ScannedItem.{ScannedItem}
@@ -75,10 +75,11 @@ pub record TakesItem (v : HeadView) (a a' : Ahead) (r : Regs) (p : ScannedItem) 
   pub sized : IsSizedItem v.codes.now p.item p.size_or_zero
   pub bits : HasBits p.item p.text.now p.bits
   pub binary : AreBinaryIf p.binary p.text.now
-  -- it is spelled by the bytes that were passed with it
-  pub spelled : HasSpelled v (bytes_of a) (passed_of a) (passed_of a') p.at p.code_at p.text.now p.item
-  -- and by those from its first byte on
-  pub begun : HasSpelled v (bytes_of a) p.begin (passed_of a') p.at p.code_at p.text.now p.item
+  -- it lies in these bytes after white space, up to what was passed, and they spell it
+  pub bytes : p.bytes.now ≡ bytes_of a'
+  pub before : AreWhite (bytes_of a) (passed_of a) p.begin
+  pub ends : p.end ≡ passed_of a'
+  pub spelled : IsSpelled v p
   pub further : passed_of a < passed_of a'
   pub within : passed_of a' ≤ length (bytes_of a')
   pub same : (bytes_of a' ≡ bytes_of a) × (longest_of a' ≡ longest_of a)

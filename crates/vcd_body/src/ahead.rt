@@ -15,8 +15,8 @@ use crate::words::{
 use vcd_text::{Ahead, Feed, Sink, Source, WriteFailed, decimal_at};
 use vcd_view::{Found, HeadView, find_in_entry, find_sized};
 
-/// An item that was taken ahead. Only a change has a text, a size and `bits`: of any other item
-/// `code_at` is `at`, the offset after its first byte.
+/// An item that was taken ahead, and the bytes of the chunk in which it lies. Only a change has a
+/// text, a size and `bits`: of any other item `code_at` is `at`, the offset after its first byte.
 #[derive(Clone, Copy)]
 pub struct ScannedItem<'a> {
     /// Any item but the end of the body.
@@ -26,14 +26,18 @@ pub struct ScannedItem<'a> {
     /// The size in bits of a change's code, which `size` returns. It is 0 for an event, for a size
     /// that 32 bits do not hold, and for any other item.
     pub size_or_zero: usize,
-    /// Where the item begins in the bytes that are looked over: at its digit, at the byte before
-    /// its text or before the digits of a timestamp, or at its keyword.
+    /// The bytes of the chunk, from the first one on. The offsets below are offsets in them.
+    pub bytes: &'a [u8],
+    /// Where the item begins: at its digit, at the byte before its text or before the digits of a
+    /// timestamp, or at its keyword.
     pub begin: usize,
-    /// Where the text of a change begins in the bytes that are looked over; where the digits of a
-    /// timestamp begin, or the word of a keyword.
+    /// Where the text of a change begins; where the digits of a timestamp begin, or the word of a
+    /// keyword.
     pub at: usize,
-    /// Where a change's code begins; it ends one byte before the last one that is passed.
+    /// Where a change's code begins; it ends one byte before `end`.
     pub code_at: usize,
+    /// Where the item ends, with the byte after its last token: the bytes before it are passed.
+    pub end: usize,
     /// The digits of a vector as a number, if they are few, and only `0` and `1`.
     pub bits: Option<Bits>,
     /// Whether the digits of a vector are known to be only `0` and `1`.
@@ -56,25 +60,34 @@ impl ScannedItem<'_> {
     }
 }
 
-/// Where a change lies in the bytes that are looked over, as in `ScannedItem`.
+/// Where a change lies, as in `ScannedItem`.
 #[derive(Clone, Copy)]
-struct Places {
+struct Places<'a> {
+    bytes: &'a [u8],
     begin: usize,
     at: usize,
     code_at: usize,
+    end: usize,
 }
 
 /// Returns a `ScannedItem` for a change of the code `found`, with this text, at these places.
 /// Nothing is known of its digits: `bits` is `None`, and `binary` is false.
 #[inline(always)]
-fn change_of(found: Found, form: Form, text: &[u8], places: Places) -> ScannedItem<'_>
+fn change_of<'a>(
+    found: Found,
+    form: Form,
+    text: &'a [u8],
+    places: Places<'a>,
+) -> ScannedItem<'a>
     ensures { result ≡ record {
       item = item.Change found.position form;
       text = text.entry;
       size_or_zero = found.size_or_zero;
-      begin = places.begin;
-      at = places.at;
-      code_at = places.code_at;
+      bytes = places.entry.bytes;
+      begin = places.entry.begin;
+      at = places.entry.at;
+      code_at = places.entry.code_at;
+      end = places.entry.end;
       bits = None;
       binary = false;
     } }
@@ -86,33 +99,41 @@ fn change_of(found: Found, form: Form, text: &[u8], places: Places) -> ScannedIt
         },
         text,
         size_or_zero: found.size_or_zero,
+        bytes: places.bytes,
         begin: places.begin,
         at: places.at,
         code_at: places.code_at,
+        end: places.end,
         bits: None,
         binary: false,
     }
 }
 
-/// Returns a `ScannedItem` for an item that is no change and begins at offset `begin`. It has no
-/// text, no size and no `bits`.
+/// Returns a `ScannedItem` for an item that is no change: its token is the one that `ahead` gave
+/// last. It has no text, no size and no `bits`.
 #[inline(always)]
-fn without_text<'a>(item: Item, begin: usize) -> ScannedItem<'a>
-    requires { begin + 1 < 2 ^ 64 }
+fn without_text<'a>(item: Item, token: &[u8], ahead: Ahead<'a>) -> ScannedItem<'a>
+    requires { length token.now + 1 ≤ passed_of ahead }
     ensures item { result.item ≡ item }
     ensures text { result.text.now ≡ [] }
     ensures size { result.size_or_zero ≡ 0 }
-    ensures positions { (result.begin ≡ begin) × (result.at ≡ begin + 1) }
+    ensures bytes { result.bytes.now ≡ bytes_of ahead.entry }
+    ensures begin { result.begin ≡ passed_of ahead.entry - 1 - length token.now }
+    ensures positions { (result.at ≡ passed_of ahead.entry - 1 - length token.now + 1)
+        × (result.end ≡ passed_of ahead.entry) }
     ensures bits { result.bits ≡ None }
     ensures binary { result.binary ≡ false }
 {
+    let begin = begin_of(token, ahead);
     ScannedItem {
         item,
         text: &[],
         size_or_zero: 0,
+        bytes: ahead.bytes(),
         begin,
         at: begin + 1,
         code_at: begin + 1,
+        end: ahead.passed(),
         bits: None,
         binary: false,
     }
@@ -248,9 +269,11 @@ pub(crate) fn scalar_ahead<'a>(
     let text = first_byte_of(token);
     let at = begin_of(token, ahead);
     let places = Places {
+        bytes: ahead.bytes(),
         begin: at,
         at,
         code_at: at + 1,
+        end: ahead.passed(),
     };
     Some(change_of(found, Form::Scalar, text, places))
 }
@@ -296,9 +319,11 @@ pub(crate) fn short_ahead<'a, const CR_LF: bool>(
     let at = begin_of(token, next);
     *ahead = next;
     let places = Places {
+        bytes: next.bytes(),
         begin: at,
         at,
         code_at: at + 1,
+        end: next.passed(),
     };
     Some(change_of(found, Form::Scalar, text, places))
 }
@@ -441,9 +466,11 @@ pub(crate) fn vector_ahead<'a>(
     let binary = are_binary_or_known(digits, bits);
     let found = vector_code(tokens.token, tokens.code, view, binary)?;
     let places = Places {
+        bytes: ahead.bytes(),
         begin: tokens.at,
         at: tokens.at + 1,
         code_at: tokens.code_at,
+        end: ahead.passed(),
     };
     Some(ScannedItem {
         bits,
@@ -474,9 +501,11 @@ pub(crate) fn real_ahead<'a>(
     let code_at = begin_of(code, *ahead);
     let text = rest_of(token);
     let places = Places {
+        bytes: ahead.bytes(),
         begin: at,
         at: at + 1,
         code_at,
+        end: ahead.passed(),
     };
     Some(change_of(found, Form::RealText, text, places))
 }
@@ -509,19 +538,12 @@ pub(crate) fn timestamp_ahead<'a>(
     requires time { HasTime opening time }
     ensures takes { IfSome result (TakesOpenedAfter ahead.entry regs.old opening.entry) }
     ensures time { IfSome result (λ scanned. scanned.item ≡ item.Time time) }
-
-    // Its digits are those of the bytes that were passed with it.
-    ensures spelled { IfSome result (λ scanned. (a : Ahead) → Opens a ahead.entry opening.entry
-        → HasTimestamp (bytes_of a) (passed_of a) (passed_of ahead.entry) scanned.at time) }
     ensures none { result ≡ None
         → (is_some regs.old.section ≡ true) ⊎ (time < regs.old.time) }
     ensures regs { LeavesRegs regs.old regs.new result }
 {
     match regs.accept_timestamp_by(time, !opening.from_lines) {
-        Ok(()) => {
-            let begin = begin_of(opening.token, ahead);
-            Some(without_text(Item::Time(time), begin))
-        }
+        Ok(()) => Some(without_text(Item::Time(time), opening.token, ahead)),
         Err(_) => None,
     }
 }
@@ -540,19 +562,18 @@ pub(crate) fn section_ahead<'a>(
     ensures section { IfSome result (λ scanned. IsSection scanned.item) }
     ensures regs { LeavesRegs regs.old regs.new result }
 {
-    let begin = begin_of(opening.token, ahead);
     match keyword_use_of(opening.token)? {
         KeywordUse::Begin(section) => {
             if regs.section.is_some() {
                 return None;
             }
             regs.section = Some(section);
-            Some(without_text(Item::Begin(section), begin))
+            Some(without_text(Item::Begin(section), opening.token, ahead))
         }
         KeywordUse::End => {
             if regs.section.is_some() {
                 regs.section = None;
-                return Some(without_text(Item::End, begin));
+                return Some(without_text(Item::End, opening.token, ahead));
             }
             None
         }

@@ -36,9 +36,9 @@
 //! from where it began (`Trail`), at each of which the visit did what its `takes` says, with only
 //! comments between them, and how it ended. Callers turn the trail into a relation of their own.
 //!
-//! `HasSpelled view bytes from to text item` says by which bytes a change that was taken ahead is
-//! spelled: those that were passed with it, or those from its first byte on (`ScannedItem.begin`).
-//! `left_out` asks for it, and `put_renamed_ahead` for what it says of a change.
+//! `IsSpelled view scanned` says that the bytes of an item that was taken ahead, from its first one
+//! up to its end, spell it. `left_out` asks for it, and `put_renamed_ahead` for what it says of a
+//! change.
 //!
 //! `kept_at t code` is what is kept of the code at an index. A call of a table changes what is kept
 //! of the code at the index that it names, and nothing else (`ChangesCode`).
@@ -49,7 +49,7 @@
 //!
 //! - `read`: `next_item`, `change_text`; `phrases`, `tokens`: phrases by what they begin with, and
 //!   the next token
-//! - `walk`: `walk_ahead`, `Visit`, `Extent`: the loop over the items ahead
+//! - `walk`: `walk_ahead`, `Visit`: the loop over the items ahead
 //! - `ahead`: an item ahead, by what it begins with; `ScannedItem`, `item_comes`, `pass_on`,
 //!   `pass_items`
 //! - `words`: what a token is, by its first byte, and which bytes are digits
@@ -137,4 +137,4 @@ pub use table::Table;
 pub use table_text::{put_full, put_short};
 pub use time_line::{put_time, put_time_unless};
 pub use value::Value;
-pub use walk::{Extent, Visit, Walked, walk_ahead};
+pub use walk::{Visit, Walked, walk_ahead};

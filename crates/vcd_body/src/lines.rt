@@ -1,6 +1,7 @@
 // Changes whose bytes in the chunk are the line that would be written.
 ghost use Rattle.std.specs.Prelude.{◌≡◌, ◌≢◌, ℕ, ◌+◌, ◌-◌, ◌^◌, ◌<◌, ◌≤◌, List, [], true, false, drop, length, slice_range, Some, IfSome};
-ghost use Rattle.vcd_body.specs.Names.{AreBinaryIf, BodyItem, HasChange, HasTimestamp, HasPlaces, HeadView, Header, IsDigitLine, IsItem, IsNeedless, IsSizedItem, IsTextLine, IsViewOf, LeavesFront, LeavesLine, LeavesShortest, LeavesText, SpellsScanned, StandsAt, bit_at, byte, bytes_without, extend, extended, is_value_digit, is_white_space, item_line, line_without, short, str_to_ascii_lowercase, time_line, to_ascii_lowercase as lower};
+ghost use Rattle.vcd_body.specs.Names.{AreBinaryIf, BodyItem, HasChange, HasTimestamp, HeadView, Header, IsDigitLine, IsItem, IsNeedless, IsSizedItem, IsSpelled, IsSpelledAs, IsTextLine, IsViewOf, LeavesFront, LeavesLine, LeavesShortest, LeavesText, StandsAt, bit_at, byte, bytes_without, extend, extended, is_value_digit, is_white_space, item_line, line_without, short, str_to_ascii_lowercase, time_line, to_ascii_lowercase as lower};
+ghost use Rattle.vcd_body.specs.declared.item.Item.TheVariants as item;
 
 use crate::ahead::ScannedItem;
 use crate::change::{may_have_capital, shortest};
@@ -152,23 +153,17 @@ fn left_out_of_vector(
 
 /// Returns how many bytes after the first one of a vector or a real number to leave out, so that
 /// the rest of its bytes is the line that would be written. `scanned` is the change, of this form,
-/// in the bytes from `from` up to `to` (exclusive), and its code has this size. `None` if no such
-/// rest is the line, or if that is not known.
+/// and its code has this size. `None` if no such rest is the line, or if that is not known.
 #[inline(always)]
-fn left_out_of_text(
-    scanned: ScannedItem<'_>,
-    form: Form,
-    size: usize,
-    bytes: &[u8],
-    from: usize,
-    to: usize,
-) -> Option<usize>
-    requires { (code : List ℕ) × HasChange bytes.now from to form scanned.text.now code }
-    ensures { IfSome result (LeavesText bytes.now from to size form
+fn left_out_of_text(scanned: ScannedItem<'_>, form: Form, size: usize) -> Option<usize>
+    requires { (code : List ℕ)
+        × HasChange scanned.bytes.now scanned.begin scanned.end form scanned.text.now code }
+    ensures { IfSome result (LeavesText
+        scanned.entry.bytes.now scanned.entry.begin scanned.entry.end size form
         scanned.entry.text.now scanned.entry.binary scanned.entry.code_at) }
 {
-    let text = scanned.text;
-    let code_at = scanned.code_at;
+    let (bytes, text) = (scanned.bytes, scanned.text);
+    let (from, to, code_at) = (scanned.begin, scanned.end, scanned.code_at);
     match form {
         Form::Vector if size > 1 => left_out_of_vector(
             bytes,
@@ -184,52 +179,51 @@ fn left_out_of_text(
 }
 
 /// Returns how many bytes of a change after its first one to leave out, so that the rest and a line
-/// feed are the line that `put_change` would write. `scanned` is the change, in the bytes from
-/// `from` up to `to` (exclusive); the last of these is the one after its code, and does not belong
-/// to the rest.
+/// feed are the line that `put_change` would write. `scanned` is the change; the last of its bytes
+/// is the one after its code, and does not belong to the rest.
 ///
 /// `None` for an item that is no change, if the size of its code is not known, or if no such rest
 /// is the line or that is not known.
 #[inline(always)]
-pub fn left_out(scanned: ScannedItem<'_>, bytes: &[u8], from: usize, to: usize) -> Option<usize>
-    requires { (v : HeadView) × SpellsScanned v bytes.now from to scanned }
-    ensures within { IfSome result (λ k. (from + 2 + k ≤ to) × (to ≤ length bytes.now)) }
+pub fn left_out(scanned: ScannedItem<'_>) -> Option<usize>
+    requires { (v : HeadView) × (scanned.size_or_zero ≢ 0 → IsSpelled v scanned) }
+    ensures within { IfSome result (λ k. (scanned.entry.begin + 2 + k ≤ scanned.entry.end)
+        × (scanned.entry.end ≤ length scanned.entry.bytes.now)) }
     ensures line { IfSome result (λ k. (v : HeadView) (h : Header) (x : BodyItem)
-        → SpellsScanned v bytes.now from to scanned.entry
+        → (scanned.entry.size_or_zero ≢ 0 → IsSpelled v scanned.entry)
         → AreBinaryIf scanned.entry.binary scanned.entry.text.now
-        → IsSizedItem v.codes.now scanned.entry.item scanned.entry.size_or_zero → IsViewOf v h
-        → IsItem h.codes scanned.entry.text.now scanned.entry.item x
-        → line_without bytes.now from to k ≡ item_line x) }
+        → (scanned.entry.size_or_zero ≢ 0
+        → IsSizedItem v.codes.now scanned.entry.item scanned.entry.size_or_zero)
+        → IsViewOf v h → IsItem h.codes scanned.entry.text.now scanned.entry.item x
+        → line_without scanned.entry.bytes.now scanned.entry.begin scanned.entry.end k
+        ≡ item_line x) }
 {
     let Item::Change { form, .. } = scanned.item else {
         return None;
     };
     let size = scanned.size()?;
+    let (from, to) = (scanned.begin, scanned.end);
     match form {
-        Form::Scalar if size == 1 && is_bit_line(bytes, from, to, scanned.code_at) => Some(0),
-        _ => left_out_of_text(scanned, form, size, bytes, from, to),
+        Form::Scalar if size == 1 && is_bit_line(scanned.bytes, from, to, scanned.code_at) => {
+            Some(0)
+        }
+        _ => left_out_of_text(scanned, form, size),
     }
 }
 
 /// Returns how many bytes after the first one of a vector or a real number to leave out, so that
 /// the rest up to the blank before its code is the beginning of its line, whatever its code.
-/// `scanned` is the change, of this form, in the bytes from `from` up to `to` (exclusive). `None`
-/// if no such rest is the beginning, or if that is not known.
+/// `scanned` is the change, of this form. `None` if no such rest is the beginning, or if that is
+/// not known.
 #[inline(always)]
-pub(crate) fn left_out_of_front(
-    scanned: ScannedItem<'_>,
-    form: Form,
-    bytes: &[u8],
-    from: usize,
-    to: usize,
-) -> Option<usize>
-    requires spelled { (code : List ℕ) × HasChange bytes.now from to form scanned.text.now code
-        × HasPlaces bytes.now from to scanned.at scanned.code_at scanned.text.now code }
+pub(crate) fn left_out_of_front(scanned: ScannedItem<'_>, form: Form) -> Option<usize>
+    requires spelled { (v : HeadView) × (code : ℕ) × IsSpelledAs v scanned (item.Change code form) }
     requires binary { AreBinaryIf scanned.binary scanned.text.now }
-    ensures { IfSome result (LeavesFront bytes.now from scanned.entry.size_or_zero form
+    ensures { IfSome result (LeavesFront
+        scanned.entry.bytes.now scanned.entry.begin scanned.entry.size_or_zero form
         scanned.entry.text.now scanned.entry.code_at) }
 {
-    left_out_of_text(scanned, form, scanned.size_or_zero, bytes, from, to)
+    left_out_of_text(scanned, form, scanned.size_or_zero)
 }
 
 /// Returns whether a timestamp in these bytes is already as it would be written: whether the byte

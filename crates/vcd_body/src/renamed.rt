@@ -1,6 +1,7 @@
 // Lines that end with a new code, given by its number.
 ghost use Rattle.std.specs.Prelude.{◌≡◌, ◌≢◌, ℕ, ◌+◌, ◌-◌, ◌%◌, ◌^◌, ◌<◌, ◌≤◌, ◌++◌, ◌∷◌, [], List, take, false, true, length, IfSome, None};
-ghost use Rattle.vcd_body.specs.Names.{AreBinaryIf, Puts, PutsTo, bytes_without, is_value_digit, line_under, new_code, to_ascii_lowercase as lower, HasChange, HasPlaces};
+ghost use Rattle.vcd_body.specs.Names.{AreBinaryIf, Puts, PutsTo, bytes_without, is_value_digit, line_under, new_code, to_ascii_lowercase as lower, HeadView, IsSpelledAs};
+ghost use Rattle.vcd_body.specs.declared.item.Item.TheVariants as item;
 
 use crate::ahead::ScannedItem;
 use crate::change::put_end;
@@ -206,32 +207,31 @@ pub fn only_digit(scanned: ScannedItem<'_>, form: Form) -> Option<u8>
 }
 
 /// Writes the line of a change under the code that a merged dump has for this number. `scanned` is
-/// the change, of this form, in the bytes from `from` up to `to` (exclusive), and is no event. If
-/// it is known that its line begins with these bytes, or with all but some needless digits, they
-/// are copied; otherwise the line is made of its text. If a write fails, a prefix was written.
+/// the change, of this form, and is no event. If it is known that its line begins with its bytes in
+/// the chunk, or with all but some needless digits, they are copied; otherwise the line is made of
+/// its text. If a write fails, a prefix was written.
 // Digits are copied and not looked at one by one: without this `merge` of Verilator's takes 12 %
 // more.
 #[inline(always)]
 pub fn put_renamed_ahead<W: Sink>(
     scanned: ScannedItem<'_>,
     form: Form,
-    bytes: &[u8],
-    from: usize,
-    to: usize,
     number: u64,
     w: &mut W,
 ) -> Result<(), WriteFailed>
     requires failures { (W.device w.old).failures < 2 ^ 64 - 1 }
-    requires spelled { (code : List ℕ) × HasChange bytes.now from to form scanned.text.now code
-        × HasPlaces bytes.now from to scanned.at scanned.code_at scanned.text.now code }
+    requires spelled { (v : HeadView) × (code : ℕ) × IsSpelledAs v scanned (item.Change code form) }
     requires digits { form ≢ Form.RealText → 0 < length scanned.text.now }
     requires binary { AreBinaryIf scanned.binary scanned.text.now }
     ensures { Puts (W.device w.old) (W.device w.new)
         (line_under (new_code number) scanned.entry.size_or_zero false form scanned.entry.text.now) result }
 {
     let size = scanned.size_or_zero;
-    match left_out_of_front(scanned, form, bytes, from, to) {
-        Some(k) => put_copied(bytes, from, scanned.code_at - 1, k, number, w),
+    match left_out_of_front(scanned, form) {
+        Some(k) => {
+            let end = scanned.code_at - 1;
+            put_copied(scanned.bytes, scanned.begin, end, k, number, w)
+        }
         None => put_renamed_text(size, form, scanned.text, number, w),
     }
 }

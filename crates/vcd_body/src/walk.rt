@@ -23,15 +23,6 @@ use crate::words::PhraseKind;
 use vcd_text::{Ahead, Sink, WriteFailed};
 use vcd_view::HeadView;
 
-/// Where an item lies ahead: after one position, up to another.
-#[derive(Clone, Copy)]
-pub struct Extent<'a> {
-    /// Before the item.
-    pub from: Ahead<'a>,
-    /// After the item.
-    pub to: Ahead<'a>,
-}
-
 /// What is done with the items ahead, in a command that is lent. What a loop is to keep in
 /// registers is in the visit, which comes and goes by value.
 pub trait Visit<C>: Drop {
@@ -59,8 +50,8 @@ pub trait Visit<C>: Drop {
     fn is_over(&self) -> bool
         ensures { result ≡ over self.now };
 
-    /// Does what this visitor does with a timestamp of this time, which lies at `extent`. `regs`
-    /// are the registers before it.
+    /// Does what this visitor does with a timestamp of this time. `regs` are the registers before
+    /// it.
     fn take_timestamp(
         &mut self,
         command: &mut C,
@@ -68,46 +59,44 @@ pub trait Visit<C>: Drop {
         regs: Regs,
         time: u64,
         timestamp: ScannedItem<'_>,
-        extent: Extent<'_>,
     )
-        requires stands { stands self.old command.old (bytes_of extent.from) regs }
+        requires stands { stands self.old command.old timestamp.bytes.now regs }
         requires left { is_left self.old command.old time ≡ false }
-        requires item { TakesItem view extent.from extent.to regs timestamp }
+        requires item { (a a' : Ahead) × TakesItem view a a' regs timestamp }
         requires time { timestamp.item ≡ item.Time time }
-        ensures takes { (out : Device) → takes view.entry
-            (stage_at extent.entry.from regs self.old command.old out)
-            (stage_at extent.entry.to (regs_after regs timestamp.entry.item) self.new command.new out)
+        ensures takes { (a a' : Ahead) (out : Device)
+            → TakesItem view.entry a a' regs timestamp.entry → takes view.entry
+            (stage_at a regs self.old command.old out)
+            (stage_at a' (regs_after regs timestamp.entry.item) self.new command.new out)
             (Ok tt) }
-        ensures stands { stands self.new command.new (bytes_of extent.entry.to)
+        ensures stands { stands self.new command.new timestamp.entry.bytes.now
             (regs_after regs timestamp.entry.item) };
 
-    /// Does what this visitor does with a value change, which lies at `extent`, and writes to `out`
-    /// what is due with it. `regs` are the registers, which a change leaves as they are. Fails if a
-    /// write fails.
+    /// Does what this visitor does with a value change, and writes to `out` what is due with it.
+    /// `regs` are the registers, which a change leaves as they are. Fails if a write fails.
     fn take_change<W: Sink>(
         &mut self,
         command: &mut C,
         view: HeadView<'_>,
         regs: Regs,
         change: ScannedItem<'_>,
-        extent: Extent<'_>,
         out: &mut W,
     ) -> Result<(), WriteFailed>
         requires failures { (W.device out.old).failures < 2 ^ 64 - 1 }
-        requires stands { stands self.old command.old (bytes_of extent.from) regs }
-        requires item { TakesItem view extent.from extent.to regs change }
+        requires stands { stands self.old command.old change.bytes.now regs }
+        requires item { (a a' : Ahead) × TakesItem view a a' regs change }
         requires form { (form : Form) × IsChangeBy form change }
-        ensures takes { takes view.entry
-            (stage_at extent.entry.from regs self.old command.old (W.device out.old))
-            (stage_at extent.entry.to regs self.new command.new (W.device out.new)) result }
+        ensures takes { (a a' : Ahead) → TakesItem view.entry a a' regs change.entry
+            → takes view.entry (stage_at a regs self.old command.old (W.device out.old))
+            (stage_at a' regs self.new command.new (W.device out.new)) result }
         ensures counts { Counts (W.device out.old) (W.device out.new) result }
         ensures stands { IfOk result
-            (λ _. stands self.new command.new (bytes_of extent.entry.to) regs) }
+            (λ _. stands self.new command.new change.entry.bytes.now regs) }
         ensures over { over self.new ≡ over self.old };
 
-    /// Does what this visitor does with the begin or the end of a section, which lies at `extent`,
-    /// and writes to `out` what is due with it. `before` are the registers before it, `after` those
-    /// after it. Fails if a write fails.
+    /// Does what this visitor does with the begin or the end of a section, and writes to `out` what
+    /// is due with it. `before` are the registers before it, `after` those after it. Fails if a
+    /// write fails.
     fn take_section<W: Sink>(
         &mut self,
         command: &mut C,
@@ -115,21 +104,20 @@ pub trait Visit<C>: Drop {
         before: Regs,
         after: Regs,
         section: ScannedItem<'_>,
-        extent: Extent<'_>,
         out: &mut W,
     ) -> Result<(), WriteFailed>
         requires failures { (W.device out.old).failures < 2 ^ 64 - 1 }
-        requires stands { stands self.old command.old (bytes_of extent.from) before }
+        requires stands { stands self.old command.old section.bytes.now before }
         requires left { is_left self.old command.old before.time ≡ false }
-        requires item { TakesItem view extent.from extent.to before section }
+        requires item { (a a' : Ahead) × TakesItem view a a' before section }
         requires section { IsSection section.item }
         requires after { after ≡ regs_after before section.item }
-        ensures takes { takes view.entry
-            (stage_at extent.entry.from before self.old command.old (W.device out.old))
-            (stage_at extent.entry.to after self.new command.new (W.device out.new)) result }
+        ensures takes { (a a' : Ahead) → TakesItem view.entry a a' before section.entry
+            → takes view.entry (stage_at a before self.old command.old (W.device out.old))
+            (stage_at a' after self.new command.new (W.device out.new)) result }
         ensures counts { Counts (W.device out.old) (W.device out.new) result }
         ensures stands { IfOk result
-            (λ _. stands self.new command.new (bytes_of extent.entry.to) after) };
+            (λ _. stands self.new command.new section.entry.bytes.now after) };
 }
 
 /// How a walk has ended.
@@ -207,8 +195,7 @@ fn take_timestamp<'a, C, V: Visit<C>>(
     }
     let before = *regs;
     let timestamp = timestamp_ahead(opening, time, to, regs)?;
-    let from = *ahead;
-    visit.take_timestamp(command, view, before, time, timestamp, Extent { from, to });
+    visit.take_timestamp(command, view, before, time, timestamp);
     *ahead = to;
     Some(())
 }
@@ -240,17 +227,16 @@ fn take_section<'a, C, V: Visit<C>, W: Sink>(
         return None;
     }
     let section = section_ahead(opening, to, regs)?;
-    let extent = Extent { from: *ahead, to };
     *ahead = to;
-    match visit.take_section(command, view, before, *regs, section, extent, out) {
+    match visit.take_section(command, view, before, *regs, section, out) {
         Ok(()) => Some(Ok(true)),
         Err(failed) => Some(Err(failed)),
     }
 }
 
-/// Has the visitor handle the change that the two tokens of a vector spell, which lie at `extent`,
-/// and returns whether a write failed. `None` if the header does not declare the code, or if the
-/// digits are bad or too many for it; then nothing has changed.
+/// Has the visitor handle the change that the two tokens of a vector spell, which end at `to`, and
+/// returns whether a write failed. `None` if the header does not declare the code, or if the digits
+/// are bad or too many for it; then nothing has changed.
 // Two arms, so that the compiler knows in each whether the digits have a number: without numbers
 // `edges` of 27,505 codes takes 53 % more, and in one arm `check` takes 4 % more of Verilator's.
 #[inline(always)]
@@ -260,24 +246,25 @@ fn take_vector<C, V: Visit<C>, W: Sink>(
     view: HeadView<'_>,
     regs: Regs,
     tokens: VectorTokens<'_>,
-    extent: Extent<'_>,
+    to: Ahead<'_>,
     out: &mut W,
 ) -> Option<Result<(), WriteFailed>>
     requires failures { (W.device out.old).failures < 2 ^ 64 - 1 }
-    requires stands { V.stands visit.old command.old (bytes_of extent.from) regs }
-    requires opens { OpensVector extent.from extent.to tokens }
-    ensures { MayTakeUpTo V.takes V.stands view.entry
-        (stage_at extent.entry.from regs visit.old command.old (W.device out.old))
-        (λ a. stage_at a regs visit.new command.new (W.device out.new)) extent.entry.to result }
+    requires opens { (a : Ahead) × OpensVector a to tokens
+        × V.stands visit.old command.old (bytes_of a) regs }
+    ensures { (a : Ahead) → OpensVector a to.entry tokens.entry
+        → MayTakeUpTo V.takes V.stands view.entry
+        (stage_at a regs visit.old command.old (W.device out.old))
+        (λ a'. stage_at a' regs visit.new command.new (W.device out.new)) to.entry result }
 {
-    match vector_bits(tokens, extent.to.bytes()) {
+    match vector_bits(tokens, to.bytes()) {
         Some(bits) => {
-            let change = vector_ahead(tokens, Some(bits), extent.to, view)?;
-            Some(visit.take_change(command, view, regs, change, extent, out))
+            let change = vector_ahead(tokens, Some(bits), to, view)?;
+            Some(visit.take_change(command, view, regs, change, out))
         }
         None => {
-            let change = vector_ahead(tokens, None, extent.to, view)?;
-            Some(visit.take_change(command, view, regs, change, extent, out))
+            let change = vector_ahead(tokens, None, to, view)?;
+            Some(visit.take_change(command, view, regs, change, out))
         }
     }
 }
@@ -303,19 +290,16 @@ fn take_next<C, V: Visit<C>, W: Sink>(
         (stage_at ahead.old regs.old visit.old command.old (W.device out.old))
         (stage_at ahead.new regs.new visit.new command.new (W.device out.new)) result }
 {
-    let from = *ahead;
-    let mut to = from;
+    let mut to = *ahead;
     let opening = opening_ahead(&mut to)?;
     let taken = match opening.kind {
         PhraseKind::Bit | PhraseKind::Scalar => {
             let change = scalar_ahead(opening, to, view)?;
-            let extent = Extent { from, to };
-            visit.take_change(command, view, *regs, change, extent, out)
+            visit.take_change(command, view, *regs, change, out)
         }
         PhraseKind::Vector => {
             let tokens = vector_tokens_ahead(opening, &mut to)?;
-            let extent = Extent { from, to };
-            take_vector(command, visit, view, *regs, tokens, extent, out)?
+            take_vector(command, visit, view, *regs, tokens, to, out)?
         }
         PhraseKind::Timestamp => {
             take_timestamp(command, visit, view, opening, regs, ahead, to)?;
@@ -323,8 +307,7 @@ fn take_next<C, V: Visit<C>, W: Sink>(
         }
         PhraseKind::Real => {
             let change = real_ahead(opening, &mut to, view)?;
-            let extent = Extent { from, to };
-            visit.take_change(command, view, *regs, change, extent, out)
+            visit.take_change(command, view, *regs, change, out)
         }
         PhraseKind::Other => {
             return take_section(command, visit, view, opening, regs, ahead, to, out);
@@ -353,13 +336,10 @@ fn take_short<C, V: Visit<C>, W: Sink, const CR_LF: bool>(
         (stage_at ahead.new regs visit.new command.new (W.device out.new)) result }
     ensures over { V.over visit.new ≡ V.over visit.old }
 {
-    let from = *ahead;
-    let mut to = from;
+    let mut to = *ahead;
     let change = short_ahead::<CR_LF>(&mut to, view)?;
-    let extent = Extent { from, to };
-    let taken = visit.take_change(command, view, regs, change, extent, out);
     *ahead = to;
-    Some(taken)
+    Some(visit.take_change(command, view, regs, change, out))
 }
 
 /// Has the visitor handle the next changes, as long as each is one that `take_short` takes, and

@@ -2,6 +2,7 @@
 // are written.
 ghost use Rattle.std.specs.Prelude.{◌≡◌, ◌+◌, ◌<◌, ◌≤◌, IfOk, OnOk, true};
 ghost use Rattle.vcd_text.specs.Feed.{source_of};
+ghost use Rattle.vcd_text.specs.declared.ahead.Ahead.{Ahead};
 ghost use Rattle.vcd_body.specs.Names.{HeadView, TakesItem};
 ghost use Rattle.vcd_body.specs.declared.item.Regs.{Regs};
 
@@ -9,7 +10,7 @@ use std::alloc::{AllocError, Global};
 use std::process::Abort;
 use std::test::Fail;
 use vcd_body::{
-    Bits, Extent, Form, Id, Item, Regs, ScannedItem, Visit, change_text, left_out, next_item,
+    Bits, Form, Id, Item, Regs, ScannedItem, Visit, change_text, left_out, next_item,
     pass_items, put_change, walk_ahead,
 };
 use vcd_head::{Head, HeadFault, HeadView, read_head};
@@ -228,11 +229,10 @@ impl Noted {
         }
     }
 
-    fn take(&mut self, item: ScannedItem<'_>, extent: Extent<'_>)
-        requires { (view : HeadView) × (r : Regs) × TakesItem view extent.from extent.to r item }
+    fn take(&mut self, item: ScannedItem<'_>)
+        requires { (view : HeadView) × (r : Regs) × (a a' : Ahead) × TakesItem view a a' r item }
     {
-        let from = extent.from.passed();
-        let needless = left_out(item, extent.to.bytes(), from, extent.to.passed());
+        let needless = left_out(item);
         if self.noted.is_ok() {
             self.noted = self.note(item, needless);
         }
@@ -265,9 +265,8 @@ impl Visit<()> for Noted {
         _regs: Regs,
         _time: u64,
         mark: ScannedItem<'_>,
-        extent: Extent<'_>,
     ) {
-        self.take(mark, extent);
+        self.take(mark);
     }
 
     fn take_change<W: Sink>(
@@ -276,10 +275,9 @@ impl Visit<()> for Noted {
         _view: HeadView<'_>,
         _regs: Regs,
         change: ScannedItem<'_>,
-        extent: Extent<'_>,
         _out: &mut W,
     ) -> Result<(), WriteFailed> {
-        self.take(change, extent);
+        self.take(change);
         Ok(())
     }
 
@@ -290,10 +288,9 @@ impl Visit<()> for Noted {
         _before: Regs,
         _after: Regs,
         section: ScannedItem<'_>,
-        extent: Extent<'_>,
         _out: &mut W,
     ) -> Result<(), WriteFailed> {
-        self.take(section, extent);
+        self.take(section);
         Ok(())
     }
 }
@@ -392,7 +389,7 @@ const CODES: &[u8] =
 // vectors with digits that are left out, vectors of more than 30 digits that are left out and that
 // are not, and real numbers.
 const STANDING: [(&[u8], &str); 6] = [
-    (b"1!\nZ!\n 0!\nx! 1!\n1\"\n1%\n#5\n0!\n", "=..==...="),
+    (b"1!\nZ!\n 0!\nx! 1!\n1\"\n1%\n#5\n0!\n", "=.===...="),
     (
         b"b101 \"\nB101 \"\nb0101 \"\nb00 \"\nb0x \"\nbzz1 \"\nbzx0 \"\nb1X \"\nb10  \"\nb10\t\"\n\
             b1 !\nb0 \"\nb1 % b1 \"\n",

@@ -19,8 +19,8 @@ abbrev pub number_where : (ℕ → Bool) → List ℕ → ℕ
 number_where test digits = number_from_digits 2 (map (λ d. cond (test d) 1 0) digits)
 
 -- the last digits of these, at most this many
-abbrev pub last_of : ℕ → List ℕ → List ℕ
-last_of most digits = drop (length digits - most) digits
+abbrev pub last_digits : ℕ → List ℕ → List ℕ
+last_digits most digits = drop (length digits - most) digits
 
 -- which of some digits are 1, and which are 0 or 1
 abbrev pub digits_in : List ℕ → Digits
@@ -29,4 +29,4 @@ digits_in digits = record { value = number_where is_one digits; known = number_w
 -- the last 64 digits of a value, which is extended on the left if it is shorter (clause 18, left
 -- extension)
 abbrev pub digits_of : List ℕ → Digits
-digits_of text = digits_in (extend (last_of 64 text) 64)
+digits_of text = digits_in (extend (last_digits 64 text) 64)

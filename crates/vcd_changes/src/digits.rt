@@ -1,6 +1,6 @@
 //! The digits of a value as numbers.
 ghost use Rattle.std.specs.Prelude.{◌≡◌, ◌+◌, ◌-◌, ◌*◌, ◌^◌, ◌<◌, ◌≤◌, cond, length};
-ghost use Rattle.vcd_changes.specs.Digits.{digits_of, extend, extension, is_known, last_of, number_where};
+ghost use Rattle.vcd_changes.specs.Digits.{digits_of, extend, extension, is_known, last_digits, number_where};
 
 /// The last 64 digits of a value, as numbers.
 #[derive(Clone, Copy, PartialEq, Eq)]
@@ -19,8 +19,8 @@ fn is_known(digit: u8) -> bool
 }
 
 /// Returns the last 64 digits, or all if there are fewer.
-fn last_of(digits: &[u8]) -> &[u8]
-    ensures last { result.now ≡ last_of 64 digits.now }
+fn last_digits(digits: &[u8]) -> &[u8]
+    ensures last { result.now ≡ last_digits 64 digits.now }
     ensures most { length result.now ≤ 64 }
 {
     &digits[digits.len().saturating_sub(64)..]
@@ -74,7 +74,7 @@ fn known_in_all(digits: &[u8], known: u64) -> u64
 pub(crate) fn digits_of(text: &[u8]) -> Digits
     ensures { result ≡ digits_of text.now }
 {
-    let last = last_of(text);
+    let last = last_digits(text);
     let mut value: u64 = 0;
     let mut known: u64 = 0;
     for digit in last {

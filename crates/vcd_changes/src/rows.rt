@@ -14,7 +14,7 @@ ghost use Rattle.vcd_text.specs.Feed.{source_of};
 ghost use Rattle.vcd_changes.specs.Rows.{Collects, row_added};
 
 use crate::row::{ChangeRow, row_of};
-use crate::walk::take_ahead;
+use crate::walk::collect_ahead;
 use vcd_body::{BodyFault, Item, Regs, change_text, next_item};
 use vcd_head::HeadView;
 use vcd_text::{Feed, Source};
@@ -75,7 +75,7 @@ pub(crate) fn collect<S: Source>(
 {
     *count = 0;
     'items: loop {
-        *count = take_ahead(feed, view, index, regs, rows, *count);
+        *count = collect_ahead(feed, view, index, regs, rows, *count);
         if *count == rows.len() {
             return Ok(Filled::Full);
         }

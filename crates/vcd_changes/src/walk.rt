@@ -16,7 +16,7 @@ ghost use Rattle.vcd_changes.specs.Walk.{Came, HasRoom, is_full, rows_at};
 
 use crate::row::{ChangeRow, row_of};
 use std::io;
-use vcd_body::{Extent, Item, Regs, ScannedItem, Visit, Walked, pass_items, walk_ahead};
+use vcd_body::{Item, Regs, ScannedItem, Visit, Walked, pass_items, walk_ahead};
 use vcd_head::HeadView;
 use vcd_text::{Ahead, Feed, Sink, Source, Watch, WriteFailed};
 
@@ -113,12 +113,11 @@ impl<'r> Visit<Rows<'r>> for Collecting {
         _regs: Regs,
         _time: u64,
         _timestamp: ScannedItem<'_>,
-        _extent: Extent<'_>,
     ) {}
 
     /// Fills the next row with a change of the code, at the last time of `regs`, unless the rows
-    /// are full, and notes where the change ends (`extent`). Any other change does nothing. It
-    /// writes nothing to the sink, and never fails.
+    /// are full, and notes where the change ends. Any other change does nothing. It writes nothing
+    /// to the sink, and never fails.
     #[inline(always)]
     fn take_change<W: Sink>(
         &mut self,
@@ -126,7 +125,6 @@ impl<'r> Visit<Rows<'r>> for Collecting {
         _view: HeadView<'_>,
         regs: Regs,
         change: ScannedItem<'_>,
-        extent: Extent<'_>,
         _out: &mut W,
     ) -> Result<(), WriteFailed> {
         let Item::Change { code, form } = change.item else {
@@ -135,7 +133,7 @@ impl<'r> Visit<Rows<'r>> for Collecting {
         if code == self.index && !self.is_full() {
             rows.rows[self.count] = row_of(regs.time, form, change.text);
             self.count += 1;
-            self.end = extent.to.passed();
+            self.end = change.end;
         }
         Ok(())
     }
@@ -149,7 +147,6 @@ impl<'r> Visit<Rows<'r>> for Collecting {
         _before: Regs,
         _after: Regs,
         _section: ScannedItem<'_>,
-        _extent: Extent<'_>,
         _out: &mut W,
     ) -> Result<(), WriteFailed> {
         Ok(())
@@ -184,7 +181,7 @@ fn walk_rows<'a>(
 /// code at `index` among the items that lie completely in the feed's chunk, until all rows are
 /// full, and returns how many are filled. Moves the feed past these items, and sets `regs` to the
 /// registers after them. If all rows are full already, nothing changes.
-pub(crate) fn take_ahead<S: Source>(
+pub(crate) fn collect_ahead<S: Source>(
     feed: &mut Feed<'_, '_, '_, '_, S>,
     view: HeadView<'_>,
     index: usize,

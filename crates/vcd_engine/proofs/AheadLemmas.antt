@@ -24,7 +24,7 @@ use Rattle.vcd_body.specs.declared.item.Item.{Item}
 use Rattle.vcd_body.specs.declared.item.Regs.{Regs}
 use Rattle.vcd_engine.specs.Ahead.{StandsAhead}
 use Rattle.vcd_body.specs.Device.{Grows, GrowsSome}
-use Rattle.vcd_engine.specs.Engine.{CanRun, Keeps, Runs, last_of, request_of_engine}
+use Rattle.vcd_engine.specs.Engine.{CanRun, Keeps, Runs, last_time_of, request_of_engine}
 use Rattle.vcd_engine.specs.declared.engine.Engine.{Engine}
 use Rattle.vcd_engine.specs.declared.task_state.TaskState.{TaskState}
 use Rattle.vcd_engine.specs.Ahead.{RunsAhead}
@@ -67,7 +67,7 @@ module _ (t : Request) (h : Header) (limit lines : ℕ) (bytes : List ℕ) (befo
         record {
           gave = gave;
           known = known;
-          last = subst (λ l. last_of r' ≡ last_mark l) e (ap last_of regs ∙ last_more h.codes text (before ++ items) r item x is s.last);
+          last = subst (λ l. last_time_of r' ≡ last_mark l) e (ap last_time_of regs ∙ last_more h.codes text (before ++ items) r item x is s.last);
           keeps = subst (Keeps m' h) e keeps;
           on = subst (λ l. list_any (ends_early t) l ≡ false) e (none_at (ends_early t) (before ++ items) x s.on stays);
         }
@@ -120,7 +120,7 @@ stands_first e h i front items f limit lines bytes s =
     record {
       gave = gave_none_ahead h.codes limit lines bytes items;
       known = subst (λ l. AreRegsAfter l e.regs) nil s.holds.known;
-      last = subst (λ l. last_of e.regs ≡ last_mark l) nil s.holds.last;
+      last = subst (λ l. last_time_of e.regs ≡ last_mark l) nil s.holds.last;
       keeps = subst (Keeps e.task_state h) nil s.holds.keeps;
       on = subst (λ l. list_any (ends_early (request_of_engine e)) l ≡ false) nil s.on;
     }

@@ -16,7 +16,7 @@ use Rattle.vcd_view.specs.declared.view.Row.{Row}
 use Rattle.vcd_body.specs.Items.{model_section}
 use Rattle.vcd_body.specs.declared.item.Regs.{Regs}
 use Rattle.vcd_engine.specs.Check.{AreCounted}
-use Rattle.vcd_engine.specs.Engine.{last_of}
+use Rattle.vcd_engine.specs.Engine.{last_time_of}
 use Rattle.vcd_engine.specs.Report.{opens_scope, declares_variable}
 use Rattle.vcd_engine.specs.declared.task_state.check.Check.{Check}
 use Rattle.vcd_engine.proofs.EngineLemmas.{marks_push, marks_stay}
@@ -126,13 +126,13 @@ six_lines s n k c =
     count_line (codes "scopes") (decimal s)
     ++ (count_line (codes "variables") (decimal n) ++ (count_line (codes "codes") (decimal k) ++ (count_line (codes "times") (decimal c.times) ++ (count_line (codes "sections") (decimal c.sections) ++ (count_line (codes "changes") (decimal c.changes) ++ [])))))
 
-pub report_is : (v : HeadView) (h : Header) (items : List BodyItem) (c : Check) (r : Regs) (s n : ℕ) → Views (parts v) h → AreCounted items c → last_of r ≡ last_mark items → s ≡ count_by (λ r. opens_scope r.kind) v.rows.now → n ≡ count_by (λ r. declares_variable r.kind) v.rows.now
-    → six_lines s n (length v.codes.now) c ++ count_line (codes "last") (number_or_dash (last_of r)) ≡ check_close h items
+pub report_is : (v : HeadView) (h : Header) (items : List BodyItem) (c : Check) (r : Regs) (s n : ℕ) → Views (parts v) h → AreCounted items c → last_time_of r ≡ last_mark items → s ≡ count_by (λ r. opens_scope r.kind) v.rows.now → n ≡ count_by (λ r. declares_variable r.kind) v.rows.now
+    → six_lines s n (length v.codes.now) c ++ count_line (codes "last") (number_or_dash (last_time_of r)) ≡ check_close h items
 unfolding check_close
 report_is v h items c r s n views counted last scopes variables =
     let declared : count_by is_scope h.declarations ≡ s = sym (scopes ∙ scopes_are (parts v).text h.codes [] v.rows.now h.declarations views.rows) in
     let vars : length (variables_of h.declarations) ≡ n = sym (variables ∙ variables_are (parts v).text h.codes [] v.rows.now h.declarations views.rows) in
     let codes_are : length h.codes ≡ length v.codes.now = AllZip-long (IsCode (parts v).text) v.codes.now h.codes views.codes in
     regroup (count_line (codes "scopes") (decimal s)) (count_line (codes "variables") (decimal n)) (count_line (codes "codes") (decimal (length v.codes.now))) (count_line (codes "times") (decimal c.times))
-    (count_line (codes "sections") (decimal c.sections)) (count_line (codes "changes") (decimal c.changes)) (count_line (codes "last") (number_or_dash (last_of r)))
+    (count_line (codes "sections") (decimal c.sections)) (count_line (codes "changes") (decimal c.changes)) (count_line (codes "last") (number_or_dash (last_time_of r)))
     ∙ rw (declared, vars, codes_are, sym counted.times, sym counted.sections, sym counted.changes, sym last) refl

@@ -22,7 +22,7 @@ use Rattle.vcd_text.proofs.Writes.{AppendsSome, appends-first, appends-none, tak
 use Rattle.std.specs.Io.KnownBytes.{Appends}
 use Rattle.vcd_engine.specs.Cut.{AreCut, HasBegun, HasNone, IsNoTimestamp, kept_from, values_text}
 use Rattle.vcd_body.specs.Device.{DueBy, TakesDue}
-use Rattle.vcd_engine.specs.Engine.{TakesOne, last_of}
+use Rattle.vcd_engine.specs.Engine.{TakesOne, last_time_of}
 use Rattle.vcd_model.specs.Outcome.{Request}
 use Rattle.vcd_body.specs.Given.{IsItem}
 use Rattle.vcd_engine.specs.Quiet.{TakesQuietly}
@@ -239,14 +239,14 @@ module _ (v : HeadView) (h : Header) (items : List BodyItem) (before : Regs) (m 
 -- ---- the end
 
 -- the last timestamp
-last_time_is : (items : List BodyItem) (r : Regs) (t : ℕ) → AreRegsAfter items r → last_of r ≡ last_mark items → last_mark items ≡ Some t → t ≡ time_after items
+last_time_is : (items : List BodyItem) (r : Regs) (t : ℕ) → AreRegsAfter items r → last_time_of r ≡ last_mark items → last_mark items ≡ Some t → t ≡ time_after items
 last_time_is items r t known last e = last_time items r t known (last ∙ e)
 
 -- the end of the span comes after all items
 end_tells : (h : Header) (m : Cut) (items : List BodyItem) → AreCut m h items → LastTells (times_with (m.from ∷ []) (kept_from m.from items)) m.to
 end_tells h m items is = last_tells m.from items m.to is.ordered (at_most m.to items is.on)
 
-module _ (h : Header) (m : Cut) (items : List BodyItem) (r : Regs) (is : AreCut m h items) (known : AreRegsAfter items r) (last : last_of r ≡ last_mark items) where
+module _ (h : Header) (m : Cut) (items : List BodyItem) (r : Regs) (is : AreCut m h items) (known : AreRegsAfter items r) (last : last_time_of r ≡ last_mark items) where
   pub closes_unstarted : m.started ≡ false → start_section h m.from items ≡ cut_close h m.from m.to items
   closes_unstarted s = sym (close_unstarted h m.from m.to items is.on (sym is.started_is ∙ s) (λ t e. last_time_is items r t known last e))
 
@@ -263,14 +263,14 @@ module _ (h : Header) (m : Cut) (items : List BodyItem) (r : Regs) (is : AreCut 
           let one : (m.from == t) ≡ true = eq-eqb m.from t (omega arith) in
           rw (e, one) refl
 
-  pub closes_started : m.started ≡ true → closing (times_with (m.from ∷ []) (kept_from m.from items)) (last_of r) ≡ cut_close h m.from m.to items
+  pub closes_started : m.started ≡ true → closing (times_with (m.from ∷ []) (kept_from m.from items)) (last_time_of r) ≡ cut_close h m.from m.to items
   closes_started s =
       let started = sym is.started_is ∙ s in
       ap (closing (times_with (m.from ∷ []) (kept_from m.from items))) last
       ∙ sym (above_or (times_of (kept_from m.from items)) (last_mark items) (λ t e. let same = last_time_is items r t known last e in let le = due m.from items started in omega (arith, same, le)))
       ∙ sym (close_started h m.from m.to items is.on started)
 
-  pub close_tells : m.started ≡ true → (t : ℕ) → last_of r ≡ Some t → LastTells (times_with (m.from ∷ []) (kept_from m.from items)) t
+  pub close_tells : m.started ≡ true → (t : ℕ) → last_time_of r ≡ Some t → LastTells (times_with (m.from ∷ []) (kept_from m.from items)) t
   close_tells s t e =
       let same = last_time items r t known e in
       let le = due m.from items (sym is.started_is ∙ s) in

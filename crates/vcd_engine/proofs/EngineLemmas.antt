@@ -25,7 +25,7 @@ use Rattle.vcd_body.specs.declared.item.Item.TheVariants.{Time, Begin, End, Chan
 use Rattle.vcd_body.specs.declared.item.Regs.{Regs}
 use Rattle.vcd_body.specs.Answer.{stop_of_body}
 use Rattle.vcd_text.specs.Device.{Device}
-use Rattle.vcd_engine.specs.Engine.{CanRun, Holds, Keeps, Runs, StopsAtStart, last_of, request_of_engine}
+use Rattle.vcd_engine.specs.Engine.{CanRun, Holds, Keeps, Runs, StopsAtStart, last_time_of, request_of_engine}
 use Rattle.vcd_body.specs.Given.{IsItem}
 use Rattle.vcd_engine.specs.ItemText.{AsItem}
 use Rattle.vcd_engine.specs.Selection.{IsFirstUnmatched}
@@ -65,7 +65,7 @@ none_at test (y ∷ p) x h e = both_false (test y) (list_any test p) (list_any t
 -- ---- the last timestamp
 
 -- after one item more
-pub last_more : (codes : List IdCode) (text : List ℕ) (items : List BodyItem) (r : Regs) (item : Item) (x : BodyItem) → IsItem codes text item x → last_of r ≡ last_mark items → last_of (regs_after r item) ≡ last_mark (items ++ x ∷ [])
+pub last_more : (codes : List IdCode) (text : List ℕ) (items : List BodyItem) (r : Regs) (item : Item) (x : BodyItem) → IsItem codes text item x → last_time_of r ≡ last_mark items → last_time_of (regs_after r item) ≡ last_mark (items ++ x ∷ [])
 last_more codes text items r (Time t) x is last = rw is (sym (ap (last_or None) (marks_push items (BodyItem.Time t)) ∙ last_or-snoc None (marks items) t))
 last_more codes text items r (Begin s) x is last = rw is (last ∙ sym (ap (last_or None) (marks_stay items (BodyItem.Begin (model_section s)) refl)))
 last_more codes text items r End x is last = rw is (last ∙ sym (ap (last_or None) (marks_stay items BodyItem.End refl)))

@@ -14,7 +14,7 @@ use Rattle.vcd_body.specs.declared.item.Item.{Item}
 use Rattle.vcd_body.specs.declared.item.Item.TheVariants.{Time, Begin, End, Change, Finish}
 use Rattle.vcd_body.specs.declared.item.Regs.{Regs}
 use Rattle.vcd_body.specs.Device.{DueBy}
-use Rattle.vcd_engine.specs.Engine.{last_of}
+use Rattle.vcd_engine.specs.Engine.{last_time_of}
 use Rattle.vcd_body.specs.Given.{IsItem}
 use Rattle.vcd_engine.specs.ItemText.{HasWritten, LastTells, times_with}
 use Rattle.vcd_engine.specs.Pick.{ArePicked, is_kept, is_of_chosen, names_in}
@@ -77,7 +77,7 @@ unfolding pick_close
 closes h names items last e = ap (closing (times_with [] (pick_kept h names items))) e
 
 -- the last timestamp, where there is one, is the time of all items
-pub last_time : (items : List BodyItem) (r : Regs) (t : ℕ) → AreRegsAfter items r → last_of r ≡ Some t → t ≡ time_after items
+pub last_time : (items : List BodyItem) (r : Regs) (t : ℕ) → AreRegsAfter items r → last_time_of r ≡ Some t → t ≡ time_after items
 last_time items r t known e = by_mark r.marked e
   where
     by_mark : (b : Bool) → cond b (Some r.time) None ≡ Some t → t ≡ time_after items

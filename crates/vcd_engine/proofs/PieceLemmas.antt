@@ -11,7 +11,7 @@ use Rattle.std.specs.Io.KnownBytes.{Appends}
 use Rattle.vcd_text.specs.Ahead.{bytes_of, passed_of}
 use Rattle.vcd_text.specs.declared.ahead.Ahead.{Ahead}
 use Rattle.vcd_view.specs.declared.view.HeadView.{HeadView}
-use Rattle.vcd_body.specs.Spelled.{HasSpelled, bytes_without, line_without}
+use Rattle.vcd_body.specs.Spelled.{IsSpelledAs, bytes_without, line_without}
 use Rattle.vcd_body.proofs.LineLemmas.{one_byte}
 use Rattle.vcd_body.specs.Taken.{IsSection, TakesItem}
 use Rattle.vcd_body.specs.declared.ahead.ScannedItem.{ScannedItem}
@@ -21,7 +21,7 @@ use Rattle.vcd_body.specs.declared.item.Item.{Item}
 use Rattle.vcd_body.specs.declared.item.Item.TheVariants.{Begin, Change, End, Finish, Time}
 use Rattle.vcd_body.specs.declared.item.Regs.{Regs}
 use Rattle.vcd_engine.specs.Cut.{IsNoTimestamp}
-use Rattle.vcd_engine.specs.PendingCopy.{GrowsBut, IsLine, IsSpanned, PutsAll, PutsBehind, PutsOn, IsPart, pending_in}
+use Rattle.vcd_engine.specs.PendingCopy.{GrowsBut, IsLine, IsNextItem, PutsAll, PutsBehind, PutsOn, IsPart, pending_in}
 use Rattle.vcd_engine.specs.declared.pending.PendingCopy.{PendingCopy}
 use Rattle.vcd_body.proofs.Results.{writes-none}
 
@@ -163,45 +163,38 @@ no_timestamp_here item place form e = subst IsNoTimestamp (sym e) tt
 pub same_regs : (r : Regs) (item : Item) (place : ℕ) (form : Form) → item ≡ Change place form → r ≡ regs_after r item
 same_regs r item place form e = subst (λ (i : Item). r ≡ regs_after r i) (sym e) refl
 
-module _ (v : HeadView) (a a' : Ahead) (r : Regs) (p : ScannedItem) (bytes : Bor (List ℕ)) (from to : ℕ) (item : TakesItem v a a' r p) (e : bytes.now ≡ bytes_of a') (f : from ≡ p.begin) (g : to ≡ passed_of a') where
-  spelled_there : HasSpelled v bytes.now from to p.at p.code_at p.text.now p.item
-  spelled_there =
-      subst (λ (bs : List ℕ). HasSpelled v bs from to p.at p.code_at p.text.now p.item) (sym (e ∙ item.same.0))
-      (subst (λ n. HasSpelled v (bytes_of a) n to p.at p.code_at p.text.now p.item) (sym f) (subst (λ n. HasSpelled v (bytes_of a) p.begin n p.at p.code_at p.text.now p.item) (sym g) item.begun))
-
-  pub placed_there : (place : ℕ) × (form : Form) × (p.item ≡ Change place form) → IsSpanned v (record { scanned = p; bytes = bytes; from = from; to = to })
-  placed_there change =
-      let s = subst (λ (i : Item). HasSpelled v bytes.now from to p.at p.code_at p.text.now i) change.2 spelled_there in
+module _ (v : HeadView) (a a' : Ahead) (r : Regs) (p : ScannedItem) (item : TakesItem v a a' r p) where
+  pub change_next : (place : ℕ) × (form : Form) × (p.item ≡ Change place form) → IsNextItem v p
+  change_next change =
+      let s = subst (IsSpelledAs v p) change.2 item.spelled in
       let after = s.3.after in
       let apart = s.3.apart in
       let ends = s.3.ends in
-      let within = item.within in
-      let here : to ≤ length bytes.now = subst (λ (bs : List ℕ). to ≤ length bs) (sym e) (omega (arith, g, within)) in
       record {
         none = no_timestamp_here p.item change.0 change.1 change.2;
-        within = (omega arith, here);
+        within = (omega (arith, after, apart, ends), s.3.within);
         good = item.sound;
         sized = λ known. item.sized;
         bits = item.bits;
         binary = item.binary;
-        spelled = λ known. spelled_there;
+        spelled = λ known. item.spelled;
       }
 
-  pub section_there : IsSection p.item → IsSpanned v (record { scanned = p; bytes = bytes; from = from; to = to })
-  section_there is =
+  pub section_next : IsSection p.item → IsNextItem v p
+  section_next is =
+      let ends = item.ends in
       let within = item.within in
-      let here : to ≤ length bytes.now = subst (λ (bs : List ℕ). to ≤ length bs) (sym e) (omega (arith, g, within)) in
       record {
         none = no_timestamp_at p.item is;
-        within = (in_order p.item is spelled_there, here);
+        within = (in_order p.item is item.spelled, subst (λ (bs : List ℕ). p.end ≤ length bs) (sym item.bytes) (omega (arith, ends, within)));
         good = item.sound;
         sized = λ known. item.sized;
         bits = item.bits;
         binary = item.binary;
-        spelled = λ known. spelled_there;
+        spelled = λ known. item.spelled;
       }
     where
-      in_order : (it : Item) → IsSection it → HasSpelled v bytes.now from to p.at p.code_at p.text.now it → from ≤ to
+      in_order : (it : Item) → IsSection it → IsSpelledAs v p it → p.begin ≤ p.end
       in_order (Begin s) is le = le
       in_order End is le = le
       in_order (Time t) is le = absurd is

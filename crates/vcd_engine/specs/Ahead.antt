@@ -16,7 +16,7 @@ use Rattle.vcd_body.specs.Ahead.{GaveAhead}
 use Rattle.vcd_body.specs.Items.{AreRegsAfter}
 use Rattle.vcd_body.specs.declared.item.Regs.{Regs}
 use Rattle.vcd_body.specs.Device.{Grows, GrowsSome}
-use Rattle.vcd_engine.specs.Engine.{Keeps, last_of, request_in}
+use Rattle.vcd_engine.specs.Engine.{Keeps, last_time_of, request_in}
 use Rattle.vcd_engine.specs.Room.{SameTask}
 use Rattle.vcd_engine.specs.Several.{TakesSeveral}
 use Rattle.vcd_engine.specs.declared.task_state.TaskState.{TaskState}
@@ -28,7 +28,7 @@ module _ (task : Request) (h : Header) (limit lines : ℕ) (bytes : List ℕ) (b
   pub record StandsAhead (n : ℕ) (items : List BodyItem) (m : TaskState) (r : Regs) : Type 0 where
     pub gave : GaveAhead h.codes limit lines bytes n before items
     pub known : AreRegsAfter (before ++ items) r
-    pub last : last_of r ≡ last_mark (before ++ items)
+    pub last : last_time_of r ≡ last_mark (before ++ items)
     pub keeps : Keeps m h (before ++ items)
     pub on : list_any (ends_early task) (before ++ items) ≡ false
 

@@ -118,8 +118,8 @@ StartsOver v holds task out out' result = (h : Header) → IsViewOf v h → Star
 -- ---- items
 
 -- the last timestamp, by the registers
-abbrev pub last_of : Regs → Option ℕ
-last_of r = cond r.marked (Some r.time) None
+abbrev pub last_time_of : Regs → Option ℕ
+last_time_of r = cond r.marked (Some r.time) None
 
 -- What is due with one more item was written, and it was returned whether the item ends the run. If
 -- it does not, this holds.
@@ -151,7 +151,7 @@ ClosesOver v holds text out out' result = (h : Header) (items : List BodyItem) �
 
 -- this holds of any header and all items of its body, after which the registers are these
 abbrev pub AtClose : HeadView → Regs → (Header → List BodyItem → Type 0) → Type 0
-AtClose v r holds = (h : Header) (items : List BodyItem) → IsViewOf v h → AreRegsAfter items r → last_of r ≡ last_mark items → holds h items
+AtClose v r holds = (h : Header) (items : List BodyItem) → IsViewOf v h → AreRegsAfter items r → last_time_of r ≡ last_mark items → holds h items
 
 -- a task has begun over this header
 abbrev pub HasBegun : Begun → Header → Type 0
@@ -166,7 +166,7 @@ pub record Holds (e : Engine) (h : Header) (items : List BodyItem) : Type 0 wher
   pub views : IsViewOf e.view h
   pub can : CanRun (request_of_engine e) h
   pub known : AreRegsAfter items e.regs
-  pub last : last_of e.regs ≡ last_mark items
+  pub last : last_time_of e.regs ≡ last_mark items
   pub keeps : Keeps e.task_state h items
 
 -- after these tokens, those of the header, the feed has given these items, and the engine holds

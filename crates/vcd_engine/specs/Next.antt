@@ -19,7 +19,6 @@ use Rattle.vcd_engine.specs.PendingCopy.{IsLine, IsPart, PutsOn, pending_in}
 use Rattle.vcd_engine.specs.Quiet.{TakesQuietly}
 use Rattle.vcd_engine.specs.Room.{SameTask}
 use Rattle.vcd_engine.specs.declared.task_state.TaskState.{TaskState}
-use Rattle.vcd_engine.specs.declared.pending.SpannedItem.{SpannedItem}
 use Rattle.vcd_engine.specs.declared.pending.PendingCopy.{PendingCopy}
 
 -- how far the loop has come: the position, the registers after the items so far, and from where up
@@ -41,8 +40,8 @@ abbrev pub TakesTimestamp : ℕ → TaskState → TaskState → Type 0
 TakesTimestamp time m m' = (h : Header) (items : List BodyItem) → length items < 2 ^ 63 → Keeps m h items → TakesQuietly (Keeps m' h (items ++ BodyItem.Time time ∷ [])) (request_in m) h items (BodyItem.Time time)
 
 -- an item was taken, and what is due with it put after the text that is pending
-abbrev pub PutsItem : {A E : Type 0} → HeadView → Regs → SpannedItem → PendingCopy → PendingCopy → Device → Device → TaskState → TaskState → Result A E → Type 0
-PutsItem v r c p p' out out' m m' result = AtItem v r c.scanned.item c.scanned.text.now (λ h items x. Keeps m h items
+abbrev pub PutsItem : {A E : Type 0} → HeadView → Regs → ScannedItem → PendingCopy → PendingCopy → Device → Device → TaskState → TaskState → Result A E → Type 0
+PutsItem v r c p p' out out' m m' result = AtItem v r c.item c.text.now (λ h items x. Keeps m h items
     → DueBy (λ due. PutsOn (pending_in c.bytes.now p) (pending_in c.bytes.now p') out out' due result) (open_text (request_in m) h items) (open_text (request_in m) h (items ++ x ∷ [])) × IfOk result (λ _. Keeps m' h (items ++ x ∷ [])))
 
 -- what is due with one more item was taken; the item does not end the run, and then this holds

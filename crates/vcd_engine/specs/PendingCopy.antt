@@ -1,33 +1,25 @@
 -- Text that is due, and of which the last piece is not yet written.
 use Rattle.std.specs.Prelude.{◌≡◌, ◌≢◌, ℕ, ◌+◌, ◌<◌, ◌≤◌, List, ◌++◌, length, slice_range, Result, Ok, Err, IfOk}
 use Rattle.vcd_model.specs.ItemText.{time_line}
-use Rattle.vcd_text.specs.Ahead.{bytes_of, passed_of}
 use Rattle.vcd_text.specs.Device.{Counts, Device, Writes, WritesSome}
-use Rattle.vcd_text.specs.declared.ahead.Ahead.{Ahead}
 use Rattle.vcd_view.specs.declared.view.HeadView.{HeadView}
 use Rattle.vcd_body.specs.Given.{HasGoodText}
 use Rattle.vcd_body.specs.Ahead.{HasBits, IsSizedItem}
 use Rattle.vcd_body.specs.Changes.{AreBinaryIf}
-use Rattle.vcd_body.specs.Spelled.{HasSpelled, line_without}
+use Rattle.vcd_body.specs.Spelled.{IsSpelled, line_without}
+use Rattle.vcd_body.specs.declared.ahead.ScannedItem.{ScannedItem}
 use Rattle.vcd_engine.specs.Cut.{IsNoTimestamp}
-use Rattle.vcd_engine.specs.declared.pending.SpannedItem.{SpannedItem}
 use Rattle.vcd_engine.specs.declared.pending.PendingCopy.{PendingCopy}
 
--- an item that is no timestamp; if its size is known, it lies at an offset of these bytes
-pub record IsSpanned (v : HeadView) (l : SpannedItem) : Type 0 where
-  pub none : IsNoTimestamp l.scanned.item
-  pub within : (l.from ≤ l.to) × (l.to ≤ length l.bytes.now)
-  pub good : HasGoodText v.codes.now l.scanned.text.now l.scanned.item
-  pub sized : l.scanned.size_or_zero ≢ 0 → IsSizedItem v.codes.now l.scanned.item l.scanned.size_or_zero
-  pub bits : HasBits l.scanned.item l.scanned.text.now l.scanned.bits
-  pub binary : AreBinaryIf l.scanned.binary l.scanned.text.now
-  pub spelled : l.scanned.size_or_zero ≢ 0 → HasSpelled v l.bytes.now l.from l.to l.scanned.at l.scanned.code_at l.scanned.text.now l.scanned.item
-
--- a change lies from its first byte up to this offset ahead
-pub record LiesUpTo (a : Ahead) (l : SpannedItem) : Type 0 where
-  pub bytes : l.bytes.now ≡ bytes_of a
-  pub from : l.from ≡ l.scanned.begin
-  pub to : l.to ≡ passed_of a
+-- an item that is no timestamp; if its size is known, its bytes spell it
+pub record IsNextItem (v : HeadView) (p : ScannedItem) : Type 0 where
+  pub none : IsNoTimestamp p.item
+  pub within : (p.begin ≤ p.end) × (p.end ≤ length p.bytes.now)
+  pub good : HasGoodText v.codes.now p.text.now p.item
+  pub sized : p.size_or_zero ≢ 0 → IsSizedItem v.codes.now p.item p.size_or_zero
+  pub bits : HasBits p.item p.text.now p.bits
+  pub binary : AreBinaryIf p.binary p.text.now
+  pub spelled : p.size_or_zero ≢ 0 → IsSpelled v p
 
 -- from one offset of these bytes up to the last one before another, and a line feed, is the line of
 -- this time, or nothing is known of it

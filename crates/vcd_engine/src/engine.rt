@@ -153,7 +153,7 @@ impl<'v, 'n, 'r> Engine<'v, 'n, 'r> {
     /// each, and moves the feed past them. It reads nothing from the source, and `view` is the
     /// engine's own. Fails if a write does, which ends the run.
     #[inline(never)]
-    fn walk_ahead<S: Source, W: Sink>(
+    fn advance_ahead<S: Source, W: Sink>(
         &mut self,
         view: HeadView<'_>,
         feed: &mut Feed<'_, '_, '_, '_, S>,
@@ -227,7 +227,7 @@ impl<'v, 'n, 'r> Engine<'v, 'n, 'r> {
         ensures over { StepsOver S.failures self.old self.new feed.old feed.new
             (W.device out.old) (W.device out.new) result }
     {
-        self.walk_ahead(view, feed, out)?;
+        self.advance_ahead(view, feed, out)?;
         match pass_on(feed, out) {
             Ok(()) => {}
             Err(failed) => {

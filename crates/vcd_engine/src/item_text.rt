@@ -1,10 +1,10 @@
 //! The text of kept items: the line of each, after the line of its time if that is due.
 ghost use Rattle.std.specs.Prelude.{◌≡◌, ℕ, ◌-◌, ◌^◌, ◌<◌, ◌∷◌, [], List, Some, IfOk};
-ghost use Rattle.vcd_engine.specs.Names.{as_line, BodyItem, closing, Counts, Entry, HasGoodText, HasWritten, Header, IsSpanned, IsItem, IsLine, IsPart, IsViewOf, item_line, keyword_text, LastTells, may_be_kept, model_section, PutsBehind, PutsEntry, PutsCopy, PutsWhere, section_keyword, TakenBy, Takes, time_due, times_with};
+ghost use Rattle.vcd_engine.specs.Names.{as_line, BodyItem, closing, Counts, Entry, HasGoodText, HasWritten, Header, IsItem, IsLine, IsNextItem, IsPart, IsViewOf, item_line, keyword_text, LastTells, may_be_kept, model_section, PutsBehind, PutsEntry, PutsCopy, PutsWhere, section_keyword, TakenBy, Takes, time_due, times_with};
 
-use crate::pending::{PendingCopy, SpannedItem};
+use crate::pending::PendingCopy;
 use crate::task_state::walk::KnownLine;
-use vcd_body::{Id, Item, Regs, Section, put_change, put_time_unless};
+use vcd_body::{Id, Item, Regs, ScannedItem, Section, left_out, put_change, put_time_unless};
 use vcd_text::{Sink, WriteFailed, put};
 use vcd_view::HeadView;
 
@@ -109,43 +109,44 @@ impl ItemText {
         put_item(view, item, text, out)
     }
 
-    /// Adds the line of `time`, unless it is the time whose line was added last, and the line of an
-    /// item to the output. Lines that the chunk already has as they would be written are added to
-    /// `pending`; otherwise `pending` is written, and then the line. `line` says where the chunk
-    /// has the line of `time`, if that is known. Fails if a write does.
+    /// Queues the line of `time`, unless it is the time whose line was queued last, and the line of
+    /// an item. Lines that the chunk already has as they would be written become part of `pending`;
+    /// otherwise `pending` is written, and then the line. `line` says where the chunk has the line
+    /// of `time`, if that is known. Fails if a write does.
     #[inline(always)]
-    pub(crate) fn put_spanned<W: Sink>(
+    pub(crate) fn queue<W: Sink>(
         &mut self,
         view: HeadView<'_>,
         time: u64,
-        item: SpannedItem<'_>,
+        scanned: ScannedItem<'_>,
         line: &KnownLine,
         pending: &mut PendingCopy,
         out: &mut W,
     ) -> Result<(), WriteFailed>
         requires failures { (W.device out.old).failures < 2 ^ 64 - 1 }
-        requires span { IsSpanned view item }
-        requires line { IsLine item.bytes.now (line.now.from, line.now.to) time }
-        requires part { IsPart item.bytes.now pending.old }
-        ensures text { PutsEntry (λ due. PutsCopy item.entry.bytes.now pending.old pending.new
+        requires next { IsNextItem view scanned }
+        requires line { IsLine scanned.bytes.now (line.now.from, line.now.to) time }
+        requires part { IsPart scanned.bytes.now pending.old }
+        ensures text { PutsEntry (λ due. PutsCopy scanned.entry.bytes.now pending.old pending.new
             (W.device out.old) (W.device out.new) due result) view.entry time
-            item.entry.scanned.item item.entry.scanned.text.now self.old self.new result }
+            scanned.entry.item scanned.entry.text.now self.old self.new result }
         ensures counts { Counts (W.device out.old) (W.device out.new) result }
-        ensures part { IfOk result (λ _. IsPart item.entry.bytes.now pending.new) }
+        ensures part { IfOk result (λ _. IsPart scanned.entry.bytes.now pending.new) }
     {
-        let Some(n) = item.left_out() else {
-            pending.flush(item.bytes, out)?;
-            return self.put(view, time, item.scanned.item, item.scanned.text, out);
+        let bytes = scanned.bytes;
+        let Some(n) = left_out(scanned) else {
+            pending.flush(bytes, out)?;
+            return self.put(view, time, scanned.item, scanned.text, out);
         };
-        self.add_time(time, item.bytes, line, pending, out)?;
-        pending.append_line(item.bytes, item.from, item.to, n, out)
+        self.queue_time(time, bytes, line, pending, out)?;
+        pending.queue_line(bytes, scanned.begin, scanned.end, n, out)
     }
 
-    /// Adds the line of `time` to the output, unless it is the time whose line was added last: to
-    /// `pending` if `line` says where the chunk `bytes` has it, otherwise it writes `pending` and
-    /// then the line. Fails if a write does.
+    /// Queues the line of `time`, unless it is the time whose line was queued last: in `pending` if
+    /// `line` says where the chunk `bytes` has it, otherwise it writes `pending` and then the line.
+    /// Fails if a write does.
     #[inline(always)]
-    fn add_time<W: Sink>(
+    fn queue_time<W: Sink>(
         &mut self,
         time: u64,
         bytes: &[u8],
@@ -164,7 +165,7 @@ impl ItemText {
             return Ok(());
         }
         self.written = Some(time);
-        pending.append_time(time, bytes, line.from, line.to, out)
+        pending.queue_time(time, bytes, line.from, line.to, out)
     }
 
     /// Writes the line of `last`, the time of the last timestamp, at the end of the output. Writes

@@ -1,83 +1,10 @@
 //! Pending text: it is due, it is in the chunk, and it is not written yet. Pieces that adjoin are
 //! written in one call.
-ghost use Rattle.std.specs.Prelude.{◌≡◌, ℕ, ◌+◌, ◌-◌, ◌^◌, ◌<◌, ◌≤◌, ◌++◌, ◌∷◌, List, [], length, slice_range, IfErr, IfOk, IfSome};
-ghost use Rattle.vcd_engine.specs.Names.{BodyItem, bytes_without, HasGoodText, Header, HeadView, pending_in, IsSpanned, IsItem, IsLine, IsNoTimestamp, IsPart, IsViewOf, item_line, LiesUpTo, line_without, Puts, PutsBehind, time_line};
+ghost use Rattle.std.specs.Prelude.{◌≡◌, ℕ, ◌+◌, ◌-◌, ◌^◌, ◌<◌, ◌≤◌, ◌++◌, ◌∷◌, List, [], length, slice_range, IfErr, IfOk};
+ghost use Rattle.vcd_engine.specs.Names.{bytes_without, pending_in, IsLine, IsPart, line_without, Puts, PutsBehind, time_line};
 
-use vcd_body::{Extent, Item, ScannedItem, left_out, put_time};
+use vcd_body::put_time;
 use vcd_text::{Sink, WriteFailed, put_few, put_front, put_parts};
-
-/// An item that is no timestamp, with its span: an item in the chunk begins at `from`, and was
-/// passed up to `to`. An item that the feed gave has an empty span, and no size (`size_or_zero` is
-/// 0).
-#[derive(Clone, Copy)]
-pub(crate) struct SpannedItem<'a> {
-    pub(crate) scanned: ScannedItem<'a>,
-    pub(crate) bytes: &'a [u8],
-    pub(crate) from: usize,
-    pub(crate) to: usize,
-}
-
-impl<'a> SpannedItem<'a> {
-    /// Returns an item ahead together with its place in the chunk: its bytes from the first one up
-    /// to what was passed with it.
-    #[inline(always)]
-    pub(crate) fn of(scanned: ScannedItem<'a>, extent: Extent<'a>) -> SpannedItem<'a>
-        ensures scanned { result.scanned ≡ scanned.entry }
-        ensures span { LiesUpTo extent.entry.to result }
-    {
-        SpannedItem {
-            scanned,
-            bytes: extent.to.bytes(),
-            from: scanned.begin,
-            to: extent.to.passed(),
-        }
-    }
-
-    /// Returns an item that `next_item` returned, with its text and without a place in the chunk.
-    #[inline(always)]
-    pub(crate) fn given(item: Item, text: &'a [u8]) -> SpannedItem<'a>
-        ensures item { result.scanned.item ≡ item }
-        ensures text { result.scanned.text ≡ text.entry }
-        ensures bytes { result.bytes.now ≡ [] }
-        ensures span { (view : HeadView) → HasGoodText view.codes.now text.now item
-            → IsNoTimestamp item → IsSpanned view result }
-    {
-        let scanned = ScannedItem {
-            item,
-            text,
-            size_or_zero: 0,
-            begin: 0,
-            at: 0,
-            code_at: 0,
-            bits: None,
-            binary: false,
-        };
-        SpannedItem {
-            scanned,
-            bytes: &[],
-            from: 0,
-            to: 0,
-        }
-    }
-
-    /// Returns how many of the item's bytes after the first one to leave out, so that the rest
-    /// before its last byte, and a line feed, are the item's line. `None` if that is not known, or
-    /// if the item has no place in the chunk.
-    #[inline(always)]
-    pub(crate) fn left_out(self) -> Option<usize>
-        requires { (view : HeadView) × IsSpanned view self }
-        ensures within { IfSome result (λ k. self.entry.from + 2 + k ≤ self.entry.to) }
-        ensures line { IfSome result (λ k. (view : HeadView) (h : Header) (x : BodyItem)
-            → IsSpanned view self.entry → IsViewOf view h
-            → IsItem h.codes self.entry.scanned.text.now self.entry.scanned.item x
-            → line_without self.entry.bytes.now self.entry.from self.entry.to k ≡ item_line x) }
-    {
-        if self.scanned.size_or_zero == 0 {
-            return None;
-        }
-        left_out(self.scanned, self.bytes, self.from, self.to)
-    }
-}
 
 /// Writes the bytes from `from` up to `to` (exclusive). Fails if a write does.
 // Not inlined, so that a loop in which the piece grows has all registers.
@@ -148,11 +75,11 @@ impl PendingCopy {
         Ok(())
     }
 
-    /// Adds the bytes from `from` up to `to` (exclusive) to the output. If they come right after
-    /// the pending text, they become part of it; otherwise that is written first, and they are the
-    /// pending text. Fails if a write does.
+    /// Queues the bytes from `from` up to `to` (exclusive). If they come right after the pending
+    /// text, they become part of it; otherwise that is written first, and they are the pending
+    /// text. Fails if a write does.
     #[inline(always)]
-    pub(crate) fn append<W: Sink>(
+    pub(crate) fn queue<W: Sink>(
         &mut self,
         bytes: &[u8],
         from: usize,
@@ -175,12 +102,11 @@ impl PendingCopy {
         Ok(())
     }
 
-    /// Adds the bytes from `from` up to `to` (exclusive), without the `n` bytes after the first, to
-    /// the output, as one piece or two. A piece that comes right after the pending text becomes
-    /// part of it; otherwise that is written first, and the piece is the pending text. Fails if a
-    /// write does.
+    /// Queues the bytes from `from` up to `to` (exclusive), without the `n` bytes after the first,
+    /// as one piece or two. A piece that comes right after the pending text becomes part of it;
+    /// otherwise that is written first, and the piece is the pending text. Fails if a write does.
     #[inline(always)]
-    pub(crate) fn append_parts<W: Sink>(
+    pub(crate) fn queue_parts<W: Sink>(
         &mut self,
         bytes: &[u8],
         from: usize,
@@ -195,19 +121,19 @@ impl PendingCopy {
             (W.device out.old) (W.device out.new) (bytes_without bytes.now from to n) result }
     {
         if n == 0 {
-            return self.append(bytes, from, to, out);
+            return self.queue(bytes, from, to, out);
         }
-        self.append(bytes, from, from + 1, out)?;
-        self.append(bytes, from + 1 + n, to, out)
+        self.queue(bytes, from, from + 1, out)?;
+        self.queue(bytes, from + 1 + n, to, out)
     }
 
-    /// Adds a line to the output: the bytes from `from` up to `to - 1` (exclusive), without the `n`
-    /// bytes after the first, and a line feed in place of the byte at `to - 1`.
+    /// Queues a line: the bytes from `from` up to `to - 1` (exclusive), without the `n` bytes after
+    /// the first, and a line feed in place of the byte at `to - 1`.
     ///
-    /// If that byte is a line feed already, the bytes become pending text, by `append_parts`.
+    /// If that byte is a line feed already, the bytes become pending text, by `queue_parts`.
     /// Otherwise the pending text is written, and then the line. Fails if a write does.
     #[inline(always)]
-    pub(crate) fn append_line<W: Sink>(
+    pub(crate) fn queue_line<W: Sink>(
         &mut self,
         bytes: &[u8],
         from: usize,
@@ -223,7 +149,7 @@ impl PendingCopy {
     {
         let last = to - 1;
         if bytes[last] == b'\n' {
-            return self.append_parts(bytes, from, to, n, out);
+            return self.queue_parts(bytes, from, to, n, out);
         }
         self.flush(bytes, out)?;
         // With CR LF, this is each change of a scalar that has a code of one byte.
@@ -234,11 +160,11 @@ impl PendingCopy {
         put_line(bytes, from, last, n, out)
     }
 
-    /// Adds the line of `time` to the output. If `from` is less than `to`, the bytes from `from` up
-    /// to `to - 1` (exclusive), and a line feed, are that line, and `append_line` adds it.
-    /// Otherwise the pending text is written, and then the line. Fails if a write does.
+    /// Queues the line of `time`. If `from` is less than `to`, the bytes from `from` up to `to - 1`
+    /// (exclusive), and a line feed, are that line, and `queue_line` takes it. Otherwise the
+    /// pending text is written, and then the line. Fails if a write does.
     #[inline(always)]
-    pub(crate) fn append_time<W: Sink>(
+    pub(crate) fn queue_time<W: Sink>(
         &mut self,
         time: u64,
         bytes: &[u8],
@@ -253,7 +179,7 @@ impl PendingCopy {
             (W.device out.old) (W.device out.new) (time_line time) result }
     {
         if from < to {
-            return self.append_line(bytes, from, to, 0, out);
+            return self.queue_line(bytes, from, to, 0, out);
         }
         self.flush(bytes, out)?;
         put_time(time, out)

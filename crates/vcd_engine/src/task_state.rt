@@ -1,6 +1,6 @@
 //! What each task keeps between items, and what it does with an item.
 ghost use Rattle.std.specs.Prelude.{◌≡◌, ◌-◌, ◌^◌, ◌<◌, ◌≤◌, [], length, true, IfOk};
-ghost use Rattle.vcd_engine.specs.Names.{AtClose, BeginsAs, bytes_of, close_text, Counts, HasGoodText, HasRoomFor, IsValid, Keeps, last_of, may_end_early, passed_of, request_in, request_of, room_of, room_size, RunsOver, SameTask, StartsOver, Takes, TakesEach};
+ghost use Rattle.vcd_engine.specs.Names.{AtClose, BeginsAs, bytes_of, close_text, Counts, HasGoodText, HasRoomFor, IsValid, Keeps, last_time_of, may_end_early, passed_of, request_in, request_of, room_of, room_size, RunsOver, SameTask, StartsOver, Takes, TakesEach};
 
 pub(crate) mod check;
 pub(crate) mod cut;
@@ -26,8 +26,8 @@ pub(crate) enum TaskState<'n, 'r> {
 }
 
 /// Returns the time of the last timestamp by these registers; `None` if there was none.
-pub(crate) fn last_of(regs: Regs) -> Option<u64>
-    ensures { result ≡ last_of regs }
+pub(crate) fn last_time_of(regs: Regs) -> Option<u64>
+    ensures { result ≡ last_time_of regs }
 {
     if regs.marked {
         return Some(regs.time);

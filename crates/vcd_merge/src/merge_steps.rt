@@ -152,7 +152,7 @@ fn close<W: Sink>(seats: &[Seat], written: Option<u64>, out: &mut W) -> Result<(
 /// inputs, and `written` is the time whose line was written last. Fails at a fault of the input
 /// whose turn it is, at a failed read of it, and at a failed write.
 #[inline(always)]
-fn run_next<S: Source, W: Sink>(
+fn run_step<S: Source, W: Sink>(
     heads: &[Head],
     order: &mut TurnOrder,
     seats: &mut [Seat],
@@ -183,46 +183,6 @@ fn run_next<S: Source, W: Sink>(
     }
     close(seats, *written, out)?;
     Ok(More::Ended(Done::Whole))
-}
-
-/// Takes the next turn of a merge, by `order`, and writes to `out` what is due with its items.
-/// `sources` has one source for each input, and `windows` one part. Returns `Again` if some input
-/// has not finished; otherwise writes the end of the merged dump and returns `Ended`. After any
-/// result except `Again` the merge is over. Fails at a fault of the input whose turn it is, at a
-/// failed read of it, and at a failed write.
-#[inline(always)]
-fn run_step<S: Source, W: Sink>(
-    merge: &mut Merge<'_, '_>,
-    order: &mut TurnOrder,
-    sources: &mut [S],
-    windows: &mut Windows<'_>,
-    out: &mut W,
-) -> Result<More, Stop>
-    requires reads { All (λ s. S.failures s < 2 ^ 64 - 1) sources.old }
-    requires out_failures { (W.device out.old).failures < 2 ^ 64 - 1 }
-    requires ready { IsReady (standing_of merge.old sources.old windows.old) }
-    requires order { AllWait merge.old.seats.now order.old.inputs order.old.len }
-    ensures runs { Runs S.rest S.failures order.old.until
-        (standing_of merge.old sources.old windows.old)
-        (standing_of merge.new sources.new windows.new)
-        (W.device out.old) (W.device out.new) result }
-    ensures last { EndsAtReadOf (map S.last_failed sources.new) result }
-    ensures order { result ≡ Ok More.Again
-        → AllWait merge.new.seats.now order.new.inputs order.new.len }
-    ensures heads { merge.new.heads.now ≡ merge.old.heads.now }
-    ensures going { is_going merge.new ≡ goes_on result }
-{
-    let answer = run_next(
-        merge.heads,
-        order,
-        merge.seats,
-        sources,
-        windows,
-        &mut merge.written,
-        out,
-    );
-    merge.going = matches!(answer, Ok(More::Again));
-    answer
 }
 
 /// Returns the order in which the inputs that have not finished, of at most 64, take their turns.
@@ -287,7 +247,17 @@ pub fn merge_step<S: Source, W: Sink>(
     ensures going { is_going merge.new ≡ goes_on result }
 {
     let mut order = order_of(merge.seats, 0);
-    run_step(merge, &mut order, sources, windows, out)
+    let answer = run_step(
+        merge.heads,
+        &mut order,
+        merge.seats,
+        sources,
+        windows,
+        &mut merge.written,
+        out,
+    );
+    merge.going = matches!(answer, Ok(More::Again));
+    answer
 }
 
 impl<'h, 's> Merge<'h, 's> {
@@ -330,8 +300,17 @@ impl<'h, 's> Merge<'h, 's> {
         ensures over { is_going self.new ≡ false }
     {
         let mut order = order_of(self.seats, u64::MAX);
+        self.going = false;
         'items: loop {
-            match run_step(self, &mut order, sources, windows, out)? {
+            match run_step(
+                self.heads,
+                &mut order,
+                self.seats,
+                sources,
+                windows,
+                &mut self.written,
+                out,
+            )? {
                 More::Again => {}
                 More::Ended(done) => return Ok(done),
             }

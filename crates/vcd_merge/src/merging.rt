@@ -9,8 +9,8 @@ ghost use Rattle.vcd_body.specs.Whole.{IsPrompt};
 use crate::order::Turn;
 use crate::seat::Seat;
 use vcd_body::{
-    Extent, Form, Item, Regs, ScannedItem, Stop, Visit, change_text, next_item, only_digit,
-    pass_items, pass_on, put_code_line, put_renamed, put_renamed_ahead, put_time, walk_ahead,
+    Form, Item, Regs, ScannedItem, Stop, Visit, change_text, next_item, only_digit, pass_items,
+    pass_on, put_code_line, put_renamed, put_renamed_ahead, put_time, walk_ahead,
 };
 use vcd_head::Head;
 use vcd_text::{Feed, Sink, Source, WriteFailed};
@@ -45,12 +45,22 @@ fn put_due_time<W: Sink>(
     Ok(())
 }
 
+/// How far an input has come, as a change of it needs to know.
+#[derive(Clone, Copy)]
+struct Reached {
+    // The time of the input, in ticks of the merged dump.
+    time: u64,
+    // The number that the first code of the input has in the merged dump.
+    first: u64,
+    // Whether a section is open.
+    inside: bool,
+}
+
 /// Writes a change of the code at index `code` of `codes` under the code that the merged dump has
-/// for it, after the line of `time`, unless `written` says that it was written last. It is for
-/// changes whose size the look-up did not return. Writes nothing for an event if `inside` says that
-/// a section is open, and for an index without a code. `first` is the number of the first code that
-/// the merged dump has for this input. Fails if a write does.
-// Not inlined, and takes no struct, since it is rare.
+/// for it, after the line of its time, unless `written` says that it was written last. It is for
+/// changes whose size the look-up did not return. Writes nothing for an event inside a section, and
+/// for an index without a code. Fails if a write does.
+// Not inlined, since it is rare.
 #[cold]
 #[inline(never)]
 fn put_unsized<W: Sink>(
@@ -58,27 +68,25 @@ fn put_unsized<W: Sink>(
     form: Form,
     text: &[u8],
     codes: &[Code],
-    inside: bool,
-    time: u64,
-    first: u64,
+    reached: Reached,
     written: &mut Option<u64>,
     out: &mut W,
 ) -> Result<(), WriteFailed>
     requires failures { (W.device out.old).failures < 2 ^ 64 - 1 }
     requires sound { IsGoodText codes.now code form text.now }
-    ensures takes { (r : Regs) → inside ≡ is_some r.section
-        → PutsDue codes.now text.now (item.Change code form) r time first
+    ensures takes { (r : Regs) → reached.inside ≡ is_some r.section
+        → PutsDue codes.now text.now (item.Change code form) r reached.time reached.first
         written.old written.new (W.device out.old) (W.device out.new) result }
     ensures counts { Counts (W.device out.old) (W.device out.new) result }
 {
     let Some(declared) = code_in(codes, code) else {
         return Ok(());
     };
-    if is_left_out(declared.event, inside) {
+    if is_left_out(declared.event, reached.inside) {
         return Ok(());
     }
-    put_due_time(time, written, out)?;
-    let number = first.saturating_add(code as u64);
+    put_due_time(reached.time, written, out)?;
+    let number = reached.first.saturating_add(code as u64);
     put_renamed(declared.size, declared.event, form, text, number, out)
 }
 
@@ -163,7 +171,6 @@ impl Visit<Option<u64>> for Merging {
         _regs: Regs,
         time: u64,
         _timestamp: ScannedItem<'_>,
-        _extent: Extent<'_>,
     ) {
         self.time = time * self.factor;
         self.is_written = false;
@@ -178,7 +185,6 @@ impl Visit<Option<u64>> for Merging {
         view: HeadView<'_>,
         regs: Regs,
         change: ScannedItem<'_>,
-        extent: Extent<'_>,
         out: &mut W,
     ) -> Result<(), WriteFailed> {
         let Item::Change { code, form } = change.item else {
@@ -192,22 +198,17 @@ impl Visit<Option<u64>> for Merging {
         if change.size_or_zero == 0 {
             let inside = regs.section.is_some();
             let (time, first) = (self.time, self.first);
-            let (text, codes) = (change.text, view.codes);
+            let reached = Reached {
+                time,
+                first,
+                inside,
+            };
             self.is_written = false;
-            return put_unsized(code, form, text, codes, inside, time, first, written, out);
+            return put_unsized(code, form, change.text, view.codes, reached, written, out);
         }
         self.put_due_line(written, out)?;
         let number = self.first.wrapping_add(code as u64);
-        let to = extent.to.passed();
-        put_renamed_ahead(
-            change,
-            form,
-            extent.to.bytes(),
-            change.begin,
-            to,
-            number,
-            out,
-        )
+        put_renamed_ahead(change, form, number, out)
     }
 
     /// Does nothing.
@@ -220,7 +221,6 @@ impl Visit<Option<u64>> for Merging {
         _before: Regs,
         _after: Regs,
         _section: ScannedItem<'_>,
-        _extent: Extent<'_>,
         _out: &mut W,
     ) -> Result<(), WriteFailed> {
         Ok(())
@@ -233,7 +233,7 @@ impl Visit<Option<u64>> for Merging {
 /// time and the registers of the input, and `written` is the time whose line was written last, as
 /// before the call. Fails if a write does.
 #[inline(never)]
-fn take_ahead<S: Source, W: Sink>(
+fn take_turn_ahead<S: Source, W: Sink>(
     head: &Head,
     before: u64,
     feed: &mut Feed<'_, '_, '_, '_, S>,
@@ -336,9 +336,12 @@ fn take_item<S: Source, W: Sink>(
             let text = change_text(feed, form);
             let inside = seat.regs.section.is_some();
             let (time, first) = (seat.time, seat.first);
-            put_unsized(
-                code, form, text, view.codes, inside, time, first, written, out,
-            )?;
+            let reached = Reached {
+                time,
+                first,
+                inside,
+            };
+            put_unsized(code, form, text, view.codes, reached, written, out)?;
         }
         Item::Begin(_) => {}
         Item::End => {}
@@ -377,7 +380,7 @@ fn take_turn<S: Source, W: Sink>(
     ensures writes { CountsWrites (W.device out.old) (W.device out.new) result }
 {
     'items: loop {
-        if take_ahead(head, turn.before, feed, seat, written, out)? {
+        if take_turn_ahead(head, turn.before, feed, seat, written, out)? {
             return Ok(());
         }
         pass_on(feed, out)?;

@@ -1,12 +1,12 @@
 //! `check`: counts what a dump has.
 ghost use Rattle.std.specs.Prelude.{◌≡◌, ◌-◌, ◌^◌, ◌<◌, [], List, true, false};
-ghost use Rattle.vcd_engine.specs.Names.{AreCounted, BodyItem, check_close, Counts, Header, IsViewOf, last_mark, last_of, Takes};
+ghost use Rattle.vcd_engine.specs.Names.{AreCounted, BodyItem, check_close, Counts, Header, IsViewOf, last_mark, last_time_of, Takes};
 
-use crate::pending::{PendingCopy, SpannedItem};
+use crate::pending::PendingCopy;
 use crate::report::{declared_in, put_report};
-use crate::task_state::last_of;
+use crate::task_state::last_time_of;
 use crate::task_state::walk::{AheadTask, NoLine};
-use vcd_body::{Item, Regs};
+use vcd_body::{Item, Regs, ScannedItem};
 use vcd_text::{Sink, WriteFailed};
 use vcd_view::HeadView;
 
@@ -40,7 +40,7 @@ impl Check {
     ) -> Result<(), WriteFailed>
         requires { (W.device out.old).failures < 2 ^ 64 - 1 }
         ensures takes { (h : Header) (items : List BodyItem) → IsViewOf view.entry h
-            → last_of regs ≡ last_mark items → AreCounted items self.now
+            → last_time_of regs ≡ last_mark items → AreCounted items self.now
             → Takes (W.device out.old) (W.device out.new) (check_close h items) result }
         ensures counts { Counts (W.device out.old) (W.device out.new) result }
     {
@@ -53,7 +53,7 @@ impl Check {
             ("sections", self.sections),
             ("changes", self.changes),
         ];
-        put_report(out, &counts, last_of(regs))
+        put_report(out, &counts, last_time_of(regs))
     }
 }
 
@@ -86,12 +86,12 @@ impl AheadTask<NoLine> for Check {
         &mut self,
         _view: HeadView<'_>,
         _regs: Regs,
-        item: SpannedItem<'_>,
+        scanned: ScannedItem<'_>,
         _line: &NoLine,
         _pending: &mut PendingCopy,
         _out: &mut W,
     ) -> Result<(), WriteFailed> {
-        match item.scanned.item {
+        match scanned.item {
             Item::Begin(_) => self.sections = self.sections.wrapping_add(1),
             Item::Change { .. } => self.changes = self.changes.wrapping_add(1),
             Item::Time(_) => {}

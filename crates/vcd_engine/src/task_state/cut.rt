@@ -4,12 +4,12 @@ ghost use Rattle.vcd_engine.specs.Names.{AreCut, AtClose, BeginsAs, BeginsBy, Bo
 ghost use Rattle.vcd_engine.specs.declared.task.Task.TheVariants as task;
 
 use crate::item_text::{ItemText, may_keep};
-use crate::pending::{PendingCopy, SpannedItem};
+use crate::pending::PendingCopy;
 use crate::task::Room;
-use crate::task_state::last_of;
+use crate::task_state::last_time_of;
 use crate::task_state::walk::{AheadTask, KnownLine, NoLine, take_given};
 use crate::values::set_item;
-use vcd_body::{Item, Regs, Stop, Table, put_short, put_time};
+use vcd_body::{Item, Regs, ScannedItem, Stop, Table, put_short, put_time};
 use vcd_head::{put_head, select};
 use vcd_text::{Sink, WriteFailed, put};
 use vcd_view::HeadView;
@@ -189,7 +189,7 @@ impl<'r> Cut<'r> {
         if !self.started {
             return put_section(&self.table, view, self.from, out);
         }
-        self.text.close(last_of(regs), out)
+        self.text.close(last_time_of(regs), out)
     }
 }
 
@@ -221,12 +221,11 @@ impl<'r> AheadTask<NoLine> for Cut<'r> {
         &mut self,
         _view: HeadView<'_>,
         _regs: Regs,
-        item: SpannedItem<'_>,
+        scanned: ScannedItem<'_>,
         _line: &NoLine,
         _pending: &mut PendingCopy,
         _out: &mut W,
     ) -> Result<(), WriteFailed> {
-        let scanned = item.scanned;
         set_item(&mut self.table, scanned.item, scanned.text, scanned.bits);
         Ok(())
     }
@@ -260,15 +259,15 @@ impl<'r> AheadTask<KnownLine> for Cut<'r> {
         &mut self,
         view: HeadView<'_>,
         regs: Regs,
-        item: SpannedItem<'_>,
+        scanned: ScannedItem<'_>,
         line: &KnownLine,
         pending: &mut PendingCopy,
         out: &mut W,
     ) -> Result<(), WriteFailed> {
-        if !may_keep(view, regs, item.scanned.item) {
+        if !may_keep(view, regs, scanned.item) {
             return Ok(());
         }
         self.text
-            .put_spanned(view, regs.time, item, line, pending, out)
+            .queue(view, regs.time, scanned, line, pending, out)
     }
 }

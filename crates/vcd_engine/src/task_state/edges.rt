@@ -3,11 +3,11 @@ ghost use Rattle.std.specs.Prelude.{◌≡◌, ◌-◌, ◌^◌, ◌<◌, ◌∷
 ghost use Rattle.vcd_engine.specs.Names.{AreEdges, BodyItem, change_to, ClosesOver, Counts, Device, edges_close, HasRoomFor, Header, HeadView, IdCode, IsGoodText, IsUnmatched, IsViewOf, IsWithin, leaves_open, names_counted, Request, room_in_edges, room_size, SameEdges, Starts};
 ghost use Rattle.vcd_engine.specs.declared.task.Task.TheVariants as task;
 
-use crate::pending::{PendingCopy, SpannedItem};
+use crate::pending::PendingCopy;
 use crate::tally::{count_trigger, put_rows, take_value};
 use crate::task::Room;
 use crate::task_state::walk::{AheadTask, NoLine};
-use vcd_body::{Form, Item, Regs, Stop, Table};
+use vcd_body::{Form, Item, Regs, ScannedItem, Stop, Table};
 use vcd_head::select;
 use vcd_text::{Sink, WriteFailed};
 use vcd_view::{Code, HeadView, code_in};
@@ -116,12 +116,11 @@ impl<'n, 'r> AheadTask<NoLine> for Edges<'n, 'r> {
         &mut self,
         view: HeadView<'_>,
         regs: Regs,
-        item: SpannedItem<'_>,
+        scanned: ScannedItem<'_>,
         _line: &NoLine,
         _pending: &mut PendingCopy,
         _out: &mut W,
     ) -> Result<(), WriteFailed> {
-        let scanned = item.scanned;
         let Item::Change { code, form } = scanned.item else {
             return Ok(());
         };

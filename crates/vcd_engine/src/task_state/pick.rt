@@ -1,16 +1,16 @@
 //! `pick`: the dump of the selected variables.
 ghost use Rattle.std.specs.Prelude.{◌≡◌, ◌-◌, ◌^◌, ◌<◌, map, string_bytes, IfOk, MatchResult, [], List, length, true, false};
-ghost use Rattle.vcd_engine.specs.Names.{ArePicked, AreRegsAfter, BodyItem, Counts, CountsStop, flags_in, HasRoomFor, Header, is_kept, last_mark, last_of, names_in, pick_close, Request, StartsOver, StopsUnread, Takes};
+ghost use Rattle.vcd_engine.specs.Names.{ArePicked, AreRegsAfter, BodyItem, Counts, CountsStop, flags_in, HasRoomFor, Header, is_kept, last_mark, last_time_of, names_in, pick_close, Request, StartsOver, StopsUnread, Takes};
 ghost use Rattle.vcd_engine.specs.declared.task.Task.TheVariants as task;
 
 use crate::choice::is_chosen;
 use crate::item_text::{ItemText, may_keep};
-use crate::pending::{PendingCopy, SpannedItem};
+use crate::pending::PendingCopy;
 use crate::selection::select_codes;
 use crate::task::Room;
-use crate::task_state::last_of;
+use crate::task_state::last_time_of;
 use crate::task_state::walk::{AheadTask, KnownLine};
-use vcd_body::{Item, Regs, Stop};
+use vcd_body::{Item, Regs, ScannedItem, Stop};
 use vcd_head::put_head;
 use vcd_text::{Sink, WriteFailed};
 use vcd_view::HeadView;
@@ -77,12 +77,12 @@ impl<'n, 'r> Pick<'n, 'r> {
     pub(crate) fn close<W: Sink>(&self, regs: Regs, out: &mut W) -> Result<(), WriteFailed>
         requires { (W.device out.old).failures < 2 ^ 64 - 1 }
         ensures takes { (h : Header) (items : List BodyItem) → AreRegsAfter items regs
-            → last_of regs ≡ last_mark items → ArePicked self.now h items
+            → last_time_of regs ≡ last_mark items → ArePicked self.now h items
             → Takes (W.device out.old) (W.device out.new)
             (pick_close h (names_in self.now) items) result }
         ensures counts { Counts (W.device out.old) (W.device out.new) result }
     {
-        self.text.close(last_of(regs), out)
+        self.text.close(last_time_of(regs), out)
     }
 }
 
@@ -113,15 +113,15 @@ impl<'n, 'r> AheadTask<KnownLine> for Pick<'n, 'r> {
         &mut self,
         view: HeadView<'_>,
         regs: Regs,
-        item: SpannedItem<'_>,
+        scanned: ScannedItem<'_>,
         line: &KnownLine,
         pending: &mut PendingCopy,
         out: &mut W,
     ) -> Result<(), WriteFailed> {
-        if !self.keeps(view, regs, item.scanned.item) {
+        if !self.keeps(view, regs, scanned.item) {
             return Ok(());
         }
         self.text
-            .put_spanned(view, regs.time, item, line, pending, out)
+            .queue(view, regs.time, scanned, line, pending, out)
     }
 }

@@ -4,12 +4,12 @@ ghost use Rattle.vcd_engine.specs.Names.{AreSampled, asked_in, close_text, Close
 ghost use Rattle.vcd_engine.specs.declared.task.Task.TheVariants as task;
 
 use crate::leads::lead_on;
-use crate::pending::{PendingCopy, SpannedItem};
+use crate::pending::PendingCopy;
 use crate::sample_lines::put_samples;
 use crate::task::Room;
 use crate::task_state::walk::{AheadTask, NoLine, take_given};
 use crate::values::set_item;
-use vcd_body::{Item, Regs, Stop, Table};
+use vcd_body::{Item, Regs, ScannedItem, Stop, Table};
 use vcd_head::select;
 use vcd_text::{Sink, WriteFailed};
 use vcd_view::HeadView;
@@ -164,12 +164,11 @@ impl<'n, 'r> AheadTask<NoLine> for Sample<'n, 'r> {
         &mut self,
         _view: HeadView<'_>,
         _regs: Regs,
-        item: SpannedItem<'_>,
+        scanned: ScannedItem<'_>,
         _line: &NoLine,
         _pending: &mut PendingCopy,
         _out: &mut W,
     ) -> Result<(), WriteFailed> {
-        let scanned = item.scanned;
         set_item(&mut self.table, scanned.item, scanned.text, scanned.bits);
         Ok(())
     }

@@ -6,7 +6,7 @@ use Rattle.vcd_text.specs.Passed.{Passed, line_ahead}
 use Rattle.vcd_body.specs.Words.{Begins}
 use Rattle.vcd_body.specs.declared.item.Form.TheVariants as form
 use Rattle.vcd_body.proofs.AheadLemmas.{passes_same, both_taken}
-use Rattle.vcd_body.proofs.LineLemmas.{token_begun, token_there, both_there, both_places}
+use Rattle.vcd_body.proofs.LineLemmas.{begins_after, token_begun, token_there, both_there, both_places}
 use Rattle.vcd_body.proofs.ahead.real_ahead.Goals as goal
 
 pub returns-clause-takes : goal.returns-clause-takes
@@ -44,8 +44,10 @@ returns-clause-takes c = λ a r o.
       sized = c.in_ok-found.ensures.sized;
       bits = tt;
       binary = λ e. absurd (false≢true e);
-      spelled = (code, both_there bytes (bytes_of mid) _ _ _ token _ _ begins.0 begins.1 begins.3 text t.same.0 first second, c.in_ok-found.ensures.names, both_places bytes (bytes_of mid) _ _ _ token _ _ begins.0 begins.1 begins.3 text t.same.0 first second);
-      begun = (code, both_there bytes (bytes_of mid) _ _ _ token _ _ begins.0 begins.1 begins.3 text t.same.0 begun second, c.in_ok-found.ensures.names, both_places bytes (bytes_of mid) _ _ _ token _ _ begins.0 begins.1 begins.3 text t.same.0 begun second);
+      bytes = c.bytes.ensures;
+      before = begins_after bytes (passed_of a) (passed_of mid) token first;
+      ends = c.passed.ensures.passed;
+      spelled = rw (c.bytes.ensures ∙ m.same.0 ∙ t.same.0, c.passed.ensures.passed) (code, both_there bytes (bytes_of mid) _ _ _ token _ _ begins.0 begins.1 begins.3 text t.same.0 begun second, c.in_ok-found.ensures.names, both_places bytes (bytes_of mid) _ _ _ token _ _ begins.0 begins.1 begins.3 text t.same.0 begun second);
       further = less;
       within = subst (λ (bs : _). passed_of new ≤ length bs) (sym m.same.0) m.within;
       same = (m.same.0 ∙ t.same.0, m.same.1 ∙ t.same.1);

@@ -1,4 +1,4 @@
-use Rattle.std.proofs.Common.{refl, ℕ, [], ◌∷◌, ◌<◌, ◌≤◌, drop, length, subst, sym, arith}
+use Rattle.std.proofs.Common.{refl, ℕ, [], ◌∷◌, ◌<◌, ◌≤◌, ◌∙◌, drop, length, subst, sym, arith}
 use Rattle.std.proofs.lemmas.Bool.{false≢true}
 use Rattle.vcd_model.specs.Bytes.{decimal_value}
 use Rattle.vcd_model.specs.BodyPhrases.{items_of}
@@ -8,7 +8,7 @@ use Rattle.vcd_text.specs.Ahead.{bytes_of, longest_of, passed_of, start_of}
 use Rattle.vcd_text.specs.Passed.{line_ahead}
 use Rattle.vcd_body.proofs.AheadLemmas.{passes_same, mark_taken}
 use Rattle.vcd_body.proofs.FindLemmas.{time_whole}
-use Rattle.vcd_body.proofs.LineLemmas.{token_begun, token_there, mark_there}
+use Rattle.vcd_body.proofs.LineLemmas.{begins_after, token_begun, token_there, mark_there}
 use Rattle.vcd_body.proofs.PhraseLemmas.{mark_misplaced, time_passes}
 use Rattle.vcd_body.specs.Reads.{Passes}
 use Rattle.vcd_body.specs.Words.{Begins}
@@ -31,7 +31,7 @@ returns-in-Ok-clause-takes c = λ a v o.
     let digits = c.requires.time in
     let may = c.in-Ok.ensures.may in
     let late : regs.time ≤ decimal_value (drop 1 token) = subst (λ (n : ℕ). regs.time ≤ n) (sym digits.1) may.forth in
-    rw (m.item, m.text, m.size, m.positions.1, m.positions.0, m.bits, m.binary, c.begin_of-begin.ensures) (record {
+    rw (m.item, m.text, m.size, m.begin, m.positions.0, m.bits, m.binary) (record {
       gives = λ h limit lines bytes before items v over k g.
           let one = passes_same limit (longest_of a) lines bytes (bytes_of a) from to (start_of c.args.ahead token) token over.0 over.1 (taken.gives lines) g.tokens g.passed in
           mark_taken h.codes limit lines bytes before items from regs g k _ time (line_ahead lines bytes (start_of c.args.ahead token)) token less one (λ earlier e. subst (λ (n : ℕ). Passes h.codes earlier token (BodyItem.Time n) × (time_after (items_of earlier) ≤ n)) digits.1 (time_passes h.codes earlier token (subst (λ (f : PhraseKind). Begins token f) c.requires.kind o.begins) regs e (time_whole (drop 1 token) time digits.0 digits.1 digits.2) may.outside late));
@@ -43,19 +43,14 @@ returns-in-Ok-clause-takes c = λ a v o.
       sized = refl;
       bits = tt;
       binary = λ e. absurd (false≢true e);
-      spelled = mark_there bytes _ _ token _ taken.some c.requires.time there;
-      begun = mark_there bytes _ _ token _ taken.some c.requires.time (token_begun bytes from to token there);
+      bytes = m.bytes;
+      before = begins_after bytes from to token there;
+      ends = m.positions.1;
+      spelled = rw (m.bytes ∙ taken.same.0, m.positions.1) (mark_there bytes _ _ token _ taken.some c.requires.time (token_begun bytes from to token there));
       further = less;
       within = subst (λ (bs : _). to ≤ length bs) (sym taken.same.0) taken.within;
       same = taken.same;
     })
-
-pub returns-in-Ok-clause-spelled : goal.returns-in-Ok-clause-spelled
-returns-in-Ok-clause-spelled c = λ a o.
-    let token = c.args.opening.token.now in
-    let taken = o.token in
-    let there = token_there (bytes_of a) (passed_of a) (passed_of c.args.ahead) token taken.further taken.within taken.before taken.place in
-    rw (c.without_text.ensures.positions.1, c.begin_of-begin.ensures) (mark_there (bytes_of a) _ _ token _ taken.some c.requires.time there)
 
 pub returns-in-Err-clause-none : goal.returns-in-Err-clause-none
 returns-in-Err-clause-none c = λ _. mark_misplaced c.args.regs.now c.args.time _ c.in-Err.ensures.may

@@ -6,7 +6,7 @@ use Rattle.vcd_body.specs.Changes.{AreBinaryIf}
 use Rattle.vcd_body.specs.Lines.{MayBe}
 use Rattle.vcd_body.specs.declared.item.Form.TheVariants as form
 use Rattle.vcd_body.proofs.AheadLemmas.{passes_same, both_taken, has_bits}
-use Rattle.vcd_body.proofs.LineLemmas.{token_begun, token_there, both_there, both_places}
+use Rattle.vcd_body.proofs.LineLemmas.{begins_after, token_begun, token_there, both_there, both_places}
 use Rattle.vcd_body.proofs.WordLemmas.{some_of}
 use Rattle.vcd_body.proofs.ahead.vector_ahead.Goals as goal
 
@@ -57,8 +57,10 @@ returns-clause-takes c = λ a r v.
       sized = c.in_ok-found.ensures.sized;
       bits = rw text (has_bits c.in_ok-found.found.position (drop 1 token) c.args.bits c.requires.bits);
       binary = c.are_binary_or_known-binary.ensures;
-      spelled = (code, both_there bytes (bytes_of mid) _ _ _ token _ _ begins.0 begins.1 begins.3 text o.same.0 first second, c.in_ok-found.ensures.names, both_places bytes (bytes_of mid) _ _ _ token _ _ begins.0 begins.1 begins.3 text o.same.0 first second);
-      begun = (code, both_there bytes (bytes_of mid) _ _ _ token _ _ begins.0 begins.1 begins.3 text o.same.0 begun second, c.in_ok-found.ensures.names, both_places bytes (bytes_of mid) _ _ _ token _ _ begins.0 begins.1 begins.3 text o.same.0 begun second);
+      bytes = c.bytes.ensures;
+      before = begins_after bytes (passed_of a) (passed_of mid) token first;
+      ends = c.passed.ensures.passed;
+      spelled = rw (c.bytes.ensures ∙ m.same.0 ∙ o.same.0, c.passed.ensures.passed) (code, both_there bytes (bytes_of mid) _ _ _ token _ _ begins.0 begins.1 begins.3 text o.same.0 begun second, c.in_ok-found.ensures.names, both_places bytes (bytes_of mid) _ _ _ token _ _ begins.0 begins.1 begins.3 text o.same.0 begun second);
       further = less;
       within = subst (λ (bs : _). passed_of new ≤ length bs) (sym m.same.0) m.within;
       same = (m.same.0 ∙ o.same.0, m.same.1 ∙ o.same.1);

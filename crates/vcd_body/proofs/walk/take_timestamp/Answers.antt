@@ -1,16 +1,15 @@
-use Rattle.std.proofs.Common.{refl}
+use Rattle.std.proofs.Common.{Ok, refl}
+use Rattle.vcd_body.proofs.WalkLemmas.{one_taken, stands_there}
 use Rattle.vcd_body.proofs.walk.take_timestamp.Goals as goal
 
 pub take_timestamp-requires-clause-item : goal.take_timestamp-requires-clause-item
-take_timestamp-requires-clause-item g c = c.in_ok-timestamp.ensures.takes c.args.ahead.now c.args.view c.requires.opens
+take_timestamp-requires-clause-item g c = (_, _, c.in_ok-timestamp.ensures.takes c.args.ahead.now c.args.view c.requires.opens)
+
+pub take_timestamp-requires-clause-stands : goal.take_timestamp-requires-clause-stands
+take_timestamp-requires-clause-stands g c = stands_there g.V.Visit.takes g.V.Visit.stands _ _ _ _ _ (c.in_ok-timestamp.ensures.takes c.args.ahead.now c.args.view c.requires.opens) _ _ c.requires.stands
 
 pub returns : goal.returns
 returns g c = λ out.
     let n = c.in_ok-timestamp.ensures in
-    rw n.regs (record {
-      scanned = c.in_ok-timestamp.timestamp;
-      item = n.takes c.args.ahead.now c.args.view c.requires.opens;
-      did = c.take_timestamp.ensures.takes out;
-      counts = refl;
-      on = c.take_timestamp.ensures.stands;
-    })
+    let item = n.takes c.args.ahead.now c.args.view c.requires.opens in
+    rw n.regs (one_taken g.V.Visit.takes g.V.Visit.stands _ _ _ _ _ item _ _ _ _ _ _ _ (Ok tt) (c.take_timestamp.ensures.takes _ _ out item) refl c.take_timestamp.ensures.stands)

@@ -10,14 +10,14 @@ both : (v k v' k' : ℕ) → v ≡ v' → k ≡ k' → ◌≡◌ {A = Digits} (r
 both v k v' k' e f = rw (e, f) refl
 
 pub with_digit-ones-requires : goal.with_digit-ones-requires
-with_digit-ones-requires c = rw c.loop-digit.invariant.0 (room_for_one is_one c.last_of-last.result.now c.loop-digit.digit-index (omega arith) c.last_of-last.ensures.most)
+with_digit-ones-requires c = rw c.loop-digit.invariant.0 (room_for_one is_one c.last_digits-last.result.now c.loop-digit.digit-index (omega arith) c.last_digits-last.ensures.most)
 
 pub with_digit-all-requires : goal.with_digit-all-requires
-with_digit-all-requires c = rw c.loop-digit.invariant.1 (room_for_one is_known c.last_of-last.result.now c.loop-digit.digit-index (omega arith) c.last_of-last.ensures.most)
+with_digit-all-requires c = rw c.loop-digit.invariant.1 (room_for_one is_known c.last_digits-last.result.now c.loop-digit.digit-index (omega arith) c.last_digits-last.ensures.most)
 
 pub loop-digit-preserved : goal.loop-digit-preserved
 loop-digit-preserved c =
-    let last = c.last_of-last.result.now in
+    let last = c.last_digits-last.result.now in
     let i = c.loop-digit.digit-index in
     let lt : i < length last = omega arith in (
       c.with_digit-ones.ensures ∙ ap (λ (n : ℕ). 2 * n + cond (is_one (get_or last i 0)) 1 0) c.loop-digit.invariant.0 ∙ sym (number_one_more is_one last i lt),
@@ -26,13 +26,13 @@ loop-digit-preserved c =
 
 pub known_in_all-known-requires : goal.known_in_all-known-requires
 known_in_all-known-requires c =
-    let last = c.last_of-last.result.now in
+    let last = c.last_digits-last.result.now in
     let all : take c.loop-digit.digit-index last ≡ last = take_all c.loop-digit.digit-index last (omega arith) in
-    record { most = c.last_of-last.ensures.most; known = c.loop-digit.invariant.1 ∙ ap (number_where is_known) all }
+    record { most = c.last_digits-last.ensures.most; known = c.loop-digit.invariant.1 ∙ ap (number_where is_known) all }
 
 pub returns : goal.returns
 returns c =
-    let last = c.last_of-last.result.now in
+    let last = c.last_digits-last.result.now in
     let all : take c.loop-digit.digit-index last ≡ last = take_all c.loop-digit.digit-index last (omega arith) in
-    let value : c.loop-digit.value ≡ number_where is_one (extend last 64) = c.loop-digit.invariant.0 ∙ ap (number_where is_one) all ∙ sym (ones_extended last c.last_of-last.ensures.most) in
-    both _ _ _ _ value c.known_in_all-known.ensures ∙ ap (λ (l : List ℕ). digits_in (extend l 64)) c.last_of-last.ensures.last
+    let value : c.loop-digit.value ≡ number_where is_one (extend last 64) = c.loop-digit.invariant.0 ∙ ap (number_where is_one) all ∙ sym (ones_extended last c.last_digits-last.ensures.most) in
+    both _ _ _ _ value c.known_in_all-known.ensures ∙ ap (λ (l : List ℕ). digits_in (extend l 64)) c.last_digits-last.ensures.last

@@ -3,13 +3,13 @@ use Rattle.vcd_changes.proofs.RowLemmas.{no_row, not_both}
 use Rattle.vcd_changes.proofs.walk.CollectingVisitRows.take_section.Goals as goal
 
 pub returns-clause-takes : goal.returns-clause-takes
-returns-clause-takes g c =
+returns-clause-takes g c = λ a a' item.
     let own = c.args.self.now in
     let section = c.args._section in
     let rows = take own.count c.args._rows.now.rows.now in
     record {
       scanned = section;
-      item = c.requires.item;
+      item = item;
       done = refl;
       same = record { index = refl; loan = refl };
       room = c.requires.stands;

@@ -6,13 +6,13 @@ use Rattle.vcd_changes.proofs.RowLemmas.{not_both}
 use Rattle.vcd_changes.proofs.walk.CollectingVisitRows.take_timestamp.Goals as goal
 
 pub returns-clause-takes : goal.returns-clause-takes
-returns-clause-takes c = λ out.
+returns-clause-takes c = λ a a' out item.
     let own = c.args.self.now in
     let timestamp = c.args._timestamp in
     let rows = take own.count c.args._rows.now.rows.now in
     record {
       scanned = timestamp;
-      item = c.requires.item;
+      item = item;
       done = refl;
       same = record { index = refl; loan = refl };
       room = c.requires.stands;

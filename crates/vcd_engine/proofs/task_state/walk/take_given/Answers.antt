@@ -9,15 +9,15 @@ pub take_item-requires : goal.take_item-requires
 take_item-requires g c = record {
   failures = c.requires.failures;
   ready = c.requires.ready;
-  span = c.given-item.ensures.span c.args.view c.requires.sound (no_mark_is c.args.item c.in_default.not-Time);
+  next = c.without_bytes-scanned.ensures.next c.args.view c.requires.sound (no_mark_is c.args.item c.in_default.not-Time);
   line = c.new-line.ensures _ _;
   part = c.new-pending.ensures.part _;
 }
 
 pub returns : goal.returns
 returns g c =
-    let l = c.given-item.result in
-    let given = c.given-item.ensures in
+    let l = c.without_bytes-scanned.result in
+    let given = c.without_bytes-scanned.ensures in
     let taken = c.in_ok-take_item.ensures in
     let none = no_mark_is c.args.item c.in_default.not-Time in
     record {

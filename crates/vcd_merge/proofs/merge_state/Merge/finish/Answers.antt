@@ -1,9 +1,9 @@
 use Rattle.std.proofs.Common.{◌≡◌, ◌∙◌, ◌+◌, false, List, ℕ, sym, length, map, ap, subst, add-zero, Ok, Err, Result, arith, rules}
 use Rattle.std.proofs.lemmas.Option.{slice_get_within}
 use Rattle.vcd_text.specs.Device.{Device}
-use Rattle.vcd_body.specs.Answer.{goes_on, writes_failed}
+use Rattle.vcd_body.specs.Answer.{writes_failed}
 use Rattle.vcd_merge.specs.MergeParts.{SameLengths, part_len}
-use Rattle.vcd_merge.specs.MergeStep.{Gives, Standing, failures_with, standing_of}
+use Rattle.vcd_merge.specs.MergeStep.{Gives, Standing, failures_with, standing, standing_of}
 use Rattle.vcd_body.specs.declared.answer.Done.{Done}
 use Rattle.vcd_body.specs.declared.answer.More.{More}
 use Rattle.vcd_body.specs.declared.answer.Stop.{Stop}
@@ -30,20 +30,20 @@ items-preserved g c =
     let out : Device = g.W.Sink.device c.items.out in
     let new : Device = g.W.Sink.device c.run_step.new.out in
     let s : Standing g.row.S.Denot = standing_of c.items.self c.items.sources c.items.windows in
-    let s' : Standing g.row.S.Denot = standing_of c.run_step.new.merge c.run_step.new.sources c.run_step.new.windows in
+    let s' : Standing g.row.S.Denot = standing c.items.self.heads.now c.run_step.new.seats c.run_step.new.written c.run_step.new.sources c.run_step.new.windows in
     let lim = part_len (length c.args.self.now.seats.now) c.args.windows.now.tokens.now in
     let chu = part_len (length c.args.self.now.seats.now) c.args.windows.now.chunks.now in
     let limit = same_part (length c.args.self.now.seats.now) (length c.items.self.seats.now) c.args.windows.now.tokens.now c.items.windows.tokens.now v.seats v.windows.tokens in
     let chunk = same_part (length c.args.self.now.seats.now) (length c.items.self.seats.now) c.args.windows.now.chunks.now c.items.windows.chunks.now v.seats v.windows.chunks in
     let counts = st.runs.leaves.touches.reads ∙ ap (λ (r : Result More Stop). failures_with (map g.S.Source.failures c.items.sources) st.runs.input r) again in record {
-      going = st.going ∙ ap goes_on again;
+      going = v.going;
       ready = st.runs.leaves.ready again;
       order = st.order again;
       reads = same_failures (map g.S.Source.failures c.items.sources) _ st.runs.input (Ok c.in_ok-run_step.field-0) again st.runs.leaves.touches.reads ∙ v.reads;
       writes = st.runs.leaves.touches.writes ∙ ap (λ (r : Result More Stop). (g.W.Sink.device c.items.out).failures + writes_failed r) again ∙ add-zero _ ∙ v.writes;
       seats = st.runs.leaves.touches.seats ∙ v.seats;
       windows = same_twice c.args.windows.now c.items.windows c.run_step.new.windows v.windows (record { chunks = st.runs.leaves.touches.chunks; tokens = st.runs.leaves.touches.tokens; values = st.runs.leaves.touches.values });
-      heads = st.heads ∙ v.heads;
+      heads = v.heads;
       holds = λ hs lanes ds begin h w.
           let e = v.holds hs lanes ds begin h w in
           let r = st.runs.gives false hs lanes e.0 (λ f. cc) e.1 in
@@ -64,7 +64,7 @@ returns-in_err-run_step-clause-gives g c = λ hs lanes ds names begin holds w.
     let out : Device = g.W.Sink.device c.items.out in
     let new : Device = g.W.Sink.device c.run_step.new.out in
     let s : Standing g.row.S.Denot = standing_of c.items.self c.items.sources c.items.windows in
-    let s' : Standing g.row.S.Denot = standing_of c.run_step.new.merge c.run_step.new.sources c.run_step.new.windows in
+    let s' : Standing g.row.S.Denot = standing c.items.self.heads.now c.run_step.new.seats c.run_step.new.written c.run_step.new.sources c.run_step.new.windows in
     let lim = part_len (length c.args.self.now.seats.now) c.args.windows.now.tokens.now in
     let chu = part_len (length c.args.self.now.seats.now) c.args.windows.now.chunks.now in
     let limit = same_part (length c.args.self.now.seats.now) (length c.items.self.seats.now) c.args.windows.now.tokens.now c.items.windows.tokens.now v.seats v.windows.tokens in
@@ -110,7 +110,7 @@ returns-in-Ended-clause-gives g c = λ hs lanes ds names begin holds w.
     let out : Device = g.W.Sink.device c.items.out in
     let new : Device = g.W.Sink.device c.run_step.new.out in
     let s : Standing g.row.S.Denot = standing_of c.items.self c.items.sources c.items.windows in
-    let s' : Standing g.row.S.Denot = standing_of c.run_step.new.merge c.run_step.new.sources c.run_step.new.windows in
+    let s' : Standing g.row.S.Denot = standing c.items.self.heads.now c.run_step.new.seats c.run_step.new.written c.run_step.new.sources c.run_step.new.windows in
     let lim = part_len (length c.args.self.now.seats.now) c.args.windows.now.tokens.now in
     let chu = part_len (length c.args.self.now.seats.now) c.args.windows.now.chunks.now in
     let limit = same_part (length c.args.self.now.seats.now) (length c.items.self.seats.now) c.args.windows.now.tokens.now c.items.windows.tokens.now v.seats v.windows.tokens in

@@ -1,4 +1,4 @@
-use Rattle.std.proofs.Common.{◌≡◌, List, true, map, length}
+use Rattle.std.proofs.Common.{◌≡◌, List, false, map, length}
 use Rattle.vcd_model.specs.Header.{Header}
 use Rattle.vcd_model.specs.Merge.{Dump, merge_open, merged_items}
 use Rattle.vcd_text.specs.Device.{Device, Writes, supply}
@@ -11,7 +11,7 @@ use Rattle.vcd_merge.proofs.merge_state.Merge.finish.Given as goal
 
 abbrev pub invariant-items : goal.invariant-items
 invariant-items g l = record {
-  going : is_going l.self ≡ true;
+  going : is_going l.self ≡ false;
   ready : IsReady (standing_of l.self l.sources l.windows);
   order : IsOrder l.self.seats.now (length l.self.seats.now) (length l.self.seats.now) l.order.inputs l.order.len;
   reads : map g.S.Source.failures l.sources ≡ map g.S.Source.failures l.fn.sources;

@@ -16,5 +16,5 @@ returns-then-not-self-clause-takes g c = λ h items views known last is.
 pub returns-clause-takes : goal.returns-clause-takes
 returns-clause-takes g c = λ h items views known last is.
     let m = c.args.self.now in
-    subst (λ l. Takes (g.W.Sink.device c.args.out.now) (g.W.Sink.device c.close.new.out) l c.close.result) (subst (λ o. closing (times_with (m.from ∷ []) (kept_from m.from items)) o ≡ cut_close h m.from m.to items) (sym c.last_of.ensures) (closes_started h m items c.args.regs is known last c.if-not-self.false))
-    (c.close.ensures.takes (m.from ∷ []) (kept_from m.from items) (is.written c.if-not-self.false) (λ t e. close_tells h m items c.args.regs is known last c.if-not-self.false t (sym c.last_of.ensures ∙ e)))
+    subst (λ l. Takes (g.W.Sink.device c.args.out.now) (g.W.Sink.device c.close.new.out) l c.close.result) (subst (λ o. closing (times_with (m.from ∷ []) (kept_from m.from items)) o ≡ cut_close h m.from m.to items) (sym c.last_time_of.ensures) (closes_started h m items c.args.regs is known last c.if-not-self.false))
+    (c.close.ensures.takes (m.from ∷ []) (kept_from m.from items) (is.written c.if-not-self.false) (λ t e. close_tells h m items c.args.regs is known last c.if-not-self.false t (sym c.last_time_of.ensures ∙ e)))

@@ -8,10 +8,10 @@ pub returns-clause-takes : goal.returns-clause-takes
 returns-clause-takes g c = λ h items past x views known re read few is.
     let v = c.args._view in
     let m = c.args.self.now in
-    let p = c.args.item.scanned in
-    let none = c.requires.span.none in
+    let p = c.args.scanned in
+    let none = c.requires.next.none in
     let before = off m.started c.requires.ready in
-    let held = c.set_item.ensures.held v h items x views c.requires.span.good read (is.held before) in (
+    let held = c.set_item.ensures.held v h items x views c.requires.next.good read (is.held before) in (
       ([], none_before v h items past m p.text.now p.item x views known is read none before, none_on _ (g.W.Sink.device c.args._out.now)),
       item_held v h items past m p.text.now p.item x views known is read none c.set_item.new.table before held,
     )

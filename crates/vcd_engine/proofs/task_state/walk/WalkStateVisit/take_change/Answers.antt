@@ -2,41 +2,29 @@ use Rattle.std.proofs.Common.{◌≡◌, List, ℕ, [], ◌∷◌, ◌++◌, sym
 use Rattle.std.specs.Prelude.{IfOk}
 use Rattle.vcd_model.specs.Outcome.{open_text}
 use Rattle.vcd_body.specs.Device.{DueBy}
-use Rattle.vcd_body.specs.Given.{IsItem}
-use Rattle.vcd_body.specs.Items.{regs_after}
-use Rattle.vcd_body.specs.Taken.{TakesItem}
-use Rattle.vcd_body.specs.declared.ahead.ScannedItem.{ScannedItem}
 use Rattle.vcd_body.proofs.Results.{if_ok_more}
 use Rattle.vcd_engine.specs.Engine.{request_in}
 use Rattle.vcd_engine.specs.PendingCopy.{IsPart, PutsOn, pending_in}
 use Rattle.vcd_engine.proofs.NextLemmas.{goes_on_item}
-use Rattle.vcd_engine.proofs.PieceLemmas.{next_line_is, no_timestamp_here, placed_there, same_regs}
+use Rattle.vcd_engine.proofs.PieceLemmas.{change_next, next_line_is, no_timestamp_here, same_regs}
 use Rattle.vcd_engine.proofs.task_state.walk.WalkStateVisit.take_change.Goals as goal
 
-pub take_item-requires-clause-span : goal.take_item-requires-clause-span
-take_item-requires-clause-span g c =
-    let l = c.of-change.result in
-    let there = c.of-change.ensures.span in
-    let is = c.of-change.ensures.scanned in
+pub take_item-requires-clause-next : goal.take_item-requires-clause-next
+take_item-requires-clause-next g c =
     let f = c.requires.form in
-    let item : TakesItem c.args.view c.args.extent.from c.args.extent.to c.args.regs l.scanned = rw is c.requires.item in
-    placed_there c.args.view c.args.extent.from c.args.extent.to c.args.regs l.scanned l.bytes l.from l.to item there.bytes there.from there.to (f.1.0, f.0, rw is f.1.1)
+    change_next c.args.view _ _ c.args.regs c.args.change c.requires.item.2 (f.1.0, f.0, f.1.1)
 
 pub take_item-requires-clause-line : goal.take_item-requires-clause-line
-take_item-requires-clause-line g c =
-    next_line_is _ _ _ _ _ _ (sym (c.of-change.ensures.span.bytes ∙ c.requires.item.same.0)) refl refl c.requires.stands.line
+take_item-requires-clause-line g c = c.requires.stands.line
 
 pub take_item-requires-clause-part : goal.take_item-requires-clause-part
-take_item-requires-clause-part g c =
-    subst (λ (bs : List ℕ). IsPart bs c.args.self.now.pending) (sym (c.of-change.ensures.span.bytes ∙ c.requires.item.same.0)) c.requires.stands.part
+take_item-requires-clause-part g c = c.requires.stands.part
 
 pub returns-clause-takes : goal.returns-clause-takes
-returns-clause-takes g c =
+returns-clause-takes g c = λ a a' item.
     let p = c.args.change in
-    let item = c.requires.item in
     let f = c.requires.form in
-    let is = c.of-change.ensures.scanned in
-    let same = c.of-change.ensures.span.bytes ∙ item.same.0 in
+    let same = item.bytes ∙ item.same.0 in
     let t = request_in (g.C.AheadTask.task_state c.args.command.now) in
     let old = g.W.Sink.device c.args.out.now in
     let new = g.W.Sink.device c.take_item.new.out in
@@ -45,9 +33,9 @@ returns-clause-takes g c =
       scanned = p;
       item = item;
       regs = same_regs c.args.regs p.item f.1.0 f.0 f.1.1;
-      line = next_line_is _ _ _ _ _ _ (sym item.same.0) refl refl c.requires.stands.line;
+      line = next_line_is _ _ _ _ _ _ item.bytes refl refl c.requires.stands.line;
       one = λ h items x views known read few keeps.
-          let one = c.take_item.ensures.takes h items c.args.regs x views known (subst (λ (q : ScannedItem). c.args.regs ≡ regs_after c.args.regs q.item) (sym is) (same_regs c.args.regs p.item f.1.0 f.0 f.1.1)) (subst (λ (q : ScannedItem). IsItem h.codes q.text.now q.item x) (sym is) read) few keeps in
+          let one = c.take_item.ensures.takes h items c.args.regs x views known (same_regs c.args.regs p.item f.1.0 f.0 f.1.1) read few keeps in
           record {
             due = subst (λ (bs : List ℕ). DueBy (λ due. PutsOn (pending_in bs c.args.self.now.pending) (pending_in bs c.take_item.new.pending) old new due result) (open_text t h items) (open_text t h (items ++ x ∷ []))) same one.0;
             on = goes_on_item t h.codes p.text.now p.item x (no_timestamp_here p.item f.1.0 f.0 f.1.1) read;
@@ -59,10 +47,4 @@ returns-clause-takes g c =
     }
 
 pub returns-clause-stands : goal.returns-clause-stands
-returns-clause-stands g c =
-    let there = c.of-change.ensures.span in
-    if_ok_more c.take_item.result _ _ (λ part. record {
-      ready = c.take_item.ensures.ready;
-      part = subst (λ (bs : List ℕ). IsPart bs c.take_item.new.pending) there.bytes part;
-      line = next_line_is _ _ _ _ _ _ (sym c.requires.item.same.0) refl refl c.requires.stands.line;
-    }) c.take_item.ensures.part
+returns-clause-stands g c = if_ok_more c.take_item.result _ _ (λ part. record { ready = c.take_item.ensures.ready; part = part; line = c.requires.stands.line }) c.take_item.ensures.part

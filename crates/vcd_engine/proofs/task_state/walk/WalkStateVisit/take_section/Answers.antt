@@ -2,43 +2,31 @@ use Rattle.std.proofs.Common.{◌≡◌, List, ℕ, [], ◌∷◌, ◌++◌, ap,
 use Rattle.std.specs.Prelude.{IfOk}
 use Rattle.vcd_model.specs.Outcome.{open_text}
 use Rattle.vcd_body.specs.Device.{DueBy}
-use Rattle.vcd_body.specs.Given.{IsItem}
-use Rattle.vcd_body.specs.Items.{regs_after}
-use Rattle.vcd_body.specs.Taken.{IsSection, TakesItem}
-use Rattle.vcd_body.specs.declared.ahead.ScannedItem.{ScannedItem}
 use Rattle.vcd_body.specs.declared.item.Regs.{Regs}
 use Rattle.vcd_body.proofs.Results.{if_ok_more}
 use Rattle.vcd_body.proofs.SectionLemmas.{section_time}
 use Rattle.vcd_engine.specs.Engine.{request_in}
 use Rattle.vcd_engine.specs.PendingCopy.{IsPart, PutsOn, pending_in}
 use Rattle.vcd_engine.proofs.NextLemmas.{goes_on_item}
-use Rattle.vcd_engine.proofs.PieceLemmas.{next_line_is, no_timestamp_at, section_there}
+use Rattle.vcd_engine.proofs.PieceLemmas.{next_line_is, no_timestamp_at, section_next}
 use Rattle.vcd_engine.proofs.task_state.walk.WalkStateVisit.take_section.Goals as goal
 
-pub take_item-requires-clause-span : goal.take_item-requires-clause-span
-take_item-requires-clause-span g c =
-    let l = c.of-section.result in
-    let there = c.of-section.ensures.span in
-    let is = c.of-section.ensures.scanned in
-    let item : TakesItem c.args.view c.args.extent.from c.args.extent.to c.args._before l.scanned = rw is c.requires.item in
-    section_there c.args.view c.args.extent.from c.args.extent.to c.args._before l.scanned l.bytes l.from l.to item there.bytes there.from there.to (subst (λ (p : ScannedItem). IsSection p.item) (sym is) c.requires.section)
+pub take_item-requires-clause-next : goal.take_item-requires-clause-next
+take_item-requires-clause-next g c = section_next c.args.view _ _ c.args._before c.args.section c.requires.item.2 c.requires.section
 
 pub take_item-requires-clause-line : goal.take_item-requires-clause-line
 take_item-requires-clause-line g c =
     let later : c.args._before.time ≡ c.args.after.time = sym (ap (λ (r : Regs). r.time) c.requires.after ∙ section_time c.args._before c.args.section.item c.requires.section) in
-    next_line_is _ _ _ _ _ _ (sym (c.of-section.ensures.span.bytes ∙ c.requires.item.same.0)) refl later c.requires.stands.line
+    next_line_is _ _ _ _ _ _ refl refl later c.requires.stands.line
 
 pub take_item-requires-clause-part : goal.take_item-requires-clause-part
-take_item-requires-clause-part g c =
-    subst (λ (bs : List ℕ). IsPart bs c.args.self.now.pending) (sym (c.of-section.ensures.span.bytes ∙ c.requires.item.same.0)) c.requires.stands.part
+take_item-requires-clause-part g c = c.requires.stands.part
 
 pub returns-clause-takes : goal.returns-clause-takes
-returns-clause-takes g c =
+returns-clause-takes g c = λ a a' item.
     let p = c.args.section in
-    let item = c.requires.item in
-    let is = c.of-section.ensures.scanned in
-    let same = c.of-section.ensures.span.bytes ∙ item.same.0 in
-    let later : c.args._before.time ≡ c.args.after.time = sym (ap (λ (r : Regs). r.time) c.requires.after ∙ section_time c.args._before p.item c.requires.section) in
+    let same = item.bytes ∙ item.same.0 in
+    let later : c.args._before.time ≡ c.args.after.time = sym (ap (λ (r : Regs). r.time) c.requires.after ∙ section_time c.args._before c.args.section.item c.requires.section) in
     let t = request_in (g.C.AheadTask.task_state c.args.command.now) in
     let old = g.W.Sink.device c.args.out.now in
     let new = g.W.Sink.device c.take_item.new.out in
@@ -47,9 +35,9 @@ returns-clause-takes g c =
       scanned = p;
       item = item;
       regs = c.requires.after;
-      line = next_line_is _ _ _ _ _ _ (sym item.same.0) refl later c.requires.stands.line;
+      line = next_line_is _ _ _ _ _ _ item.bytes refl later c.requires.stands.line;
       one = λ h items x views known read few keeps.
-          let one = c.take_item.ensures.takes h items c.args._before x views known (subst (λ (q : ScannedItem). c.args.after ≡ regs_after c.args._before q.item) (sym is) c.requires.after) (subst (λ (q : ScannedItem). IsItem h.codes q.text.now q.item x) (sym is) read) few keeps in
+          let one = c.take_item.ensures.takes h items c.args._before x views known c.requires.after read few keeps in
           record {
             due = subst (λ (bs : List ℕ). DueBy (λ due. PutsOn (pending_in bs c.args.self.now.pending) (pending_in bs c.take_item.new.pending) old new due result) (open_text t h items) (open_text t h (items ++ x ∷ []))) same one.0;
             on = goes_on_item t h.codes p.text.now p.item x (no_timestamp_at p.item c.requires.section) read;
@@ -62,10 +50,5 @@ returns-clause-takes g c =
 
 pub returns-clause-stands : goal.returns-clause-stands
 returns-clause-stands g c =
-    let there = c.of-section.ensures.span in
     let later : c.args._before.time ≡ c.args.after.time = sym (ap (λ (r : Regs). r.time) c.requires.after ∙ section_time c.args._before c.args.section.item c.requires.section) in
-    if_ok_more c.take_item.result _ _ (λ part. record {
-      ready = c.take_item.ensures.ready;
-      part = subst (λ (bs : List ℕ). IsPart bs c.take_item.new.pending) there.bytes part;
-      line = next_line_is _ _ _ _ _ _ (sym c.requires.item.same.0) refl later c.requires.stands.line;
-    }) c.take_item.ensures.part
+    if_ok_more c.take_item.result _ _ (λ part. record { ready = c.take_item.ensures.ready; part = part; line = next_line_is _ _ _ _ _ _ refl refl later c.requires.stands.line }) c.take_item.ensures.part

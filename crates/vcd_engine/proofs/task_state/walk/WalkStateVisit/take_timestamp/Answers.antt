@@ -1,9 +1,8 @@
-use Rattle.std.proofs.Common.{◌≡◌, List, ℕ, ap, refl, subst, sym}
+use Rattle.std.proofs.Common.{◌≡◌, ◌∙◌, ap, refl, subst, sym}
 use Rattle.vcd_model.specs.Items.{BodyItem}
-use Rattle.vcd_text.specs.Ahead.{bytes_of, passed_of}
 use Rattle.vcd_body.specs.Given.{IsItem}
 use Rattle.vcd_body.specs.Items.{regs_after}
-use Rattle.vcd_body.specs.Spelled.{HasTimestamp, HasSpelled}
+use Rattle.vcd_body.specs.Spelled.{IsSpelledAs}
 use Rattle.vcd_body.specs.declared.item.Item.{Item}
 use Rattle.vcd_engine.specs.PendingCopy.{IsPart}
 use Rattle.vcd_engine.proofs.NextLemmas.{more_quietly}
@@ -11,37 +10,32 @@ use Rattle.vcd_engine.proofs.PieceLemmas.{next_line_is}
 use Rattle.vcd_engine.proofs.task_state.walk.WalkStateVisit.take_timestamp.Goals as goal
 
 pub after_timestamp-self-requires : goal.after_timestamp-self-requires
-after_timestamp-self-requires g c =
-    let n = c.requires.item in
-    (passed_of c.args.extent.from, c.args.time, rw (c.passed-to.ensures.passed, c.bytes.ensures, n.same.0) (subst (λ (i : Item). HasSpelled c.args._view (bytes_of c.args.extent.from) (passed_of c.args.extent.from) (passed_of c.args.extent.to) c.args.timestamp.at c.args.timestamp.code_at c.args.timestamp.text.now i) c.requires.time n.spelled))
+after_timestamp-self-requires g c = (c.args.timestamp.begin, c.args.time, subst (IsSpelledAs c.args._view c.args.timestamp) c.requires.time c.requires.item.2.spelled)
 
 pub returns-clause-takes : goal.returns-clause-takes
-returns-clause-takes g c = λ out.
-    let n = c.requires.item in
+returns-clause-takes g c = λ a a' out n.
     let timestamp = c.args.timestamp in
     let r = c.args._regs in
-    let marked : HasTimestamp c.bytes.result.now (passed_of c.args.extent.from) c.passed-to.result timestamp.at c.args.time = rw (c.passed-to.ensures.passed, c.bytes.ensures, n.same.0) (subst (λ (i : Item). HasSpelled c.args._view (bytes_of c.args.extent.from) (passed_of c.args.extent.from) (passed_of c.args.extent.to) timestamp.at timestamp.code_at timestamp.text.now i) c.requires.time n.spelled) in
+    let marked = subst (IsSpelledAs c.args._view timestamp) c.requires.time n.spelled in
     record {
       scanned = timestamp;
       item = n;
       regs = refl;
-      line = next_line_is _ _ _ _ _ _ c.bytes.ensures refl (sym (ap (λ (i : Item). (regs_after r i).time) c.requires.time)) (c.after_timestamp-self.ensures _ c.args.time marked);
+      line = next_line_is _ _ _ _ _ _ n.bytes refl (sym (ap (λ (i : Item). (regs_after r i).time) c.requires.time)) (c.after_timestamp-self.ensures _ c.args.time marked);
       one = λ h items x views known is few keeps.
           let e : x ≡ BodyItem.Time c.args.time = subst (λ (i : Item). IsItem h.codes timestamp.text.now i x) c.requires.time is in
           rw e (more_quietly _ _ _ h items _ _ out (c.note_time.ensures.takes h items few keeps));
       counts = refl;
-      part = c.requires.stands.part;
+      part = subst (λ bs. IsPart bs c.args.self.now.pending) (n.bytes ∙ n.same.0) c.requires.stands.part;
       same = c.note_time.ensures.same;
     }
 
 pub returns-clause-stands : goal.returns-clause-stands
 returns-clause-stands g c =
-    let n = c.requires.item in
-    let timestamp = c.args.timestamp in
     let r = c.args._regs in
-    let marked : HasTimestamp c.bytes.result.now (passed_of c.args.extent.from) c.passed-to.result timestamp.at c.args.time = rw (c.passed-to.ensures.passed, c.bytes.ensures, n.same.0) (subst (λ (i : Item). HasSpelled c.args._view (bytes_of c.args.extent.from) (passed_of c.args.extent.from) (passed_of c.args.extent.to) timestamp.at timestamp.code_at timestamp.text.now i) c.requires.time n.spelled) in
+    let marked = subst (IsSpelledAs c.args._view c.args.timestamp) c.requires.time c.requires.item.2.spelled in
     record {
       ready = c.note_time.ensures.ready;
-      part = subst (λ (bs : List ℕ). IsPart bs c.args.self.now.pending) (sym n.same.0) c.requires.stands.part;
-      line = next_line_is _ _ _ _ _ _ c.bytes.ensures refl (sym (ap (λ (i : Item). (regs_after r i).time) c.requires.time)) (c.after_timestamp-self.ensures _ c.args.time marked);
+      part = c.requires.stands.part;
+      line = next_line_is _ _ _ _ _ _ refl refl (sym (ap (λ (i : Item). (regs_after r i).time) c.requires.time)) (c.after_timestamp-self.ensures _ c.args.time marked);
     }

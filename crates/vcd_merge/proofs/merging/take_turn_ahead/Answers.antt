@@ -8,7 +8,7 @@ use Rattle.vcd_body.proofs.WalkLemmas.{walk_counts, walk_further, walk_passes}
 use Rattle.vcd_merge.proofs.AheadTrails.{walk_runs}
 use Rattle.vcd_merge.proofs.SeatAhead.{ahead_turns, lies_first}
 use Rattle.vcd_merge.proofs.SeatLemmas.{out_of}
-use Rattle.vcd_merge.proofs.merging.take_ahead.Goals as goal
+use Rattle.vcd_merge.proofs.merging.take_turn_ahead.Goals as goal
 
 pub pass_items-requires : goal.pass_items-requires
 pass_items-requires g c =

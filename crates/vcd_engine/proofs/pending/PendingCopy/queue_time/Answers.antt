@@ -3,15 +3,15 @@ use Rattle.vcd_text.proofs.Writes.{counts-on, some-first}
 use Rattle.vcd_body.proofs.Results.{if_ok}
 use Rattle.vcd_engine.specs.PendingCopy.{PutsBehind}
 use Rattle.vcd_engine.proofs.PieceLemmas.{put_on}
-use Rattle.vcd_engine.proofs.pending.PendingCopy.append_time.Goals as goal
+use Rattle.vcd_engine.proofs.pending.PendingCopy.queue_time.Goals as goal
 
-pub append_line-requires-clause-within : goal.append_line-requires-clause-within
-append_line-requires-clause-within g c = let line = c.requires.line c.if-from-to.true in let room = line.0 in (omega (arith, room), line.1)
+pub queue_line-requires-clause-within : goal.queue_line-requires-clause-within
+queue_line-requires-clause-within g c = let line = c.requires.line c.if-from-to.true in let room = line.0 in (omega (arith, room), line.1)
 
 pub returns-then-from-to : goal.returns-then-from-to
 returns-then-from-to g c =
     let line = c.requires.line c.if-from-to.true in
-    subst (λ l. PutsBehind c.args.bytes.now c.args.self.now c.append_line.new.self (g.W.Sink.device c.args.out.now) (g.W.Sink.device c.append_line.new.out) l c.append_line.result) line.2 c.append_line.ensures
+    subst (λ l. PutsBehind c.args.bytes.now c.args.self.now c.queue_line.new.self (g.W.Sink.device c.args.out.now) (g.W.Sink.device c.queue_line.new.out) l c.queue_line.result) line.2 c.queue_line.ensures
 
 pub returns-in_err-flush : goal.returns-in_err-flush
 returns-in_err-flush g c =

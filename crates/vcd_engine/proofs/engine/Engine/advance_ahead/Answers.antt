@@ -8,7 +8,7 @@ use Rattle.vcd_engine.specs.Ahead.{RunsAhead, StandsAhead}
 use Rattle.vcd_engine.specs.Engine.{request_of_engine}
 use Rattle.vcd_engine.specs.declared.engine.Engine.{Engine}
 use Rattle.vcd_engine.proofs.AheadLemmas.{gave_over, runs_behind, stands_first}
-use Rattle.vcd_engine.proofs.engine.Engine.walk_ahead.Goals as goal
+use Rattle.vcd_engine.proofs.engine.Engine.advance_ahead.Goals as goal
 
 pub pass_items-requires : goal.pass_items-requires
 pass_items-requires g c =

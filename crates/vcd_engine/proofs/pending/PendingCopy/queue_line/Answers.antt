@@ -4,13 +4,13 @@ use Rattle.vcd_text.proofs.Writes.{counts-on, some-first}
 use Rattle.vcd_body.proofs.Results.{if_ok}
 use Rattle.vcd_engine.specs.PendingCopy.{PutsBehind}
 use Rattle.vcd_engine.proofs.PieceLemmas.{line_there, put_on, two_bytes_line}
-use Rattle.vcd_engine.proofs.pending.PendingCopy.append_line.Goals as goal
+use Rattle.vcd_engine.proofs.pending.PendingCopy.queue_line.Goals as goal
 
 pub returns-then-bytes-last-eq10 : goal.returns-then-bytes-last-eq10
 returns-then-bytes-last-eq10 g c =
     let bytes = c.args.bytes.now in
     let line = line_there bytes c.args.from c.args.to c.args.n c.requires.within.0 c.requires.within.1 c.if-bytes-last-eq10.true in
-    subst (λ l. PutsBehind bytes c.args.self.now c.append_parts.new.self (g.W.Sink.device c.args.out.now) (g.W.Sink.device c.append_parts.new.out) l c.append_parts.result) line c.append_parts.ensures
+    subst (λ l. PutsBehind bytes c.args.self.now c.queue_parts.new.self (g.W.Sink.device c.args.out.now) (g.W.Sink.device c.queue_parts.new.out) l c.queue_parts.result) line c.queue_parts.ensures
 
 pub returns-in_err-flush : goal.returns-in_err-flush
 returns-in_err-flush g c =

@@ -13,7 +13,7 @@ use Rattle.vcd_merge.proofs.SpotLemmas.{found}
 use Rattle.vcd_merge.proofs.MergeCounts.{still_counted, still_named, still_written}
 use Rattle.vcd_merge.proofs.MergeTrails.{has_ended, was_cut, was_stopped, went_on}
 use Rattle.vcd_merge.proofs.OrderLemmas.{none_waiting, others_stay, some_waits}
-use Rattle.vcd_merge.proofs.merge_steps.run_next.Goals as goal
+use Rattle.vcd_merge.proofs.merge_steps.run_step.Goals as goal
 
 pub put-requires-clause-input : goal.put-requires-clause-input
 put-requires-clause-input g c =

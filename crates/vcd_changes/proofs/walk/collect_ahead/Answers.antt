@@ -5,7 +5,7 @@ use Rattle.vcd_text.specs.Feed.{limit_of}
 use Rattle.vcd_body.specs.Ahead.{GaveAhead}
 use Rattle.vcd_changes.specs.declared.row.ChangeRow.{ChangeRow}
 use Rattle.vcd_changes.proofs.RowLemmas.{none_ahead}
-use Rattle.vcd_changes.proofs.walk.take_ahead.Goals as goal
+use Rattle.vcd_changes.proofs.walk.collect_ahead.Goals as goal
 
 pub walk_rows-walked-requires-clause-some : goal.walk_rows-walked-requires-clause-some
 walk_rows-walked-requires-clause-some g c =
