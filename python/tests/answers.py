@@ -647,7 +647,8 @@ def differences(dumps: Sequence[Dump], both: Sequence[Tuple[Variable, Variable]]
                 ) -> List[Tuple[int, str]]:
     """The first difference of each pair: a number that grows with the time, and the line. Values
     are compared at the end of each time, up to the end of the shorter dump; at a clock just before
-    the n-th edge of A and of B."""
+    the n-th edge of A and of B. Lines of one time come in the order of their names, and those of
+    one name in the order of declaration."""
     found, factors = [], factors_of([dump.tick for dump in dumps])
     its = [looks(dump, {pair[at].code for pair in both} | asked.codes(dump),
                  [(code, asked.edge) for code in asked.codes(dump)])
@@ -662,10 +663,10 @@ def differences(dumps: Sequence[Dump], both: Sequence[Tuple[Variable, Variable]]
                       for side, of, factor in zip(its, pair, factors)]
             if not alike(values[0], values[1], asked.tolerance):
                 time = its[0][mark].time if asked.edge else mark // factors[0]
-                found.append((mark, "differs %s %s %s %s" % (
+                found.append((mark, pair[0].path, "differs %s %s %s %s" % (
                     time_text(dumps[0].tick, time), pair[0].path, *map(in_a_line, values, pair))))
                 break
-    return sorted(found)
+    return [(mark, line) for mark, _, line in sorted(found, key=lambda one: one[:2])]
 
 
 def compared_value(its: Sequence[Look], of: Variable, mark: int, factor: int, is_edge: bool

@@ -244,7 +244,7 @@ DECLARATIONS = {
             ("t.k < 0", ("<", S._replace(is_signed=True), 0)), ("t.q == 2", ("==", S, 2)),
             ("t.k[0] | t.u.b == 1", ("or", ("true", Part("!", 0, 1, 2, False)), ("==", S, 1)))]),
     "twice": Declarations(
-        TWICE, [*TIMES, "0!", "1!", 'b0 "', 'b1 "', 'bx1 "', *SECTION],
+        TWICE, [*TIMES, "0!", "1!", "x!", 'b0 "', 'b1 "', 'bx1 "', *SECTION],
         [["t.b"], ["t.c", "t.b"], ["t"]], "t.c", [
             ("t.c", ("true", C)), ("!t.c is x", ("not", ("is", C, "x")))][:1]),
     "real": Declarations(

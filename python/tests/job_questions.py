@@ -22,14 +22,12 @@ class Jobs(Scripts):
         self.fault, self.last = self.dump.fault, by_definition.last_time(self.dump)
         with open(self.path, "wb") as file:
             file.write(case.text)
-        for turn in range(min(case.more, 3)):
+        asks = [self.ask_rows, self.ask_latencies, self.ask_toggles, self.ask_trace,
+                self.ask_verdicts]
+        for turn in range(min(2 * case.more - 1, 10)):
             self.number = case.number + turn
             self.names = self.of.names[(self.number // 2) % len(self.of.names)]
-            self.ask_rows()
-            self.ask_latencies()
-            self.ask_toggles()
-            self.ask_trace()
-            self.ask_verdicts()
+            asks[(self.number + self.number // 10) % len(asks)]()
 
     def clocks(self, turn: int) -> Tuple[List[str], List[Tuple[str, str]]]:
         """Returns options for clocks, and their edges."""
@@ -95,8 +93,8 @@ class Jobs(Scripts):
         bits = of_jobs.all_toggles(self.dump, by_definition.chosen(
             self.dump.variables, self.names), window.begin, window.end)
         lines = ["%s %d %d %d" % bit[:4] for bit in of_jobs.most_active(bits)]
-        both, never = (sum(test(bit) for bit in bits) for test in (
-            lambda bit: bit.rises > 0 and bit.falls > 0, lambda bit: bit.rises + bit.falls == 0))
+        both = sum(bit.rises > 0 and bit.falls > 0 for bit in bits)
+        never = sum(bit.rises + bit.falls == 0 for bit in bits)
         lines.append("%d bits: %d rise and fall, %d do one of these, %d do neither" % (
             len(bits), both, len(bits) - both - never, never))
         status = late[0] if late else int(bool(fault))

@@ -53,7 +53,7 @@ class Case:
         for names in self.some(self.of.names):
             self.ask_values(names)
         self.ask_changes()
-        windows = self.some(WINDOWS[1:]) + self.some(WINDOWS[1:], self.number // 7 + 3)
+        windows = self.some(WINDOWS[1:])
         self.ask_part("", self.dump, self.whole)
         for begin, end in dict.fromkeys(windows):
             part, dump = by_definition.cut(self.dump, begin, end), self.whole.cut(begin, end)

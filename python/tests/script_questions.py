@@ -43,20 +43,19 @@ class Scripts:
         self.last = by_definition.last_time(self.dump)
         with open(self.path, "wb") as file:
             file.write(case.text)
-        for turn in range(min(case.more, 3)):
+        for turn in range(min(case.more, 4)):
             self.number = case.number + turn
             self.names = self.of.names[(self.number // 2) % len(self.of.names)]
-            self.ask_values()
-            self.ask_table()
-            self.ask_when()
-            self.ask_unknown()
-            self.ask_statistics()
-        if self.number % 5 == 0:
-            self.ask_info()
-        if self.fault:
-            self.ask_salvage()
-        else:
-            self.ask_diff()
+            if self.number % 2:
+                self.ask_values()
+                self.ask_table()
+                self.ask_when()
+            else:
+                self.ask_unknown()
+                self.ask_statistics()
+                self.ask_salvage() if self.fault else self.ask_diff()
+            if self.number % 10 == 0:
+                self.ask_info()
 
     def same(self, kind: str, words: Sequence[str], lines: Sequence[str], status: int,
              fault: Any = False, change: Any = None) -> None:

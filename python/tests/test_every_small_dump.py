@@ -8,8 +8,8 @@ the timestamps, a time twice, both edges, names with a range and without. hostil
 the program's part in this process. Every hundredth question is asked again over the program that
 VCDKIT names, and over the library if VCDKIT_LIBRARY names one.
 
-STRIDE=N takes every N-th dump only, PROCESSES=N so many processes, DECLARATIONS=a,b only these. The
-last line says how many questions of each kind were asked."""
+STRIDE=N takes every N-th dump only, from number FIRST=N on, PROCESSES=N so many processes, and
+DECLARATIONS=a,b only these. The last line says how many questions of each kind were asked."""
 import collections
 import itertools
 import multiprocessing
@@ -37,7 +37,8 @@ def work(job: Tuple[str, int, int]) -> Tuple[Counter[str], int, int, Dict[str, D
             return asked.counts, asked.again, asked.wrong, asked.differ
         of = DECLARATIONS[name]
         scripts, jobs = Scripts(asked, of, folder), Jobs(asked, of, folder)
-        for number, body in enumerate(itertools.islice(bodies(of.lines, 4), 0, None, stride)):
+        first = int(os.environ.get("FIRST", "0"))
+        for number, body in enumerate(itertools.islice(bodies(of.lines, 4), first, None, stride)):
             if number % JOBS == part:
                 case = Case(asked, of, body, number)
                 case.ask()

@@ -123,10 +123,11 @@ def shown(value: Optional[bytes], signal: Signal) -> Cell:
 
 
 def lines_of(differences: Iterable[Difference]) -> List[Line]:
-    """Returns the lines of differences of one time, in the order of their names."""
-    return sorted((("differs", one.times[0], one.pair.name,
-                    *(shown(value, signal) for value, signal in zip(one.values, one.pair.signals)))
-                   for one in differences), key=lambda line: [*map(str, line[2:])])
+    """Returns the lines of differences of one time, in the order of their names; those of one name
+    in the order of declaration."""
+    return [("differs", one.times[0], one.pair.name,
+             *(shown(value, signal) for value, signal in zip(one.values, one.pair.signals)))
+            for one in sorted(differences, key=lambda one: (one.pair.name, one.pair.places))]
 
 
 def sides_of(asked: argparse.Namespace) -> Sides:
