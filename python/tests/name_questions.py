@@ -67,7 +67,7 @@ def ask_names(asked: Asked, folder: str, stride: int) -> None:
             for names, exceptions in asks:
                 lines, is_bad = by_definition.compare(dumps, by_definition.Compare(
                     names, exceptions, False, True, "", "", 0))
-                words = ["--all", *("--except=" + one for one in exceptions), *paths, *names]
+                words = ["--every", *("--except=" + one for one in exceptions), *paths, *names]
                 asked.same("names: vcdkit-diff", "%s except %s" % (names, exceptions), header, (
                     lines, 2 if is_bad else int(bool(lines)), is_bad),
                     lambda: said(diff.main, words))
