@@ -399,8 +399,9 @@ class Answers(Case):
                 ("when", [whole, "a", "==", "1"],
                  "vcdkit-when: error: put the condition into quotes"),
                 ("close-sections", ["none"],
-                 "vcdkit-close-sections: none: No such file or directory"),
-                ("four-state", ["none"], "vcdkit-four-state: none: No such file or directory"),
+                 "vcdkit-close-sections: none: No such file or directory (the first argument is "
+                 "the dump; - is standard input)"),
+                ("four-state", ["a.vcd"], "vcdkit-four-state: a.vcd: No such file or directory"),
                 ("join-bits", ["a.vcd"], "vcdkit-join-bits: a.vcd: No such file or directory")):
             with self.subTest(name=name, words=words):
                 self.assertEqual(run("vcdkit-" + name, words)[2].decode().splitlines()[-1], message)

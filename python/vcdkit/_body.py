@@ -2,6 +2,7 @@
 command or a value."""
 import functools
 import io
+import itertools
 import re
 from typing import (TYPE_CHECKING, Any, BinaryIO, Callable, Collection, Dict, Iterable, Iterator,
                     List, NamedTuple, Optional, Set, Tuple, cast)
@@ -168,25 +169,16 @@ def blocks(text: BinaryIO) -> Iterator[bytes]:
         yield block if block.endswith(b"\n") else block + text.readline()
 
 
-def of_lines(part: "Dump", lines: Lines) -> Iterator[Tuple[int, List[bytes]]]:
-    """As timed, of the lines that a reader takes of a body."""
-    now, found = 0, []
-    fault: Optional[DumpFault] = None
-    try:
-        with part.body() as out:
+def pieces(part: "Dump", lines: Optional[Lines] = None) -> Iterator[Iterable[bytes]]:
+    """Returns the lines of the body of a part of a dump, without line feeds, many at a time; with
+    `lines` only those that it takes."""
+    with part.body() as out:
+        if lines:
             for line in lines(out):
-                if line[:1] != b"#":
-                    found.append(line[:-1])
-                elif int(line[1:]) != now:
-                    if found:
-                        yield now, found
-                    now, found = int(line[1:]), []
-    except DumpFault as error:
-        fault = error
-    if found and (fault is None or part.is_finished(now, fault)):
-        yield now, found
-    if fault:
-        raise fault
+                yield (line[:-1],)
+        else:
+            for block in blocks(out):
+                yield block.split(b"\n")
 
 
 def steps(part: "Dump", codes: Collection[bytes], lead: Collection[bytes] = (),
@@ -200,33 +192,120 @@ def steps(part: "Dump", codes: Collection[bytes], lead: Collection[bytes] = (),
     in `lead`: `cut` begins with the values just before its first time, and goes on with what
     changes at it. With `is_cut`, only the section with which `cut` begins has such values. `lines`
     may leave out lines of the body that do not matter."""
-    is_begin = has_section = False
-    left, waiting = set(lead), set(codes)  # waiting: those that have no value yet
-    known: Dict[bytes, Any] = {}  # of a line what it is: a change, or an empty tuple
-    for time, its in of_lines(part, lines) if lines else timed(part):
-        before: Changes = []
-        found: Changes = []
-        for line in its:
-            one = known.get(line)
+    known, first = _Known(codes), _First(codes, lead, is_cut)
+    waiting, get, time = first.waiting, known.get, 0
+    before: Changes = []
+    found: Changes = []
+    fault: Optional[DumpFault] = None
+    try:
+        for line in itertools.chain.from_iterable(pieces(part, lines)):
+            one = get(line)
             if one is None:
-                if line[:1] == b"$":
-                    is_begin = line == b"$dumpvars" and not (is_cut and has_section)
-                    has_section = True
+                if line[:1] == b"#":
+                    now = int(line[1:])
+                    if now != time:
+                        if before or found:
+                            yield time, before, found
+                            before, found = [], []
+                        time = now
                     continue
-                one = change(line + b"\n")
-                one = one if one[0] in codes else ()
-                if len(known) >= MAX_SEEN:
-                    known.clear()
-                known[line] = one
+                if line[:1] == b"$":
+                    first.note(line)
+                    continue
+                one = known.add(line)
             if one:
-                if waiting and one[0] in waiting:
-                    waiting.discard(one[0])
-                    if is_begin or one[0] in left:
-                        before.append(one)
-                        continue
-                found.append(one)
-        if before or found:
-            yield time, before, found
+                (before if waiting and first.is_before(one[0]) else found).append(one)
+    except DumpFault as error:
+        fault = error
+    if (before or found) and (fault is None or part.is_finished(time, fault)):
+        yield time, before, found
+    if fault:
+        raise fault
+
+
+class _Known(Dict[bytes, Any]):
+    """Of lines that were seen the change that each is; an empty tuple of one that is none of some
+    codes."""
+
+    def __init__(self, codes: Collection[bytes]):
+        super().__init__({b"": ()})
+        self._codes = codes
+
+    def add(self, line: bytes) -> Any:
+        """Returns the change of a line that was not seen."""
+        one = change(line + b"\n")
+        if len(self) > MAX_SEEN:
+            self.clear()
+        self[line] = its = one if one[0] in self._codes else ()
+        return its
+
+
+class _First:
+    """Which values are from before their time: `waiting` are the codes that have no value yet."""
+
+    def __init__(self, codes: Iterable[bytes], lead: Collection[bytes], is_cut: bool = False):
+        self.waiting, self._lead, self._is_cut = set(codes), lead, is_cut
+        self._is_begin = self._has_section = False
+
+    def note(self, line: bytes) -> None:
+        """Takes the line of a section."""
+        self._is_begin = line == b"$dumpvars" and not (self._is_cut and self._has_section)
+        self._has_section = True
+
+    def is_before(self, code: bytes) -> bool:
+        """Whether the value of a code is from before its time."""
+        if code not in self.waiting:
+            return False
+        self.waiting.discard(code)
+        return self._is_begin or code in self._lead
+
+
+def at_edges(part: "Dump", codes: Collection[bytes], edges: Collection[Edge],
+             lead: Collection[bytes] = ()) -> Iterator[Tuple[int, Changes]]:
+    """Returns each time that has one of some edges, with the changes of some codes since the last
+    such time, up to just before this one: those at the last one are among them, and so are values
+    from before this one. `lead` is as of steps."""
+    last = {code: b"" for code, _, _ in edges}
+    known, first = _Known({*codes, *last}), _First({*codes, *last}, lead)
+    waiting, get, time, is_edge, mark = first.waiting, known.get, 0, False, 0
+    found: Changes = []  # up to `mark` those before the time
+    fault: Optional[DumpFault] = None
+    try:
+        for line in itertools.chain.from_iterable(pieces(part)):
+            one = get(line)
+            if one is None:
+                if line[:1] == b"#":
+                    now = int(line[1:])
+                    if now != time:
+                        if is_edge:
+                            yield time, found[:mark]
+                            found, is_edge = found[mark:], False
+                        elif mark > MAX_SEEN:
+                            found = list(dict(found).items())
+                        time, mark = now, len(found)
+                    continue
+                if line[:1] == b"$":
+                    first.note(line)
+                    continue
+                one = known.add(line)
+            if not one:
+                continue
+            code, digit = one
+            if code in last:
+                is_edge = is_edge or (code, last[code], digit) in edges
+                last[code] = digit
+            if code in codes:
+                if waiting and first.is_before(code):
+                    found.insert(mark, one)
+                    mark += 1
+                else:
+                    found.append(one)
+    except DumpFault as error:
+        fault = error
+    if is_edge and (fault is None or part.is_finished(time, fault)):
+        yield time, found[:mark]
+    if fault:
+        raise fault
 
 
 def lead_of(out: BinaryIO, codes: Collection[bytes]) -> Set[bytes]:
@@ -246,21 +325,6 @@ def lead_of(out: BinaryIO, codes: Collection[bytes]) -> Set[bytes]:
                 if not left:
                     break
     return found
-
-
-def edge_steps(part: "Dump", codes: Collection[bytes], edges: Collection[Edge],
-               lead: Collection[bytes] = ()
-               ) -> Iterator[Tuple[int, Changes, Changes, bool]]:
-    """Returns the steps of some codes, those of the edges among them, and of each whether one of
-    the edges is in it."""
-    last = {code: b"" for code, _, _ in edges}
-    for time, before, found in steps(part, codes, lead):
-        is_edge = False
-        for code, digit in before + found:
-            if code in last:
-                is_edge = is_edge or (code, last[code], digit) in edges
-                last[code] = digit
-        yield time, before, found, is_edge
 
 
 @functools.lru_cache(maxsize=MAX_SEEN)

@@ -266,14 +266,9 @@ def _steps(part: Dump, codes: Set[bytes], factor: int) -> Generator[Step, None, 
 def _edges(part: Dump, codes: Set[bytes], clock: bytes, edge: Tuple[bytes, bytes]
            ) -> Generator[Step, None, None]:
     """Returns the changes from one edge of a clock to the time before the next."""
-    number = 0
-    changed: Dict[bytes, bytes] = {}
-    for time, before, changes, is_edge in _body.edge_steps(part, {clock, *codes}, [(clock, *edge)]):
-        changed.update(before)
-        if is_edge:
-            yield Step(number, time, changed)
-            number, changed = number + 1, {}
-        changed.update(changes)
+    edges = _body.at_edges(part, codes, [(clock, *edge)])
+    for number, (time, changes) in enumerate(edges):
+        yield Step(number, time, dict(changes))
 
 
 def _together(steps: Sequence[Iterator[Step]]) -> Iterator[List[Optional[Step]]]:

@@ -158,15 +158,12 @@ def at_edges(part: "Dump", columns: Sequence[Signal], edges: Collection[_body.Ed
     """Returns a row for each time at which one of some edges is, with the values just before that
     time; only those at which a condition holds, if there is one. `lead` is that of _body.steps."""
     values = _Values(columns)
-    codes = {*values.signals, *(code for code, _, _ in edges), *(only.codes if only else ())}
-    for time, before, changes, is_edge in _body.edge_steps(part, codes, edges, lead):
-        values.take(before)
-        if only:
-            only.take(before)
-        if is_edge and (only is None or only.test(only.values) is True):
-            yield Row(time, values.row())
+    codes = {*values.signals, *(only.codes if only else ())}
+    for time, changes in _body.at_edges(part, codes, edges, lead):
         values.take(changes)
         if only:
-            if is_edge:
-                only.end_events()
             only.take(changes)
+        if only is None or only.test(only.values) is True:
+            yield Row(time, values.row())
+        if only:
+            only.end_events()

@@ -160,10 +160,7 @@ def _at_edges(part: "Dump", condition: Condition, edges: Collection[_body.Edge],
               lead: Collection[bytes]) -> Iterator[int]:
     """Returns each time that has one of the edges; the condition has the values just before that
     time, and the events since the last one. `lead` is that of _body.steps."""
-    codes = {*condition.codes, *(code for code, _, _ in edges)}
-    for time, before, changes, is_edge in _body.edge_steps(part, codes, edges, lead):
-        condition.take(before)
-        if is_edge:
-            yield time
-            condition.end_events()
+    for time, changes in _body.at_edges(part, condition.codes, edges, lead):
         condition.take(changes)
+        yield time
+        condition.end_events()

@@ -1,6 +1,6 @@
 """Times: ticks of a dump, or numbers with a unit."""
 import re
-from typing import NamedTuple, Union
+from typing import Callable, NamedTuple, Union
 
 from .errors import UsageError
 
@@ -68,6 +68,13 @@ class Timescale(NamedTuple):
         span, per = ticks * self.femtoseconds, _per(unit)
         part = str(per + span % per)[1:].rstrip("0")
         return "%d" % (span // per) + ("." + part if part else "")
+
+    def in_unit(self, unit: str) -> Callable[[int], Union[int, str]]:
+        """Returns what shows ticks as a decimal number of a unit, and fast if that is whole."""
+        factor, rest = divmod(self.femtoseconds, _per(unit))
+        if rest:
+            return lambda ticks: self.decimal(ticks, unit)
+        return factor.__mul__
 
     def seconds(self, ticks: float) -> float:
         """Returns ticks in seconds, to the precision of a float."""

@@ -26,12 +26,13 @@ examples:
   vcdkit-table --rise tb.clk --if 'tb.valid & tb.ready' sim.vcd tb.address tb.data
   vcdkit-table --unit tick sim.vcd tb.count"""
 import csv
+import functools
 import io
 import os
 import sys
 from typing import List
 
-from .. import _rows
+from .. import Value, _rows
 from . import (add_clock, add_file, add_form, add_json, add_unit, add_window, check_begin, command,
                dump_of, in_json, parser, shown, write_json)
 
@@ -71,9 +72,12 @@ def main(words: List[str]) -> int:
             write_json({"time": time, **dict(zip(keys, (
                 in_json(value, asked.form) for value in values)))})
         return 0
+    decimal = scale.in_unit(in_unit) if scale and in_unit != "tick" else (lambda ticks: ticks)
     out = csv.writer(sys.stdout, lineterminator="\n")
     out.writerow(["time (%s)" % in_unit] + [one.path for one in columns])
+    digits = functools.lru_cache(maxsize=1 << 16)(shown)  # of numbers it would take 0 for -0
     for time, values in rows:
-        out.writerow([scale.decimal(time, in_unit) if scale and in_unit != "tick" else time] + [
-            shown(value, asked.form) for value in values])
+        out.writerow([decimal(time), *(
+            digits(value, asked.form) if value.__class__ is Value else shown(value, asked.form)
+            for value in values)])
     return 0
