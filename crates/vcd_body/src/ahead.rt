@@ -73,12 +73,7 @@ struct Places<'a> {
 /// Returns a `ScannedItem` for a change of the code `found`, with this text, at these places.
 /// Nothing is known of its digits: `bits` is `None`, and `binary` is false.
 #[inline(always)]
-fn change_of<'a>(
-    found: Found,
-    form: Form,
-    text: &'a [u8],
-    places: Places<'a>,
-) -> ScannedItem<'a>
+fn change_of<'a>(found: Found, form: Form, text: &'a [u8], places: Places<'a>) -> ScannedItem<'a>
     ensures { result ≡ record {
       item = item.Change found.position form;
       text = text.entry;
