@@ -3,7 +3,7 @@
 //!
 //! `variables` lends a feed its memory, reads the header, and looks at its view. Its contract is
 //! over every reader whose bytes are known; standard input is read by the same code, but no
-//! contract says what it gives.
+//! contract says what it returns.
 #![tactic(auto)]
 
 ghost use Rattle.std.specs.Prelude.{◌≡◌, ◌-◌, ◌^◌, ◌<◌, List, ℕ, IfOk, Some, length, count_by};

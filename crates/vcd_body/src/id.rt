@@ -11,7 +11,7 @@ use vcd_text::{Sink, WriteFailed};
 pub enum Id<'a> {
     /// The code with these bytes.
     Own(&'a [u8]),
-    /// The new code of this number, as a merge gives them.
+    /// The new code of this number, as a merge assigns them.
     Number(u64),
 }
 

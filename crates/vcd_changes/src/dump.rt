@@ -221,9 +221,9 @@ fn is_enough(status: u8, reading: Reading) -> bool
 /// `NO_MEMORY`, `FULL` or `BAD_PLACE`. For the first call all numbers in `reading.place` are 0.
 ///
 /// Each call reads the header again, and then continues in the body. Identifier codes are hashed
-/// with numbers that the hasher gives; the rows do not depend on them. `reading.count` becomes the
-/// number of rows that are filled. It is 0 with `NO_CODE`, `NO_MEMORY` and `BAD_PLACE`, and if the
-/// header has a fault. `reading.place` moves on only with `DONE` and `FULL`. With `FAULT`,
+/// with numbers that the hasher returns; the rows do not depend on them. `reading.count` becomes
+/// the number of rows that are filled. It is 0 with `NO_CODE`, `NO_MEMORY` and `BAD_PLACE`, and if
+/// the header has a fault. `reading.place` moves on only with `DONE` and `FULL`. With `FAULT`,
 /// `reading.fault` and `reading.line` say which fault and where.
 pub fn changes<B: BuildHasher>(
     alloc: Global,

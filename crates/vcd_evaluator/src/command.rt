@@ -1,4 +1,4 @@
-//! What a run is asked for, what it reads, and what it leaves.
+//! What a run is asked for, what it reads, and what it ends with.
 
 /// A command with its arguments.
 #[derive(Clone, Copy)]
@@ -50,7 +50,7 @@ pub struct Input<'a> {
     pub fails: bool,
 }
 
-/// What a run leaves.
+/// What a run ends with.
 #[derive(Drop)]
 pub struct Left {
     /// The bytes on standard output.

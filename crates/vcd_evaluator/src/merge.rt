@@ -161,8 +161,8 @@ fn put_entries<'t>(
     Ok(None)
 }
 
-// Returns what a merge of inputs leaves. The order of entries is by time, then input, then index in
-// the input.
+// Returns the outcome of a merge of inputs. The order of entries is by time, then input, then index
+// in the input.
 pub(crate) fn merge(alloc: Global, inputs: &[Opened<'_>]) -> Result<Left, AllocError> {
     let least = least_scale(inputs);
     let mut entries = entries_of(alloc, inputs, least)?;

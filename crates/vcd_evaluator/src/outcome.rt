@@ -1,4 +1,4 @@
-//! A whole run: headers, then the body, then what the command gives.
+//! A whole run: headers, then the body, then what the command writes.
 use crate::body_reader::read_body;
 use crate::command::{Command, Input, Left};
 use crate::cut::put_cut;
@@ -127,7 +127,7 @@ fn put_command(
     Ok(())
 }
 
-// Returns what a command leaves over the body of an input.
+// Returns the outcome of a command over the body of an input.
 fn run_body(
     alloc: Global,
     command: Command<'_>,
@@ -147,7 +147,7 @@ fn run_body(
     left_with(alloc, lines.text, opened.name, fault)
 }
 
-// Returns what a list of an input leaves.
+// Returns the outcome of a list of an input.
 fn run_list(alloc: Global, header: &Header<'_>) -> Result<Left, AllocError> {
     let mut text = Text::new(alloc);
     let all = selected(alloc, header, &[])?;
@@ -155,7 +155,7 @@ fn run_list(alloc: Global, header: &Header<'_>) -> Result<Left, AllocError> {
     left_with(alloc, text, "", None)
 }
 
-// Returns what a command over one input leaves, whose times are good.
+// Returns the outcome of a command over one input whose times are good.
 fn run_at<'t>(
     alloc: Global,
     command: Command<'t>,
@@ -173,7 +173,7 @@ fn run_at<'t>(
     Ok(left)
 }
 
-// Returns what a command over one input leaves.
+// Returns the outcome of a command over one input.
 fn run_one<'t>(
     alloc: Global,
     command: Command<'t>,
@@ -185,7 +185,7 @@ fn run_one<'t>(
     run_at(alloc, command, opened, times.as_slice())
 }
 
-// Returns what a run leaves, or why it has no output.
+// Returns the outcome of a run, or why it has no output.
 fn run<'t>(
     alloc: Global,
     command: Command<'t>,
@@ -203,7 +203,7 @@ fn run<'t>(
     }
 }
 
-/// Returns what a command leaves over these inputs, with this token limit: one input, or for
+/// Returns the outcome of a command over these inputs, with this token limit: one input, or for
 /// `merge` one or more.
 pub fn evaluate(
     alloc: Global,

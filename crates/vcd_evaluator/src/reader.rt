@@ -14,7 +14,7 @@ pub(crate) struct Reader<'t> {
     pub(crate) ending: Fault,
 }
 
-// Returns the fault of a token that is asked for after all that an input gives.
+// Returns the fault of a token that is asked for after all that an input has.
 fn end_of(input: &Input<'_>) -> Fault {
     let line = feeds_in(input.bytes).saturating_add(1);
     let wrong = if input.fails {

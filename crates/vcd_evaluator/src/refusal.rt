@@ -1,4 +1,4 @@
-// Why a run leaves a message, and no output but what it wrote before.
+// Why a run writes a message, and no output but what it wrote before.
 use crate::command::Left;
 use crate::fault::{Fault, Wrong};
 use crate::text::Text;
@@ -77,7 +77,7 @@ fn status_of(refusal: Refusal<'_>) -> u8 {
     }
 }
 
-// Returns what a run leaves that is refused after this output.
+// Returns the outcome of a run that is refused after this output.
 pub(crate) fn refused(
     alloc: Global,
     output: Text,
@@ -90,7 +90,7 @@ pub(crate) fn refused(
     left(output, message, status_of(refusal))
 }
 
-// Returns what a run leaves that has ended well, or with a fault of the input of this name.
+// Returns the outcome of a run that has ended well, or with a fault of the input of this name.
 pub(crate) fn left_with(
     alloc: Global,
     output: Text,

@@ -45,7 +45,7 @@ pub fn read_head<S: Source>(
 /// ended the reading, otherwise the one at fault. A type, a name or a code of 4 GiB or more, for
 /// which the windows have to be as long, counts as `OutOfMemory`.
 ///
-/// Codes are hashed with numbers that the hasher gives. What is read does not depend on them. If
+/// Codes are hashed with numbers that the hasher returns. What is read does not depend on them. If
 /// the author of the dump does not know these numbers, as with `RandomState`, no choice of codes
 /// takes long to find.
 pub fn read_head_with_hasher<S: Source, B: BuildHasher>(

@@ -8,7 +8,7 @@ use std::alloc::{AllocError, Global};
 use std::process::Abort;
 use vcd_words::{Job, UseFault, Want, Words, command_of, input_of, job_of, parse_status, want_of};
 
-// The token limit if no word gives one.
+// The token limit if no argument sets one.
 const LIMIT: usize = 1_048_576;
 
 // What the parse of these words returns: nothing if they are accepted, otherwise its kind and the

@@ -157,7 +157,7 @@ pub fn sample_of_cut()
     ensures { SampleOfCut }
 {}
 
-/// `sample` of what `cut` wrote gives the values of its input between the times of the cut, none
+/// `sample` of what `cut` wrote prints the values of its input between the times of the cut, none
 /// before them, and after them those at the second.
 pub fn sample_of_cut_anywhere()
     ensures { SampleOfCutAnywhere }
@@ -200,43 +200,43 @@ pub fn list_of_merge()
     ensures { ListOfMerge }
 {}
 
-/// `sample` of what `merge` wrote gives the values of each input, at scaled times and under its
+/// `sample` of what `merge` wrote prints the values of each input, at scaled times and under its
 /// scope.
 pub fn sample_of_merge()
     ensures { SampleOfMerge }
 {}
 
-/// `edges` of what `merge` wrote gives the counts of each input, under its scope.
+/// `edges` of what `merge` wrote prints the counts of each input, under its scope.
 pub fn edges_of_merge()
     ensures { EdgesOfMerge }
 {}
 
-/// `sample` of what `merge` wrote gives the values of one input, at any times and for its scope.
+/// `sample` of what `merge` wrote prints the values of one input, at any times and for its scope.
 pub fn sample_of_one_merged()
     ensures { SampleOfOneMerged }
 {}
 
-/// `sample` of what `merge` wrote, without names, gives the values of all inputs at any times.
+/// `sample` of what `merge` wrote, without names, prints the values of all inputs at any times.
 pub fn sample_of_all_merged()
     ensures { SampleOfAllMerged }
 {}
 
-/// `edges` of what `merge` wrote gives the counts of one input, for its scope.
+/// `edges` of what `merge` wrote prints the counts of one input, for its scope.
 pub fn edges_of_one_merged()
     ensures { EdgesOfOneMerged }
 {}
 
-/// `edges` of what `merge` wrote, without names, gives the counts of all inputs.
+/// `edges` of what `merge` wrote, without names, prints the counts of all inputs.
 pub fn edges_of_all_merged()
     ensures { EdgesOfAllMerged }
 {}
 
-/// `sample` of what `merge` wrote gives the values of variables of any inputs, at any times.
+/// `sample` of what `merge` wrote prints the values of variables of any inputs, at any times.
 pub fn sample_of_any_merged()
     ensures { SampleOfAnyMerged }
 {}
 
-/// `edges` of what `merge` wrote gives the counts of variables of any inputs.
+/// `edges` of what `merge` wrote prints the counts of variables of any inputs.
 pub fn edges_of_any_merged()
     ensures { EdgesOfAnyMerged }
 {}
@@ -356,7 +356,7 @@ pub fn merge_due_is_never_revised()
     ensures { MergeDueIsNeverRevised }
 {}
 
-/// If no source of a merge gives more than is known of its input, the output is what is due.
+/// If no source of a merge returns more than is known of its input, the output is what is due.
 pub fn merge_due_is_left_at_halts()
     ensures { MergeDueIsLeftAtHalts }
 {}
@@ -383,7 +383,7 @@ pub fn cut_off_merge_is_a_prefix()
 {}
 
 /// A text begins the output over every input that begins with some bytes if and only if it begins
-/// the output over a source that gives only them and then fails.
+/// the output over a source that returns only them and then fails.
 pub fn cut_off_is_all_that_is_known()
     ensures { CutOffIsAllThatIsKnown }
 {}

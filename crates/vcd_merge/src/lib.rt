@@ -11,11 +11,11 @@
 //!
 //! # The relations
 //!
-//! `Follows limit chunk lanes names .. result` (`MergeRun`) says what a merge leaves: each input,
-//! whole, or what its source gave until a read failed; that no more of it was read than settles the
-//! merge, even if all others are known; and that output and result belong to the definitions'
-//! outcome for all of them. Between steps a merge `Holds` the items that its inputs have given
-//! (`MergeStep`).
+//! `Follows limit chunk lanes names .. result` (`MergeRun`) says what a merge ends with: each
+//! input, whole, or what its source gave until a read failed; that no more of it was read than
+//! settles the merge, even if all others are known; and that output and result belong to the
+//! definitions' outcome for all of them. Between steps a merge `Holds` the items that its inputs
+//! have given (`MergeStep`).
 //!
 //! A step `Gives` one more item, the next of the merged list, and the output grows by exactly what
 //! is due with it. Or an input has finished, and nothing is written; or all have, and what is due

@@ -133,8 +133,8 @@ fn parse_and_run<H: Host, W: Sink, E: Sink, B: BuildHasher>(
 /// The status is 0 if the job is done, and for help and the version; 1 for a fault of an input, a
 /// name that selects nothing, or a unit without a time scale; 2 for other arguments that are
 /// refused; 3 if an input cannot be opened, if memory runs out, or if a read or a write fails.
-/// Identifier codes are hashed with numbers that the hasher gives; what is written does not depend
-/// on them.
+/// Identifier codes are hashed with numbers that the hasher returns; what is written does not
+/// depend on them.
 pub fn run_program<H: Host, W: Output, E: Sink, B: BuildHasher>(
     alloc: Global,
     words: &[String],

@@ -14,7 +14,7 @@
 //! - `memory`: a host in memory
 //! - `machine`: the machine that a process runs on, as a host
 //!
-//! In `specs/`: `Runs`, what a program leaves; `Memory`, what it leaves over a host in memory.
+//! In `specs/`: `Runs`, what a program ends with; `Memory`, what it leaves over a host in memory.
 #![tactic(auto)]
 
 mod command_line;

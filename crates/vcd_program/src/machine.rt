@@ -118,7 +118,7 @@ pub enum Stream<F, I> {
     File(Again<F>),
     /// Standard input.
     Input(Again<I>),
-    /// An input of a machine that gives no random numbers: each read of it fails.
+    /// An input of a machine that returns no random numbers: each read of it fails.
     Refused,
 }
 
@@ -248,7 +248,7 @@ fn run_to_stdout<E: Sink, B: BuildHasher>(
 /// to `err`.
 ///
 /// Identifier codes are hashed with random numbers of the machine, so that nobody can make a dump
-/// whose codes are slow to find. If the machine gives none, each read of an input fails.
+/// whose codes are slow to find. If the machine has none, each read of an input fails.
 pub fn run_words_on_machine<E: Sink>(rt: &HostRuntime, words: &[String], err: &mut E) -> u8
     requires { (E.device err.old).failures < 2 ^ 64 - 2 }
     ensures { result ≤ 3 }

@@ -184,8 +184,8 @@ fn run_into_lent<B: BuildHasher>(
 /// message to `err`, from the first byte on, as far as there is room; the bytes after them may get
 /// any values. `None` if 2^63 bytes or more of one of them found no room.
 ///
-/// `input` is standard input. Identifier codes are hashed with numbers that the hasher gives; what
-/// is written does not depend on them.
+/// `input` is standard input. Identifier codes are hashed with numbers that the hasher returns;
+/// what is written does not depend on them.
 pub fn run_into_memory<B: BuildHasher>(
     alloc: Global,
     words: &[String],

@@ -4,8 +4,8 @@ use std::alloc::AllocError;
 use vcd_program::run_words_on_machine;
 use vcd_text::Watch;
 
-// A folder, and the memory of the process, of which nothing can be read at its first address. Both
-// can be opened.
+// A directory, and the memory of the process, of which nothing can be read at its first address.
+// Both can be opened.
 static UNREADABLE: [(&str, &[u8]); 2] = [
     ("/", b"vcdkit: /: read failed\n"),
     ("/proc/self/mem", b"vcdkit: /proc/self/mem: read failed\n"),

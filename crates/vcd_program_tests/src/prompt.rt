@@ -84,7 +84,7 @@ impl Write for Written<'_> {
     }
 }
 
-// Its standard input gives the steps.
+// Its standard input returns the steps.
 #[derive(Drop)]
 struct Live<'a> {
     steps: &'a [Step],

@@ -1,5 +1,5 @@
-//! Devices for tests, of this crate and of those above: a reader that gives its bytes in pieces and
-//! may fail, and a writer that is full after a number of bytes.
+//! Devices for tests, of this crate and of those above: a reader that returns its bytes in pieces
+//! and may fail, and a writer that is full after a number of bytes.
 ghost use Rattle.std.specs.Prelude.{◌≡◌, ◌≤◌, ◌<◌, ◌^◌, ℕ, None, []};
 ghost use Rattle.vcd_text.specs.Calls.{Fits, parked_answer, parked_seen};
 
@@ -21,13 +21,13 @@ pub fn parked_after(bytes: u64) -> Parked
     }
 }
 
-/// A reader that gives its bytes, at most `size` in each call, and then is at its end. It may fail
-/// at one call, or from its end on.
+/// A reader that returns its bytes, at most `size` in each call, and then is at its end. It may
+/// fail at one call, or from its end on.
 #[derive(Drop)]
 pub struct Pieces<'a> {
     /// The bytes that it has not given yet.
     pub bytes: &'a [u8],
-    /// How many bytes a call gives at most.
+    /// How many bytes a call returns at most.
     pub size: usize,
     /// How many calls there were.
     pub calls: u64,
@@ -38,7 +38,7 @@ pub struct Pieces<'a> {
 }
 
 impl<'a> Pieces<'a> {
-    /// Returns a reader of these bytes that never fails, and gives at most `size` of them in each
+    /// Returns a reader of these bytes that never fails, and returns at most `size` of them in each
     /// call.
     pub fn new(bytes: &'a [u8], size: usize) -> Self
         ensures bytes { result.bytes.now ≡ bytes.now }
@@ -57,7 +57,7 @@ impl<'a> Pieces<'a> {
 impl io::Read for Pieces<'_> {
     /// Copies at most `size` of the bytes that are left to the front of `into`, and returns how
     /// many: 0 at their end. Fails at call number `fails_at`, and at the end of the bytes if
-    /// `broken` is true; then it gives no byte.
+    /// `broken` is true; then it returns no byte.
     fn read(&mut self, into: &mut [u8]) -> io::Result<usize> {
         self.calls = self.calls.saturating_add(1);
         if self.calls == self.fails_at || self.broken && self.bytes.is_empty() {

@@ -52,7 +52,7 @@ impl Report {
     }
 }
 
-// Returns a reader that gives at most `size` bytes in each call, and fails at the call number
+// Returns a reader that returns at most `size` bytes in each call, and fails at the call number
 // `fails_at`, counted from 1.
 fn failing(bytes: &[u8], size: usize, fails_at: u64) -> Watch<Pieces<'_>>
     ensures { failed_calls result ≡ 0 }
@@ -391,7 +391,7 @@ impl io::Write for Stutter {
     }
 }
 
-// Records what a read gives, and how many have failed.
+// Records what a read returns, and how many have failed.
 fn report_read(source: &mut Watch<Stutter>, report: &mut Report)
     requires { failed_calls source.old < 2 ^ 64 - 1 }
     ensures { failed_calls source.new ≤ failed_calls source.old + 1 }

@@ -75,8 +75,8 @@ impl CodeSeed {
     }
 }
 
-/// Returns a number of 128 bits: its upper half is the hash of `first` that `hasher` gives, and its
-/// lower half the one of `first + 1`.
+/// Returns a number of 128 bits: its upper half is the hash of `first` that `hasher` returns, and
+/// its lower half the one of `first + 1`.
 fn drawn<B: BuildHasher>(hasher: &B, first: u64) -> u128
     requires { first < 2 ^ 32 }
     ensures { result ≡ drawn B.BuildHasher B.Hasher.Hasher hasher.now first }

@@ -23,7 +23,7 @@
 //! - `code_hash`: codes hashed by numbers that nobody knows
 //! - `room`: `need`, the room that an engine over a header needs
 //! - `keyword`: the keywords of a dump, and the words up to an `$end`
-//! - `new_code`: the codes that a merge gives
+//! - `new_code`: the codes that a merge assigns
 //!
 //! In `specs/` callers read `Views` and `Shown`, `Over`, `Finds`, `Needs`, `Keywords` and
 //! `NewCode`; whoever fills entries reads `Entries` and `Keys` too. `Names` collects what the

@@ -1,4 +1,4 @@
-//! The codes that a merge gives.
+//! The codes that a merge assigns.
 ghost use Rattle.std.specs.Prelude.{◌≡◌, length, take, ◌-◌, ◌^◌, ◌<◌, ◌≤◌};
 ghost use Rattle.vcd_view.specs.Names.{Puts, digits_of, new_code};
 

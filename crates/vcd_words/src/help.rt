@@ -159,8 +159,8 @@ Scripts, each with its own --help:
   vcdkit-close-sections  Adds the missing $end of sections
   vcdkit-join-bits       Joins variables of one bit into vectors
 
-All but the last three also read packed dumps (gzip, xz, bzip2, zstd). In the
-sources and the tarball, the scripts are in extras/.
+They also read packed dumps (gzip, xz, bzip2, zstd), and FST if fst2vcd is
+installed. In the sources and the tarball, the scripts are in extras/.
 
 The man page is vcdkit(1). The manual and recipes are in share/doc/vcdkit below
 the prefix of the installation, or in docs/ of the sources.",

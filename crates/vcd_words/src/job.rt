@@ -120,7 +120,7 @@ impl<'a> From<AllocError> for UseFault<'a> {
     }
 }
 
-/// How long a token may be if no word gives another limit, in bytes.
+/// How long a token may be if no argument sets one, in bytes.
 const DEFAULT_LIMIT: usize = 1_048_576;
 
 // The least and the greatest token limit.

@@ -18,9 +18,9 @@
 //! - `failure`: why a run ends before it is done
 //! - `message`: the lines on the error stream, and the statuses
 //!
-//! In `specs/`: `Calls`, what a call promises of a run; `Run`, what that leaves; `Inputs`, how far
-//! its inputs were read; `Tasks`; `Failure`; `Message`; of the words `Job`, `Words`, `Ticks` and
-//! `Refusal`; and the definitions that these cite, as `Model`.
+//! In `specs/`: `Calls`, what a call promises of a run; `Run`, what that ends with; `Inputs`, how
+//! far its inputs were read; `Tasks`; `Failure`; `Message`; of the words `Job`, `Words`, `Ticks`
+//! and `Refusal`; and the definitions that these cite, as `Model`.
 //!
 //! # Limits
 //!

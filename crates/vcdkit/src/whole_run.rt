@@ -202,8 +202,8 @@ fn run_readers<S: Source, W: Sink, B: BuildHasher>(
 /// Memory is taken for the windows, while the headers are read, and then for what the task works
 /// in, and none after that. Nothing is written to `out` before all of it was taken.
 ///
-/// Codes are hashed with numbers that the hasher gives. What is written does not depend on them. If
-/// the author of a dump does not know these numbers, as with `RandomState`, no choice of codes
+/// Codes are hashed with numbers that the hasher returns. What is written does not depend on them.
+/// If the author of a dump does not know these numbers, as with `RandomState`, no choice of codes
 /// takes long to find.
 pub fn run_with_hasher<S: Source, W: Sink, E: Sink, B: BuildHasher>(
     alloc: Global,
@@ -258,13 +258,13 @@ fn narrowed(job: Job, longest: Option<usize>) -> Job
 }
 
 /// Runs a job over the readers, and returns the exit status. `longest` is how many bytes each of
-/// them gives at most, if that is known: then the buffers are no longer than that, or than 4,096
+/// them returns at most, if that is known: then the buffers are no longer than that, or than 4,096
 /// bytes if it is less, so that a run over small inputs takes and clears less memory. What is
 /// written is the same. The other arguments, the output and the status are those of
 /// `run_with_hasher`.
 ///
-/// If a reader gives more than `longest` bytes, these are read too, but its tokens have to fit into
-/// the shorter buffers: a longer token is refused.
+/// If a reader returns more than `longest` bytes, these are read too, but its tokens have to fit
+/// into the shorter buffers: a longer token is refused.
 pub fn run_within<S: Source, W: Sink, E: Sink, B: BuildHasher>(
     alloc: Global,
     job: Job,
@@ -283,7 +283,7 @@ pub fn run_within<S: Source, W: Sink, E: Sink, B: BuildHasher>(
     ensures ends { EndsSo S.Source W.Sink E.Sink job (map string_bytes names.now)
         readers.old readers.new out.old out.new err.old err.new result }
 
-    // If no reader gives more than `longest` bytes, it is the outcome of the definitions.
+    // If no reader returns more than `longest` bytes, it is the outcome of the definitions.
     ensures gives { AreWithin S.rest longest readers.old
         → RunsJob S.Source W.Sink E.Sink job (map string_bytes names.now)
         readers.old readers.new out.old out.new err.old err.new result }

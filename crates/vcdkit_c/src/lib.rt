@@ -1,8 +1,8 @@
 //! The program as functions for callers in C, over memory that they lend.
 //!
 //! `vcdkit_run` runs one of the seven commands, by the words of its command line, over files that
-//! are bytes, and leaves output and message in bytes that were lent. What it leaves is what the
-//! program leaves over a host in memory (`RunsInto`). `vcdkit_changes` finds the changes of a
+//! are bytes, and writes output and message into lent bytes. They are what the
+//! program writes over a host in memory (`RunsInto`). `vcdkit_changes` finds the changes of a
 //! variable, as numbers (`FindsIn` of `vcd_changes`).
 #![tactic(auto)]
 

@@ -97,7 +97,7 @@ pub(crate) fn is_read_again(
     }
 }
 
-// A row of `list` without its last word, the code, which a merge gives anew.
+// A row of `list` without its last word, the code, which a merge assigns anew.
 fn without_code(row: &[u8]) -> &[u8] {
     let end = row.iter().rposition(|byte| *byte == b' ').unwrap_or(0);
     &row[..end]

@@ -12,7 +12,7 @@ fn are_same(one: &Left, other: &Left) -> bool {
         && one.status == other.status
 }
 
-// A command over a text, read by chunks of this many bytes, leaves exactly this.
+// A command over a text, read by chunks of this many bytes, ends with exactly this.
 fn is_left(
     alloc: Global,
     command: Command<'_>,
@@ -25,8 +25,8 @@ fn is_left(
     Ok(are_same(&run_one(alloc, command, text, chunk)?, said))
 }
 
-// A command over a text leaves what the evaluator says, read byte by byte and in one read, and what
-// it writes is read again.
+// A command over a text ends with what the evaluator says, read byte by byte and in one read, and
+// what it writes is read again.
 fn is_right(alloc: Global, command: Command<'_>, text: &[u8]) -> Result<bool, AllocError> {
     let said = say(alloc, command, text)?;
     Ok(
@@ -67,7 +67,7 @@ fn say_merged(alloc: Global, first: &[u8], second: &[u8]) -> Result<Left, AllocE
     evaluate(alloc, Command::Merge, LIMIT, inputs.as_slice())
 }
 
-// A merge, read by chunks of this many bytes, leaves exactly this.
+// A merge, read by chunks of this many bytes, ends with exactly this.
 fn is_left_merged(
     alloc: Global,
     first: &[u8],
@@ -80,7 +80,7 @@ fn is_left_merged(
     Ok(are_same(&run_two(alloc, first, second, chunk)?, said))
 }
 
-// A merge leaves what the evaluator says, and what it writes is read again.
+// A merge ends with what the evaluator says, and what it writes is read again.
 fn is_merged(alloc: Global, first: &[u8], second: &[u8]) -> Result<bool, AllocError> {
     let said = say_merged(alloc, first, second)?;
     Ok(

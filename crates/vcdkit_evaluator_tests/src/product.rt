@@ -1,4 +1,4 @@
-// What `run` of `vcdkit` leaves.
+// What `run` of `vcdkit` ends with.
 ghost use Rattle.std.specs.Prelude.{◌≡◌, ◌≤◌, IfOk, true};
 ghost use Rattle.vcdkit.specs.Job.{is_asked};
 
@@ -37,7 +37,7 @@ fn wanted(alloc: Global, command: Command<'_>) -> Result<Want, AllocError>
     }
 }
 
-// What a command over a text, read by chunks of this many bytes, leaves.
+// What a command over a text, read by chunks of this many bytes, ends with.
 pub(crate) fn run_one(
     alloc: Global,
     command: Command<'_>,
@@ -70,7 +70,7 @@ pub(crate) fn run_one(
     })
 }
 
-// What a merge of two texts, read by chunks of this many bytes, leaves.
+// What a merge of two texts, read by chunks of this many bytes, ends with.
 pub(crate) fn run_two(
     alloc: Global,
     first: &[u8],

@@ -71,7 +71,7 @@ struct Row<'a> {
     status: u8,
 }
 
-// How many bytes a call gives or takes, and how many a chunk has; and which call of each device
+// How many bytes a call returns or takes, and how many a chunk has; and which call of each device
 // fails, or 0 if none does.
 #[derive(Clone, Copy)]
 struct Plan {
@@ -82,7 +82,7 @@ struct Plan {
     err: u64,
 }
 
-// What a run leaves: both streams, the status, how often the reader was called, and what it has
+// What a run ends with: both streams, the status, how often the reader was called, and what it has
 // still to give.
 #[derive(Drop)]
 struct Left {
@@ -122,7 +122,7 @@ fn plan_of(failing: Failing, most: usize, chunk: usize, call: u64) -> Plan
     }
 }
 
-// A reader that gives this many bytes in each call, and fails at only one call.
+// A reader that returns this many bytes in each call, and fails at only one call.
 fn failing_at(bytes: &[u8], most: usize, call: u64) -> Pieces<'_> {
     Pieces {
         fails_at: call,

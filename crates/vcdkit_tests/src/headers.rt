@@ -154,7 +154,7 @@ const TOO_DEEP: &[u8] = b"vcdkit: (stdin):1001: scopes too deep\n";
 
 const TOO_DEEP_MERGED: &[u8] = b"vcdkit: (stdin):1004: scopes too deep\n";
 
-// Whether a run over this input leaves this output, message and status.
+// Whether a run over this input ends with this output, message and status.
 fn is_left(
     alloc: Global,
     words: Words<'_, '_>,

@@ -1,4 +1,4 @@
-// Inputs, and what a merge of them leaves.
+// Inputs, and what a merge of them ends with.
 use super::runs::{Case, DUMP, Input, LIMIT, give};
 use vcd_words::Words;
 

@@ -26,7 +26,7 @@ const USE_FAULTS: [(UseFault<'static>, &[u8], u8); 8] = [
     (UseFault::OutOfMemory, b"vcdkit: out of memory\n", 3),
 ];
 
-// Whether a fault, with this much room for its line, leaves this with this many failed writes, and
+// Whether a fault, with this much room for its line, writes this with this many failed writes, and
 // has this status.
 fn is_said(fault: UseFault<'_>, room: usize, line: &[u8], failures: u64, status: u8) -> bool
     requires { room ≤ 1024 }
@@ -47,7 +47,7 @@ fn a_use_fault_has_its_line_and_status(rt: HostRuntime) {
     }
 }
 
-// Whether the line of a file that cannot be opened, with this much room, leaves this with this many
+// Whether the line of a file that cannot be opened, with this much room, writes this with this many
 // failed writes.
 fn is_unopened(room: usize, left: &[u8], failures: u64) -> bool
     requires { room ≤ 1024 }

@@ -62,7 +62,7 @@ pub const TENS_HEAD: &[u8] = b"$timescale 10ns $end\n$var wire 1 ! a $end\n$endd
 
 pub const READ_FAILED: &[u8] = b"vcdkit: (stdin): read failed\n";
 
-// The token limit if no word gives one.
+// The token limit if no argument sets one.
 pub const LIMIT: usize = 1_048_576;
 
 // What the readers of a run give: the one reader a text, or a text and then only failures; those of
@@ -78,12 +78,12 @@ pub(crate) enum Input<'a> {
 // leaves.
 pub(crate) type Case<'a> = (Words<'a, 'a>, Input<'a>, (&'a [u8], &'a [u8], u8));
 
-// A reader that gives the text, as much in one read as is asked for.
+// A reader that returns the text, as much in one read as is asked for.
 fn whole(bytes: &[u8]) -> Pieces<'_> {
     Pieces::new(bytes, usize::MAX)
 }
 
-// A reader that gives the text, and fails at every read after it.
+// A reader that returns the text, and fails at every read after it.
 fn broken(bytes: &[u8]) -> Pieces<'_> {
     Pieces {
         broken: true,
@@ -101,7 +101,7 @@ pub(crate) fn wanted(alloc: Global, words: Words<'_, '_>) -> Result<Want, AllocE
     }
 }
 
-// What a run leaves: both streams, and the status.
+// What a run ends with: both streams, and the status.
 #[derive(Drop)]
 pub(crate) struct Left {
     out: Watch<Vec<u8>>,
@@ -116,7 +116,7 @@ impl Left {
     }
 }
 
-// What a run over one reader leaves.
+// What a run over one reader ends with.
 fn run_alone(
     alloc: Global,
     words: Words<'_, '_>,
@@ -149,7 +149,7 @@ fn text_at<'t>(texts: &[&'t [u8]], input: usize) -> &'t [u8] {
     texts.get(input).copied().unwrap_or(b"")
 }
 
-// What a merge of texts leaves.
+// What a merge of texts ends with.
 fn run_merge(alloc: Global, texts: &[&[u8]], limit: usize, chunk: usize) -> Result<Left, AllocError>
     requires texts { (0 < length texts.now) × (length texts.now ≤ 3) }
     requires limit { (64 ≤ limit) × (limit ≤ 16777216) }
@@ -180,7 +180,7 @@ fn run_merge(alloc: Global, texts: &[&[u8]], limit: usize, chunk: usize) -> Resu
     Ok(Left { out, err, status })
 }
 
-// What a run leaves; an error also if a merge has no text or more than three.
+// What a run ends with; an error also if a merge has no text or more than three.
 pub(crate) fn run_on(
     alloc: Global,
     words: Words<'_, '_>,
@@ -203,7 +203,7 @@ pub(crate) fn run_on(
     }
 }
 
-// Each run with this token limit leaves what it has to, with any chunk.
+// Each run with this token limit ends with what it has to, with any chunk.
 pub(crate) fn give<R: Abort + AllocGlobal>(rt: &R, limit: usize, cases: &[Case<'_>])
     requires { (64 ≤ limit) × (limit ≤ 16777216) }
 {
