@@ -36,8 +36,8 @@ fn in_32_bits(number: usize) -> u32
     u32::try_from(number).unwrap_or(u32::MAX)
 }
 
-/// Appends an item to a list. Fails with `OutOfMemory` if there is no memory; then the list does not
-/// change.
+/// Appends an item to a list. Fails with `OutOfMemory` if there is no memory; then the list does
+/// not change.
 // With `Vec::push`, which returns the item then, the header of 184,002 codes takes 5 % more
 // instructions for its rows only.
 #[inline(always)]
