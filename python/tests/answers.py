@@ -590,6 +590,7 @@ class Compare(NamedTuple):
         """The code of the clock in a dump, also if it has a range in only one of them; none
         without a clock."""
         its = [one for one in dump.variables if bare(one.path) == bare(self.clock)]
+        its = named(dump.variables, self.clock) or its
         return {one.code for one in its} if self.edge else set()
 
 

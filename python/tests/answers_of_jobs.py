@@ -5,9 +5,9 @@ import re
 from fractions import Fraction
 from typing import Dict, List, NamedTuple, Optional, Sequence, Set, Tuple
 
-from answers import (FOREVER, UNITS, Clocks, Dump, Row, Tree, Value, Variable, bare, changes_of,
-                     edge_times, holds, is_event, is_real, last_time, looks, selected, starts, states,
-                     unknown, value_at, value_before)
+from answers import (UNITS, Clocks, Dump, Row, Tree, Value, Variable, bare, changes_of, edge_times,
+                     holds, is_event, is_real, last_time, looks, starts, states, unknown, value_at,
+                     value_before)
 
 
 # ---- vcdkit-table --if.
@@ -134,7 +134,8 @@ def most_active(bits: Sequence[Toggles]) -> List[Toggles]:
 def trace(part: Dump, variables: Sequence[Variable], letters: str) -> List[Tuple[int, str, str]]:
     """The first line of each path."""
     every = unknown(part, variables, letters)
-    return [one for at, one in enumerate(every) if one[1] not in [path for _, path, _ in every[:at]]]
+    return [one for at, one in enumerate(every)
+            if one[1] not in [path for _, path, _ in every[:at]]]
 
 
 def verdict(dump: Dump, reach: Optional[int]) -> Tuple[str, object]:

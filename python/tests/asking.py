@@ -189,7 +189,7 @@ def bodies(lines: Sequence[str], most: int) -> Iterator[str]:
 
 def is_open(front: Sequence[str], line: str) -> bool:
     """Whether a line behind others is no fault."""
-    commands = [one for one in front if one[0] == "$"]
+    commands = [one for one in " ".join(front).split() if one[0] == "$"]
     is_in_section = bool(commands) and commands[-1] != "$end"
     if line[0] == "#":
         times = [int(one[1:]) for one in front if one[0] == "#"]
@@ -200,7 +200,8 @@ def is_open(front: Sequence[str], line: str) -> bool:
 BIT = "$timescale 10ns $end $scope module t $end $var wire 1 ! c $end $upscope $end "
 VECTOR = "$scope module t $end $var wire 1 ! c $end $var reg 3 \" q[2:0] $end $upscope $end "
 SLICES = ("$timescale 10ns $end $scope module t $end $var wire 2 ! q[1:0] $end "
-          "$var wire 2 \" q[3:2] $end $upscope $end ")
+          "$var wire 2 \" q[3:2] $end $var wire 2 ! p [1:0] $end $var wire 2 \" p [3:2] $end "
+          "$upscope $end ")
 ALIAS = ("$timescale 1ns $end $scope module t $end $var wire 2 ! q[1:0] $end $var integer 2 ! k "
          "[0:1] $end $scope module u $end $var reg 2 ! b $end $upscope $end $upscope $end ")
 TWICE = ("$timescale 100ps $end $scope module t $end $var wire 1 ! b $end $scope module b $end "
@@ -220,12 +221,13 @@ C, Q, S, E = whole("!"), whole('"', 3), whole("!", 2), whole("$")
 R, P = whole("@", 64), whole('"', 2)
 DECLARATIONS = {
     "bit": Declarations(
-        BIT, [*TIMES, "0!", "1!", "x!", "z!", *SECTION, "$dumpoff"],
+        BIT, [*TIMES, "0!", "1!", "x!", "z!", *SECTION, "$dumpoff", "$dumpvars 0! $end"],
         [["t.c"], ["t"], ["t.c", "t"]], "t.c", [
             ("t.c", ("true", C)), ("!t.c", ("not", ("true", C))), ("t.c is x", ("is", C, "x")),
             ("t.c != 0", ("not", ("==", C, 0))), ("t.c is not z", ("not", ("is", C, "z")))]),
     "vector": Declarations(
-        VECTOR, [*TIMES, "0!", "1!", 'b1 "', 'b01x "', 'bx "', 'b101 "', 'b0101 "', *SECTION],
+        VECTOR, [*TIMES, "0!", "1!", 'b1 "', 'b01x "', 'bx "', 'b101 "', *SECTION,
+                 '$dumpvars 0! b0 " $end'],
         [["t.q"], ["t.q[2:0]", "t.c"], ["t"]], "t.c", [
             ("t.q == 1", ("==", Q, 1)), ("t.q[1:0] >= 1 & t.c", (
                 "and", (">=", Part('"', 1, 3, 3, False), 1), ("true", C))),
@@ -235,7 +237,7 @@ DECLARATIONS = {
             ("t.q == -3", ("==", Q._replace(is_signed=True), -3))]),
     "slices": Declarations(
         SLICES, [*TIMES, "b0 !", "b1 !", "b1x !", 'b0 "', 'b1 "', *SECTION],
-        [["t.q[1:0]"], ["t.q[3:2]", "t.q[1:0]"], ["t"]], "", [
+        [["t.q[1:0]"], ["t.q[3:2]", "t.q[1:0]"], ["t"], ["t.p"]], "", [
             ("t.q[1:0]==1", ("==", S, 1)), ("t.q[3:2] < t.q[1:0]", ("<", P, S)),
             ("t.q[3:2] != t.q[1:0]", ("not", ("==", P, S)))]),
     "alias": Declarations(
@@ -253,7 +255,7 @@ DECLARATIONS = {
             ("t.r", ("true", R)), ("t.r >= 1 | t.e", ("or", (">=", R, 1), ("true", E))),
             ("t.p == 0", ("==", R, 0)), ("t.r != t.c", ("not", ("==", R, C)))]),
     "event": Declarations(
-        REAL, [*TIMES, "1$", "0!", "1!", "r1 @", *SECTION],
+        REAL, [*TIMES, "1$", "0!", "1!", "r1 @", *SECTION, "$dumpvars 1! $end"],
         [["t.r"], ["t.r", "t.c"], ["t"], ["t.e"]], "t.c", [
             ("t.e", ("true", E)), ("t.r >= 1 | t.e", ("or", (">=", R, 1), ("true", E))),
             ("!t.e & t.c == 0", ("and", ("not", ("true", E)), ("==", C, 0))),

@@ -537,6 +537,12 @@ class Rules(Case):
                           b"$enddefinitions $end #0")
         self.assertEqual(said("vcdkit-diff", one, other), ["alone A t.u 2", "status 1"])
 
+    def test_bits_of_two_variables_of_one_path(self):
+        dump = self.file("bits.vcd", b"$var wire 2 ! q [1:0] $end $var wire 2 \" q [3:2] $end "
+                         b"$enddefinitions $end\n#0 b0 ! b0 \" #5 b1 ! b11 \" #6 b11 \"\n")
+        self.assertEqual(said("vcdkit-stats", "--toggle", dump, "q")[:-2], [
+            "q[0] 1 0 0", "q[3] 1 0 0", "q[2] 1 0 0", "q[1] 0 0 0"])
+
     def test_real_numbers(self):
         for kind in b"real", b"realtime", b"real_parameter", b"shortreal":
             dump = self.file("r.vcd", REALS % kind)

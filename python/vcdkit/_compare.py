@@ -8,7 +8,7 @@ from typing import (Callable, Dict, Generator, Iterable, Iterator, List, NamedTu
                     Sequence, Set, Tuple, Union)
 
 from . import _body, _rows
-from ._names import bare, places_of, with_range
+from ._names import bare, full_names, places_of
 from .commands.find import MAX_NAMES, names_for
 from .dump import Dump, _hint, merge
 from .errors import UnknownName, UsageError
@@ -84,11 +84,11 @@ class Side:
 
     def full(self, name: str) -> str:
         """Returns the name for which another one stands, as tb.q[3:0] for tb.q."""
-        return name if name in self._known else with_range([name], self.names).get(name, name)
+        return full_names([name], self.names, self._known)[name]
 
     def selected(self, asked: Sequence[str]) -> Dict[str, Set[str]]:
         """Returns of each name that is asked for the names of the signals that it selects."""
-        full = {name: self.full(name) for name in asked}
+        full = full_names(asked, self.names, self._known)
         places = places_of(full.values(), self.names) if asked else {}
         return {name: {self.names[at] for at in places[path]} for name, path in full.items()}
 

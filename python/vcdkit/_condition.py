@@ -15,7 +15,7 @@ from typing import (TYPE_CHECKING, Any, Callable, Dict, Iterable, KeysView, List
                     Optional, Tuple, Union)
 
 from . import _body
-from ._names import RANGE, with_range
+from ._names import FIELD, RANGE, bits_of, full_names
 from .errors import UsageError
 from .values import Signal, extension, real
 
@@ -25,7 +25,6 @@ if TYPE_CHECKING:
 Known = Optional[bool]
 Test = Callable[[List[Any]], Known]
 MAX_DEPTH = 50  # parentheses inside each other
-FIELD = re.compile(r"\[(-?\d+)(?::(-?\d+))?\]\Z")
 TOKEN = re.compile(r'"([^"]*)"|(->|&&?|\|\|?|[!=<>]=|[!<>()])|((?:(?!->)[^\s"&|!=<>()])+)')
 IN_PYTHON = {"&": "and", "&&": "and", "|": "or", "||": "or", "!": "~", "->": "if", "within": "else"}
 ORDERS: Dict[type, Callable[[Any, Any], bool]] = {
@@ -177,8 +176,7 @@ class _Text:
 def _found(dump: "Dump", names: Iterable[str]) -> Dict[str, List[Signal]]:
     """Returns of each name the signals whose path it is, or stands for."""
     paths = dump.signals.columns()[0]
-    full = {name: name for name in names}
-    full.update(with_range([name for name in full if name not in dump.signals], paths, True))
+    full = full_names(list(names), paths, dump.signals, True)
     found: Dict[str, List[Signal]] = {path: [] for path in full.values()}
     for at, path in enumerate(paths):
         if path in found:
@@ -186,10 +184,13 @@ def _found(dump: "Dump", names: Iterable[str]) -> Dict[str, List[Signal]]:
     return {name: found[path] for name, path in full.items()}
 
 
-def declared(dump: "Dump", paths: List[str]) -> Dict[str, Tuple[int, int]]:
-    """Returns of each path the range that its declaration has."""
+Ranges = Dict[Tuple[str, str], Tuple[int, int]]  # of a path and a code
+
+
+def declared(dump: "Dump", paths: List[str]) -> Ranges:
+    """Returns of each signal of some paths the range that its declaration has, if it has one."""
     scopes: List[str] = []
-    found: Dict[str, Tuple[int, int]] = {}
+    found: Ranges = {}
     with dump._part(paths).open() as out:
         for line in out:
             words = line.decode("utf-8", "surrogateescape").split()
@@ -202,7 +203,8 @@ def declared(dump: "Dump", paths: List[str]) -> Dict[str, Tuple[int, int]]:
             elif line.startswith(b"$var "):
                 its = RANGE.search("".join(words[4:-1]))
                 if its:
-                    found[".".join([*scopes, words[4]])] = int(its.group(1)), int(its.group(2))
+                    path = ".".join([*scopes, words[4]])
+                    found[path, words[3]] = int(its.group(1)), int(its.group(2))
     return found
 
 
@@ -213,7 +215,7 @@ class _Names:
         self._dump = dump
         bases = {name: FIELD.sub("", name) for name in names}
         self._found = _found(dump, {*bases, *bases.values()})
-        self._ranges: Optional[Dict[str, Tuple[int, int]]] = None
+        self._ranges: Optional[Ranges] = None
         self.of = {name: self._name(name, base) for name, base in bases.items()}
 
     def _name(self, name: str, base: str) -> _Name:
@@ -234,9 +236,8 @@ class _Names:
         if self._ranges is None:
             self._ranges = declared(self._dump, [one.path for its in self._found.values()
                                                   for one in its])
-        left, right = self._ranges.get(signal.path, (signal.size - 1, 0))
-        if abs(left - right) + 1 != signal.size:
-            left, right = signal.size - 1, 0
+        bits = bits_of(signal.size, self._ranges.get((signal.path, signal.code), ()))
+        left, right = bits[0], bits[-1]
         step = 1 if left <= right else -1
         begin, end = (int(first) - left) * step, (int(last or first) - left) * step + 1
         if not 0 <= begin < end <= signal.size:

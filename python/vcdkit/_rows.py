@@ -121,20 +121,16 @@ class _Values:
         another one after them."""
         is_other = False
         for code, text in changes if len(changes) < 2 else dict(changes).items():
-            if code in self.signals and self._texts.get(code) != text:
-                now, was = _body.value(text, self.signals[code]), self._values.get(code)
-                self._texts[code], self._values[code] = text, now
-                is_other = is_other or not isinstance(now, float) or not _is_same(now, was)
+            was = self._texts.get(code)
+            if code in self.signals and was != text:
+                self._texts[code] = text
+                self._values[code] = _body.value(text, self.signals[code])
+                is_other = is_other or was is None or _body.same(text) != _body.same(was)
         return is_other
 
     def row(self) -> List[Cell]:
         """Returns the values, `None` if there is none yet."""
         return [self._values.get(code) for code in self.codes]
-
-
-def _is_same(now: float, was: Cell) -> bool:
-    """Whether a real number is the one that was: NaN is NaN."""
-    return isinstance(was, float) and (now == was or now != now and was != was)
 
 
 def at_changes(part: "Dump", columns: Sequence[Signal], only: Optional["Condition"]

@@ -2,7 +2,7 @@
 import re
 from typing import TYPE_CHECKING, List
 
-from ._names import places_of
+from ._names import FIELD, places_of
 from .errors import RunFailed, UsageError
 
 if TYPE_CHECKING:
@@ -13,7 +13,6 @@ SAVED = re.compile(r"(?m)^(?:@[0-9a-f]+|\[\w+\].*)\r?$")
 # A line with a signal: an alias or the place of a bit may stand before it.
 SIGNAL = re.compile(r"(?m)^(?:\+\{.*?\} |\(\d+\))?([A-Za-z_\\$][^\s]*)\s*$")
 GROUP = re.compile(r"(?m)^#\{.*?\} (.+)$")  # a vector that was put together of bits
-RANGE = re.compile(r"\[-?\d+(:-?\d+)?\]\Z")
 
 
 def names_of(path: str, dump: "Dump") -> List[str]:
@@ -28,7 +27,7 @@ def names_of(path: str, dump: "Dump") -> List[str]:
     if SAVED.search(text):
         found = [word for line in text.splitlines() for word in _signals_of(line)]
         known = places_of(found, dump.signals.columns()[0])
-        found = [name if known[name] else RANGE.sub("", name) for name in found]
+        found = [name if known[name] else FIELD.sub("", name) for name in found]
     else:
         found = [line.split()[0] for line in text.splitlines()
                  if line.strip() and not line.startswith("# ")]

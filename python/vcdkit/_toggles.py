@@ -6,8 +6,8 @@ from operator import lt
 from typing import TYPE_CHECKING, Dict, Iterator, List, NamedTuple, Optional, Sequence, Tuple
 
 from . import __version__, _body
-from ._condition import declared
-from ._names import RANGE, bare
+from ._condition import Ranges, declared
+from ._names import bare, bits_of
 from .values import Scope, Signal, full
 
 if TYPE_CHECKING:
@@ -191,16 +191,12 @@ def _take(batch: List[Tuple[int, List[bytes]]], found: Dict[bytes, Bits]) -> Non
                 found[code].take(time, text)
 
 
-def places_of(signal: Signal, ranges: Dict[str, Tuple[int, int]]) -> Sequence[Optional[int]]:
+def places_of(signal: Signal, ranges: Ranges) -> Sequence[Optional[int]]:
     """Returns the places of the bits of a signal, the leftmost first."""
-    its = RANGE.search(signal.path)
-    left, right = ((int(its.group(1)), int(its.group(2))) if its else
-                   ranges.get(signal.path, (signal.size - 1, 0)))
-    if abs(left - right) + 1 != signal.size:
-        left, right = signal.size - 1, 0
-    if signal.size == 1 and not its and signal.path not in ranges:
-        return [None]
-    return range(left, right + 1) if left <= right else range(left, right - 1, -1)
+    its = ranges.get((signal.path, signal.code), ())
+    if its or signal.size > 1:
+        return bits_of(signal.size, its)
+    return [None]
 
 
 def saif(dump: "Dump", rows: Sequence[Row], ticks: int) -> Iterator[str]:

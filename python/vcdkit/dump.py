@@ -13,7 +13,7 @@ from typing import (IO, Any, BinaryIO, Collection, ContextManager, Dict, Iterabl
 from . import _body, _library, _program, _rows, _when
 from ._body import Header
 from ._condition import Condition
-from ._names import places_of, with_range
+from ._names import full_names, places_of
 from ._texts import Bytes, File, Made, Text
 from .errors import (AT_A_TIMESTAMP, DumpFault, NoTimescale, RunFailed, UnknownName, UsageError,
                      VcdkitError)
@@ -178,9 +178,8 @@ class Dump:
     def _full(self, names: Names) -> List[str]:
         """Returns names; one for which a path with a range stands is replaced by that."""
         its = _texts_of(names)
-        left = {name for name in its if name and name not in self.signals}
-        full = with_range(left, self.signals.columns()[0]) if left else {}
-        return [full.get(name, name) for name in its]
+        full = full_names(its, self.signals.columns()[0], self.signals)
+        return [full[name] for name in its]
 
     def _places(self, names: List[str]) -> Dict[int, Signal]:
         """Returns the signals that names select, by their places among all; all without names."""
