@@ -14,7 +14,7 @@ if TYPE_CHECKING:
     from .dump import Dump
 
 ODD = re.compile(r"([^A-Za-z0-9_])")  # what SAIF has a backslash before
-BATCH = 1 << 14  # times that are looked at together
+BATCH = 1 << 11  # times that are looked at together
 ONES, UNKNOWNS, FLOATS = (str.maketrans("01xz", digits) for digits in ("0100", "0010", "0001"))
 BIT = (b"0", b"1", b"x", b"z")
 
@@ -38,9 +38,12 @@ class Counts:
                     at += 1
             number, place = number >> 1, place + 1
 
-    def of(self, bit: int) -> int:
-        """Returns the number of a bit."""
-        return sum((plane >> bit & 1) << at for at, plane in enumerate(self._planes))
+    def of(self, size: int) -> List[int]:
+        """Returns the numbers of so many bits, that of bit 0 last."""
+        if size == 1:
+            return [sum(plane << at for at, plane in enumerate(self._planes))]
+        digits = [format(plane, "0%db" % size) for plane in reversed(self._planes)]
+        return [int("".join(its), 2) for its in zip(*digits)] if digits else [0] * size
 
 
 class Bits:
@@ -96,6 +99,11 @@ class Bits:
         else:
             self._ones, self._xs, self._zs = int(text, 2), 0, 0
 
+    def counts(self) -> Iterator[Tuple[int, ...]]:
+        """Returns the counts of each bit, the leftmost first, as a row has them."""
+        return zip(*(counts.of(self.size) for counts in (
+            self.rises, self.falls, self.unknowns, self.high, self.unknown, self.floating)))
+
     def takes_all(self, falls: List[int], rises: List[int]) -> bool:
         """Takes the times at which a known bit is written 0 and 1, if it is another one each time;
         whether it is."""
@@ -114,25 +122,23 @@ class Bits:
 
 
 class Row(NamedTuple):
-    """A bit of a signal: its place by the declaration (`None` if the signal has no other), what its
-    code does, and where it is there, counted from the right."""
+    """A bit of a signal: its place by the declaration (`None` if the signal has no other), how
+    often it rises, falls and becomes x, and the ticks for which it is 1, x and z."""
 
     signal: Signal
     place: Optional[int]
-    of: Bits
-    bit: int
+    rises: int
+    falls: int
+    unknowns: int
+    high: int
+    unknown: int
+    floating: int
 
     @property
     def name(self) -> str:
         """The path of the bit."""
         return self.signal.path if self.place is None else "%s[%d]" % (
             bare(self.signal.path), self.place)
-
-    @property
-    def counts(self) -> Tuple[int, int, int]:
-        """How often it rises, falls and becomes x."""
-        of, bit = self.of, self.bit
-        return of.rises.of(bit), of.falls.of(bit), of.unknowns.of(bit)
 
 
 def rows_of(dump: "Dump", names: List[str], begin: int, end: int) -> List[Row]:
@@ -141,17 +147,20 @@ def rows_of(dump: "Dump", names: List[str], begin: int, end: int) -> List[Row]:
     signals = [one for one in dump.select(names) if not one.is_real and one.type != "event"]
     found = {one.code.encode(): Bits(one.size, begin) for one in signals}
     times = _body.timed(dump.cut(begin, end)._part(names))
+    known: Dict[bytes, Tuple[bytes, bytes]] = {}
     for time, lines in itertools.islice(times, 1):
         _start(lines, found)
-        _take([(time, lines[lines.index(b"$end"):] if lines[0] == b"$dumpvars" else lines)], found)
+        rest = lines[lines.index(b"$end"):] if lines[0] == b"$dumpvars" else lines
+        _take([(time, rest)], found, known)
     for batch in iter(lambda: list(itertools.islice(times, BATCH)), []):
-        _take(batch, found)
+        _take(batch, found, known)
     for bits in found.values():
         bits.settle()
         bits.pass_to(end)
     ranges = declared(dump, [one.path for one in signals])
-    return [Row(one, place, found[one.code.encode()], bit) for one in signals
-            for bit, place in zip(reversed(range(one.size)), places_of(one, ranges))]
+    its = {code: list(bits.counts()) for code, bits in found.items()}
+    return [Row(one, place, *counts) for one in signals
+            for place, counts in zip(places_of(one, ranges), its[one.code.encode()])]
 
 
 def _start(lines: List[bytes], found: Dict[bytes, Bits]) -> None:
@@ -164,8 +173,9 @@ def _start(lines: List[bytes], found: Dict[bytes, Bits]) -> None:
             found[code].start(text)
 
 
-def _take(batch: List[Tuple[int, List[bytes]]], found: Dict[bytes, Bits]) -> None:
-    """Takes the lines of some times."""
+def _take(batch: List[Tuple[int, List[bytes]]], found: Dict[bytes, Bits],
+          known: Dict[bytes, Tuple[bytes, bytes]]) -> None:
+    """Takes the lines of some times. `known` has the changes of lines that were seen."""
     of_bits: Dict[bytes, Tuple[List[int], List[int], List[int]]] = {
         code: ([], [], []) for code, bits in found.items() if bits.size == 1}
     adders = {digit + code: its[min(at, 2)].append for code, its in of_bits.items()
@@ -177,7 +187,7 @@ def _take(batch: List[Tuple[int, List[bytes]]], found: Dict[bytes, Bits]) -> Non
             if add:
                 add(time)
             elif line[:1] in (b"b", b"r"):
-                code, text = _body.change(line + b"\n")
+                code, text = known.get(line) or _note(line, known)
                 if code in of_bits:
                     of_bits[code][2].append(time)
                 elif code in found:
@@ -186,9 +196,17 @@ def _take(batch: List[Tuple[int, List[bytes]]], found: Dict[bytes, Bits]) -> Non
            if others or (falls or rises) and not found[code].takes_all(falls, rises)}
     for time, lines in batch if odd else ():
         for line in lines:
-            code, text = _body.change(line + b"\n") if line[:1] != b"$" else (b"", b"")
+            code, text = known.get(line) or _note(line, known)
             if code in odd:
                 found[code].take(time, text)
+
+
+def _note(line: bytes, known: Dict[bytes, Tuple[bytes, bytes]]) -> Tuple[bytes, bytes]:
+    """Returns the change of a line that was not seen; no code for that of a section."""
+    if len(known) > _body.MAX_SEEN:
+        known.clear()
+    known[line] = one = (b"", b"") if line[:1] == b"$" else _body.change(line + b"\n")
+    return one
 
 
 def places_of(signal: Signal, ranges: Dict[str, Tuple[int, int]]) -> Sequence[Optional[int]]:
@@ -236,11 +254,10 @@ def _instance(scope: Scope, rows: Dict[str, List[Row]], ticks: int, indent: str)
         yield inner + "(NET\n"
     front = len(scope.path) + 1 if scope.path else 0
     for row in nets:
-        of, bit = row.of, row.bit
-        one, unknown, floating = of.high.of(bit), of.unknown.of(bit), of.floating.of(bit)
+        low = ticks - row.high - row.unknown - row.floating
         yield "%s  (%s\n%s    (T0 %d) (T1 %d) (TX %d) (TZ %d) (TC %d) (IG 0)\n%s  )\n" % (
-            inner, ODD.sub(r"\\\1", row.name[front:]), inner, ticks - one - unknown - floating, one,
-            unknown, floating, of.rises.of(bit) + of.falls.of(bit), inner)
+            inner, ODD.sub(r"\\\1", row.name[front:]), inner, low, row.high,
+            row.unknown, row.floating, row.rises + row.falls, inner)
     if nets:
         yield inner + ")\n"
     yield from below

@@ -218,16 +218,15 @@ def end_of(dump, asked):
 
 def write_toggles(rows, asked):
     """Writes a line for each bit, those that toggle most first, and how many did."""
-    counted = sorted(((row, row.counts) for row in rows), key=lambda pair: -sum(pair[1][:2]))
-    for row, (rises, falls, unknowns) in counted:
+    for row in sorted(rows, key=lambda row: -(row.rises + row.falls)):
         if asked.json:
-            write_json({"path": row.signal.path, "bit": row.place, "rises": rises, "falls": falls,
-                        "x": unknowns})
+            write_json({"path": row.signal.path, "bit": row.place, "rises": row.rises,
+                        "falls": row.falls, "x": row.unknowns})
         else:
-            print(row.name, rises, falls, unknowns)
+            print(row.name, row.rises, row.falls, row.unknowns)
     if not asked.json:
-        both = sum(bool(rises and falls) for _, (rises, falls, _) in counted)
-        never = sum(not rises and not falls for _, (rises, falls, _) in counted)
+        both = sum(bool(row.rises and row.falls) for row in rows)
+        never = sum(not row.rises and not row.falls for row in rows)
         print("%d bits: %d rise and fall, %d do one of these, %d do neither" % (
             len(rows), both, len(rows) - both - never, never))
 
