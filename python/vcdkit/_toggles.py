@@ -3,7 +3,8 @@ long it has each value; and these as SAIF, which power tools read."""
 import itertools
 import re
 from operator import lt
-from typing import TYPE_CHECKING, Dict, Iterator, List, NamedTuple, Optional, Sequence, Tuple
+from typing import (TYPE_CHECKING, Dict, Iterator, List, NamedTuple, Optional, Sequence,
+                    Tuple, Union)
 
 from . import __version__, _body
 from ._condition import declared
@@ -46,15 +47,34 @@ class Counts:
         return [int("".join(its), 2) for its in zip(*digits)] if digits else [0] * size
 
 
+class Count:
+    """As Counts, of a single bit."""
+
+    def __init__(self) -> None:
+        self._number = 0
+
+    def add(self, bits: int, number: int = 1) -> None:
+        """Adds a number if the bit is one of some."""
+        self._number += number if bits else 0
+
+    def of(self, size: int) -> List[int]:
+        """Returns the number, in a list."""
+        return [self._number] * size
+
+
+def _counts_of(size: int) -> Union[Count, Counts]:
+    return Counts() if size > 1 else Count()
+
+
 class Bits:
     """What the bits of one code do, bit 0 the rightmost. Each is x until it has a value, which is
     no change. A value counts when the next one comes, as only the last one of a time does."""
 
-    def __init__(self, size: int, begin: int):
-        self.size, self._all = size, (1 << size) - 1
-        self.rises, self.falls, self.unknowns = Counts(), Counts(), Counts()
-        self.high, self.unknown, self.floating = Counts(), Counts(), Counts()  # ticks
-        self._ones, self._xs, self._zs = 0, self._all, 0
+    def __init__(self, size: int, begin: int, has_ticks: bool):
+        self.size, self._has_ticks = size, has_ticks
+        self.rises, self.falls, self.unknowns = (_counts_of(size) for _ in range(3))
+        self.high, self.unknown, self.floating = (_counts_of(size) for _ in range(3))  # ticks
+        self._ones, self._xs, self._zs = 0, (1 << size) - 1, 0
         self._since, self._time, self._next, self._is_new = begin, begin, b"", True
 
     def start(self, text: bytes) -> None:
@@ -84,6 +104,8 @@ class Bits:
     def pass_to(self, time: int) -> None:
         """Counts the time up to another one."""
         ticks, self._since = time - self._since, time
+        if not self._has_ticks:
+            return
         self.high.add(self._ones, ticks)
         if self._xs or self._zs:
             self.unknown.add(self._xs, ticks)
@@ -141,11 +163,12 @@ class Row(NamedTuple):
             bare(self.signal.path), self.place)
 
 
-def rows_of(dump: "Dump", names: List[str], begin: int, end: int) -> List[Row]:
-    """Returns the bits of the signals that names select, in the order of declaration, from the left
-    to the right, with what they do from one time to another. Real numbers and events have none."""
+def rows_of(dump: "Dump", names: List[str], begin: int, end: int, has_ticks: bool) -> List[Row]:
+    """Returns the bits of the signals that names select, in the order of the names, from the left
+    to the right, with what they do from one time to another; the ticks of each value only if they
+    are asked for. Real numbers and events have none."""
     signals = [one for one in dump.select(names) if not one.is_real and one.type != "event"]
-    found = {one.code.encode(): Bits(one.size, begin) for one in signals}
+    found = {one.code.encode(): Bits(one.size, begin, has_ticks) for one in signals}
     times = _body.timed(dump.cut(begin, end)._part(names))
     known: Dict[bytes, Tuple[bytes, bytes]] = {}
     for time, lines in itertools.islice(times, 1):

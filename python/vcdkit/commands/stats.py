@@ -218,13 +218,13 @@ def end_of(dump, asked):
 
 def write_toggles(rows, asked):
     """Writes a line for each bit, those that toggle most first, and how many did."""
-    for row in sorted(rows, key=lambda row: -(row.rises + row.falls)):
-        if asked.json:
-            write_json({"path": row.signal.path, "bit": row.place, "rises": row.rises,
-                        "falls": row.falls, "x": row.unknowns})
-        else:
-            print(row.name, row.rises, row.falls, row.unknowns)
+    ordered = sorted(rows, key=lambda row: -(row.rises + row.falls))
+    for row in ordered if asked.json else ():
+        write_json({"path": row.signal.path, "bit": row.place, "rises": row.rises,
+                    "falls": row.falls, "x": row.unknowns})
     if not asked.json:
+        sys.stdout.writelines("%s %d %d %d\n" % (row.name, row.rises, row.falls, row.unknowns)
+                              for row in ordered)
         both = sum(bool(row.rises and row.falls) for row in rows)
         never = sum(not row.rises and not row.falls for row in rows)
         print("%d bits: %d rise and fall, %d do one of these, %d do neither" % (
@@ -234,7 +234,7 @@ def write_toggles(rows, asked):
 def write_bits(dump, asked):
     """Writes what each bit does."""
     begin, end = dump.ticks(asked.begin, is_up=True), end_of(dump, asked)
-    rows = _toggles.rows_of(dump, asked.names, begin, end)
+    rows = _toggles.rows_of(dump, asked.names, begin, end, asked.saif is not None)
     if asked.toggle:
         write_toggles(rows, asked)
     texts = _toggles.saif(dump, rows, end - begin)
