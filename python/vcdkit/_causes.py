@@ -1,8 +1,9 @@
 """The usual causes of the faults of a dump, and what helps."""
-import itertools
+import io
 import re
 from typing import TYPE_CHECKING, Callable, Optional, Tuple
 
+from ._body import blocks
 from .errors import DumpFault
 
 if TYPE_CHECKING:
@@ -127,18 +128,24 @@ def look_at(dump: "Dump", fault: DumpFault, say: Callable[[str], object] = str
             ) -> Tuple[bytes, Optional[Cause]]:
     """Returns what is before the line of a fault, and the cause as of cause_of. `say` gets the
     lines around it."""
-    before, bad, front = bytearray(), b"", b""
+    before, bad, front, number = b"", b"", b"", 1
     with dump.open() as text:
-        for number, line in enumerate(itertools.islice(text, fault.line + 1), 1):
-            if number >= fault.line - 2:
-                say("%s %6d | %s" % (">" if number == fault.line else " ", number,
-                                     printable(line)))
-            if len(front) < FRONT:
-                front += line[:FRONT]
-            if number < fault.line:
-                before += line
-                if len(before) > 2 * FRONT:
-                    del before[:-FRONT]
-            bad = line if number == fault.line else bad
-    last = bytes(before[-FRONT:])
-    return last, cause_of(fault.fault, front, last, bad)
+        for block in blocks(text):
+            front = front if len(front) >= FRONT else front + block[:FRONT]
+            count = block.count(b"\n")
+            if number + count < fault.line - 1:  # the fault is further on
+                before, number = (before + block)[-FRONT:], number + count
+                continue
+            for line in io.BytesIO(block):
+                if number >= fault.line - 2:
+                    say("%s %6d | %s" % (">" if number == fault.line else " ", number,
+                                         printable(line)))
+                before += line if number < fault.line else b""
+                bad = line if number == fault.line else bad
+                if number > fault.line:
+                    break
+                number += 1
+            if number > fault.line + 1:
+                break
+    before = before[-FRONT:]
+    return before, cause_of(fault.fault, front, before, bad)

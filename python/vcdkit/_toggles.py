@@ -3,7 +3,8 @@ long it has each value; and these as SAIF, which power tools read."""
 import itertools
 import re
 from operator import lt
-from typing import TYPE_CHECKING, Dict, Iterator, List, NamedTuple, Optional, Sequence, Tuple
+from typing import (TYPE_CHECKING, Dict, Iterator, List, NamedTuple, Optional, Sequence,
+                    Tuple, Union)
 
 from . import __version__, _body
 from ._condition import Ranges, declared
@@ -14,7 +15,7 @@ if TYPE_CHECKING:
     from .dump import Dump
 
 ODD = re.compile(r"([^A-Za-z0-9_])")  # what SAIF has a backslash before
-BATCH = 1 << 14  # times that are looked at together
+BATCH = 1 << 11  # times that are looked at together
 ONES, UNKNOWNS, FLOATS = (str.maketrans("01xz", digits) for digits in ("0100", "0010", "0001"))
 BIT = (b"0", b"1", b"x", b"z")
 
@@ -38,20 +39,42 @@ class Counts:
                     at += 1
             number, place = number >> 1, place + 1
 
-    def of(self, bit: int) -> int:
-        """Returns the number of a bit."""
-        return sum((plane >> bit & 1) << at for at, plane in enumerate(self._planes))
+    def of(self, size: int) -> List[int]:
+        """Returns the numbers of so many bits, that of bit 0 last."""
+        if size == 1:
+            return [sum(plane << at for at, plane in enumerate(self._planes))]
+        digits = [format(plane, "0%db" % size) for plane in reversed(self._planes)]
+        return [int("".join(its), 2) for its in zip(*digits)] if digits else [0] * size
+
+
+class Count:
+    """As Counts, of a single bit."""
+
+    def __init__(self) -> None:
+        self._number = 0
+
+    def add(self, bits: int, number: int = 1) -> None:
+        """Adds a number if the bit is one of some."""
+        self._number += number if bits else 0
+
+    def of(self, size: int) -> List[int]:
+        """Returns the number, in a list."""
+        return [self._number] * size
+
+
+def _counts_of(size: int) -> Union[Count, Counts]:
+    return Counts() if size > 1 else Count()
 
 
 class Bits:
     """What the bits of one code do, bit 0 the rightmost. Each is x until it has a value, which is
     no change. A value counts when the next one comes, as only the last one of a time does."""
 
-    def __init__(self, size: int, begin: int):
-        self.size, self._all = size, (1 << size) - 1
-        self.rises, self.falls, self.unknowns = Counts(), Counts(), Counts()
-        self.high, self.unknown, self.floating = Counts(), Counts(), Counts()  # ticks
-        self._ones, self._xs, self._zs = 0, self._all, 0
+    def __init__(self, size: int, begin: int, has_ticks: bool):
+        self.size, self._has_ticks = size, has_ticks
+        self.rises, self.falls, self.unknowns = (_counts_of(size) for _ in range(3))
+        self.high, self.unknown, self.floating = (_counts_of(size) for _ in range(3))  # ticks
+        self._ones, self._xs, self._zs = 0, (1 << size) - 1, 0
         self._since, self._time, self._next, self._is_new = begin, begin, b"", True
 
     def start(self, text: bytes) -> None:
@@ -81,6 +104,8 @@ class Bits:
     def pass_to(self, time: int) -> None:
         """Counts the time up to another one."""
         ticks, self._since = time - self._since, time
+        if not self._has_ticks:
+            return
         self.high.add(self._ones, ticks)
         if self._xs or self._zs:
             self.unknown.add(self._xs, ticks)
@@ -95,6 +120,11 @@ class Bits:
                 int(digits.translate(table), 2) for table in (ONES, UNKNOWNS, FLOATS))
         else:
             self._ones, self._xs, self._zs = int(text, 2), 0, 0
+
+    def counts(self) -> Iterator[Tuple[int, ...]]:
+        """Returns the counts of each bit, the leftmost first, as a row has them."""
+        return zip(*(counts.of(self.size) for counts in (
+            self.rises, self.falls, self.unknowns, self.high, self.unknown, self.floating)))
 
     def takes_all(self, falls: List[int], rises: List[int]) -> bool:
         """Takes the times at which a known bit is written 0 and 1, if it is another one each time;
@@ -114,13 +144,17 @@ class Bits:
 
 
 class Row(NamedTuple):
-    """A bit of a signal: its place by the declaration (`None` if the signal has no other), what its
-    code does, and where it is there, counted from the right."""
+    """A bit of a signal: its place by the declaration (`None` if the signal has no other), how
+    often it rises, falls and becomes x, and the ticks for which it is 1, x and z."""
 
     signal: Signal
     place: Optional[int]
-    of: Bits
-    bit: int
+    rises: int
+    falls: int
+    unknowns: int
+    high: int
+    unknown: int
+    floating: int
 
     @property
     def name(self) -> str:
@@ -128,30 +162,28 @@ class Row(NamedTuple):
         return self.signal.path if self.place is None else "%s[%d]" % (
             bare(self.signal.path), self.place)
 
-    @property
-    def counts(self) -> Tuple[int, int, int]:
-        """How often it rises, falls and becomes x."""
-        of, bit = self.of, self.bit
-        return of.rises.of(bit), of.falls.of(bit), of.unknowns.of(bit)
 
-
-def rows_of(dump: "Dump", names: List[str], begin: int, end: int) -> List[Row]:
-    """Returns the bits of the signals that names select, in the order of declaration, from the left
-    to the right, with what they do from one time to another. Real numbers and events have none."""
+def rows_of(dump: "Dump", names: List[str], begin: int, end: int, has_ticks: bool) -> List[Row]:
+    """Returns the bits of the signals that names select, in the order of the names, from the left
+    to the right, with what they do from one time to another; the ticks of each value only if they
+    are asked for. Real numbers and events have none."""
     signals = [one for one in dump.select(names) if not one.is_real and one.type != "event"]
-    found = {one.code.encode(): Bits(one.size, begin) for one in signals}
+    found = {one.code.encode(): Bits(one.size, begin, has_ticks) for one in signals}
     times = _body.timed(dump.cut(begin, end)._part(names))
+    known: Dict[bytes, Tuple[bytes, bytes]] = {}
     for time, lines in itertools.islice(times, 1):
         _start(lines, found)
-        _take([(time, lines[lines.index(b"$end"):] if lines[0] == b"$dumpvars" else lines)], found)
+        rest = lines[lines.index(b"$end"):] if lines[0] == b"$dumpvars" else lines
+        _take([(time, rest)], found, known)
     for batch in iter(lambda: list(itertools.islice(times, BATCH)), []):
-        _take(batch, found)
+        _take(batch, found, known)
     for bits in found.values():
         bits.settle()
         bits.pass_to(end)
     ranges = declared(dump, [one.path for one in signals])
-    return [Row(one, place, found[one.code.encode()], bit) for one in signals
-            for bit, place in zip(reversed(range(one.size)), places_of(one, ranges))]
+    its = {code: list(bits.counts()) for code, bits in found.items()}
+    return [Row(one, place, *counts) for one in signals
+            for place, counts in zip(places_of(one, ranges), its[one.code.encode()])]
 
 
 def _start(lines: List[bytes], found: Dict[bytes, Bits]) -> None:
@@ -164,8 +196,9 @@ def _start(lines: List[bytes], found: Dict[bytes, Bits]) -> None:
             found[code].start(text)
 
 
-def _take(batch: List[Tuple[int, List[bytes]]], found: Dict[bytes, Bits]) -> None:
-    """Takes the lines of some times."""
+def _take(batch: List[Tuple[int, List[bytes]]], found: Dict[bytes, Bits],
+          known: Dict[bytes, Tuple[bytes, bytes]]) -> None:
+    """Takes the lines of some times. `known` has the changes of lines that were seen."""
     of_bits: Dict[bytes, Tuple[List[int], List[int], List[int]]] = {
         code: ([], [], []) for code, bits in found.items() if bits.size == 1}
     adders = {digit + code: its[min(at, 2)].append for code, its in of_bits.items()
@@ -177,7 +210,7 @@ def _take(batch: List[Tuple[int, List[bytes]]], found: Dict[bytes, Bits]) -> Non
             if add:
                 add(time)
             elif line[:1] in (b"b", b"r"):
-                code, text = _body.change(line + b"\n")
+                code, text = known.get(line) or _note(line, known)
                 if code in of_bits:
                     of_bits[code][2].append(time)
                 elif code in found:
@@ -186,9 +219,17 @@ def _take(batch: List[Tuple[int, List[bytes]]], found: Dict[bytes, Bits]) -> Non
            if others or (falls or rises) and not found[code].takes_all(falls, rises)}
     for time, lines in batch if odd else ():
         for line in lines:
-            code, text = _body.change(line + b"\n") if line[:1] != b"$" else (b"", b"")
+            code, text = known.get(line) or _note(line, known)
             if code in odd:
                 found[code].take(time, text)
+
+
+def _note(line: bytes, known: Dict[bytes, Tuple[bytes, bytes]]) -> Tuple[bytes, bytes]:
+    """Returns the change of a line that was not seen; no code for that of a section."""
+    if len(known) > _body.MAX_SEEN:
+        known.clear()
+    known[line] = one = (b"", b"") if line[:1] == b"$" else _body.change(line + b"\n")
+    return one
 
 
 def places_of(signal: Signal, ranges: Ranges) -> Sequence[Optional[int]]:
@@ -232,11 +273,10 @@ def _instance(scope: Scope, rows: Dict[str, List[Row]], ticks: int, indent: str)
         yield inner + "(NET\n"
     front = len(scope.path) + 1 if scope.path else 0
     for row in nets:
-        of, bit = row.of, row.bit
-        one, unknown, floating = of.high.of(bit), of.unknown.of(bit), of.floating.of(bit)
+        low = ticks - row.high - row.unknown - row.floating
         yield "%s  (%s\n%s    (T0 %d) (T1 %d) (TX %d) (TZ %d) (TC %d) (IG 0)\n%s  )\n" % (
-            inner, ODD.sub(r"\\\1", row.name[front:]), inner, ticks - one - unknown - floating, one,
-            unknown, floating, of.rises.of(bit) + of.falls.of(bit), inner)
+            inner, ODD.sub(r"\\\1", row.name[front:]), inner, low, row.high,
+            row.unknown, row.floating, row.rises + row.falls, inner)
     if nets:
         yield inner + ")\n"
     yield from below

@@ -218,16 +218,15 @@ def end_of(dump, asked):
 
 def write_toggles(rows, asked):
     """Writes a line for each bit, those that toggle most first, and how many did."""
-    counted = sorted(((row, row.counts) for row in rows), key=lambda pair: -sum(pair[1][:2]))
-    for row, (rises, falls, unknowns) in counted:
-        if asked.json:
-            write_json({"path": row.signal.path, "bit": row.place, "rises": rises, "falls": falls,
-                        "x": unknowns})
-        else:
-            print(row.name, rises, falls, unknowns)
+    ordered = sorted(rows, key=lambda row: -(row.rises + row.falls))
+    for row in ordered if asked.json else ():
+        write_json({"path": row.signal.path, "bit": row.place, "rises": row.rises,
+                    "falls": row.falls, "x": row.unknowns})
     if not asked.json:
-        both = sum(bool(rises and falls) for _, (rises, falls, _) in counted)
-        never = sum(not rises and not falls for _, (rises, falls, _) in counted)
+        sys.stdout.writelines("%s %d %d %d\n" % (row.name, row.rises, row.falls, row.unknowns)
+                              for row in ordered)
+        both = sum(bool(row.rises and row.falls) for row in rows)
+        never = sum(not row.rises and not row.falls for row in rows)
         print("%d bits: %d rise and fall, %d do one of these, %d do neither" % (
             len(rows), both, len(rows) - both - never, never))
 
@@ -235,7 +234,7 @@ def write_toggles(rows, asked):
 def write_bits(dump, asked):
     """Writes what each bit does."""
     begin, end = dump.ticks(asked.begin, is_up=True), end_of(dump, asked)
-    rows = _toggles.rows_of(dump, asked.names, begin, end)
+    rows = _toggles.rows_of(dump, asked.names, begin, end, asked.saif is not None)
     if asked.toggle:
         write_toggles(rows, asked)
     texts = _toggles.saif(dump, rows, end - begin)
