@@ -122,9 +122,9 @@ def memory(place, case):
         # that is refused.
         if got[n] not in ((b"", b"vcdkit: out of memory\n", 3), whole):
             yield say(case, "request %d of %d refused" % (n + 1, requests), whole, got[n])
-    # The last three are for the code as a key, for the variable's type, and for the key again.
-    if case.known_code and not got[-3] == got[-1] == whole:
-        yield say(case, "the key of a known code refused", [whole, whole], [got[-3], got[-1]])
+    # The last is for the code as a key.
+    if case.known_code and got[-1] != whole:
+        yield say(case, "the key of a known code refused", whole, got[-1])
     # The body is longer than the longest file that is read with windows no longer than it is. The
     # names of the files are as long, since they are copied too.
     few, many = [place.counts(case,
