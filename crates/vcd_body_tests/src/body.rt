@@ -10,8 +10,8 @@ use std::alloc::{AllocError, Global};
 use std::process::Abort;
 use std::test::Fail;
 use vcd_body::{
-    Bits, Form, Id, Item, Regs, ScannedItem, Visit, change_text, left_out, next_item,
-    pass_items, put_change, walk_ahead,
+    Bits, Form, Id, Item, Regs, ScannedItem, Visit, change_text, left_out, next_item, pass_items,
+    put_change, walk_ahead,
 };
 use vcd_head::{Head, HeadFault, HeadView, read_head};
 use vcd_text::doubles::{Narrow, Pieces};
