@@ -763,6 +763,49 @@ def found(variables: Sequence[Variable], patterns: Sequence[str]) -> List[Variab
             if not patterns or any(re.search(pattern, one.path) for pattern in patterns)]
 
 
+def scopes_of(path: str) -> List[str]:
+    """The scopes around a path, the outermost first; an empty one stands for the top."""
+    words = path.split(".")[:-1]
+    return [".".join(words[:at]) for at in range(len(words) + 1)]
+
+
+def tree(variables: Sequence[Variable], patterns: Sequence[str]) -> List[Tuple[int, str, int]]:
+    """The scopes with variables that match, each above those in it: its depth, its name, and how
+    many there are in it and in the scopes below it. The top counts only its own."""
+    its = found(variables, patterns)
+    scopes = dict.fromkeys(scope for one in variables for scope in scopes_of(one.path)[1:])
+    counts = [(scope, sum(scope in scopes_of(one.path) for one in its)) for scope in scopes]
+    at_top = sum("." not in one.path for one in its)
+    return [(0, "(top)", at_top)] * bool(at_top) + [
+        (scope.count("."), scope.split(".")[-1], count) for scope, count in sorted(
+            counts, key=lambda one: [list(scopes).index(its) for its in scopes_of(one[0] + ".")[1:]])
+        if count]
+
+
+def about(variables: Sequence[Variable], most: int) -> Dict[str, Any]:
+    """What vcdkit-info says of the variables: how many there are of each type, the bits of all
+    codes, and the scopes that have most variables of their own. Of equal ones the first comes
+    first."""
+    def counted(its: Sequence[str]) -> Dict[str, int]:
+        order = sorted(dict.fromkeys(its), key=lambda one: -its.count(one))
+        return {one: its.count(one) for one in order}
+    largest = counted([scopes_of(one.path)[-1] for one in variables])
+    return {"types": counted([one.type for one in variables]),
+            "bits": sum({one.code: one.size for one in variables}.values()),
+            "largest": dict(list(largest.items())[:most])}
+
+
+def array(dump: Dump, of: Variable) -> Tuple[List[int], List[Union[int, float, None]]]:
+    """What arrays() of the package has: the times and the numbers of all changes. A value with an x
+    or a z is None; of a real variable it is NaN, as is a text that is no number."""
+    its = changes_of(dump, of.code)
+    numbers = [number(one.value) for one in its]
+    known = [None if isinstance(one, str) else one for one in numbers]
+    nan = float("nan")
+    return [one.time for one in its], [
+        (nan if one is None else float(one)) if is_real(of) else one for one in known]
+
+
 def salvaged(dump: Dump) -> Tuple[List[Change], Optional[int], int]:
     """What is left of a dump with a fault: all changes before it, the last timestamp, and until
     when all values are known (-1: of no time). Decided: without a timestamp and a change before

@@ -98,7 +98,7 @@ class Ways:
         evaluator.read_head = Heads()
         setattr(_condition, "_Text", functools.lru_cache(maxsize=None)(Condition))
         self._evaluator = Evaluator()
-        self._library = _library.run
+        self._library = _library.run, _library.changes
         self.others = [_program] if _program.path() else []
         if _library.path():
             self.others.append(_library)
@@ -106,7 +106,8 @@ class Ways:
 
     def take(self, way: Any = None) -> None:
         """Lets one of them answer, the evaluator if none is named."""
-        _library.run = self._library if way is _library else self._evaluator.run
+        _library.run, _library.changes = self._library if way is _library else (
+            self._evaluator.run, lambda *_: None)
         vcdkit.dump.way = lambda: way or _library
 
 

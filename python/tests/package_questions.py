@@ -1,4 +1,5 @@
 """What test_every_small_dump.py asks the package of a small dump."""
+import importlib.util
 from typing import Any, Dict, List, Optional, Sequence, Tuple
 
 import answers as by_definition
@@ -6,6 +7,8 @@ from answers import Tree, Variable
 from asking import (END, WINDOWS, Ask, Asked, Declarations, answered, codes_of, dump_of, keys_of,
                     last_of, part_of, plain_list)
 from vcdkit import Dump, merge
+
+HAS_NUMPY = importlib.util.find_spec("numpy") is not None
 
 
 def refused(is_refusal: bool, text: str) -> str:
@@ -102,6 +105,10 @@ class Case:
             self.same("changes", one.path, [
                 (change.time, change.value) for change in by_definition.changes_of(
                     self.dump, one.code)], lambda: self.whole.changes(one.path))
+            if HAS_NUMPY and not by_definition.is_event(one):
+                self.same("arrays", one.path, [] if self.dump.fault else
+                          by_definition.array(self.dump, one),
+                          lambda: [each.tolist() for each in self.whole.arrays(one.path)])
             for time in self.some([0, 4, 5, 7, 12]):
                 fault = self.fault_by(time)
                 self.same("value", "%s %d" % (one.path, time), [] if fault else None
