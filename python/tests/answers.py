@@ -215,9 +215,12 @@ def cut(dump: Dump, begin: int, end: int) -> Dump:
         fault=dump.fault if has_fault_by(dump, end) else "")
 
 
-def around(dump: Dump, time: int, before: int, after: int) -> Dump:
-    """The part from `before` a time to `after` it, as far as there are ticks."""
-    return cut(dump, max(time - before, 0), min(time + after, FOREVER))
+def around(dump: Dump, time: Fraction, before: Fraction, after: Fraction) -> Dump:
+    """The part from `before` a time to `after` it, as far as there are ticks. Decided: if the three
+    are between ticks, it has the ticks of this span, and in any case the tick of the time."""
+    here = floor(time)
+    return cut(dump, max(min(ceil(time - before), here), 0),
+               min(max(floor(time + after), here), FOREVER))
 
 
 def pick(dump: Dump, names: Sequence[str]) -> Dump:

@@ -1,5 +1,6 @@
 """What test_every_small_dump.py asks the package of a small dump."""
 import importlib.util
+from fractions import Fraction
 from typing import Any, Dict, List, Optional, Sequence, Tuple
 
 import answers as by_definition
@@ -8,6 +9,9 @@ from asking import (END, WINDOWS, Ask, Asked, Declarations, answered, codes_of, 
                     last_of, part_of, plain_list)
 from vcdkit import Dump, merge
 
+# A time, and how much before and after it, in ticks.
+AROUND = [("7", "4", "2"), ("7", "0", "0"), ("7", "9", "5"), ("4.5", "0.5", "0.5"),
+          ("4.5", "0", "0.4"), ("5", "1.5", "4.9"), ("10.5", "0.6", "0")]
 HAS_NUMPY = importlib.util.find_spec("numpy") is not None
 
 
@@ -171,10 +175,12 @@ class Case:
 
     def ask_parts(self) -> None:
         """Asks for parts of other kinds, and looks at what is in them."""
-        for before, after in self.some([(4, 2), (0, 0), (9, 5)]):
-            self.same("around", "7 %d %d" % (before, after),
-                      last_of(by_definition.around(self.dump, 7, before, after)),
-                      lambda: part_of(self.whole.around(7, before, after)))
+        for places in self.some(AROUND) if self.dump.tick else AROUND[:3]:
+            texts = [place if "." not in place else "%sns" % by_definition.decimal(
+                Fraction(place) * (self.dump.tick or 0) / 10**6) for place in places]
+            self.same("around", "%s" % texts,
+                      last_of(by_definition.around(self.dump, *map(Fraction, places))),
+                      lambda: part_of(self.whole.around(*texts)))
         names = self.some(self.of.names)[0]
         picked = by_definition.pick(self.dump, names)
         if picked.variables:

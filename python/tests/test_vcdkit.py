@@ -417,6 +417,17 @@ class Questions:
             self.assertEqual(part.save(path).check(), part.check())
             self.assertEqual(os.listdir(folder), ["w.vcd"])
 
+    def test_around_between_two_ticks(self):
+        dump = Dump(b"$timescale 10ns $end $var wire 1 ! a $end $enddefinitions $end\n"
+                    b"#3 0!\n#4 1!\n#5 0!\n#6 1!\n")
+        for words, wanted in ((("45ns", "5ns"), (4, 5)), (("45ns", "4ns"), (4, 4)),
+                              (("45ns", 1, "25ns"), (4, 7)), ((5, "15ns"), (4, 6)),
+                              (("45ns", "99ns"), (0, 14)), ((5, 9, 2**64 - 1), (0, 2**64 - 1))):
+            self.assertEqual(dump.window(*words), wanted, words)
+        self.assertEqual([time for time, _ in dump.around("45ns", "5ns").changes("a")], [4, 4, 5])
+        with self.assertRaises(NoTimescale):
+            Dump(BROKEN).window(5, "5ns")
+
     def test_open_files(self):
         wanted = Dump(NESTED).check()
         with open(NESTED, "rb") as file:

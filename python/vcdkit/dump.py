@@ -471,9 +471,20 @@ class Dump:
     def around(self, time: Time, before: Time, after: Optional[Time] = None) -> "Dump":
         """Returns the dump from `before` before a time to `after` after it. Without `after`, it is
         the same on both sides."""
-        at, early = self.ticks(time), self.ticks(before)
-        late = early if after is None else self.ticks(after)
-        return self.cut(max(at - early, 0), min(at + late, LAST_TICK))
+        return self.cut(*self.window(time, before, after))
+
+    def window(self, time: Time, before: Time, after: Optional[Time] = None) -> Tuple[int, int]:
+        """Returns the first and the last tick from `before` before a time to `after` after it, as
+        far as there are ticks. That of the time itself, rounded down, is always in the window."""
+        texts = [word(time), word(before), word(before if after is None else after)]
+        scale = Timescale(1, "fs")  # if there are only ticks, any will do
+        for text in texts:
+            if not text.isdigit():
+                self.ticks(text)  # it needs a time scale
+                scale = self.timescale or scale
+        (at, early, late), tick = map(scale.span, texts), scale.femtoseconds
+        first, here, last = -(-(at - early) // tick), at // tick, (at + late) // tick
+        return max(min(first, here), 0), min(max(last, here), LAST_TICK)
 
 
 def merge(*dumps: Dump) -> Dump:

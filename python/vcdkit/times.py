@@ -46,12 +46,14 @@ class Timescale(NamedTuple):
     def ticks(self, time: Time, is_up: bool = False) -> int:
         """Returns a time in ticks. A time between two ticks is rounded down, or up, as that is with
         which a cut begins."""
+        span = self.span(time)
+        return -(-span // self.femtoseconds) if is_up else span // self.femtoseconds
+
+    def span(self, time: Time) -> int:
+        """Returns a time in femtoseconds."""
         text = word(time)
         digits = text.rstrip("smunpf")
-        if digits == text:
-            return int(text)
-        span = int(digits) * _per(text[len(digits):])
-        return -(-span // self.femtoseconds) if is_up else span // self.femtoseconds
+        return int(digits) * (_per(text[len(digits):]) if digits != text else self.femtoseconds)
 
     def text(self, ticks: int, unit: str = "") -> str:
         """Returns ticks in the largest unit in which they are a whole number, such as `115ns`,

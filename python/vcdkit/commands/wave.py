@@ -250,13 +250,13 @@ def window_of(dump, asked):
     if asked.around is None:
         check_begin(dump, asked)
         return dump.ticks(asked.begin, is_up=True), dump.ticks(asked.end)
-    at, span = dump.ticks(asked.around), dump.ticks(asked.context or "0")
-    if not span:
+    if not dump.ticks(asked.context or "0", is_up=True):
         raise UsageError("--around needs --context TIME, how much before and after it")
-    is_late = after_end(dump, dump.time(max(at - span, 0)))
+    begin, end = dump.window(asked.around, asked.context)
+    is_late = after_end(dump, dump.time(begin))
     if is_late:
         raise UsageError("--around: " + is_late)
-    return max(at - span, 0), min(at + span, LAST_TICK)
+    return begin, end
 
 
 def width(text):
