@@ -32,7 +32,7 @@ os.environ["PYTHONDONTWRITEBYTECODE"] = "1"
 
 from vcdkit import Dump, Signal, _body, _lanes, _toggles, _unknown
 from vcdkit._lanes import Lanes, Several
-from vcdkit.commands import find, x
+from vcdkit.commands import close_sections, find, four_state, join_bits, x
 
 NESTED = os.path.join(TOP, "samples", "nested.vcd")
 SCRIPTS = sorted(name for name in os.listdir(EXTRAS) if name.startswith("vcdkit-"))
@@ -750,6 +750,34 @@ class Filters(Case):
                 b"1! #6\n$end")
         out = self.file("out.vcd", run("vcdkit-close-sections", [self.file("torn.vcd", torn)])[1])
         self.assertIn("sections 2", said("vcdkit-explain", out))
+
+
+    def test_blocks(self):
+        """What a filter writes does not depend on the blocks in which its input comes."""
+        head = (b"$comment U $end\n$var wire 1 ! q [1] $end\n$var wire 1 \" q [0] $end\n$var string 1 "
+                b"s t $end\n$var wire 4 b v $end\n$enddefinitions $end\n")
+        words = [b"0!", b"1\"", b"b1 !", b" x!", b"bUH b", b"U!", b"sidle s", b"#5", b"#7 1!", b"b01",
+                 b"$dumpvars", b"$end", b"$comment", b"x $end", b"$dumpall 0! $end", b"", b"r1.5 b"]
+        for seed in range(200):
+            rnd = random.Random(seed)
+            lines = [rnd.choice(words) + rnd.choice([b"\n", b"\n", b"\r\n"]) for _ in range(20)]
+            text = head + b"".join(lines)[:-1 if seed % 5 else None]
+            size = rnd.choice([1, 30, 200])
+            parts = [text[:len(head)], *(b"".join(lines[at:at + size // 10 + 1]) for at in range(
+                0, 20, size // 10 + 1))]
+            parts[-1] = parts[-1][:-1 if seed % 5 else None]
+            for name, filtered in (
+                    ("four-state", lambda blocks: map(four_state.States().of_block, blocks)),
+                    ("close-sections", lambda blocks: close_sections.Sections().of_blocks(blocks)),
+                    ("join-bits", self.joined)):
+                self.assertEqual(b"".join(filtered(parts)), b"".join(filtered([text])), (name, seed))
+
+    @staticmethod
+    def joined(blocks):
+        """Returns what vcdkit-join-bits writes of blocks."""
+        vectors, rest, blocks = join_bits.Vectors(), [], iter(blocks)
+        head = list(join_bits.joined(join_bits.lines_of(blocks, rest), vectors))
+        return [*head, *vectors.of_blocks([b"".join(reversed(rest)), *blocks])]
 
 
 class Unknown(Case):
