@@ -118,9 +118,9 @@ same 'vcdkit-find --pick --names: a save file of GTKWave' \
         paste -s -d ' ')"
 "$VCDKIT" list -i $dump | grep ^bench.slow.c > "$folder/names"
 same 'vcdkit-table --names: rows of list' 'time (ps),bench.bus,bench.slow.clock,bench.slow.count
-115000,xxxxxxxx,1,1011' "$(vcdkit-table --at 115ns --names "$folder/names" $dump bench.bus)"
-same 'vcdkit-x --names: no such file' 'vcdkit-x: none: No such file or directory
-status 3' "$(status vcdkit-x --names none $dump)"
+115000,10101010,1,1011' "$(vcdkit-table --at 115ns --names "$folder/names" $dump bench.bus)"
+same 'vcdkit-x --names: no such file' 'vcdkit-x: ./none: No such file or directory
+status 3' "$(status vcdkit-x --names ./none $dump)"
 same 'vcdkit-wave: no name' 'vcdkit-wave: error: the following arguments are required: NAME, or '\
 '--names
 status 2' "$(status vcdkit-wave $dump | tail -n 2)"

@@ -30,9 +30,9 @@ sys.path.insert(0, os.path.dirname(HERE))
 os.environ.setdefault("VCDKIT", os.path.join(TOP, "vcdkit"))
 os.environ["PYTHONDONTWRITEBYTECODE"] = "1"
 
-from vcdkit import Dump, Signal, _body, _lanes, _unknown
+from vcdkit import Dump, Signal, _body, _lanes, _toggles, _unknown
 from vcdkit._lanes import Lanes, Several
-from vcdkit.commands import find, x
+from vcdkit.commands import close_sections, find, four_state, join_bits, x
 
 NESTED = os.path.join(TOP, "samples", "nested.vcd")
 SCRIPTS = sorted(name for name in os.listdir(EXTRAS) if name.startswith("vcdkit-"))
@@ -752,6 +752,34 @@ class Filters(Case):
         self.assertIn("sections 2", said("vcdkit-explain", out))
 
 
+    def test_blocks(self):
+        """What a filter writes does not depend on the blocks in which its input comes."""
+        head = (b"$comment U $end\n$var wire 1 ! q [1] $end\n$var wire 1 \" q [0] $end\n$var string 1 "
+                b"s t $end\n$var wire 4 b v $end\n$enddefinitions $end\n")
+        words = [b"0!", b"1\"", b"b1 !", b" x!", b"bUH b", b"U!", b"sidle s", b"#5", b"#7 1!", b"b01",
+                 b"$dumpvars", b"$end", b"$comment", b"x $end", b"$dumpall 0! $end", b"", b"r1.5 b"]
+        for seed in range(200):
+            rnd = random.Random(seed)
+            lines = [rnd.choice(words) + rnd.choice([b"\n", b"\n", b"\r\n"]) for _ in range(20)]
+            text = head + b"".join(lines)[:-1 if seed % 5 else None]
+            size = rnd.choice([1, 30, 200])
+            parts = [text[:len(head)], *(b"".join(lines[at:at + size // 10 + 1]) for at in range(
+                0, 20, size // 10 + 1))]
+            parts[-1] = parts[-1][:-1 if seed % 5 else None]
+            for name, filtered in (
+                    ("four-state", lambda blocks: map(four_state.States().of_block, blocks)),
+                    ("close-sections", lambda blocks: close_sections.Sections().of_blocks(blocks)),
+                    ("join-bits", self.joined)):
+                self.assertEqual(b"".join(filtered(parts)), b"".join(filtered([text])), (name, seed))
+
+    @staticmethod
+    def joined(blocks):
+        """Returns what vcdkit-join-bits writes of blocks."""
+        vectors, rest, blocks = join_bits.Vectors(), [], iter(blocks)
+        head = list(join_bits.joined(join_bits.lines_of(blocks, rest), vectors))
+        return [*head, *vectors.of_blocks([b"".join(reversed(rest)), *blocks])]
+
+
 class Unknown(Case):
     """vcdkit-x, which leaves out most lines, against a look at each line."""
 
@@ -800,6 +828,74 @@ class Unknown(Case):
                                   (0, 1))
                     self.assertEqual(out.getvalue().splitlines(),
                                      self.plain(text, letters, begin, end))
+
+
+class Toggles(unittest.TestCase):
+    """vcdkit-stats --toggle and --saif, which take many times together, against each value."""
+
+    def wanted(self, changes, size, begin, end):
+        """Returns what each bit does by a list of changes: rises, falls, to x, ticks of 1, x, z."""
+        before = [digits for time, digits in changes if time < begin][-1:]
+        its = [(begin, "x" * size), *((begin, digits) for digits in before),
+               *(one for one in changes if one[0] >= begin), (end, None)]
+        for at in range(size):
+            pairs = [(one[1][at], other[1][at]) for one, other in zip(its[1:-1], its[2:-1])]
+            spans = [(one[1][at], other[0] - one[0]) for one, other in zip(its, its[1:])]
+            yield (pairs.count(("0", "1")), pairs.count(("1", "0")),
+                   sum(new == "x" != old for old, new in pairs),
+                   *(sum(ticks for digit, ticks in spans if digit == one) for one in "1xz"))
+
+    def test_against_values(self):
+        sizes = {"!": 1, "0": 1, "1": 8, "b!": 3, "#": 1}
+        names = ["s%d" % at for at in range(len(sizes))]
+        head = "".join("$var wire %d %s %s $end\n" % (size, code, name)
+                       for name, (code, size) in zip(names, sizes.items()))
+        self.addCleanup(setattr, _toggles, "BATCH", _toggles.BATCH)
+        for seed in range(30):
+            rnd = random.Random(seed)
+            body, changes, last = random_dump(rnd, sizes)
+            dump = Dump((head + "$enddefinitions $end\n").encode() + body)
+            begin, _toggles.BATCH = rnd.choice([0, 7, last // 2]), rnd.choice([1, 3, 50, 2048])
+            rows = _toggles.rows_of(dump, names, begin, max(last, begin), True)
+            wanted = [counts for code, size in sizes.items()
+                      for counts in self.wanted(changes[code], size, begin, max(last, begin))]
+            self.assertEqual([row[2:] for row in rows], wanted, seed)
+
+
+class Many(Case):
+    """vcdkit-explain over many dumps, and --names."""
+
+    def test_verdicts(self):
+        one, bad = self.file("one.vcd", HAND), self.file("bad.vcd.gz", gzip.compress(TORN[:-5]))
+        with open(self.file("notes.txt", b"no dump"), "rb"):
+            pass
+        none, report = os.path.join(self.folder.name, "none"), os.path.join(SCRATCH.name, "j.xml")
+        lines = ["%s:17: unexpected end of input: the dump is cut off" % bad, "%s: ends 30ns" % one]
+        self.assertEqual(said("vcdkit-explain", "--jobs", "2", self.folder.name), [
+            *lines, "2 dumps: 1 valid, 1 with a fault", "status 1"])
+        self.assertEqual(said("vcdkit-explain", one, none, one), [
+            lines[1], none + ": No such file or directory", lines[1],
+            "3 dumps: 2 valid, 1 cannot be read", "status 3"])
+        self.assertEqual(said("vcdkit-explain", "--reach", "30ns", one), [lines[1], "status 0"])
+        self.assertEqual(said("vcdkit-explain", "--reach=31ns", "--junit", report, one), [
+            lines[1] + ", before 31ns", "status 1"])
+        with open(report, encoding="utf-8") as file:
+            self.assertIn('tests="1" failures="1" errors="0"', file.read())
+        self.assertEqual(run("vcdkit-explain", ["--salvage", "x", one, bad])[0], 2)
+        self.assertEqual(run("vcdkit-explain", [SCRATCH.name])[0], 2)
+
+    def test_names(self):
+        dump = self.file("hand.vcd", HAND)
+        names = self.file("names", b"# of a list\ntb.deep.word wire 16\n\ntb.clk\n")
+        with open(names, "rb") as file:
+            self.assertEqual(run("vcdkit-values", ["--names", "-", dump], stdin=file)[1],
+                             b"tb.deep.word 0100100001101001\ntb.clk 0\n")
+        saved = self.file("x.gtkw", b"[*] GTKWave\n[pos] -1 -1\n@28\ntb.clk\n@c00022\n"
+                          b"tb.sum[7:0]\n@28\n(0)tb.sum[7:0]\n+{a b} tb.deep.word[15:0]\n-\n")
+        self.assertEqual(said("vcdkit-find", "--names", saved, dump)[:3], [
+            "tb.clk wire 1 !", "tb.sum wire 8 \"", "tb.deep.word wire 16 %"])
+        self.assertIn(b"tb.none: selects nothing",
+                      run("vcdkit-x", ["--names", self.file("n", b"tb.none"), dump])[2])
 
 
 class Picks(Case):

@@ -169,16 +169,27 @@ def blocks(text: BinaryIO) -> Iterator[bytes]:
         yield block if block.endswith(b"\n") else block + text.readline()
 
 
-def pieces(part: "Dump", lines: Optional[Lines] = None) -> Iterator[Iterable[bytes]]:
-    """Returns the lines of the body of a part of a dump, without line feeds, many at a time; with
-    `lines` only those that it takes."""
-    with part.body() as out:
-        if lines:
-            for line in lines(out):
-                yield (line[:-1],)
-        else:
-            for block in blocks(out):
-                yield block.split(b"\n")
+LAST = b"#-1"  # a timestamp of no time
+
+
+def pieces(part: "Dump", lines: Optional[Lines] = None) -> Iterator[bytes]:
+    """Returns the lines of the body of a part of a dump, without line feeds; with `lines` only
+    those that it takes. At the end comes LAST, unless a fault leaves the last time unfinished."""
+    def some() -> Iterator[Iterable[bytes]]:
+        time, fault = b"#0", None
+        try:
+            with part.body() as out:
+                for its in ([line[:-1]] for line in lines(out)) if lines else (
+                        block.split(b"\n") for block in blocks(out)):
+                    yield its
+                    time = next((line for line in reversed(its) if line[:1] == b"#"), time)
+        except DumpFault as error:
+            fault = error
+        if fault is None or part.is_finished(int(time[1:]), fault):
+            yield [LAST]
+        if fault:
+            raise fault
+    return itertools.chain.from_iterable(some())
 
 
 def steps(part: "Dump", codes: Collection[bytes], lead: Collection[bytes] = (),
@@ -196,31 +207,23 @@ def steps(part: "Dump", codes: Collection[bytes], lead: Collection[bytes] = (),
     waiting, get, time = first.waiting, known.get, 0
     before: Changes = []
     found: Changes = []
-    fault: Optional[DumpFault] = None
-    try:
-        for line in itertools.chain.from_iterable(pieces(part, lines)):
-            one = get(line)
-            if one is None:
-                if line[:1] == b"#":
-                    now = int(line[1:])
-                    if now != time:
-                        if before or found:
-                            yield time, before, found
-                            before, found = [], []
-                        time = now
-                    continue
-                if line[:1] == b"$":
-                    first.note(line)
-                    continue
-                one = known.add(line)
-            if one:
-                (before if waiting and first.is_before(one[0]) else found).append(one)
-    except DumpFault as error:
-        fault = error
-    if (before or found) and (fault is None or part.is_finished(time, fault)):
-        yield time, before, found
-    if fault:
-        raise fault
+    for line in pieces(part, lines):
+        one = get(line)
+        if one is None:
+            if line[:1] == b"#":
+                now = int(line[1:])
+                if now != time:
+                    if before or found:
+                        yield time, before, found
+                        before, found = [], []
+                    time = now
+                continue
+            if line[:1] == b"$":
+                first.note(line)
+                continue
+            one = known.add(line)
+        if one:
+            (before if waiting and first.is_before(one[0]) else found).append(one)
 
 
 class _Known(Dict[bytes, Any]):
@@ -269,43 +272,33 @@ def at_edges(part: "Dump", codes: Collection[bytes], edges: Collection[Edge],
     known, first = _Known({*codes, *last}), _First({*codes, *last}, lead)
     waiting, get, time, is_edge, mark = first.waiting, known.get, 0, False, 0
     found: Changes = []  # up to `mark` those before the time
-    fault: Optional[DumpFault] = None
-    try:
-        for line in itertools.chain.from_iterable(pieces(part)):
-            one = get(line)
-            if one is None:
-                if line[:1] == b"#":
-                    now = int(line[1:])
-                    if now != time:
-                        if is_edge:
-                            yield time, found[:mark]
-                            found, is_edge = found[mark:], False
-                        elif mark > MAX_SEEN:
-                            found = list(dict(found).items())
-                        time, mark = now, len(found)
-                    continue
-                if line[:1] == b"$":
-                    first.note(line)
-                    continue
-                one = known.add(line)
-            if not one:
+    for line in pieces(part):
+        one = get(line)
+        if one is None:
+            if line[:1] == b"#":
+                now = int(line[1:])
+                if now != time:
+                    if is_edge:
+                        yield time, found[:mark]
+                        found, is_edge = found[mark:], False
+                    elif mark > MAX_SEEN:
+                        found = list(dict(found).items())
+                    time, mark = now, len(found)
                 continue
-            code, digit = one
-            if code in last:
-                is_edge = is_edge or (code, last[code], digit) in edges
-                last[code] = digit
-            if code in codes:
-                if waiting and first.is_before(code):
-                    found.insert(mark, one)
-                    mark += 1
-                else:
-                    found.append(one)
-    except DumpFault as error:
-        fault = error
-    if is_edge and (fault is None or part.is_finished(time, fault)):
-        yield time, found[:mark]
-    if fault:
-        raise fault
+            if line[:1] == b"$":
+                first.note(line)
+                continue
+            one = known.add(line)
+        if not one:
+            continue
+        code, digit = one
+        if code in last:
+            is_edge = is_edge or (code, last[code], digit) in edges
+            last[code] = digit
+        if code in codes:
+            is_before = waiting and first.is_before(code)
+            found.insert(mark if is_before else len(found), one)
+            mark += bool(is_before)
 
 
 def lead_of(out: BinaryIO, codes: Collection[bytes]) -> Set[bytes]:

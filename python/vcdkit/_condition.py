@@ -192,14 +192,12 @@ def declared(dump: "Dump", paths: List[str]) -> Ranges:
     scopes: List[str] = []
     found: Ranges = {}
     with dump._part(paths).open() as out:
-        for line in out:
+        for line in _body.head(out):
             words = line.decode("utf-8", "surrogateescape").split()
             if line.startswith(b"$scope "):
                 scopes.append(words[2])
             elif line.startswith(b"$upscope "):
                 scopes.pop()
-            elif line == _body.BODY:
-                break
             elif line.startswith(b"$var "):
                 its = RANGE.search("".join(words[4:-1]))
                 if its:

@@ -31,8 +31,12 @@ def blocks_of(path: str) -> Iterator[bytes]:
         with open(0 if path == "-" else path, "rb", closefd=path != "-") as file:
             front = file.peek(16)
             if not any(front.startswith(magic) for magic, _ in UNPACKERS):
-                _program.running.append(_Reading(file))
-                yield from _body.blocks(file)
+                reading = _Reading(file)
+                _program.running.append(reading)
+                try:
+                    yield from _body.blocks(file)
+                finally:
+                    _program.running.remove(reading)
                 return
         if path == "-":
             raise UsageError("the input is packed: unpack it first, as by gzip -dc")

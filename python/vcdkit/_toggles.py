@@ -180,7 +180,7 @@ def rows_of(dump: "Dump", names: List[str], begin: int, end: int, has_ticks: boo
     for bits in found.values():
         bits.settle()
         bits.pass_to(end)
-    ranges = declared(dump, [one.path for one in signals])
+    ranges = declared(dump, names)
     its = {code: list(bits.counts()) for code, bits in found.items()}
     return [Row(one, place, *counts) for one in signals
             for place, counts in zip(places_of(one, ranges), its[one.code.encode()])]

@@ -49,7 +49,7 @@ MAX_LINES = 20
 FIELDS = {"timescale": ("a", "b"), "alone": ("dump", "path", "variables"),
           "size": ("path", "a", "b"), "differs": ("time", "path", "a", "b"), "ends": ("a", "b"),
           "edges": ("a", "b"), "window": ("file",), "page": ("file",)}
-Line = Tuple[Any, ...]  # a kind, and its fields; a time is in ticks of A
+Line = Tuple[Any, ...]  # a kind, and its fields; a time is in ticks of A, an end in those of each
 
 
 class Report:
@@ -57,7 +57,7 @@ class Report:
 
     def __init__(self, asked: argparse.Namespace):
         self._asked = asked
-        self.time: Callable[[int], str] = str  # what shows ticks
+        self.times: Sequence[Callable[[int], str]] = (str, str)  # what shows ticks of each
         self.lines: Dict[str, List[str]] = {}
         self.fault = ""
 
@@ -65,9 +65,11 @@ class Report:
         """Returns a line as a reader sees it."""
         of, *fields = line
         if of == "differs":
-            fields[0] = self.time(fields[0])
+            fields[0] = self.times[0](fields[0])
             fields[2:] = [one if isinstance(one, str) and one in ("-", "triggered")
                           else value_text(one, self._asked.form) for one in fields[2:]]
+        if of == "ends":
+            fields = [None if end is None else text(end) for text, end in zip(self.times, fields)]
         return " ".join(map(str, [of, *("-" if one is None else one for one in fields)]))
 
     def say(self, of: str, lines: Iterable[Line]) -> None:
@@ -165,9 +167,8 @@ def say_headers(report: Report, sides: Sides, apart: Sequence[Pair], is_common: 
     report.say("size", [("size", pair.name, *map(kind, pair.signals)) for pair in apart])
 
 
-def say_ends(report: Report, sides: Sides, comparison: Comparison, has_clock: bool,
-             texts: Sequence[Callable[[int], str]]) -> None:
-    """Says whether one of them is longer. `texts` show a time of each."""
+def say_ends(report: Report, sides: Sides, comparison: Comparison, has_clock: bool) -> None:
+    """Says whether one of them is longer."""
     if has_clock:
         report.say("edges", [("edges", *comparison.counts)]
                    if len(set(comparison.counts)) > 1 else [])
@@ -175,9 +176,7 @@ def say_ends(report: Report, sides: Sides, comparison: Comparison, has_clock: bo
     ends = [side.report.last for side in sides]
     spans = {end if end is None else end * factor
              for end, factor in zip(ends, comparison.factors)}
-    report.say("ends", [("ends", *(None if end is None else text(end)
-                                   for text, end in zip(texts, ends)))]
-               if len(spans) > 1 else [])
+    report.say("ends", [("ends", *ends)] if len(spans) > 1 else [])
 
 
 def write_parts(report: Report, sides: Sides, times: Sequence[int], spans: Sequence[int],
@@ -196,8 +195,7 @@ def write_parts(report: Report, sides: Sides, times: Sequence[int], spans: Seque
 def compare(asked: argparse.Namespace, report: Report) -> None:
     """Says all that differs."""
     sides = sides_of(asked)
-    texts = [times_of(side.dump, asked) for side in sides]
-    report.time = texts[0]
+    report.times = [times_of(side.dump, asked) for side in sides]
     spans = [side.dump.ticks(asked.context) for side in sides] if asked.context else []
     name = asked.rise or asked.fall
     clocks = [side.clock(name) for side in sides] if name else []
@@ -222,7 +220,7 @@ def compare(asked: argparse.Namespace, report: Report) -> None:
             raise UsageError("%s: %s never %s" % (
                 side.dump.name, name, "rises" if asked.rise else "falls"))
     if not asked.common and not (clocks and first):
-        say_ends(report, sides, comparison, bool(clocks), texts)
+        say_ends(report, sides, comparison, bool(clocks))
     if first and asked.context:
         write_parts(report, sides, first[0].times, spans, asked.into or ".")
     if first and asked.html is not None:

@@ -38,7 +38,9 @@ class States:
         """Returns a block with four states."""
         if not self._is_body or self._is_comment or b"$comment" in block:
             return b"".join(map(self._of_line, io.BytesIO(block)))
-        return ODD.sub(four, b"\n" + block)[1:]
+        text = ODD.sub(four, b"\n" + block)[1:]
+        # A string goes with the line feed before it, so the last line of the input may lack its.
+        return text + b"\n" if text and block[block.rfind(b"\n") + 1:][:1] == b"s" else text
 
     def _of_line(self, line: bytes) -> bytes:
         """Returns a line with four states."""

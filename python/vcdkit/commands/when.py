@@ -28,7 +28,8 @@ neither true nor false, as in Verilog: neither the comparison nor its ! holds.
 
 With --latency, each line of `req -> ack within 5` has the time at which req begins to hold, that of
 ack, and how long that is: the number of edges, or a time if `within` gives a time. The last line
-has the least, the mean and the greatest of these, and how many of req had no ack in time.
+has the least, the mean and the greatest of these, and how many of req had no ack in time. (With
+--json there is no such line.)
 
 examples:
   vcdkit-when sim.vcd 'tb.bus == 0xdeadbeef'
