@@ -1,6 +1,6 @@
 #!/usr/bin/env python3
 """turns.py PROGRAM PROGRAM DUMP..   says which of two programs is faster, on a busy machine too:
-for each dump, the user time of both, and the ratio of the second to the first with its spread.
+for each dump, the CPU time of both, and the ratio of the second to the first with its spread.
 
     bench/turns.py old/vcdkit ./vcdkit /tmp/dumps/*.vcd
     bench/turns.py --runs 200 --command 'cut --from 5 --to 9' old/vcdkit ./vcdkit dump.vcd
@@ -14,7 +14,8 @@ time together: Linux measures the sum, and estimates how it is divided.
 A line says what a run took at least and in the middle (median), for each program, net of the read,
 and the ratio of the least times. Its spread is the range of the ratios of the least times of ten
 parts of the runs, without the lowest and the highest part. If 1 lies within that range, or within 1
-per cent of it, the line says 'no difference'."""
+per cent of it, the line says 'no difference'. A difference of less than a fifth may come only from
+the address of a loop, if both programs take the same instructions: ask jumps.py."""
 import argparse
 import os
 import resource

@@ -48,7 +48,7 @@ status() { "$@" 2>&1; echo "status $?"; }
 dump=samples/nested.vcd
 
 # The package, in both ways, with numpy and without: a Python with pandas, else with numpy, is
-# looked for, and numpy is hidden by a folder that has an empty one.
+# looked for, and numpy is hidden by a directory that has an empty one.
 library=
 [[ ! -e libvcdkit.so ]] || library=$PWD/libvcdkit.so
 mkdir "$folder/hidden"
