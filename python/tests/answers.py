@@ -837,6 +837,19 @@ def array(dump: Dump, of: Variable) -> Tuple[List[int], List[Union[int, float, N
         (nan if one is None else float(one)) if is_real(of) else one for one in known]
 
 
+def closed(words: Sequence[str]) -> List[str]:
+    """The words of a body as vcdkit-close-sections writes them, without comments: an $end stands
+    before a timestamp and before the end if a section is open there, and an $end that ends nothing
+    is left out. A section is open if its command is behind the last $end and timestamp."""
+    found: List[str] = []
+    for at, word in enumerate([*words, "#end"]):
+        marks = [one for one in words[:at] if one[0] in "#$"]
+        is_open = bool(marks) and marks[-1].startswith("$dump")
+        if word != "$end" or is_open:
+            found += ["$end"] * (is_open and word[0] == "#") + [word]
+    return found[:-1]
+
+
 def salvaged(dump: Dump) -> Tuple[List[Change], Optional[int], int]:
     """What is left of a dump with a fault: all changes before it, the last timestamp, and until
     when all values are known (-1: of no time). Decided: without a timestamp and a change before
