@@ -43,8 +43,8 @@ class Change(NamedTuple):
 
 class Dump(NamedTuple):
     """A dump up to its end or its fault: variables, changes, timestamps, the femtoseconds of a tick
-    (None without a time scale), the name of the fault, and the last time whose changes are all
-    known."""
+    (None without a time scale), the line and the name of the fault, as "3: bad time", and the last
+    time whose changes are all known."""
 
     variables: List[Variable]
     changes: List[Change]
@@ -192,7 +192,7 @@ def finished(times: Sequence[int], fault: str) -> int:
     """The last time whose changes are all known: before a fault, the last timestamp only if the
     fault is in the place of the next one; else the time before it. -1 if there is none."""
     last = times[-1] if times else 0
-    return FOREVER if not fault else last - (fault not in AT_A_TIMESTAMP)
+    return FOREVER if not fault else last - (fault.partition(": ")[2] not in AT_A_TIMESTAMP)
 
 
 def has_fault_by(dump: Dump, time: int) -> bool:
@@ -548,6 +548,34 @@ def statistics(dump: Dump, of: Variable, begin: int, end: int, form: str) -> Dic
             "range": range_of(spans) if is_real(of) else None, "values": shares(spans, form)}
 
 
+def statistics_text(facts: Dict[str, Any], tick: Optional[int]) -> List[str]:
+    """The lines of vcdkit-stats: the facts that there are, and the ten values with most time."""
+    def span(its: Dict[str, Any]) -> str:
+        return "%s to %s" % (time_text(tick, its["shortest"]), time_text(tick, its["longest"]))
+
+    def times(count: int) -> str:
+        return "%d time%s" % (count, "" if count == 1 else "s")
+    period, of = facts["period"], facts["range"]
+    lines = ["%(path)s %(type)s %(size)d" % facts, "  changes %d" % facts["changes"]]
+    lines += ["  period %s, mean %s, %s" % (span(period), mean_text(tick, Fraction(period["mean"])),
+                                            times(period["times"]))] if period else []
+    lines += ["  duty %.4g%%" % (100 * facts["duty"])] if facts["duty"] is not None else []
+    lines += ["  range %s to %s, mean %.6g" % (
+        shown(of["least"]), shown(of["largest"]), of["mean"])] if of else []
+    return lines + ["  value %s %s %.4g%%, %s%s" % (
+        one["value"], time_text(tick, one["ticks"]), 100 * one["share"], times(one["times"]),
+        "" if one["shortest"] is None else ", " + span(one)) for one in facts["values"][:10]]
+
+
+def mean_text(tick: Optional[int], mean: Fraction) -> str:
+    """A mean length of time to six digits of the largest unit of which it has one."""
+    if tick is None:
+        return "%.6g" % mean
+    units = [(unit, mean * Fraction(tick, 10**power)) for unit, power in UNITS.items()]
+    unit, number = next((one for one in units if one[1] >= 1), units[-1])
+    return "%.6g%s" % (number, unit)
+
+
 Spans = Sequence[Tuple[Value, int, int, bool]]  # a value, from when to when, whether it is whole
 
 
@@ -807,6 +835,19 @@ def array(dump: Dump, of: Variable) -> Tuple[List[int], List[Union[int, float, N
     nan = float("nan")
     return [one.time for one in its], [
         (nan if one is None else float(one)) if is_real(of) else one for one in known]
+
+
+def closed(words: Sequence[str]) -> List[str]:
+    """The words of a body as vcdkit-close-sections writes them, without comments: an $end stands
+    before a timestamp and before the end if a section is open there, and an $end that ends nothing
+    is left out. A section is open if its command is behind the last $end and timestamp."""
+    found: List[str] = []
+    for at, word in enumerate([*words, "#end"]):
+        marks = [one for one in words[:at] if one[0] in "#$"]
+        is_open = bool(marks) and marks[-1].startswith("$dump")
+        if word != "$end" or is_open:
+            found += ["$end"] * (is_open and word[0] == "#") + [word]
+    return found[:-1]
 
 
 def salvaged(dump: Dump) -> Tuple[List[Change], Optional[int], int]:

@@ -2,10 +2,9 @@
 --toggle, --saif, --trace, --reach and --names. As in answers.py, each function is over the whole
 lists and imports nothing of the package."""
 import re
-from fractions import Fraction
 from typing import Dict, List, NamedTuple, Optional, Sequence, Set, Tuple
 
-from answers import (UNITS, Clocks, Dump, Row, Tree, Value, Variable, bare, changes_of, edge_times,
+from answers import (Clocks, Dump, Row, Tree, Value, Variable, bare, changes_of, edge_times,
                      holds, is_event, is_real, last_time, looks, starts, states, unknown, value_at,
                      value_before)
 
@@ -61,15 +60,6 @@ def latencies(dump: Dump, tree: Tree, codes: Set[str], clocks: Clocks, every: bo
             late += 1
     return [Latency(its[start].time, its[at].time, place[at] - place[start])
             for at, start in sorted(found)], late
-
-
-def mean_text(tick: Optional[int], mean: Fraction) -> str:
-    """A mean length of time to six digits of the largest unit of which it has one."""
-    if tick is None:
-        return "%.6g" % mean
-    units = [(unit, mean * Fraction(tick, 10**power)) for unit, power in UNITS.items()]
-    unit, number = next((one for one in units if one[1] >= 1), units[-1])
-    return "%.6g%s" % (number, unit)
 
 
 # ---- vcdkit-stats --toggle and --saif.

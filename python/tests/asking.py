@@ -5,6 +5,7 @@ import contextlib
 import functools
 import io
 import os
+import re
 import sys
 from typing import (Any, Callable, Counter, Dict, Iterator, List, NamedTuple, Optional, Sequence,
                     Set, Tuple)
@@ -164,7 +165,7 @@ def dump_of(text: bytes) -> by_definition.Dump:
             size, is_event = head.codes[item.code]
             changes.append(Change(time, section, item.code.decode(),
                                   value_of(item, size, is_event)))
-    name = evaluator.TEXTS[fault.number] if fault else ""
+    name = "%d: %s" % (fault.line, evaluator.TEXTS[fault.number]) if fault else ""
     return by_definition.Dump(
         of_line(text[:text.find(b"$enddefinitions $end\n") + 21].decode()), changes, times,
         None if head.scale is None else 10 ** (15 + head.scale), name,
@@ -286,7 +287,7 @@ def plain(one: Any) -> Any:
 
 
 def answered(ask: Ask) -> Outcome:
-    """Returns what is answered, as far as it goes, and the name of the fault, or of the error."""
+    """Returns what is answered, as far as it goes, and the fault with its line, or the name of the error."""
     got: Any = []
     try:
         found = ask()
@@ -296,7 +297,7 @@ def answered(ask: Ask) -> Outcome:
             return got, ""
         return plain(found), ""
     except DumpFault as fault:
-        return got, fault.fault
+        return got, "%d: %s" % (fault.line, fault.fault)
     except VcdkitError as error:
         return got, type(error).__name__
 
@@ -313,7 +314,7 @@ def said(main: Callable[[Optional[List[str]]], int], words: List[str]) -> Outcom
         out.flush()
         messages.flush()
     text = messages.buffer.getvalue().decode()  # type: ignore[attr-defined]
-    fault = [name for name in evaluator.TEXTS.values() if ": %s\n" % name in text + "\n"]
+    fault = re.findall(r"(?m):(\d+: (?:%s))$" % "|".join(evaluator.TEXTS.values()), text)
     return (out.buffer.getvalue().decode().splitlines(),  # type: ignore[attr-defined]
             status, fault[0] if fault else bool(text))
 

@@ -77,7 +77,7 @@ class Jobs(Scripts):
             mean = Fraction(sum(lengths), len(lengths))
             lines.append("least %s, mean %s, greatest %s, %d in time, %d late" % (
                 shown(tick, min(lengths)), "%.6g" % mean if is_of_edges else
-                of_jobs.mean_text(tick, mean), shown(tick, max(lengths)), len(found), late))
+                by_definition.mean_text(tick, mean), shown(tick, max(lengths)), len(found), late))
         is_late = self.late(window.begin)
         condition = "%s -> %s within %d%s" % (text, after_text, wait, "tick" * (not is_of_edges))
         self.same("when", ["--latency", *["--every"] * every, *words, *window.words, self.path,
@@ -128,8 +128,9 @@ class Jobs(Scripts):
         kind, fact = of_jobs.verdict(self.dump, None if reach is None else int(reach))
         words = ["--jobs=2", "--json"] + ["--reach=%s" % reach] * (reach is not None)
         self.same("explain", [*words, self.path, self.path], [repr((kind, fact))] * 2,
-                  int(kind != "valid"), False, lambda lines: [repr((one["kind"], one.get(
-                      "fault", one.get("last")))) for one in map(json.loads, lines)])
+                  int(kind != "valid"), False, lambda lines: [repr((one["kind"], "%s: %s" % (
+                      one["line"], one["fault"]) if "fault" in one else one["last"]))
+                      for one in map(json.loads, lines)])
         lines = ["[timestart] 0", "@28", *self.names, "-comment"]
         with open(self.saved, "w", encoding="ascii") as file:
             file.write("\n".join(lines))

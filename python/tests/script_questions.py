@@ -211,9 +211,15 @@ class Scripts:
         found = [] if fault else [
             by_definition.statistics(self.dump, one, window.begin, window.end, form)
             for one in by_definition.chosen(self.dump.variables, self.names)]
-        self.same("stats", ["--json", "--" + form, *window.words, self.path, *self.names], [
-            repr(found)], late[0] if late else int(bool(fault)), fault or False,
-            lambda lines: [repr([json.loads(line) for line in lines])])
+        status, words = late[0] if late else int(bool(fault)), [*window.words, self.path]
+        if self.number % 4:
+            self.same("stats", ["--json", "--" + form, *words, *self.names], [repr(found)], status,
+                      fault or False, lambda lines: [repr([json.loads(line) for line in lines])])
+        else:
+            self.same("stats", ["--" + form, *words, *self.names], [
+                line for facts in found
+                for line in by_definition.statistics_text(facts, self.dump.tick)], status,
+                fault or False)
 
     def ask_info(self) -> None:
         """Asks for the first and the last timestamp."""

@@ -19,6 +19,7 @@ import tempfile
 from typing import Counter, Dict, List, Tuple
 
 from asking import DECLARATIONS, Asked, Difference, Ways, bodies
+from filter_questions import ask_filter
 from job_questions import Jobs
 from name_questions import ask_names
 from package_questions import Case
@@ -33,7 +34,7 @@ def work(job: Tuple[str, int, int]) -> Tuple[Counter[str], int, int, Dict[str, D
     asked = Asked(WAYS[0])
     with tempfile.TemporaryDirectory() as folder:
         if name not in DECLARATIONS:
-            ask_names(asked, folder, stride)
+            {"names": ask_names, "filter": ask_filter}[name](asked, folder, stride)
             return asked.counts, asked.again, asked.wrong, asked.differ
         of = DECLARATIONS[name]
         scripts, jobs = Scripts(asked, of, folder), Jobs(asked, of, folder)
@@ -54,7 +55,7 @@ def main() -> int:
     """Asks everything, and says what differs."""
     stride = int(os.environ.get("STRIDE", "1"))
     count = int(os.environ.get("PROCESSES", "0")) or os.cpu_count() or 1
-    names = os.environ.get("DECLARATIONS", "names," + ",".join(DECLARATIONS)).split(",")
+    names = os.environ.get("DECLARATIONS", "names,filter," + ",".join(DECLARATIONS)).split(",")
     WAYS.append(Ways())
     jobs = [(name, part, stride) for name in names
             for part in range(JOBS if name in DECLARATIONS else 1)]

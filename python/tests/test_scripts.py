@@ -423,6 +423,20 @@ class Answers(Case):
         self.assertEqual(said("vcdkit-x", "--count", file), ["3", "status 1"])
         self.assertEqual(said("vcdkit-x", "--count", file, "b"), ["0", "status 0"])
 
+    def test_trace_of_two_variables_of_one_path(self):
+        file = self.file("x.vcd", b"$var wire 1 ! a $end $var wire 2 \" a $end $var wire 1 ! b $end "
+                         b"$enddefinitions $end\n#1 x! #2 bx \"\n")
+        self.assertEqual(said("vcdkit-x", "--trace", file), ["1 a x", "1 b x", "status 1"])
+        self.assertEqual(said("vcdkit-x", "--count", file), ["3", "status 1"])
+
+    def test_rows_at_times_without_an_event(self):
+        file = self.file("event.vcd", b"$var wire 1 ! a $end $var event 1 $ e $end "
+                         b"$enddefinitions $end\n#1 1! #5 1$ #7 0!\n")
+        for condition, times in (("!e", "147"), ("e", "5"), ("a", "145"), ("!e & !a", "7")):
+            rows = said("vcdkit-table", "--if", condition, "--at=0,1,4,5,7", file, "a")
+            self.assertEqual([row[0] for row in rows[1:-1]],
+                             ["0"] * (condition == "!e") + list(times), condition)
+
     def test_a_name_that_selects_nothing(self):
         dump = self.file("hand.vcd", HAND)
         self.assertIn(b"tb.dep.word: selects nothing; there is tb.deep.word\n",
@@ -670,6 +684,7 @@ class Output(Case):
 
     def test_salvage_before_the_first_timestamp(self):
         for body, until in ((b"#1.5 #0 0!", "but it has all values of no time"),
+                            (b"$dumpvars #0 0!", "but it has all values of no time"),
                             (b"0! #1.5", "good until 0"), (b"#0 #1.5", "good until 0")):
             dump = self.file("torn.vcd", b"$var wire 1 ! a $end $enddefinitions $end\n" + body)
             good = os.path.join(self.folder.name, "good.vcd")

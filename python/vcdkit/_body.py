@@ -96,15 +96,18 @@ def last_time(text: bytes) -> Optional[int]:
 def first_time(text: BinaryIO) -> Optional[int]:
     """Returns the first timestamp of any dump, also if no change follows, which vcdkit leaves out;
     `None` if there is none before the end or a fault."""
-    words = _words(text)
+    words, section = _words(text), b""
     for word in words:
         first = word[:1]
         if first == b"#":
-            return int(word[1:]) if word[1:].isdigit() else None
+            return int(word[1:]) if word[1:].isdigit() and not section else None
         if first in b"bBrR":
             next(words, b"")  # its code
-        elif first == b"$" and word not in (b"$end", b"$dumpvars", b"$dumpall", b"$dumpon",
-                                            b"$dumpoff"):
+        elif word in (b"$dumpvars", b"$dumpall", b"$dumpon", b"$dumpoff"):
+            section = word
+        elif word == b"$end":
+            section = b""
+        elif first == b"$":
             for word in words:
                 if word == b"$end":
                     break

@@ -123,7 +123,8 @@ def state(dump: "Dump", text: str) -> Condition:
 
 def holding(dump: "Dump", condition: Condition, times: Iterable[int]) -> Set[int]:
     """Returns those of some times at whose end a condition holds."""
-    waiting, found, held = sorted(set(times), reverse=True), set(), False
+    waiting, found = sorted(set(times), reverse=True), set()
+    held = condition.test(condition.values) is True
     part = dump.cut(0, max(waiting, default=0))._part(condition.paths)
     for time in _at_changes(part, condition):
         while waiting and waiting[-1] <= time:

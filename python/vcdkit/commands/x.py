@@ -14,7 +14,7 @@ examples:
   vcdkit-x --from 100ns sim.vcd tb.cpu
   vcdkit-x --trace --from 100ns sim.vcd | head
   vcdkit-x --z --from 1us --to 2us sim.vcd | head"""
-from typing import Dict, Iterator, List, Optional, Tuple
+from typing import Dict, Iterator, List, Optional, Set, Tuple
 
 from .. import Dump, Signal, _body
 from .._unknown import Lines
@@ -63,16 +63,18 @@ def main(words: List[str]) -> int:
     check_begin(dump, asked)
     part = dump.cut(asked.begin, asked.end)._part(asked.names)
     count = 0
+    traced: Set[str] = set()  # paths
     for time, code, text in unknown(part, signals, Lines((b"x", b"z") if asked.z else (b"x",))):
         for one in signals[code][:1 if asked.first else None]:
+            if one.path in traced:
+                continue
+            traced.update([one.path] if asked.trace else ())
             count += 1
             value = _body.value(text, one)
             if asked.json and not asked.count:
                 write_json({"time": time, "path": one.path, "value": in_json(value, asked.form)})
             elif not asked.count:
                 print(text_of(time), one.path, shown(value, asked.form))
-        if asked.trace:
-            signals[code] = []
         if asked.first:
             break
     if asked.count:
