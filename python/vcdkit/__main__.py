@@ -20,7 +20,7 @@ def list_commands(words: List[str]) -> int:
     print("usage: python -m vcdkit COMMAND ..\n", file=out)
     for name in names():
         about = importlib.import_module("vcdkit.commands." + name).__doc__ or ""
-        print("  %-10s %s" % (name.replace("_", "-"), about.partition("\n")[0]), file=out)
+        print("  %-14s %s" % (name.replace("_", "-"), about.partition("\n")[0]), file=out)
     return 0 if is_help else 2
 
 

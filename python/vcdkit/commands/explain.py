@@ -1,4 +1,4 @@
-"""Checks a dump; at a fault it shows the lines around it, the usual cause and a command that helps
+"""Checks dumps; at a fault it shows the lines around it, the usual cause and a command that helps
 
 The report or the message is that of vcdkit check, and so is the exit status. If no cause is known,
 only the lines around the fault are shown. Bytes that are not text are shown as \\xNN, and long
