@@ -32,13 +32,15 @@ class Variable(NamedTuple):
 
 class Change(NamedTuple):
     """A value that the body writes: its time, the command of the section that it is in (else an
-    empty text), its code and the value. A trigger of an event is "1". Decided: an event that is
-    written in a section is no trigger, so it is no change."""
+    empty text), its code and the value; of a real number also how it is written. A trigger of an
+    event is "1". Decided: an event that is written in a section is no trigger, so it is no
+    change."""
 
     time: int
     section: str
     code: str
     value: Value
+    text: str = ""
 
 
 class Dump(NamedTuple):
@@ -172,13 +174,14 @@ def same(one: Optional[Value], other: Optional[Value]) -> bool:
 def edges(dump: Dump, of: Variable) -> Tuple[int, int, int]:
     """How often a value changes, and how often its last digit rises and falls; of an event the
     triggers. Decided: this is the count of `vcdkit edges`: of each value that is written, also
-    within one time. (That command compares the texts of real numbers; here they are numbers.)"""
-    its = [one.value for one in changes_of(dump, of.code)]
+    within one time. That command takes a real number that is written otherwise, as 1.0 after 1, for
+    another value; all other answers compare numbers."""
+    its = changes_of(dump, of.code)
     pairs = list(zip(its, its[1:]))
-    ends = [one[-1] + other[-1] for one, other in pairs if isinstance(one, str)
-            and isinstance(other, str) and "r" not in one[0] + other[0]]
-    return ((len(its), 0, 0) if is_event(of) else
-            (sum(one != other for one, other in pairs), ends.count("01"), ends.count("10")))
+    ends = [str(one.value)[-1] + str(other.value)[-1] for one, other in pairs
+            if not one.text and not other.text]
+    changes = sum((one.text or one.value) != (other.text or other.value) for one, other in pairs)
+    return (len(its), 0, 0) if is_event(of) else (changes, ends.count("01"), ends.count("10"))
 
 
 # ---- Parts.
@@ -205,11 +208,11 @@ def cut(dump: Dump, begin: int, end: int) -> Dump:
     """The part from one time to another: first the values just before it, in a `$dumpvars` and
     without events, then all changes in it. It ends with the dump, if that is earlier."""
     codes = dict.fromkeys(one.code for one in dump.variables if not is_event(one))
-    first = [(code, value_at(dump, code, begin - 1)) for code in codes]
+    early = [[one for one in changes_of(dump, code) if one.time < begin] for code in codes]
+    first = [changes[-1] for changes in early if changes]
     its = [one for one in dump.changes if begin <= one.time <= end]
     return dump._replace(
-        changes=[Change(begin, "$dumpvars", code, value) for code, value in first
-                 if value is not None] + its,
+        changes=[one._replace(time=begin, section="$dumpvars") for one in first] + its,
         times=[begin, *(time for time in dump.times if begin < time <= end),
                *[end] * any(begin < end < time for time in dump.times)],
         fault=dump.fault if has_fault_by(dump, end) else "")

@@ -164,7 +164,8 @@ def dump_of(text: bytes) -> by_definition.Dump:
         elif not (section and head.codes[item.code][1]):
             size, is_event = head.codes[item.code]
             changes.append(Change(time, section, item.code.decode(),
-                                  value_of(item, size, is_event)))
+                                  value_of(item, size, is_event),
+                                  item.text.decode() if item.form == "real" else ""))
     name = "%d: %s" % (fault.line, evaluator.TEXTS[fault.number]) if fault else ""
     return by_definition.Dump(
         of_line(text[:text.find(b"$enddefinitions $end\n") + 21].decode()), changes, times,
@@ -341,7 +342,10 @@ class Asked:
              ) -> None:
         """Asks a question, and compares the answer."""
         self.counts[kind] += 1
-        got = ask()
+        try:
+            got = ask()
+        except Exception as error:
+            got = "a traceback: %r" % error
         if repr(got) != repr(wanted):
             self.note(Difference(kind, what, text, wanted, got, "in the process"))
         if sum(self.counts.values()) % EACH == 0:

@@ -7,7 +7,7 @@ from typing import Any, Iterator, List, Optional, Tuple
 import answers as by_definition
 from asking import END, Asked, answered, dump_of, said
 from vcdkit import Dump
-from vcdkit.commands import diff, find, info
+from vcdkit.commands import diff, find, info, values
 
 # The lines of a header. A variable has a size and a reference.
 SCOPES = ["$scope module a $end", "$upscope $end"]
@@ -83,6 +83,9 @@ def ask_finds(asked: Asked, header: str, lists: by_definition.Dump, dump: Dump, 
     asked.same("vcdkit-info", "--scopes 1", header, [facts], lambda: [
         {key: json.loads("\n".join(lines))[key] for key in facts}
         for lines in [said(info.main, ["--json", "--scopes=1", path])[0]]])
+    asked.same("vcdkit-values", "", header, (["%s %s" % (
+        one.path, by_definition.shown(by_definition.value_at(lists, one.code, 9)))
+        for one in variables], 0, False), lambda: said(values.main, [path]))
     for patterns in PATTERNS:
         its = by_definition.found(variables, patterns)
         lines = ["%s %s %d %s" % one[:4] for one in its]

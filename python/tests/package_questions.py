@@ -88,16 +88,8 @@ class Case:
         counted = [one for one in self.variables
                    if one in by_definition.chosen(self.variables, names)]
         self.same("edges", "%s" % names, [] if self.dump.fault else dict(zip(
-            keys_of(counted), (self.edges_of(one) for one in counted))),
+            keys_of(counted), (by_definition.edges(self.dump, one) for one in counted))),
             lambda: self.whole.edges(names))
-
-    def edges_of(self, one: Variable) -> Tuple[int, int, int]:
-        """Returns the counts of `vcdkit edges`, which takes numbers in other digits for others."""
-        changes, rises, falls = by_definition.edges(self.dump, one)
-        if by_definition.is_real(one):
-            its = [line for line in self.body.splitlines() if line[-1] == one.code]
-            changes = sum(a != b for a, b in zip(its, its[1:]))
-        return changes, rises, falls
 
     def ask_changes(self) -> None:
         """Asks for all that a signal has."""

@@ -279,6 +279,12 @@ class Answers(Case):
                 "tb.clk 0", "tb.sum " + number, "tb.level 1", "tb.deep.word " + word, "status 0"])
         self.assertEqual(said("vcdkit-values", dump)[1], "tb.sum 00000001")
 
+    def test_values_in_the_order_of_declaration(self):
+        dump = self.file("order.vcd", b"$scope module b $end $var wire 1 ! x $end $upscope $end $var "
+                         b"wire 1 ! a $end $scope module b $end $var wire 1 ! y $end $upscope $end "
+                         b"$enddefinitions $end\n#0 1!\n")
+        self.assertEqual(said("vcdkit-values", dump), ["b.x 1", "a 1", "b.y 1", "status 0"])
+
     def test_tree(self):
         dump = self.file("hand.vcd", HAND)
         self.assertEqual(said("vcdkit-find", "--tree", dump), ["tb 5", "  deep 1", "status 0"])

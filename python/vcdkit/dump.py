@@ -349,7 +349,7 @@ class Dump:
         return self._rows(names, list(columns.values()), edges, only)
 
     def _rows_at(self, columns: Collection[int], times: List[int], names: List[str],
-                 only: Optional[Condition]) -> Iterator[Row]:
+                 only: Optional[Condition] = None) -> Iterator[Row]:
         if only:
             holding = _when.holding(self, only, times)
             times = [time for time in times if time in holding]

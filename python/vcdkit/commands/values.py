@@ -27,13 +27,13 @@ def main(words):
     dump = dump_of(asked)
     text, is_given = times_of(dump, asked), asked.at is not None
     times = asked.at.split(",") if is_given else [str(dump.check().last or 0)]
-    names = asked.names or sorted({one.path.partition(".")[0] for one in dump.signals})
+    names = dump._full(asked.names)
+    signals = {place: one for place, one in dump._places(names).items() if one.type != "event"}
     is_late = after_end(dump, max(times, key=dump.ticks)) if is_given else ""
     if is_late:
         print("vcdkit-values: --at: " + is_late, file=sys.stderr)
-    signals = [one for one in dump.select(names) if one.type != "event"]
-    for time, values in dump.rows(names, at=times):
-        for one, value in zip(signals, values):
+    for time, values in dump._rows_at(signals, list(map(dump.ticks, times)), names):
+        for one, value in zip(signals.values(), values):
             if asked.json:
                 write_json({"time": time, "path": one.path, "value": in_json(value, asked.form)})
             else:
