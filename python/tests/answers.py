@@ -810,10 +810,10 @@ def tree(variables: Sequence[Variable], patterns: Sequence[str]) -> List[Tuple[i
     scopes = dict.fromkeys(scope for one in variables for scope in scopes_of(one.path)[1:])
     counts = [(scope, sum(scope in scopes_of(one.path) for one in its)) for scope in scopes]
     at_top = sum("." not in one.path for one in its)
+    place = {scope: at for at, scope in enumerate(scopes)}
+    counts.sort(key=lambda one: [place[scope] for scope in scopes_of(one[0] + ".")[1:]])
     return [(0, "(top)", at_top)] * bool(at_top) + [
-        (scope.count("."), scope.split(".")[-1], count) for scope, count in sorted(
-            counts, key=lambda one: [list(scopes).index(its) for its in scopes_of(one[0] + ".")[1:]])
-        if count]
+        (scope.count("."), scope.split(".")[-1], count) for scope, count in counts if count]
 
 
 def about(variables: Sequence[Variable], most: int) -> Dict[str, Any]:

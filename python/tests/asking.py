@@ -288,7 +288,8 @@ def plain(one: Any) -> Any:
 
 
 def answered(ask: Ask) -> Outcome:
-    """Returns what is answered, as far as it goes, and the fault with its line, or the name of the error."""
+    """Returns what is answered, as far as it goes, and the fault with its line, or the name of the
+    error."""
     got: Any = []
     try:
         found = ask()

@@ -10,7 +10,8 @@ from asking import codes_of
 from package_questions import Case
 from script_questions import FORMS, Scripts
 
-SAIF = re.compile(r"\(([^\s()]+)\n\s*\(T0 (\d+)\) \(T1 (\d+)\) \(TX (\d+)\) \(TZ (\d+)\) \(TC (\d+)\)")
+SAIF = re.compile(r"\(([^\s()]+)\n\s*\(T0 (\d+)\) \(T1 (\d+)\) \(TX (\d+)\) \(TZ (\d+)\) "
+                  r"\(TC (\d+)\)")
 
 
 class Jobs(Scripts):

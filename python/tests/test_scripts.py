@@ -280,8 +280,8 @@ class Answers(Case):
         self.assertEqual(said("vcdkit-values", dump)[1], "tb.sum 00000001")
 
     def test_values_in_the_order_of_declaration(self):
-        dump = self.file("order.vcd", b"$scope module b $end $var wire 1 ! x $end $upscope $end $var "
-                         b"wire 1 ! a $end $scope module b $end $var wire 1 ! y $end $upscope $end "
+        dump = self.file("order.vcd", b"$scope module b $end $var wire 1 ! x $end $upscope $end "
+                         b"$var wire 1 ! a $end $scope module b $end $var wire 1 ! y $end $upscope $end "
                          b"$enddefinitions $end\n#0 1!\n")
         self.assertEqual(said("vcdkit-values", dump), ["b.x 1", "a 1", "b.y 1", "status 0"])
 
@@ -430,8 +430,8 @@ class Answers(Case):
         self.assertEqual(said("vcdkit-x", "--count", file, "b"), ["0", "status 0"])
 
     def test_trace_of_two_variables_of_one_path(self):
-        file = self.file("x.vcd", b"$var wire 1 ! a $end $var wire 2 \" a $end $var wire 1 ! b $end "
-                         b"$enddefinitions $end\n#1 x! #2 bx \"\n")
+        file = self.file("x.vcd", b"$var wire 1 ! a $end $var wire 2 \" a $end "
+                         b"$var wire 1 ! b $end $enddefinitions $end\n#1 x! #2 bx \"\n")
         self.assertEqual(said("vcdkit-x", "--trace", file), ["1 a x", "1 b x", "status 1"])
         self.assertEqual(said("vcdkit-x", "--count", file), ["3", "status 1"])
 

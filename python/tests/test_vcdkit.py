@@ -504,7 +504,8 @@ class Questions:
 
     def test_a_window_before_a_fault(self):
         dump = Dump(BROKEN.replace(b"#x", b"#5\n0!\n#x"))
-        for part, wanted in ((dump, [(0, ["1"]), (5, ["0"])]), (dump.cut(3), [(3, ["1"]), (5, ["0"])]),
+        for part, wanted in ((dump, [(0, ["1"]), (5, ["0"])]),
+                             (dump.cut(3), [(3, ["1"]), (5, ["0"])]),
                              (dump.cut(3).pick("a"), [(3, ["1"]), (5, ["0"])]),
                              (dump.cut(4, 9).cut(3, 4), [(4, ["1"])]),
                              (merge(dump.cut(3), dump), [(0, [None, "1"]), (3, ["1", "1"])])):
