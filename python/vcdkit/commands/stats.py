@@ -48,10 +48,13 @@ class Lengths:
 
     def add(self, length):
         """Counts a length."""
-        self.count += 1
-        self.shortest = length if self.shortest is None else min(self.shortest, length)
-        self.longest = length if self.longest is None else max(self.longest, length)
-        self.sum += length
+        self.count, self.sum = self.count + 1, self.sum + length
+        if self.count == 1:
+            self.shortest = self.longest = length
+        elif length < self.shortest:
+            self.shortest = length
+        elif length > self.longest:
+            self.longest = length
 
 
 class Value:
@@ -83,7 +86,7 @@ class Statistics:
         length = time - self.begin
         if not length:
             return
-        value = self.value(self.text)
+        value = self.values.get(self.text) or self.value(self.text)
         value.ticks += length
         value.times += 1
         if is_whole:
@@ -104,7 +107,7 @@ class Statistics:
 
     def change(self, time, text):
         """Takes the value at the end of a time."""
-        text = _body.same(text)
+        text = _body.same(text) if text[:1] == b"r" else text
         if self.signal.type == "event":
             self.changes += 1
             self.note_edge(time)
@@ -133,7 +136,7 @@ def statistics_of(dump, asked):
             dump.cut(asked.begin, asked.end)._part(asked.names), found, is_cut=True):
         for code, text in before:
             found[code].start(time, text)
-        for code, text in dict(changes).items():
+        for code, text in changes if len(changes) < 2 else dict(changes).items():
             found[code].change(time, text)
     last = end_of(dump, asked)
     for one in found.values():
