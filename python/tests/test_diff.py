@@ -136,7 +136,8 @@ def shown(value, kind):
         return "-"
     if value[0] == "r":
         try:
-            return str(float(value[1:]))
+            text = str(float(value[1:]))
+            return text[:-2] if text.endswith(".0") else text
         except ValueError:
             return value[1:]
     return value
