@@ -110,6 +110,8 @@ class Scripts:
         time = self.last if at is None else self.ticks(at)
         fault = self.fault if at is None else self.fault_by(max(time, self.ticks(at, True) - 1))
         its = self.states(names)
+        if not its:
+            return  # nothing is read for events, so no fault is seen
         is_late = at is not None and self.ticks(at, True) > self.last
         self.same("values", [*([] if at is None else ["--at=" + at]), "--" + form, self.path,
                              *names],
