@@ -233,6 +233,10 @@ class Case:
         words = self.text[:begin - len(HEADER) + 1].split()
         times = [int(one[1:]) for one in words[:-1] if one[0] == "#"]
         last = times[-1] if times else 0
+        line = self.text[:begin - len(HEADER)].rpartition("\n")[2]
+        if line[:1] == "#" and self.text[begin - len(HEADER) - len(line):].startswith(
+                "#%d\n" % last):
+            return  # a torn timestamp counts as a later one; this one is the same again
         condition = self.of.choice(["t.c", "!t.c & t.q is x", "t.q == 3 | t.c", "t.e",
                                     "t.c -> t.q[0] within 3tick", "!(t.c -> t.q[0] within 3tick)"])
         clocks = self.of.choice([{}, {"rise": "t.c"}, {"rise": "t.c", "fall": "t.c"}])

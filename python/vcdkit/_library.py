@@ -10,7 +10,7 @@ import subprocess
 from array import array
 from typing import Any, BinaryIO, Dict, Iterator, List, Optional, Sequence, Tuple, Union, cast
 
-from ._program import not_started
+from ._program import FAULT, not_started
 from ._texts import Bytes, File, Made, Text
 from .errors import RunFailed, UnknownName, VcdkitError, error_of
 
@@ -191,8 +191,11 @@ def _read(text: Text) -> Tuple[Data, Optional[VcdkitError]]:
 
 def _made(text: Made) -> Tuple[bytes, Optional[VcdkitError]]:
     """Returns what a command writes, and its error. As in a pipe, it gets what its input has before
-    an error, and that error comes first."""
+    an error, and that error comes first. A merge gets a fault there too, since it would go on with
+    the other dumps."""
     read = [_read(one) for one in text.of]
+    if text.command == "merge":
+        read = [(bytes(data) + FAULT if error else data, error) for data, error in read]
     inputs, errors = [data for data, _ in read], [error for _, error in read if error]
     # Twice the dump is mostly enough; room that is not written costs nothing.
     room = 2 * sum(map(len, inputs)) + (1 << 16)

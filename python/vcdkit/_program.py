@@ -7,6 +7,7 @@ import shutil
 import signal
 import subprocess
 import tempfile
+import threading
 from typing import Any, BinaryIO, Dict, Iterator, List, Optional, Sequence, Union, cast
 
 from ._texts import Bytes, File, Text, installed
@@ -47,20 +48,39 @@ def is_vcdkit(program: str) -> bool:
     return said.startswith(b"vcdkit ")
 
 
+# What is no token of a dump, on a line of its own.
+FAULT = b"\n?\n"
+
+
 class _Part:
-    """A running program, and what it calls its inputs."""
+    """A running program, and what it calls its inputs. If it fails and a merge reads what it
+    writes, a fault comes after that: at an end, the merge would go on with the other dumps."""
 
     def __init__(self, words: Sequence[str], stdin: Union[BinaryIO, int], names: Dict[str, str],
-                 of: Optional[Text], pass_fds: Sequence[int] = ()):
+                 of: Optional[Text], pass_fds: Sequence[int] = (), is_merged: bool = False):
         self.words, self.names, self.of = words, names, of
         # A file, as a pipe holds only some of a message that nobody reads before the output.
         self.messages = tempfile.TemporaryFile()
+        reader, writer = os.pipe()
         try:
-            self.process = subprocess.Popen(words, stdin=stdin, stdout=subprocess.PIPE,
+            self.process = subprocess.Popen(words, stdin=stdin, stdout=writer,
                                             stderr=self.messages, pass_fds=pass_fds)
         except OSError as error:
+            os.close(reader)
+            os.close(writer)
             raise not_started(words[0], error) from error
-        self.out = cast(BinaryIO, self.process.stdout)
+        self.out = cast(BinaryIO, os.fdopen(reader, "rb"))
+        if is_merged:
+            threading.Thread(target=self._mark_failure, args=[writer], daemon=True).start()
+        else:
+            os.close(writer)
+
+    def _mark_failure(self, writer: int) -> None:
+        """Writes a fault if it fails, and closes the pipe."""
+        with contextlib.suppress(OSError):  # nobody may read on
+            if self.process.wait():
+                os.write(writer, FAULT)
+        os.close(writer)
 
     def finish(self) -> None:
         """Waits for it, and keeps what it says."""
@@ -93,22 +113,24 @@ class _Pipe:
         running.append(self)
 
     def start(self, words: Sequence[str], stdin: Optional[BinaryIO], names: Dict[str, str],
-              of: Optional[Text], pass_fds: Sequence[int] = ()) -> BinaryIO:
+              of: Optional[Text], pass_fds: Sequence[int] = (), is_merged: bool = False
+              ) -> BinaryIO:
         """Starts a program, and returns what it writes."""
         try:
-            self.parts.append(_Part(words, stdin or subprocess.DEVNULL, names, of, pass_fds))
+            self.parts.append(
+                _Part(words, stdin or subprocess.DEVNULL, names, of, pass_fds, is_merged))
         finally:
             if stdin:
                 stdin.close()
         return self.parts[-1].out
 
-    def feed(self, text: Text) -> BinaryIO:
-        """Returns a file from which the text can be read."""
+    def feed(self, text: Text, is_merged: bool = False) -> BinaryIO:
+        """Returns a file from which the text can be read, by a merge if `is_merged`."""
         if isinstance(text, File):
             self.files.append(text)
             file = text.open()
             for words in text.filters():
-                file = self.start(words, file, {"(stdin)": text.name}, None)
+                file = self.start(words, file, {"(stdin)": text.name}, None, (), is_merged)
             return file
         if isinstance(text, Bytes):
             kept = cast(BinaryIO, tempfile.TemporaryFile())
@@ -120,15 +142,15 @@ class _Pipe:
             raise RunFailed(refusal())
         if os.environ.get("VCDKIT") and not is_vcdkit(program):
             raise RunFailed("%s, which VCDKIT names, is no vcdkit" % program)
-        files = [self.feed(one) for one in text.of]
+        files = [self.feed(one, is_merged or text.command == "merge") for one in text.of]
         if text.command != "merge":
             return self.start([program, text.command, *text.words], files[0],
-                              {"(stdin)": text.of[0].name}, text.of[0])
+                              {"(stdin)": text.of[0].name}, text.of[0], (), is_merged)
         names = ["/dev/fd/%d" % file.fileno() for file in files]
         try:
             return self.start([program, "merge", *text.words, "--", *names], None,
                               dict(zip(names, (one.name for one in text.of))), text.of[0],
-                              [file.fileno() for file in files])
+                              [file.fileno() for file in files], is_merged)
         finally:
             for file in files:
                 file.close()
