@@ -233,7 +233,8 @@ def differs(pairs, looks, until, factors, asked):
                 time = looks[0][at][0] if at in looks[0] else at // factors[0]
                 found.append("differs %s %s %s %s" % (
                     asked["time"](time), name, *(shown(value, kind) for value in values)))
-        lines += sorted(found)
+        # Those of one path stay in the order of declaration.
+        lines += sorted(found, key=lambda line: line.split(" ")[2])
         if found and not asked["all"]:
             break
     return lines
