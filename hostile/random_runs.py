@@ -69,12 +69,13 @@ def change(r, folder, name, text):
     """Lets the file have another text at first, and returns the environment in which it gets this
     one. Until then, a run reads only bytes that both texts have."""
     first = r.choice([text[:r.randrange(len(text) // 2, len(text) + 1)], text + text[-99:] * 9])
-    call, path = r.randrange(1, 7), os.path.join(folder, name)
+    both, path = min(len(first), len(text)), os.path.join(folder, name)
+    call = min(r.randrange(1, 7), max(1, both))
     for at, its in ((path, first), (path + ".new", text)):
         with open(at, "wb") as f:
             f.write(its)
     return {"CHANGED": path, "BECOMES": path + ".new", "CHANGED_AT": str(call),
-            "READ_MOST": str(max(1, min(len(first), len(text)) // call))}
+            "READ_MOST": str(max(1, both // call))}
 
 
 def put_input(r, folder, seed, command, text):

@@ -60,11 +60,12 @@ def write_tree(top, is_found):
 
 
 def write_picked(dump, places):
-    """Writes the dump of the signals at some places, as pick() makes it. A command line has no room
-    for very many names: then this takes the lines of these signals out of the whole dump."""
+    """Writes the dump of the signals at some places, as pick() makes it. If their paths also name
+    scopes with others, or have no room on a command line, this takes the lines of these signals out
+    of the whole dump."""
     every = list(dump.signals)
     names, out = names_for([every[at].path for at in places], every), sys.stdout.buffer
-    if sum(map(len, names)) <= MAX_NAMES:
+    if sum(map(len, names)) <= MAX_NAMES and len(dump.select(names)) == len(places):
         with dump.pick(names).open() as text:
             shutil.copyfileobj(text, out, 1 << 18)
         return
