@@ -60,9 +60,10 @@ pub(crate) fn count_steps(counts: &mut [u64; 3], more: u64, rises: bool, falls: 
     count_more_if(counts, 2, more, falls);
 }
 
-/// Adds 1 to one of the three counters of a slot: to that of falls if `way` is 0, of rises if it is
-/// 2, of other changes of the value if it is 1. Returns false if the counter was at 255: then it is
-/// 0 now, and the caller has to add 256 to those of the share. Otherwise returns true.
+/// Adds 1 to one of the three counters of a slot, and returns true. `way`, which must be below 3,
+/// chooses the counter: 0 that of falls, 2 that of rises, 1 that of other changes of the value.
+/// Returns false if the counter was at 255: then it is 0 now, and the caller has to add 256 to
+/// those of the share.
 // The step adds to one byte, without a branch. With counters of changes, rises and falls in the
 // slot, `edges` of scalars takes 22 % more.
 #[inline(always)]

@@ -191,8 +191,8 @@ fn are_packed(bytes: &[u8], text: &[u8], quarter: usize) -> bool
     }
 }
 
-/// Returns whether the text is all digits of a value, and the first bytes of `bytes` are what
-/// `pack` writes for it: its digits, four to a byte. It is false if there are too few bytes.
+/// Returns whether the text consists of digits of a value, and `bytes` begins with what `pack`
+/// writes for it. `X` equals `x`, and `Z` equals `z`. Returns false if `bytes` is too short.
 // It compares bytes of the share: digit by digit, `edges` of vectors of 128 bits takes 7.8 times as
 // many instructions.
 pub(crate) fn holds_packed(bytes: &[u8], text: &[u8]) -> bool

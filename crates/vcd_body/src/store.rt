@@ -145,9 +145,9 @@ impl<'a> Table<'a> {
     }
 
     /// Sets the value of the code at index `code`, which must exist, to the text of a change. Its
-    /// share ends at offset `end` of the values (`share_end`). A text of digits must not have exactly
-    /// one. Nothing changes if the text is empty or does not fit into the share, or if the share
-    /// does not lie within the values.
+    /// share ends at offset `end` of the values (`share_end`). A text of digits must not have
+    /// exactly one. Nothing changes if the text is empty or does not fit into the share, or if the
+    /// share does not lie within the values.
     #[inline(always)]
     pub(crate) fn set_text_in(&mut self, code: usize, end: usize, form: Form, text: &[u8])
         requires several { form ≢ Form.RealText → length text.now ≢ 1 }
@@ -215,10 +215,11 @@ pub(crate) fn set_bits(slots: &mut [Slot], code: usize, bits: Bits)
     }
 }
 
-/// Adds 1 to a counter in the slot of the code at index `code`: to that of falls if `way` is 0, of
-/// rises if it is 2, of other changes of the value if it is 1. Returns false if the counter was at
-/// 255: then it is 0 now, and the caller has to add 256 to those of the share. Returns false too,
-/// and changes nothing, if there is no such code. Otherwise returns true.
+/// Adds 1 to a counter in the slot of the code at index `code`, and returns true. `way`, which must
+/// be below 3, chooses the counter: 0 that of falls, 2 that of rises, 1 that of other changes of
+/// the value. Returns false if the counter was at 255: then it is 0 now, and the caller has to add
+/// 256 to those of the share (`add_steps`). Returns false too, and changes nothing, if there is no
+/// such code.
 #[inline(always)]
 pub(crate) fn count_in_slot(slots: &mut [Slot], code: usize, way: usize) -> bool
     requires { way < 3 }

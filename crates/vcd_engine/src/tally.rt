@@ -35,8 +35,8 @@ pub(crate) fn take_value(
     }
 }
 
-/// Counts a change of the event at index `code` in the table, unless it is inside a section, as
-/// `inside` says.
+/// Adds 1 to the table's counter of changes of the event at index `code`, up to 2^64 - 1. Nothing
+/// changes if `inside` says that a section is open, or if there is no such code.
 #[inline(always)]
 pub(crate) fn count_trigger(table: &mut Table<'_>, code: usize, inside: bool)
     ensures takes { (view : HeadView) (h : Header) (items : List BodyItem) (c : IdCode) (d : Change)

@@ -38,7 +38,8 @@ pub(crate) fn next_ends<S: Source>(feed: &mut Feed<'_, '_, '_, '_, S>) -> Result
     Ok(words::is_end(feed.token()))
 }
 
-/// Reads the next token. Fails with `fault` if it is `$end`, and if it cannot be read.
+/// Reads the next token, which must not be `$end`. Fails with `fault` if it is, and as `next_token`
+/// does if none can be read. `fault` must not be `ReadFailed`.
 #[inline(always)]
 pub(crate) fn next_word<S: Source>(
     feed: &mut Feed<'_, '_, '_, '_, S>,
@@ -56,7 +57,8 @@ pub(crate) fn next_word<S: Source>(
     Ok(())
 }
 
-/// Reads `$end`. Fails with `fault` if another token comes next, and if none can be read.
+/// Reads the next token, which has to be `$end`. Fails with `fault` if it is another one, and as
+/// `next_token` does if none can be read. `fault` must not be `ReadFailed`.
 #[inline(always)]
 pub(crate) fn next_end<S: Source>(
     feed: &mut Feed<'_, '_, '_, '_, S>,

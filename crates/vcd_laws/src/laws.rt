@@ -84,7 +84,9 @@ pub fn cut_is_a_dump()
     ensures { CutIsADump }
 {}
 
-/// The output of a run of `merge` with status 0 is a dump of all variables.
+/// The output of a run of `merge` with status 0 is a dump without a fault: it declares all
+/// variables of all inputs, and has their values at scaled times. The output must be within the
+/// limits under which it is read again (`AreReadable`).
 pub fn merge_is_a_dump()
     ensures { MergeIsADump }
 {}
@@ -303,7 +305,8 @@ pub fn settled_merge_is_final()
     ensures { SettledMergeIsFinal }
 {}
 
-/// What settles each input of a merge by itself settles the merge.
+/// If what is known of each input settles what this input adds to a merge, what is known of all of
+/// them settles the merge. An input of which everything is known counts as settled.
 pub fn settled_alone_settles_merge()
     ensures { SettledAloneSettlesMerge }
 {}

@@ -88,8 +88,10 @@ fn run_turn<S: Source, W: Sink>(
 
 impl<'h, 's> Merge<'h, 's> {
     /// Begins a merge of at most 64 inputs with these headers, writes the header of the merged
-    /// dump, and returns the merge, before its first item. `seats` has one seat for each header.
-    /// The parked feed in each seat is right after the header of its input, and stays there.
+    /// dump, and returns the merge, before its first item. A header without a time scale counts as
+    /// 1 s. `seats` has one seat for each header. The parked feed in each seat is right after the
+    /// header of its input, and stays there. What the heads keep must be within the bound of the
+    /// definitions (`MergeIsWithinBound`).
     ///
     /// # Errors
     ///

@@ -176,8 +176,9 @@ impl Visit<Option<u64>> for Merging {
         self.is_written = false;
     }
 
-    /// Writes a change under its code in the merged dump, after the line of the time unless that
-    /// was written last. Leaves out an event inside a section.
+    /// Writes a change under its code in the merged dump. The line of the input's time, in ticks of
+    /// the merged dump, comes before it unless `written` says that it was written last; `written`
+    /// then has this time. Writes nothing for an event inside a section. Fails if a write does.
     #[inline(always)]
     fn take_change<W: Sink>(
         &mut self,

@@ -112,11 +112,14 @@ pub struct Left {
 }
 
 /// Runs the program with these arguments, its own name first among them, over files in memory, and
-/// returns its output, its message, its status, and which inputs it opened. Fails if memory for
-/// these runs out.
+/// returns its output, its message, its status, and which inputs it opened or tried to open. Of two
+/// files with one name the first counts; `input` is standard input.
 ///
-/// `input` is standard input. Codes are hashed with numbers that everybody may know, so codes can
-/// be crafted that take long to find. Use `run_into_memory` for dumps that are not trusted.
+/// Fails if memory for the output or the message runs out. If any other memory runs out, the status
+/// is 3, as `run_program` says.
+///
+/// Codes are hashed with numbers that everybody may know, so codes can be crafted that take long to
+/// find. Use `run_into_memory` for dumps that are not trusted.
 pub fn run_in_memory(
     alloc: Global,
     words: &[String],
