@@ -1,5 +1,7 @@
 //! The laws about the definitions: on what commands write, how runs end, and what settles them; and
-//! the laws of `vcd_model`, which proofs of code use.
+//! the laws of `vcd_model`, which proofs of code use. The laws about dumps that commands wrote, and
+//! about other commands over these, are for runs with status 0 whose output is within the limits
+//! under which it is read again (`IsReadable`, `AreReadable`).
 
 ghost use Rattle.vcd_laws.specs.Jobs.{JobsAreValid};
 ghost use Rattle.vcd_laws.specs.KeptValues.{PickKeeps, CutKeeps, MergeKeepsChanges, MergeKeepsChangesBefore, MergeKeeps, PickRunKeeps, CutRunKeeps, MergeRunKeeps};
@@ -24,12 +26,14 @@ pub fn jobs_are_valid()
     ensures { JobsAreValid }
 {}
 
-/// What `pick` writes gives the selected codes their values.
+/// If the input has no fault, the selected codes, except those of events, have the same values in
+/// what `pick` writes as in the input, at every time.
 pub fn pick_keeps()
     ensures { PickKeeps }
 {}
 
-/// What `cut` writes gives each code its values between its times.
+/// If the input has no fault before the end of the cut, each code, except those of events, has the
+/// same values in what `cut` writes as in the input, at the times of the cut.
 pub fn cut_keeps()
     ensures { CutKeeps }
 {}
@@ -44,32 +48,38 @@ pub fn merge_keeps_changes_before()
     ensures { MergeKeepsChangesBefore }
 {}
 
-/// What `merge` writes gives each merged code its values at scaled times.
+/// If no input has a fault, each code of an input, except those of events, has the same values in
+/// what `merge` writes, under its new code and at scaled times.
 pub fn merge_keeps()
     ensures { MergeKeeps }
 {}
 
-/// The output of a run of `pick` with status 0 gives the selected codes their values.
+/// After a run of `pick` with status 0, the selected codes, except those of events, have the same
+/// values in its output as in its input, at every time.
 pub fn pick_run_keeps()
     ensures { PickRunKeeps }
 {}
 
-/// The output of a run of `cut` with status 0 gives each code its values between its times.
+/// After a run of `cut` with status 0, each code, except those of events, has the same values in
+/// its output as in its input, at the times of the cut.
 pub fn cut_run_keeps()
     ensures { CutRunKeeps }
 {}
 
-/// The output of a run of `merge` with status 0 gives each merged code its values.
+/// After a run of `merge` with status 0, each code of an input, except those of events, has the
+/// same values in its output, under its new code and at scaled times.
 pub fn merge_run_keeps()
     ensures { MergeRunKeeps }
 {}
 
-/// A written head is read again as what it was written from.
+/// A written head is read again as what it was written from, if as many declarations are allowed as
+/// it may have.
 pub fn head_is_read_back()
     ensures { HeadIsReadBack }
 {}
 
-/// A merged head is read again as what it was written from.
+/// A merged head is read again as what it was written from, if as many declarations are allowed as
+/// it may have, and each scope of an input lies in fewer than 999 others.
 pub fn merged_head_is_read_back()
     ensures { MergedHeadIsReadBack }
 {}
@@ -108,12 +118,12 @@ pub fn list_of_pick()
     ensures { ListOfPick }
 {}
 
-/// `sample` of what `pick` wrote is `sample` of its input.
+/// `sample` of what `pick` wrote is `sample` of its input, for variables that were picked.
 pub fn sample_of_pick()
     ensures { SampleOfPick }
 {}
 
-/// `edges` of what `pick` wrote is `edges` of its input.
+/// `edges` of what `pick` wrote is `edges` of its input, for variables that were picked.
 pub fn edges_of_pick()
     ensures { EdgesOfPick }
 {}
@@ -143,7 +153,7 @@ pub fn pick_twice()
     ensures { PickTwice }
 {}
 
-/// `pick` of what `pick` wrote is `pick` of its input, for what both select, if it has a
+/// `pick` of what `pick` wrote is `pick` of its input, for what both select, if the input has a
 /// timestamp.
 pub fn pick_of_pick()
     ensures { PickOfPick }
@@ -176,8 +186,8 @@ pub fn cut_twice()
     ensures { CutTwice }
 {}
 
-/// `cut` of what `cut` wrote, from a later time to one past its end, is `cut` of its input to that
-/// end.
+/// `cut` of what `cut` wrote, from a later time before its end to a time that is not before its
+/// end, is `cut` of its input to that end.
 pub fn cut_past_end()
     ensures { CutPastEnd }
 {}
@@ -202,13 +212,14 @@ pub fn list_of_merge()
     ensures { ListOfMerge }
 {}
 
-/// `sample` of what `merge` wrote prints the values of each input, at scaled times and under its
-/// scope.
+/// `sample` of what `merge` wrote, at scaled times and for names under the scope of one input,
+/// prints the values of this input.
 pub fn sample_of_merge()
     ensures { SampleOfMerge }
 {}
 
-/// `edges` of what `merge` wrote prints the counts of each input, under its scope.
+/// `edges` of what `merge` wrote, for names under the scope of one input, prints the counts of this
+/// input.
 pub fn edges_of_merge()
     ensures { EdgesOfMerge }
 {}
@@ -260,30 +271,31 @@ pub fn check_of_merge()
     ensures { CheckOfMerge }
 {}
 
-/// If `check` ends well, every other command whose names and times fit the header ends well.
+/// If `check` succeeds, so does every other command whose names and times fit the header.
 pub fn checked_is_safe()
     ensures { CheckedIsSafe }
 {}
 
-/// If `check` names a fault, every other command whose names and times fit the header names it too,
-/// or ends well before it.
+/// If `check` names a fault of the header, every other command names it too. If it names one of the
+/// body, every other command whose names and times fit the header names it too, or succeeds because
+/// it needs only the items before it.
 pub fn check_names_the_fault()
     ensures { CheckNamesTheFault }
 {}
 
-/// If `pick` or `edges` ends well, so does `check`.
+/// If `pick` or `edges` succeeds, so does `check`.
 pub fn clean_is_checked()
     ensures { CleanIsChecked }
 {}
 
-/// If `check` of each input ends well, their merge ends well, or names a timestamp that is too
-/// large.
+/// If `check` of each input succeeds, and all headers together have at most 16,777,216
+/// declarations, the merge of the inputs succeeds, or names a timestamp that is too large.
 pub fn checked_merge_is_safe()
     ensures { CheckedMergeIsSafe }
 {}
 
-/// A merge ends well, or names what `check` names of one of its inputs, or a timestamp that is too
-/// large.
+/// If all headers together have fewer than 16,777,216 declarations, a merge succeeds, or names what
+/// `check` names of one of its inputs, or a timestamp that is too large.
 pub fn merge_names_the_fault()
     ensures { MergeNamesTheFault }
 {}
@@ -294,7 +306,7 @@ pub fn settled_is_final()
 {}
 
 /// The outcome of a merge is the same whatever follows the first tokens that settle one of its
-/// inputs.
+/// inputs, if the headers of the inputs before it have no fault.
 pub fn settled_is_final_in_merge()
     ensures { SettledIsFinalInMerge }
 {}
