@@ -8,7 +8,7 @@ use crate::scan::{is_white_space, low_16, lowest, run_len, white_64, without};
 // White space that was seen ahead. Each byte before `next` was looked at.
 #[derive(Clone, Copy)]
 pub(crate) struct White {
-    // Bit k is set if byte `next - 64 + k` is white and was not passed.
+    // Bit k is set if byte `next - 64 + k` is white and still ahead.
     pub(crate) bits: u64,
     // The offset after the last byte that was looked at.
     pub(crate) next: usize,
@@ -24,8 +24,8 @@ impl White {
         White { bits: 0, next: 0 }
     }
 
-    /// Returns whether the first white byte that was seen and not yet passed is the one at offset
-    /// `at` of the chunk. Some white byte has to be known (`bits` is not 0).
+    /// Returns whether the first white byte that is known ahead is the one at offset `at` of the
+    /// chunk. Some white byte has to be known (`bits` is not 0).
     #[inline(always)]
     fn begins_at(self, at: usize) -> bool
         requires some { self.bits ≢ 0 }
@@ -86,8 +86,8 @@ impl White {
 #[derive(Clone, Copy)]
 pub struct Ahead<'a> {
     bytes: &'a [u8],
-    // How many bytes were passed. The next token begins here, or after the white bytes that begin
-    // here.
+    // How many bytes it has moved past. The next token begins here, or after the white bytes that
+    // begin here.
     at: usize,
     limit: usize,
     white: White,
@@ -98,8 +98,8 @@ pub struct Ahead<'a> {
 impl<'a> Ahead<'a> {
     ghost use Rattle.vcd_text.specs.Ahead.{IsNearEnd, TakesToken, bytes_of, longest_of, passed_of, start_of};
 
-    /// Returns a look-ahead that begins at the first of these bytes. It gives no token of more than
-    /// `limit` bytes.
+    /// Returns a look-ahead that begins at the first of these bytes. It returns no token of more
+    /// than `limit` bytes.
     #[inline(always)]
     pub(crate) fn new(bytes: &'a [u8], limit: usize) -> Ahead<'a>
         ensures bytes { bytes_of result ≡ bytes.now }
@@ -114,8 +114,9 @@ impl<'a> Ahead<'a> {
         }
     }
 
-    /// Returns how many bytes were passed: all up to the end of the last token that was given, and
-    /// one white byte after it. `Feed::pass` takes this number.
+    /// Returns how many bytes this look-ahead has moved past: all up to the end of the last token
+    /// that it returned, and one white byte after it; 0 before the first. `Feed::pass` takes this
+    /// number.
     #[inline(always)]
     pub fn passed(&self) -> usize
         ensures passed { result ≡ passed_of self.now }
@@ -124,8 +125,8 @@ impl<'a> Ahead<'a> {
         self.at
     }
 
-    /// Returns all bytes that this look-ahead was made over, also those that it has passed, so that
-    /// a caller can look at more than one token.
+    /// Returns all bytes that this look-ahead was made over, also those that it has moved past, so
+    /// that a caller can look at more than one token.
     #[inline(always)]
     pub fn bytes(&self) -> &'a [u8]
         ensures { result.now ≡ bytes_of self.now }
@@ -133,8 +134,8 @@ impl<'a> Ahead<'a> {
         self.bytes
     }
 
-    /// Returns the next token, and passes it, the white bytes before it, and one white byte after
-    /// it.
+    /// Returns the next token, and moves past it, the white bytes before it, and one white byte
+    /// after it.
     ///
     /// `None` if it does not lie completely in the chunk or is longer than the limit, and maybe if
     /// it ends fewer than 64 bytes before the end of the chunk; then nothing has changed, and
@@ -158,8 +159,8 @@ impl<'a> Ahead<'a> {
     }
 
     /// Returns the next token, if it has two bytes, begins at the next byte, and is followed by a
-    /// line feed, and passes these three bytes. If `CR_LF` is true, a line feed has to come before
-    /// the token and a carriage return after it, and these four bytes are passed.
+    /// line feed, and moves past these three bytes. If `CR_LF` is true, a line feed has to come
+    /// before the token and a carriage return after it, and it moves past these four bytes.
     ///
     /// Otherwise `None`, also if the token has a byte below the space (32) or the limit is less
     /// than 2; then nothing has changed, and `next` may return one. It looks only at these bytes.
@@ -182,8 +183,8 @@ impl<'a> Ahead<'a> {
     }
 
     /// Returns the next token, if it begins at the next byte, has at most 15 bytes, and is followed
-    /// by a line feed, and passes it and the line feed. If `CR_LF` is true, a line feed has to come
-    /// before the token and a carriage return after it, and all of these are passed.
+    /// by a line feed, and moves past it and the line feed. If `CR_LF` is true, a line feed has to
+    /// come before the token and a carriage return after it, and it moves past all of these.
     ///
     /// Otherwise `None`, also if fewer than 16 bytes are left from the first byte of the token on,
     /// if the token has a byte below the space (32), or if it is longer than the limit; then
@@ -212,7 +213,7 @@ impl<'a> Ahead<'a> {
         self.take(start, White::before(start + len + 1))
     }
 
-    /// Returns the next token, also near the end of the chunk, and passes it, the white bytes
+    /// Returns the next token, also near the end of the chunk, and moves past it, the white bytes
     /// before it, and one white byte after it. `None` if it does not lie completely in the chunk or
     /// is longer than the limit; then nothing has changed.
     ///
@@ -244,7 +245,7 @@ impl<'a> Ahead<'a> {
         self.limit >= 2 && is_two_byte_line::<CR_LF>(self.bytes, self.at)
     }
 
-    /// Forgets which white bytes were seen ahead. It passes no byte. Call it before a loop over
+    /// Forgets which white bytes were seen ahead, and stays where it is. Call it before a loop over
     /// `next_short` and `next_in_16`, which do not need that knowledge.
     #[inline(always)]
     pub fn forget(&mut self)
@@ -262,10 +263,10 @@ impl<'a> Ahead<'a> {
         };
     }
 
-    /// Returns the token from offset `start` up to the first byte that `white` knows, and passes
-    /// the token and that byte. `white` knows at least one byte, and the first is after `start`.
-    /// All bytes before `start` that were not passed are white. `None` if the token is longer than
-    /// the limit; then nothing has changed.
+    /// Returns the token from offset `start` up to the first byte that `white` knows, and moves
+    /// past the token and that byte. `white` knows at least one byte, and the first is after
+    /// `start`. All bytes from the current position to `start` are white. `None` if the token is
+    /// longer than the limit; then nothing has changed.
     #[inline(always)]
     fn take(&mut self, start: usize, white: White) -> Option<&'a [u8]>
         requires order { start ≤ white.next }
@@ -383,8 +384,9 @@ fn white_end(bytes: &[u8], at: usize) -> usize
     past_white(bytes, at)
 }
 
-/// Returns `known` if it knows a white byte. Otherwise it looks at the bytes from offset
-/// `known.next` on, 64 at a time, and returns all white bytes of the first 64 that have any.
+/// Returns white bytes ahead, at least one: `known`, if that knows one. Otherwise it looks at the
+/// bytes from offset `known.next` on, 64 at a time, and returns all white bytes of the first 64
+/// that have any.
 ///
 /// `None` if no complete 64 bytes have any; the last bytes, fewer than 64, may still have some.
 // Most tokens end at a white byte that is already known. Then no bytes are looked at.

@@ -25,7 +25,7 @@ pub fn parked_after(bytes: u64) -> Parked
 /// fail at one call, or from its end on.
 #[derive(Drop)]
 pub struct Pieces<'a> {
-    /// The bytes that it has not given yet.
+    /// The bytes that it has not returned yet.
     pub bytes: &'a [u8],
     /// How many bytes a call returns at most.
     pub size: usize,
@@ -33,7 +33,7 @@ pub struct Pieces<'a> {
     pub calls: u64,
     /// The call that fails, counted from 1; 0 if none does.
     pub fails_at: u64,
-    /// Whether each call fails once all bytes are given.
+    /// Whether each call fails once all bytes are returned.
     pub broken: bool,
 }
 

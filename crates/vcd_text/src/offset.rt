@@ -1,12 +1,12 @@
-//! How far a feed has come, as numbers.
+//! The position of a feed in its source, as numbers.
 ghost use Rattle.std.specs.Prelude.{◌≡◌, ◌+◌, ◌^◌, ◌<◌, ◌≤◌, IsSome, MatchOption, ⊤};
 ghost use Rattle.vcd_text.specs.Names.{IsOffset, answer_number, offset_of, phase_at, registers_at};
 
 use crate::answer::Halt;
 use crate::registers::{Parked, Phase};
 
-/// How far a feed has come. It is only numbers, which a caller may keep outside of the program.
-/// Another feed continues there, over the bytes that were not looked at.
+/// The position of a feed in its source. It is only numbers, which a caller may keep outside of the
+/// program. Another feed continues there, over the bytes that were not looked at.
 #[repr(C)]
 #[derive(Clone, Copy, PartialEq, Eq, Debug)]
 pub struct Offset {
@@ -48,7 +48,7 @@ fn phase_at(answer: u64) -> Option<Phase>
     }
 }
 
-/// Returns how far a feed with these registers has come, as numbers that a caller may store.
+/// Returns the position of a feed with these registers, as numbers that a caller may store.
 pub(crate) fn offset_of(parked: Parked) -> Offset
     requires counted { parked.base + parked.at < 2 ^ 63 }
     requires few { parked.line_feeds ≤ parked.base + parked.at }
@@ -63,9 +63,9 @@ pub(crate) fn offset_of(parked: Parked) -> Offset
     }
 }
 
-/// Returns the registers of a feed that has come to this offset, with an empty chunk. `None` if the
-/// offset is 2^63 bytes or more, has more line feeds than bytes, or an `answer` that
-/// `answer_number` never returns.
+/// Returns the registers of a feed at this offset, with an empty chunk. `None` if the offset is
+/// 2^63 bytes or more, has more line feeds than bytes, or an `answer` that `answer_number` never
+/// returns.
 pub(crate) fn registers_at(offset: Offset) -> Option<Parked>
     ensures registers { MatchOption result ⊤ (λ p. p ≡ registers_at offset) }
     ensures counted { MatchOption result ⊤

@@ -19,7 +19,7 @@ pub(crate) enum Collected {
     TooLong,
 }
 
-/// What a read of the source gave.
+/// What a read of the source returned.
 #[derive(Clone, Copy)]
 pub(crate) enum Filled {
     More,
@@ -52,9 +52,9 @@ pub(crate) fn skip(chunk: &[u8], parked: &mut Parked)
 /// Copies the bytes of a token from the chunk into `token`, after those that earlier calls copied,
 /// and moves `parked` past them.
 ///
-/// Returns `Whole` if the chunk has the end of the token; then the white byte there is passed too.
-/// Returns `Part` if the bytes that may be looked at end first, and `TooLong` if the token has more
-/// bytes than `token`; then nothing changes.
+/// Returns `Whole` if the chunk has the end of the token, and moves past the white byte there too.
+/// Returns `Part` if the bytes that may be looked at end first. Returns `TooLong`, and changes
+/// nothing, if the token has more bytes than `token`.
 #[inline(always)]
 pub(crate) fn collect(chunk: &[u8], token: &mut [u8], parked: &mut Parked) -> Collected
     requires registers { MayGoOn (length chunk.now) parked.old }
@@ -118,7 +118,8 @@ pub(crate) fn collect_short(chunk: &[u8], token: &mut [u8], parked: &mut Parked)
     true
 }
 
-/// Copies the 16 bytes of `from` at offset `at` to the front of `to`. Both have to have as many.
+/// Copies the 16 bytes of `from` from offset `at` on to the front of `to`. `from` must have these,
+/// and `to` at least 16 bytes.
 // One load and one store. With `copy_from_slice` here and in `copy_front`, the header of 184,002
 // codes takes 5 % more.
 #[inline(always)]
