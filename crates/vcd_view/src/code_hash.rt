@@ -41,9 +41,9 @@ impl CodeSeed {
         (product >> 64) as u64
     }
 
-    /// Returns the hash of these bytes; `state` is the hash of the bytes before them, 0 if there
-    /// are none. Each eight bytes are mixed in as one word, and the last ones, if they are fewer,
-    /// as one more.
+    /// Returns the hash of these bytes; `state` is the hash of the bytes before them, a multiple of
+    /// 8, or 0 if there are none. Each eight bytes are mixed in as one word, and the last ones, if
+    /// they are fewer, as one more. Without bytes the result is `state`.
     #[inline(always)]
     pub fn hashed(self, state: u64, bytes: &[u8]) -> u64
         ensures { result ≡ hashed self state bytes.now }
@@ -56,8 +56,7 @@ impl CodeSeed {
         }
     }
 
-    /// Returns the hash of these bytes, by a loop over words of eight bytes; `state` is the hash of
-    /// the bytes before them, 0 if there are none.
+    /// Returns what `hashed` returns, by a loop over words of eight bytes.
     fn hashed_by_words(self, state: u64, bytes: &[u8]) -> u64
         ensures { result ≡ hashed self state bytes.now }
     {
@@ -119,7 +118,8 @@ impl Hasher for CodeHasher {
         self.state
     }
 
-    /// Feeds these bytes to the hash.
+    /// Continues the hash with these bytes, as `CodeSeed::hashed` does. Bytes that come in several
+    /// calls have the hash of all of them only if each call but the last has a multiple of 8.
     #[inline(always)]
     fn write(&mut self, bytes: &[u8]) {
         self.state = self.seed.hashed(self.state, bytes);

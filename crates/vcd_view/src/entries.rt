@@ -158,8 +158,8 @@ fn index_beside(entries: &[Entry], own: usize, key: u64) -> Option<usize>
     None
 }
 
-/// Returns the index of the code with this key, if a look-up by `hash` in the table `entries` comes
-/// to its entry in at most `MAX_LOOKS` looks, and to no empty entry before it; otherwise `None`.
+/// Returns the index of the code with this key, if a look-up by `hash` in the table `entries` finds
+/// its entry in at most `MAX_LOOKS` looks, and no empty entry before it; otherwise `None`.
 fn index_of_key(entries: &[Entry], hash: u64, key: u64) -> Option<usize>
     ensures { IfSome result (λ position. HasEntry entries.now key position) }
 {
@@ -175,8 +175,10 @@ fn index_of_key(entries: &[Entry], hash: u64, key: u64) -> Option<usize>
     None
 }
 
-/// Returns the index in `codes` of this code of 8 bytes or more, if `hash`, the hash of the code,
-/// leads to its entry in the table `entries`; otherwise `None`. The bytes of `codes` lie in `text`.
+/// Returns the index in `codes` of this code of 8 bytes or more, if a look-up by `hash`, the hash
+/// of the code, finds its entry in the table `entries`. `None` if it does not; then the code may
+/// still be in `codes`, whose bytes lie in `text`.
+///
 /// As another code may have the same key, the bytes are compared, at most once, and `probes` counts
 /// that.
 fn index_of_long(

@@ -66,7 +66,7 @@ pub fn keyword_of(token: &[u8]) -> Option<Keyword>
     }
 }
 
-/// Returns the next token and passes it. `None` if it is `$end`, or if `Ahead::next` returns
+/// Returns the next token and moves past it. `None` if it is `$end`, or if `Ahead::next` returns
 /// `None`; then nothing has changed.
 #[inline(always)]
 fn word_ahead<'a>(ahead: &mut Ahead<'a>) -> Option<&'a [u8]>
@@ -83,9 +83,9 @@ fn word_ahead<'a>(ahead: &mut Ahead<'a>) -> Option<&'a [u8]>
     Some(token)
 }
 
-/// Returns how many bytes of the chunk the tokens before the next `$end` take, with the white space
-/// before each and one white byte after the last. `ahead` has passed no token yet. It also stops at
-/// a token that does not lie completely in the chunk, where `Ahead::next` returns `None`.
+/// Returns how many bytes ahead the tokens before the next `$end` take, with the white space before
+/// each and one white byte after the last. It counts no further than to a token that does not lie
+/// completely in the chunk, where `Ahead::next` returns `None`. `ahead` must be at its first byte.
 fn words_len(ahead: Ahead<'_>) -> usize
     requires { passed_of ahead ≡ 0 }
     ensures { PassesWordsTo ahead.entry result }
@@ -96,8 +96,8 @@ fn words_len(ahead: Ahead<'_>) -> usize
 }
 
 /// Moves the feed past the tokens that come next and lie completely in its chunk, up to the first
-/// `$end`, which it does not pass. It reads nothing from the source. After it the feed's `token`
-/// may be empty.
+/// `$end`, but not past that. It reads nothing from the source. After it the feed's `token` may be
+/// empty.
 pub fn pass_words<S: Source>(feed: &mut Feed<'_, '_, '_, '_, S>)
     ensures passes { PassesWords feed.old feed.new }
     ensures advances { Advances S.failures feed.old feed.new CallEnd.GoesOn }

@@ -22,7 +22,7 @@ pub struct Found {
 /// Returns the index of an identifier code in `view.codes`; `None` if the header does not declare
 /// it.
 ///
-/// A look at one entry finds nearly all codes that simulators give, and a look at the first one
+/// A look at one entry finds nearly all codes that simulators use, and a look at the first one
 /// beside it most of the others. The rest are looked for in the other two beside it and by their
 /// hash, and those that are not found so by a binary search.
 #[inline(always)]
