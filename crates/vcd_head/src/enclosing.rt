@@ -7,19 +7,19 @@ use vcd_view::HeadView;
 // How many rows are kept at a time.
 const SCOPES_HELD: usize = 128;
 
-/// The scopes around the declaration of a row, given outermost first.
+/// An iterator over the scopes around a declaration, from the outermost inwards.
 ///
-/// A row only says which scope is directly around it. So `next` walks outwards, keeps the last rows
-/// that it passes, gives these, and walks again if more are left: once if at most 128 scopes
-/// enclose the declaration, and at most eight times in any header. It takes 1 KB of stack, whatever
-/// the depth, and no memory.
+/// A row has only the index of the scope directly around it. So `next` walks outwards, keeps the
+/// last rows on its way, and returns these one by one. It walks once if at most 128 scopes enclose
+/// the declaration, and at most eight times in any header. It takes 1 KB of stack, whatever the
+/// depth, and no memory.
 #[derive(Drop)]
 pub(crate) struct Enclosing {
     row: usize,
-    // The rows that were passed last. Each is at its number, counted outwards from 0, modulo the
-    // length.
+    // The rows at the end of the last walk. Each is at its number, counted outwards from 0, modulo
+    // the length.
     rows: [usize; SCOPES_HELD],
-    // How many scopes are left to give, at most.
+    // How many scopes are left to return, at most.
     left: usize,
     // How many of the scopes that are left, the outermost ones, are in `rows`.
     held: usize,
@@ -51,8 +51,9 @@ impl Enclosing {
         }
     }
 
-    /// Returns the index of the row of the next scope inwards, or `None` after the innermost.
-    /// `view` has to be of the same header in every call.
+    /// Returns the index of the row of the next scope: of the outermost in the first call, and of
+    /// one further inwards in each later call. `None` after the innermost, and from then on. `view`
+    /// has to be of the declaration's header in every call.
     #[inline(always)]
     pub(crate) fn next(&mut self, view: HeadView<'_>) -> Option<usize>
         ensures gives { (h : Header) (row : ℕ) (rest : List ℕ) → IsViewOf view.entry h
@@ -69,9 +70,9 @@ impl Enclosing {
     }
 }
 
-/// Walks outwards from the declaration with index `row` by at most `most` scopes, and returns how
-/// many scopes it passed. It writes the index of each one's row to `rows`: of the k-th, counted
-/// from 0, to element k modulo 128, so that the last 128 are kept.
+/// Writes the indexes of the rows of the scopes around the declaration with index `row` to `rows`,
+/// and returns how many there are, at most `most`. It goes from the innermost outwards: the k-th,
+/// counted from 0, goes to element k modulo 128, so that the last 128 are kept.
 fn walk(view: HeadView<'_>, row: usize, most: usize, rows: &mut [usize; SCOPES_HELD]) -> usize
     ensures walks { AnyRow view.entry row (λ h. Walks h row most rows.new result) }
     ensures within { result ≤ most }

@@ -119,7 +119,7 @@ impl<'o> Open<'o> {
     /// Enters the scopes around the variable at index `row` that were not entered yet, from the
     /// outermost inwards: keeps in `self`, for each, the names of `group` that can select something
     /// inside it. Sets the flags in `matched` of the names that select all of a scope that it
-    /// enters, and leaves the others as they are. `row` is the row that `take` was given.
+    /// enters, and leaves the others as they are. `row` is the argument of `take`.
     fn enter_around(
         &mut self,
         view: HeadView<'_>,

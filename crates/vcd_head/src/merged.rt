@@ -53,7 +53,7 @@ impl OpenScopes {
 }
 
 /// Writes the `$scope` lines of the innermost `count` scopes around the declaration at index `row`,
-/// outermost first. If a write fails, it stops.
+/// outermost first. If a write fails, a prefix was written.
 fn put_openings<W: Sink>(
     view: HeadView<'_>,
     row: usize,
@@ -83,7 +83,7 @@ fn put_closing<W: Sink>(scopes: OpenScopes, w: &mut W) -> Result<(), WriteFailed
     put(w, b"$upscope $end\n")
 }
 
-/// Writes this many `$upscope` lines. If a write fails, it stops.
+/// Writes this many `$upscope` lines. If a write fails, a prefix was written.
 fn put_closings<W: Sink>(count: usize, w: &mut W) -> Result<(), WriteFailed>
     requires failures { (W.device w.old).failures < 2 ^ 64 - 1 }
     ensures { PutsWhere W.device w.old w.new result (λ takes. (scopes : List ℕ)
@@ -99,7 +99,7 @@ fn put_closings<W: Sink>(count: usize, w: &mut W) -> Result<(), WriteFailed>
 /// variable: the `$scope` lines of the scopes around it that are not written yet, and its own line
 /// with a new code; `first` is the number of the first new code of the input. For an `$upscope`:
 /// its line, if that of its scope was written. For a scope, and if there is no such row, nothing.
-/// `scopes` says which scopes are open before the row. If a write fails, it stops.
+/// `scopes` says which scopes are open before the row. If a write fails, a prefix was written.
 fn put_input_row<W: Sink>(
     view: HeadView<'_>,
     row: usize,
@@ -128,7 +128,7 @@ fn put_input_row<W: Sink>(
 
 /// Writes the lines that a merged header has for all variables of an input and for the scopes
 /// around these. The code at index k of the input becomes the new code with the number `first` + k.
-/// If a write fails, it stops.
+/// If a write fails, a prefix was written.
 fn put_input_rows<W: Sink>(view: HeadView<'_>, first: u64, w: &mut W) -> Result<(), WriteFailed>
     requires failures { (W.device w.old).failures < 2 ^ 64 - 1 }
     ensures { PutsWhere W.device w.old w.new result (λ takes.
@@ -148,7 +148,7 @@ fn put_input_rows<W: Sink>(view: HeadView<'_>, first: u64, w: &mut W) -> Result<
 /// Writes what the header of a merged dump has for one input: a scope `in1`, `in2`, .. with the
 /// input's `number`, counted from 1, and in it the input's variables and the scopes around these;
 /// scopes without variables are left out. The code at index k of the input becomes the new code
-/// with the number `first` + k. If a write fails, it stops.
+/// with the number `first` + k. If a write fails, a prefix was written.
 fn put_input_head<W: Sink>(
     view: HeadView<'_>,
     number: u64,
@@ -169,7 +169,7 @@ fn put_input_head<W: Sink>(
 
 /// Writes what the header of a merged dump has for each input, at most 64, in order. The new codes
 /// are numbered from 0 on, those of an input after those of the inputs before it. If a write fails,
-/// it stops.
+/// a prefix was written.
 fn put_input_heads<W: Sink>(heads: &[Head], w: &mut W) -> Result<(), WriteFailed>
     requires heads { length heads.now ≤ 64 }
     requires failures { (W.device w.old).failures < 2 ^ 64 - 1 }

@@ -24,7 +24,7 @@ pub(crate) struct NameRun {
     // The index of the first of them in the order, and the one after that of the last.
     first: usize,
     end: usize,
-    // The bytes of the front, if there is such a name.
+    // How many bytes the front has, if there is such a name.
     passed: usize,
     // Whether some name selects all paths that continue after the front.
     whole: bool,
@@ -247,9 +247,9 @@ impl<'n> Group<'n> {
         run
     }
 
-    /// Returns the names of `run` that can select something inside a scope named `component`, and
-    /// sets the flags in `matched` of those that select all that is in it. `run` has the names that
-    /// can select something outside of it.
+    /// Returns the names of `run` that can select something inside the scope named `component`, and
+    /// sets the flags in `matched` of those that select all that is in it; the other flags stay as
+    /// they are. `run` has the names that can select something in the scope around it.
     pub(crate) fn enter(
         &self,
         run: NameRun,

@@ -7,7 +7,7 @@ use vcd_text::{Sink, WriteFailed, put};
 use vcd_view::HeadView;
 
 /// Writes the names of the scopes around the declaration with index `row`, outermost first, each
-/// with a dot after it. If a write fails, it stops.
+/// with a dot after it. If a write fails, a prefix was written.
 fn put_scopes<W: Sink>(view: HeadView<'_>, row: usize, w: &mut W) -> Result<(), WriteFailed>
     requires failures { (W.device w.old).failures < 2 ^ 64 - 1 }
     ensures { PutsWhere W.device w.old w.new result (λ takes.

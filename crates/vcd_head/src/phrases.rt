@@ -14,9 +14,10 @@ use std::alloc::Global;
 use vcd_text::{Feed, Source};
 use vcd_view::{Keyword, keyword_of};
 
-/// Reads the rest of a command that is no keyword, up to its `$end`; the feed's token is its first
-/// one. Fails with `OutOfPlace` if that token could begin a timestamp or a value change, with
-/// `UnknownCommand` if it is no command, and if the `$end` cannot be read.
+/// Reads the rest of a command that is no keyword, up to its `$end`, and ignores it; the feed's
+/// token is its first one. Fails with `OutOfPlace` if that token could begin a timestamp or a value
+/// change, with `UnknownCommand` if it is no command, and as `next_token` does if a later one
+/// cannot be read.
 fn read_other<S: Source>(feed: &mut Feed<'_, '_, '_, '_, S>) -> Result<(), HeadFault>
     requires { S.failures (source_of feed.old) < 2 ^ 64 - 1 }
     ensures reads { ReadsOther feed.old feed.new result }
@@ -44,7 +45,7 @@ fn goes_on(keyword: Option<Keyword>) -> bool
 
 /// Reads the next phrase of a header into the draft, and returns whether more may follow: true for
 /// all but `$enddefinitions`. At most `most` declarations are allowed. Fails with the fault of the
-/// first token that is not allowed or cannot be read.
+/// first token that is not allowed or cannot be read, and with `OutOfMemory`.
 pub(crate) fn read_phrase<S: Source>(
     alloc: Global,
     feed: &mut Feed<'_, '_, '_, '_, S>,
@@ -64,8 +65,8 @@ pub(crate) fn read_phrase<S: Source>(
 
 /// Reads the rest of a phrase into the draft; `keyword` is the keyword that was read, or `None` if
 /// the token is none. Fails with `OutOfPlace` if the keyword is `$end` or belongs into the body,
-/// and with the fault of the first other token that is not allowed or cannot be read. At most
-/// `most` declarations are allowed.
+/// with the fault of the first other token that is not allowed or cannot be read, and with
+/// `OutOfMemory`. At most `most` declarations are allowed.
 fn read_rest<S: Source>(
     alloc: Global,
     feed: &mut Feed<'_, '_, '_, '_, S>,

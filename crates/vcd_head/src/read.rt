@@ -12,14 +12,16 @@ use std::hash::{BuildHasher, BuildHasherDefault, FoldHasher};
 use vcd_text::{Feed, Source};
 use vcd_view::CodeSeed;
 
-/// Reads a header up to the `$end` of `$enddefinitions`, and returns it. At first the feed is at
-/// the beginning of the dump; after it, right after that token. At most `most` declarations are
-/// allowed; `most` is at most 16,777,216. Fails with the first fault of the header, if a read
-/// fails, or if memory runs out.
+/// Reads a header up to the `$end` of `$enddefinitions`, and returns it. The feed must be at the
+/// beginning of the dump; afterwards it is right after that token. Fails with the first fault of
+/// the header, with `ReadFailed` if a read fails, and with `OutOfMemory` if memory runs out. A
+/// header with more than `most` declarations has the fault `TooMany`; `most` must be at most
+/// 16,777,216.
 ///
-/// After a fault the feed's token is the last one that was read: empty if the input or its source
-/// ended the reading, otherwise the one at fault. A type, a name or a code of 4 GiB or more, for
-/// which the windows have to be as long, counts as `OutOfMemory`.
+/// After a fault `Feed::line` returns the line of the fault, and the feed's token is the last one
+/// that was read: empty if the input or its source ended the reading, otherwise the one at fault. A
+/// type, a name or a code of 4 GiB or more, for which the windows have to be as long, counts as
+/// `OutOfMemory`.
 ///
 /// Codes are hashed with numbers that everybody may know, so codes can be crafted that take long to
 /// find. Read dumps that are not trusted with `read_head_with_hasher`.
@@ -36,14 +38,16 @@ pub fn read_head<S: Source>(
     read_head_with_hasher(alloc, feed, most, &hasher)
 }
 
-/// Reads a header up to the `$end` of `$enddefinitions`, and returns it. At first the feed is at
-/// the beginning of the dump; after it, right after that token. At most `most` declarations are
-/// allowed; `most` is at most 16,777,216. Fails with the first fault of the header, if a read
-/// fails, or if memory runs out.
+/// Reads a header up to the `$end` of `$enddefinitions`, and returns it. The feed must be at the
+/// beginning of the dump; afterwards it is right after that token. Fails with the first fault of
+/// the header, with `ReadFailed` if a read fails, and with `OutOfMemory` if memory runs out. A
+/// header with more than `most` declarations has the fault `TooMany`; `most` must be at most
+/// 16,777,216.
 ///
-/// After a fault the feed's token is the last one that was read: empty if the input or its source
-/// ended the reading, otherwise the one at fault. A type, a name or a code of 4 GiB or more, for
-/// which the windows have to be as long, counts as `OutOfMemory`.
+/// After a fault `Feed::line` returns the line of the fault, and the feed's token is the last one
+/// that was read: empty if the input or its source ended the reading, otherwise the one at fault. A
+/// type, a name or a code of 4 GiB or more, for which the windows have to be as long, counts as
+/// `OutOfMemory`.
 ///
 /// Codes are hashed with numbers that the hasher returns. What is read does not depend on them. If
 /// the author of the dump does not know these numbers, as with `RandomState`, no choice of codes
@@ -65,7 +69,7 @@ pub fn read_head_with_hasher<S: Source, B: BuildHasher>(
 
 /// Reads all phrases of a header into the draft, up to `$enddefinitions $end`. At most `most`
 /// declarations are allowed. Fails with the fault of the first token that is not allowed or cannot
-/// be read.
+/// be read, and with `OutOfMemory`.
 fn read_phrases<S: Source>(
     alloc: Global,
     feed: &mut Feed<'_, '_, '_, '_, S>,

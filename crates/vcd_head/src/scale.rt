@@ -10,7 +10,8 @@ use vcd_text::{Feed, Source};
 use vcd_view::Scale;
 
 /// Reads the number and the unit of a time scale, in one token or two, and returns the power of ten
-/// in seconds. Fails with `BadTimescale` if the tokens are no time scale, and if none can be read.
+/// in seconds: -8 for `10ns`. Fails with `BadTimescale` if the tokens are no time scale, and as
+/// `next_token` does if one cannot be read.
 fn read_exponent<S: Source>(feed: &mut Feed<'_, '_, '_, '_, S>) -> Result<i8, HeadFault>
     requires { S.failures (source_of feed.old) < 2 ^ 64 - 1 }
     ensures reads { ReadsScale feed.old feed.new result }
@@ -30,8 +31,9 @@ fn read_exponent<S: Source>(feed: &mut Feed<'_, '_, '_, '_, S>) -> Result<i8, He
     }
 }
 
-/// Reads the rest of a `$timescale` into the draft: number and unit, in one token or two, and
-/// `$end`. Fails with `BadTimescale` if other tokens come next, and if none can be read.
+/// Reads the rest of a `$timescale` into the draft, in place of an earlier one: number and unit, in
+/// one token or two, and `$end`. Fails with `BadTimescale` if other tokens come next, and as
+/// `next_token` does if one cannot be read.
 pub(crate) fn read_timescale<S: Source>(
     feed: &mut Feed<'_, '_, '_, '_, S>,
     draft: &mut Draft,

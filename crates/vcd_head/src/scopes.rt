@@ -9,9 +9,9 @@ use crate::tokens::{next_end, next_word};
 use vcd_text::{Feed, Source};
 use vcd_view::Kind;
 
-/// Reads the rest of a `$scope` into the draft: type, name and `$end`. Fails with `BadScope` if
-/// other tokens come next, with `TooMany` if the draft has `most` declarations, with `TooDeep` if
-/// 1,000 scopes are open, and if a token cannot be read.
+/// Reads the rest of a `$scope` into the draft: type, name and `$end`. Fails with `TooMany` if the
+/// draft has `most` declarations, with `TooDeep` if 1,000 scopes are open, with `BadScope` if other
+/// tokens come next, with `OutOfMemory`, and as `next_token` does if a token cannot be read.
 pub(crate) fn read_scope<S: Source>(
     feed: &mut Feed<'_, '_, '_, '_, S>,
     most: u64,
@@ -29,9 +29,9 @@ pub(crate) fn read_scope<S: Source>(
     next_end(feed, HeadFault::BadScope)
 }
 
-/// Reads the rest of an `$upscope` into the draft: `$end`. Fails with `BadScope` if another token
-/// comes next, with `TooMany` if the draft has `most` declarations, with `NoScope` if no scope is
-/// open, and if a token cannot be read.
+/// Reads the rest of an `$upscope` into the draft: `$end`. Fails with `TooMany` if the draft has
+/// `most` declarations, with `NoScope` if no scope is open, with `BadScope` if another token comes
+/// next, with `OutOfMemory`, and as `next_token` does if no token can be read.
 pub(crate) fn read_upscope<S: Source>(
     feed: &mut Feed<'_, '_, '_, '_, S>,
     most: u64,

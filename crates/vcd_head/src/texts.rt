@@ -7,8 +7,8 @@ use crate::tokens::next_ends;
 use std::alloc::Global;
 use vcd_text::{Feed, Source};
 
-/// Reads tokens up to and with the next `$end`, and ignores them. Fails if there is no `$end`, or
-/// if a token cannot be read.
+/// Reads tokens up to and with the next `$end`, and ignores them. Fails as `next_token` does if the
+/// input ends before `$end`, or if a token cannot be read.
 pub(crate) fn skip_to_end<S: Source>(feed: &mut Feed<'_, '_, '_, '_, S>) -> Result<(), HeadFault>
     requires { S.failures (source_of feed.old) < 2 ^ 64 - 1 }
     ensures reads { ReadsToEnd feed.old feed.new (λ _ inner. Unit {0}) result }
@@ -22,7 +22,8 @@ pub(crate) fn skip_to_end<S: Source>(feed: &mut Feed<'_, '_, '_, '_, S>) -> Resu
 }
 
 /// Reads tokens up to and with the next `$end`, and appends those before it to the text, a space
-/// before each. Fails if there is no `$end`, if a token cannot be read, or if there is no memory.
+/// before each. Fails with `OutOfMemory`, and as `next_token` does if the input ends before `$end`,
+/// or if a token cannot be read.
 #[inline(always)]
 pub(crate) fn append_to_end<S: Source>(
     feed: &mut Feed<'_, '_, '_, '_, S>,
@@ -44,8 +45,8 @@ pub(crate) fn append_to_end<S: Source>(
 }
 
 /// Reads tokens up to and with the next `$end`, and returns those before it with a space between:
-/// no bytes if there are none. Fails if there is no `$end`, if a token cannot be read, or if there
-/// is no memory.
+/// no bytes if there are none. Fails with `OutOfMemory`, and as `next_token` does if the input ends
+/// before `$end`, or if a token cannot be read.
 pub(crate) fn text_to_end<S: Source>(
     alloc: Global,
     feed: &mut Feed<'_, '_, '_, '_, S>,

@@ -6,8 +6,8 @@ use crate::fault::HeadFault;
 use crate::words;
 use vcd_text::{Feed, Halt, Next, Source};
 
-/// Reads the next token; `Feed::token` then returns it. Fails if the input has ended, if the token
-/// or the input is too long, or if the source failed.
+/// Reads the next token; `Feed::token` then returns it. Fails with `EndOfInput` if the input has
+/// ended, with `TokenTooLong` or `InputTooLong`, and with `ReadFailed` if the source failed.
 #[inline(always)]
 pub(crate) fn next_token<S: Source>(feed: &mut Feed<'_, '_, '_, '_, S>) -> Result<(), HeadFault>
     requires { S.failures (source_of feed.old) < 2 ^ 64 - 1 }
@@ -24,8 +24,7 @@ pub(crate) fn next_token<S: Source>(feed: &mut Feed<'_, '_, '_, '_, S>) -> Resul
     }
 }
 
-/// Reads the next token, and returns whether it is `$end`. Fails if there is no token or it cannot
-/// be read.
+/// Reads the next token, and returns whether it is `$end`. Fails as `next_token` does.
 #[inline(always)]
 pub(crate) fn next_ends<S: Source>(feed: &mut Feed<'_, '_, '_, '_, S>) -> Result<bool, HeadFault>
     requires { S.failures (source_of feed.old) < 2 ^ 64 - 1 }

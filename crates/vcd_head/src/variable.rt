@@ -15,8 +15,9 @@ use std::alloc::Global;
 use vcd_text::{Feed, Source};
 use vcd_view::Kind;
 
-/// Reads the size of a variable, and returns it, in bits. Fails with `BadVariable` if the next
-/// token is not the digits of a number from 1 to 16,777,215, and if it cannot be read.
+/// Reads the next token as the size of a variable, in bits, and returns it. Fails with
+/// `BadVariable` if the token is not a decimal number from 1 to 16,777,215, and as `next_token`
+/// does if none can be read.
 #[inline(always)]
 fn read_size<S: Source>(feed: &mut Feed<'_, '_, '_, '_, S>) -> Result<usize, HeadFault>
     requires { S.failures (source_of feed.old) < 2 ^ 64 - 1 }
@@ -33,9 +34,11 @@ fn read_size<S: Source>(feed: &mut Feed<'_, '_, '_, '_, S>) -> Result<usize, Hea
 
 /// Reads the type, the size and the code of a variable, and returns the index of the code in
 /// `known`. The type is then the feed's `value`. A new code is added to `known`, and its bytes to
-/// `text`. Fails with `BadVariable` if other tokens come next, with `CodeDiffers` if the code was
-/// declared before with another size, or if only one of its variables is an event, and if a token
-/// cannot be read.
+/// `text`.
+///
+/// Fails with `BadVariable` if one of these tokens is not allowed, with `CodeDiffers` if the code
+/// was declared before with another size, or if only one of the two is an event, with
+/// `OutOfMemory`, and as `next_token` does if a token cannot be read.
 #[inline(always)]
 fn read_code<S: Source>(
     alloc: Global,
@@ -64,7 +67,8 @@ fn read_code<S: Source>(
 
 /// Reads the reference of a variable and the `$end` after it. Appends the tokens of the reference
 /// to `text`, with a space between, and returns the length of the first one. Fails with
-/// `BadVariable` if there is none, if a token cannot be read, and if there is no memory.
+/// `BadVariable` if there is none, with `OutOfMemory`, and as `next_token` does if a token cannot
+/// be read.
 #[inline(always)]
 fn read_reference<S: Source>(
     feed: &mut Feed<'_, '_, '_, '_, S>,
@@ -83,9 +87,10 @@ fn read_reference<S: Source>(
 }
 
 /// Reads the rest of a `$var` into the draft: type, size, code, one or more tokens of reference,
-/// and `$end`. Fails with `BadVariable` if other tokens come next, with `CodeDiffers` if the code
-/// was declared before with another size, or if only one of its variables is an event, with
-/// `TooMany` if the draft has `most` declarations, and if a token cannot be read.
+/// and `$end`. Fails with `TooMany` if the draft has `most` declarations, with `BadVariable` if a
+/// token is not allowed, with `CodeDiffers` if the code was declared before with another size, or
+/// if only one of the two is an event, with `OutOfMemory`, and as `next_token` does if a token
+/// cannot be read.
 pub(crate) fn read_variable<S: Source>(
     alloc: Global,
     feed: &mut Feed<'_, '_, '_, '_, S>,

@@ -5,7 +5,7 @@ ghost use Rattle.vcd_head.specs.Names.{AnyDeclared, AnyHeader, AnyVariable, Coun
 use vcd_text::{Sink, WriteFailed, put, put_number};
 use vcd_view::{HeadView, Kind, Scale};
 
-/// Writes these texts one after the other. If a write fails, it stops.
+/// Writes these texts one after the other. If a write fails, a prefix was written.
 fn put_texts<W: Sink>(w: &mut W, texts: &[&[u8]]) -> Result<(), WriteFailed>
     requires failures { (W.device w.old).failures < 2 ^ 64 - 1 }
     ensures { PutsTo W.device w.old w.new (flat_map (λ text. text.now) texts.now) result }
@@ -16,7 +16,8 @@ fn put_texts<W: Sink>(w: &mut W, texts: &[&[u8]]) -> Result<(), WriteFailed>
     Ok(())
 }
 
-/// Writes a keyword, a text and `$end`, each on a line of its own. If a write fails, it stops.
+/// Writes a keyword, a text and `$end`, each on a line of its own. If a write fails, a prefix was
+/// written.
 pub(crate) fn put_lines<W: Sink>(w: &mut W, keyword: &[u8], text: &[u8]) -> Result<(), WriteFailed>
     requires failures { (W.device w.old).failures < 2 ^ 64 - 1 }
     ensures { PutsWhere W.device w.old w.new result (λ takes. (k : Keyword)
@@ -26,7 +27,7 @@ pub(crate) fn put_lines<W: Sink>(w: &mut W, keyword: &[u8], text: &[u8]) -> Resu
 }
 
 /// Writes a keyword, a text and `$end`, each on a line of its own, or nothing if the text is empty.
-/// If a write fails, it stops.
+/// If a write fails, a prefix was written.
 fn put_section<W: Sink>(w: &mut W, keyword: &[u8], text: &[u8]) -> Result<(), WriteFailed>
     requires failures { (W.device w.old).failures < 2 ^ 64 - 1 }
     ensures { PutsWhere W.device w.old w.new result (λ takes. (k : Keyword)
@@ -166,7 +167,8 @@ fn put_row<W: Sink>(
 }
 
 /// Writes the lines of the marked scopes and variables (those with 1 in `marks`), and each
-/// `$upscope` that closes a marked scope, in the order of the rows. If a write fails, it stops.
+/// `$upscope` that closes a marked scope, in the order of the rows. If a write fails, a prefix was
+/// written.
 fn put_rows<W: Sink>(view: HeadView<'_>, marks: &[u8], w: &mut W) -> Result<(), WriteFailed>
     requires failures { (W.device w.old).failures < 2 ^ 64 - 1 }
     ensures { PutsWhere W.device w.old w.new result (λ takes. AnyHeader view.entry (λ h.
@@ -192,7 +194,7 @@ fn innermost(view: HeadView<'_>) -> Option<usize>
 }
 
 /// Writes an `$upscope` line for each marked scope (one with 1 in `marks`) that is still open at
-/// the end of the header. If a write fails, it stops.
+/// the end of the header. If a write fails, a prefix was written.
 fn put_closing<W: Sink>(view: HeadView<'_>, marks: &[u8], w: &mut W) -> Result<(), WriteFailed>
     requires failures { (W.device w.old).failures < 2 ^ 64 - 1 }
     ensures { PutsWhere W.device w.old w.new result (λ takes. AnyHeader view.entry (λ h.
