@@ -36,7 +36,8 @@ pub struct ScannedItem<'a> {
     pub at: usize,
     /// Where a change's code begins; it ends one byte before `end`.
     pub code_at: usize,
-    /// Where the item ends, with the byte after its last token: the bytes before it are passed.
+    /// Where the item ends, with the white byte after its last token: the next one begins there or
+    /// later.
     pub end: usize,
     /// The digits of a vector as a number, if they are few, and only `0` and `1`.
     pub bits: Option<Bits>,
@@ -104,8 +105,8 @@ fn change_of<'a>(found: Found, form: Form, text: &'a [u8], places: Places<'a>) -
     }
 }
 
-/// Returns a `ScannedItem` for an item that is no change: its token is the one that `ahead` gave
-/// last. It has no text, no size and no `bits`.
+/// Returns a `ScannedItem` for an item that is no change: its token is the one that `ahead`
+/// returned last. It has no text, no size and no `bits`.
 #[inline(always)]
 fn without_text<'a>(item: Item, token: &[u8], ahead: Ahead<'a>) -> ScannedItem<'a>
     requires { length token.now + 1 ≤ passed_of ahead }
@@ -175,11 +176,11 @@ pub(crate) struct Opening<'a> {
     /// What the token begins.
     pub(crate) kind: PhraseKind,
     pub(crate) token: &'a [u8],
-    // Whether `line_timestamp` gave it: in its loop a timestamp is accepted without a call.
+    // Whether `line_timestamp` returned it: in its loop a timestamp is accepted without a call.
     pub(crate) from_lines: bool,
 }
 
-/// Returns the next token ahead and the kind of item that it begins, and passes it. The kind is
+/// Returns the next token ahead and the kind of item that it begins, and moves past it. The kind is
 /// `PhraseKind::Other` for a section, a comment, and a token that begins no item. `None` if
 /// `Ahead::next` returns `None`; then nothing has changed.
 // Inlined into each arm of `take_next`, where the compiler knows what the token begins.
@@ -196,9 +197,9 @@ pub(crate) fn opening_ahead<'a>(ahead: &mut Ahead<'a>) -> Option<Opening<'a>>
     })
 }
 
-/// Returns the next token ahead and the kind of item that it begins, and passes it, if it is a line
-/// of exactly two bytes: `Ahead::next_short` says which bytes have to come before and after it.
-/// Otherwise `None`, and nothing has changed.
+/// Returns the next token ahead and the kind of item that it begins, and moves past it, if it is a
+/// line of exactly two bytes: `Ahead::next_short` says which bytes have to come before and after
+/// it. Otherwise `None`, and nothing has changed.
 #[inline(always)]
 fn short_opening<'a, const CR_LF: bool>(ahead: &mut Ahead<'a>) -> Option<Opening<'a>>
     ensures opens { IfSome result (λ o. Opens ahead.old ahead.new o) }
@@ -212,8 +213,8 @@ fn short_opening<'a, const CR_LF: bool>(ahead: &mut Ahead<'a>) -> Option<Opening
     })
 }
 
-/// Returns the next token ahead and passes it, if it begins with `#`, has at most 15 bytes, and is
-/// a line of its own: `Ahead::next_in_16` says which bytes have to come before and after it.
+/// Returns the next token ahead and moves past it, if it begins with `#`, has at most 15 bytes, and
+/// is a line of its own: `Ahead::next_in_16` says which bytes have to come before and after it.
 /// Otherwise `None`, and nothing has changed; then `opening_ahead` may return one.
 #[inline(always)]
 pub(crate) fn line_timestamp<'a, const CR_LF: bool>(ahead: &mut Ahead<'a>) -> Option<Opening<'a>>
@@ -236,7 +237,7 @@ pub(crate) fn line_timestamp<'a, const CR_LF: bool>(ahead: &mut Ahead<'a>) -> Op
 }
 
 /// Returns the offset at which a token begins in the bytes of `ahead`. It must be the token that
-/// `ahead` gave last.
+/// `ahead` returned last.
 #[inline(always)]
 fn begin_of(token: &[u8], ahead: Ahead<'_>) -> usize
     requires { length token.now + 1 ≤ passed_of ahead }
@@ -245,9 +246,9 @@ fn begin_of(token: &[u8], ahead: Ahead<'_>) -> usize
     ahead.passed() - 1 - token.len()
 }
 
-/// Returns the change that a token of a digit and a code right after it spells; `opening` has the
-/// token, and `ahead` gave it last. `None` if no code comes after the digit, or if the header does
-/// not declare the code.
+/// Returns the change that a token of a digit and a code right after it spells. `opening` has the
+/// token, which `ahead` returned last. `None` if no code comes after the digit, or if the header
+/// does not declare the code.
 #[inline(always)]
 pub(crate) fn scalar_ahead<'a>(
     opening: Opening<'a>,
@@ -289,7 +290,7 @@ fn short_code(token: &[u8], view: HeadView<'_>) -> Option<Found>
     Some(found)
 }
 
-/// Returns the change that comes next and passes it, if it is a `0` or a `1` with a code of one
+/// Returns the change that comes next and moves past it, if it is a `0` or a `1` with a code of one
 /// byte on a line of its own, as `Ahead::next_short` returns it, and a look at one entry finds its
 /// code. `None` for any other item; then nothing has changed.
 // No call is made, so that a loop over such changes keeps all that it needs in registers.
@@ -356,7 +357,7 @@ pub(crate) fn two_short_lines_come(ahead: Ahead<'_>) -> bool
 
 /// Returns whether the next item lies completely in the chunk, so that `next_item` reads nothing
 /// from the source for it. Before a comment it returns false, since the item comes after the
-/// comment. `ahead` has passed no byte.
+/// comment. `ahead` must be at its first byte.
 // It looks at one byte after the other: it is asked at the end of a chunk, and at comments.
 #[inline(never)]
 pub fn item_comes(ahead: Ahead<'_>) -> bool
@@ -374,8 +375,9 @@ pub fn item_comes(ahead: Ahead<'_>) -> bool
     }
 }
 
-/// Has the sink pass on what it keeps back, unless the next item lies completely in the chunk of
-/// the feed. Call it before `next_item`, which may wait for input. Fails if the sink fails.
+/// Has `out` write what it keeps back to its device (`Sink::pass_on`), unless the next item lies
+/// completely in the chunk of the feed (`item_comes`). Call it before `next_item`, which may wait
+/// for input. Fails if the sink does.
 #[inline(always)]
 pub fn pass_on<S: Source, W: Sink>(
     feed: &Feed<'_, '_, '_, '_, S>,
@@ -402,9 +404,9 @@ pub(crate) struct VectorTokens<'a> {
     pub(crate) code_at: usize,
 }
 
-/// Returns the two tokens of a vector change: that of `opening`, which `ahead` gave last, and the
-/// next one, its code, which it passes. `None` if `Ahead::next` returns `None`; then nothing has
-/// changed.
+/// Returns the two tokens of a vector change: that of `opening`, which `ahead` returned last, and
+/// the next one, its code, and moves past that. `None` if `Ahead::next` returns `None`; then
+/// nothing has changed.
 #[inline(always)]
 pub(crate) fn vector_tokens_ahead<'a>(
     opening: Opening<'a>,
@@ -441,9 +443,9 @@ pub(crate) fn vector_bits(tokens: VectorTokens<'_>, bytes: &[u8]) -> Option<Bits
     bits_at(bytes, tokens.at + 1, after_first(tokens.token))
 }
 
-/// Returns the change that the two tokens of a vector change spell, which `ahead` gave last. `bits`
-/// has its digits as a number, if that is known. `None` if the digits are bad, if the header does
-/// not declare the code, or if its size is less than the number of digits.
+/// Returns the change that the two tokens of a vector change spell, which `ahead` returned last.
+/// `bits` has its digits as a number, if that is known. `None` if the digits are bad, if the header
+/// does not declare the code, or if its size is less than the number of digits.
 #[inline(always)]
 pub(crate) fn vector_ahead<'a>(
     tokens: VectorTokens<'a>,
@@ -474,10 +476,10 @@ pub(crate) fn vector_ahead<'a>(
     })
 }
 
-/// Returns the change of a real number: of the token of `opening`, which `ahead` gave last, and of
-/// the next token, its code, which it passes. `None` if there is no next token, if the text does
-/// not have 1 to 64 bytes, or if the header does not declare the code; then the token may have been
-/// passed.
+/// Returns the change of a real number: of the token of `opening`, which `ahead` returned last, and
+/// of the next token, its code, and moves past that. `None` if there is no next token, if the text
+/// does not have 1 to 64 bytes, or if the header does not declare the code; then `ahead` may have
+/// moved.
 #[inline(always)]
 pub(crate) fn real_ahead<'a>(
     opening: Opening<'a>,
@@ -505,9 +507,9 @@ pub(crate) fn real_ahead<'a>(
     Some(change_of(found, Form::RealText, text, places))
 }
 
-/// Returns the time that the token of a timestamp spells; `opening` has the token, and `ahead` gave
-/// it last. `None` if it has other bytes than digits after the `#`, or none, or if the time is 2^64
-/// or more.
+/// Returns the time that the token of a timestamp spells; `opening` has the token, which `ahead`
+/// returned last. `None` if it has other bytes than digits after the `#`, or none, or if the time
+/// is 2^64 or more.
 #[inline(always)]
 pub(crate) fn time_ahead<'a>(opening: Opening<'a>, ahead: Ahead<'a>) -> Option<u64>
     requires opens { (a : Ahead) × Opens a ahead opening }
@@ -519,8 +521,8 @@ pub(crate) fn time_ahead<'a>(opening: Opening<'a>, ahead: Ahead<'a>) -> Option<u
 }
 
 /// Returns the timestamp with this time, which its token spells, and sets the last time of `regs`
-/// to it; `opening` has the token, and `ahead` gave it last. `None` if it may not come here: inside
-/// a section, or if the time is less than the last one. Then nothing has changed.
+/// to it; `opening` has the token, which `ahead` returned last. `None` if it may not come here:
+/// inside a section, or if the time is less than the last one. Then nothing has changed.
 #[inline(always)]
 pub(crate) fn timestamp_ahead<'a>(
     opening: Opening<'a>,
@@ -543,9 +545,9 @@ pub(crate) fn timestamp_ahead<'a>(
     }
 }
 
-/// Returns the begin or the end of a section, if the token of `opening`, which `ahead` gave last,
-/// is such a keyword, and sets the open section of `regs`. `None` if it is anything else, or may
-/// not come here; then nothing has changed.
+/// Returns the begin or the end of a section, if the token of `opening`, which `ahead` returned
+/// last, is such a keyword, and sets the open section of `regs`. `None` if it is anything else, or
+/// may not come here; then nothing has changed.
 #[inline(always)]
 pub(crate) fn section_ahead<'a>(
     opening: Opening<'a>,
@@ -640,9 +642,9 @@ pub(crate) fn pass_comments<S: Source>(feed: &mut Feed<'_, '_, '_, '_, S>)
     pass_items(feed, bytes);
 }
 
-/// Moves the feed past the next `bytes` bytes of its chunk: the tokens that an `Ahead` of this feed
-/// gave; `bytes` is what its `passed` returned. It reads nothing from the source. After it the
-/// feed's `token` is empty.
+/// Moves the feed past the next `bytes` bytes of its chunk; afterwards its `token` is empty.
+/// `bytes` must be what `passed` of an `Ahead` of this feed returned, so that these are whole
+/// tokens. It reads nothing from the source.
 pub fn pass_items<S: Source>(feed: &mut Feed<'_, '_, '_, '_, S>, bytes: usize)
     requires { (ts : List Token) × Passed (limit_of feed.old) (lines_of feed.old)
         (ahead_of feed.old) bytes ts }

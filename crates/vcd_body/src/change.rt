@@ -101,7 +101,7 @@ fn lower_into(to: &mut [u8], bytes: &[u8])
 }
 
 /// Writes the bytes with capital letters turned into small ones, at most 64 bytes in each write. If
-/// a write fails, it stops.
+/// a write fails, a prefix was written.
 #[cold]
 #[inline(never)]
 fn put_lowered<W: Sink>(w: &mut W, bytes: &[u8]) -> Result<(), WriteFailed>
@@ -120,7 +120,7 @@ fn put_lowered<W: Sink>(w: &mut W, bytes: &[u8]) -> Result<(), WriteFailed>
 }
 
 /// Writes the bytes with capital letters turned into small ones. If there are none, it writes them
-/// without a copy. If a write fails, it stops.
+/// without a copy. If a write fails, a prefix was written.
 fn put_lower<W: Sink>(w: &mut W, bytes: &[u8]) -> Result<(), WriteFailed>
     requires { (W.device w.old).failures < 2 ^ 64 - 1 }
     ensures { Puts (W.device w.old) (W.device w.new) (str_to_ascii_lowercase bytes.now) result }
@@ -131,7 +131,8 @@ fn put_lower<W: Sink>(w: &mut W, bytes: &[u8]) -> Result<(), WriteFailed>
     put(w, bytes)
 }
 
-/// Writes the byte `first`, the identifier code `id` and a line feed. If a write fails, it stops.
+/// Writes the byte `first`, the identifier code `id` and a line feed. If a write fails, a prefix
+/// was written.
 #[inline(never)]
 pub(crate) fn put_end<W: Sink>(w: &mut W, first: u8, id: &[u8]) -> Result<(), WriteFailed>
     requires { (W.device w.old).failures < 2 ^ 64 - 1 }
@@ -143,7 +144,7 @@ pub(crate) fn put_end<W: Sink>(w: &mut W, first: u8, id: &[u8]) -> Result<(), Wr
 }
 
 /// Writes a line of all of `digits`, in lower case, and the identifier code `id` right after them.
-/// It is for a code of one bit. If a write fails, it stops.
+/// It is for a code of one bit. If a write fails, a prefix was written.
 #[cold]
 #[inline(never)]
 fn put_all<W: Sink>(w: &mut W, digits: &[u8], id: &[u8]) -> Result<(), WriteFailed>
@@ -157,7 +158,7 @@ fn put_all<W: Sink>(w: &mut W, digits: &[u8], id: &[u8]) -> Result<(), WriteFail
 }
 
 /// Writes the line of a change of a real number: `r`, the text, a blank and the identifier code
-/// `id`. If a write fails, it stops.
+/// `id`. If a write fails, a prefix was written.
 #[inline(never)]
 pub(crate) fn put_real<W: Sink>(w: &mut W, text: &[u8], id: &[u8]) -> Result<(), WriteFailed>
     requires { (W.device w.old).failures < 2 ^ 64 - 1 }
@@ -169,7 +170,7 @@ pub(crate) fn put_real<W: Sink>(w: &mut W, text: &[u8], id: &[u8]) -> Result<(),
 }
 
 /// Writes a `b` and the shortest digits, in lower case, that extend to the same value as `digits`.
-/// There has to be at least one digit. If a write fails, it stops.
+/// There has to be at least one digit. If a write fails, a prefix was written.
 #[inline(always)]
 pub(crate) fn put_shortest<W: Sink>(w: &mut W, digits: &[u8]) -> Result<(), WriteFailed>
     requires failures { (W.device w.old).failures < 2 ^ 64 - 1 }

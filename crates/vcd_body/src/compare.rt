@@ -1,4 +1,4 @@
-// Whether a change gives a code another value than it has.
+// Whether the value of a change differs from the one that its code has.
 ghost use Rattle.std.specs.Prelude.{◌≡◌, ◌≤◌, ◌<◌, length, true, get_or};
 ghost use Rattle.vcd_body.specs.Names.{AreTwo, Decides, HasDigits, are_two, differs, digits_of, extend, extended, extension, held_in, model_form, str_to_ascii_lowercase, value_at_size, value_with};
 
@@ -84,9 +84,9 @@ fn are_same(held: HeldValue<'_>, text: &[u8], size: usize) -> bool
     true
 }
 
-/// Returns whether a text of digits gives a code of this size another value than the held one,
-/// which has to be one of digits. It is for several digits, held or in the text, and its time grows
-/// with their number, not with the size.
+/// Returns whether the held value, which has to be one of digits, and a text of digits are
+/// different values of a code of this size. It is for several digits, held or in the text, and its
+/// time grows with their number, not with the size.
 #[inline(never)]
 fn several_differ(held: HeldValue<'_>, size: usize, text: &[u8]) -> bool
     requires digits { HasDigits held }
@@ -102,8 +102,8 @@ fn several_differ(held: HeldValue<'_>, size: usize, text: &[u8]) -> bool
     }
 }
 
-/// Returns whether a text of digits gives a code of this size another value than the held one,
-/// which has to be one of digits.
+/// Returns whether the held value, which has to be one of digits, and a text of digits are
+/// different values of a code of this size.
 // The last digits come first, since nearly all values that differ do so there.
 #[inline(always)]
 fn digits_differ(held: HeldValue<'_>, size: usize, text: &[u8]) -> bool
@@ -116,8 +116,8 @@ fn digits_differ(held: HeldValue<'_>, size: usize, text: &[u8]) -> bool
     }
 }
 
-/// Returns whether a change of this form and text gives a code of this size another value than the
-/// held one; false if it has none yet.
+/// Returns whether the held value and that of a change of this form and text are different values
+/// of a code of this size; false if the code has no value yet.
 #[inline(always)]
 pub(crate) fn value_differs(held: HeldValue<'_>, size: usize, form: Form, text: &[u8]) -> bool
     ensures { result ≡ differs (value_at_size size (held_in held.entry))

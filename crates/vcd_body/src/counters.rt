@@ -62,8 +62,8 @@ pub(crate) fn count_steps(counts: &mut [u64; 3], more: u64, rises: bool, falls: 
 
 /// Adds 1 to one of the three counters of a slot, and returns true. `way`, which must be below 3,
 /// chooses the counter: 0 that of falls, 2 that of rises, 1 that of other changes of the value.
-/// Returns false if the counter was at 255: then it is 0 now, and the caller has to add 256 to
-/// those of the share.
+/// Returns false if the counter was at 255: then it is 0 now, and the caller has to add 256 to the
+/// counters of the share (`count_steps`).
 // The step adds to one byte, without a branch. With counters of changes, rises and falls in the
 // slot, `edges` of scalars takes 22 % more.
 #[inline(always)]

@@ -10,7 +10,7 @@ use vcd_text::{Sink, WriteFailed, put};
 // How many digits one call writes at most.
 const BLOCK: usize = 64;
 
-/// Writes a digit `count` times. If a write fails, it stops.
+/// Writes a digit `count` times. If a write fails, a prefix was written.
 fn put_repeated<W: Sink>(digit: u8, count: usize, w: &mut W) -> Result<(), WriteFailed>
     requires { (W.device w.old).failures < 2 ^ 64 - 1 }
     ensures { Puts (W.device w.old) (W.device w.new) (replicate count digit) result }
@@ -37,7 +37,7 @@ fn fill(held: HeldValue<'_>, from: usize, to: &mut [u8])
 }
 
 /// Writes the held digits from index `from` on, counted from the left; nothing if that is after the
-/// last. If a write fails, it stops.
+/// last. If a write fails, a prefix was written.
 fn put_from<W: Sink>(held: HeldValue<'_>, from: usize, w: &mut W) -> Result<(), WriteFailed>
     requires failures { (W.device w.old).failures < 2 ^ 64 - 1 }
     ensures { Puts (W.device w.old) (W.device w.new) (drop from (digits_of held.entry)) result }
@@ -73,7 +73,7 @@ fn first_needed(held: HeldValue<'_>) -> usize
 }
 
 /// Writes a line of all held digits, and the identifier code `id` right after them. If a write
-/// fails, it stops.
+/// fails, a prefix was written.
 fn put_all_held<W: Sink>(held: HeldValue<'_>, id: &[u8], w: &mut W) -> Result<(), WriteFailed>
     requires failures { (W.device w.old).failures < 2 ^ 64 - 1 }
     ensures { PutsTo W.device w.old w.new (digits_of held.entry ++ (id.now ++ 10 ∷ [])) result }
@@ -84,8 +84,8 @@ fn put_all_held<W: Sink>(held: HeldValue<'_>, id: &[u8], w: &mut W) -> Result<()
 }
 
 /// Writes the line of a change to the held value: `b`, the shortest digits that extend to it, a
-/// blank and the identifier code `id`. At least one digit has to be held. If a write fails, it
-/// stops.
+/// blank and the identifier code `id`. At least one digit has to be held. If a write fails, a
+/// prefix was written.
 fn put_short_held<W: Sink>(held: HeldValue<'_>, id: &[u8], w: &mut W) -> Result<(), WriteFailed>
     requires failures { (W.device w.old).failures < 2 ^ 64 - 1 }
     requires some { 0 < length (digits_of held) }
@@ -121,7 +121,7 @@ pub(crate) fn put_value_line<W: Sink>(
 }
 
 /// Writes the held digits, extended on the left to `size` digits. If more are held, it writes
-/// these. At least one has to be held. If a write fails, it stops.
+/// these. At least one has to be held. If a write fails, a prefix was written.
 fn put_extended<W: Sink>(held: HeldValue<'_>, size: usize, w: &mut W) -> Result<(), WriteFailed>
     requires failures { (W.device w.old).failures < 2 ^ 64 - 1 }
     requires some { 0 < length (digits_of held) }
@@ -132,7 +132,7 @@ fn put_extended<W: Sink>(held: HeldValue<'_>, size: usize, w: &mut W) -> Result<
     put_from(held, 0, w)
 }
 
-/// Writes `r` and the text of a real number. If a write fails, it stops.
+/// Writes `r` and the text of a real number. If a write fails, a prefix was written.
 fn put_real_text<W: Sink>(text: &[u8], w: &mut W) -> Result<(), WriteFailed>
     requires { (W.device w.old).failures < 2 ^ 64 - 1 }
     ensures { Puts (W.device w.old) (W.device w.new) (114 ∷ text.now) result }

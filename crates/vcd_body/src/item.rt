@@ -34,7 +34,7 @@ pub enum Item {
     Begin(Section),
     /// The section ends.
     End,
-    /// A value change of the code at this index among the header's codes. `change_text` gives its
+    /// A value change of the code at this index among the header's codes. `change_text` returns its
     /// text.
     Change { code: usize, form: Form },
     /// The body has ended, outside a section.

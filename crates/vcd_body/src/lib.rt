@@ -4,11 +4,11 @@
 //! end of a section, a value change, or the end of the body (`Finish`). `change_text` is the text
 //! of the change that was read last, and `put_change` writes a change as its line.
 //!
-//! Most items are timestamps and changes that lie completely in the chunk. `walk_ahead` takes these
-//! one after the other, passes the comments between them, and leaves the feed where it is;
-//! `pass_items` moves the feed past all of them. A `Visit` says what is done with each, which
-//! timestamps are left, and when the walk is over. `pass_on` is for a caller that reads on: before
-//! a read may wait, a sink passes on what it keeps back.
+//! Most items are timestamps and changes that lie completely in the chunk. `walk_ahead` has a
+//! `Visit` handle these one after the other, skips the comments between them, and leaves the feed
+//! where it is; `pass_items` moves the feed past all of them. The `Visit` says what is done with
+//! each, which timestamps are left to the caller, and when the walk is over. `pass_on` is for a
+//! caller that reads on: before a read may wait, a sink writes what it keeps back to its device.
 //!
 //! The bytes of such a change are often the line that `put_change` would write, except its last
 //! byte and digits that the line does not need (`left_out` counts these). Then they may be copied
@@ -57,12 +57,12 @@
 //!
 //! The table keeps values:
 //!
-//! - `table`: `Table`; `value`: `Value`, what a change gives
+//! - `table`: `Table`; `value`: `Value`, the value of a change
 //! - `slot`: `Slot`, `Share`, `Shown`; `store`: how slots and shares are set; `counters`: the
 //!   counters of a code, which are in parts in its slot and its share
 //! - `bits`: `Bits`, up to 32 binary digits as a number, and how a slot holds them; `packed`:
 //!   digits in a share, four to a byte
-//! - `held`: the digits of a held value; `compare`: whether a change gives another one; `several`:
+//! - `held`: the digits of a held value; `compare`: whether that of a change differs; `several`:
 //!   several digits that are set over several others; `step`: `Step`, what became of a value
 //!
 //! Lines are written:

@@ -23,7 +23,7 @@ fn put_end_under<W: Sink>(first: u8, id: Id<'_>, w: &mut W) -> Result<(), WriteF
 }
 
 /// Writes the line of a vector change: `b`, the shortest digits that extend to the same value as
-/// `digits`, of which there is at least one, a blank and the identifier code `id`. If a write
+/// `digits`, a blank and the identifier code `id`. There has to be at least one digit. If a write
 /// fails, a prefix was written.
 #[inline(never)]
 fn put_shortened<W: Sink>(digits: &[u8], id: Id<'_>, w: &mut W) -> Result<(), WriteFailed>
@@ -69,8 +69,8 @@ pub(crate) fn is_bit(size: usize, event: bool, form: Form) -> bool
     (size == 1) & !event & (form == Form::Scalar)
 }
 
-/// Returns whether a change of this form gives digits to a code of several bits that is no event.
-/// `size` and `event` are those of its code.
+/// Returns whether a change of this form has digits, and its code has several bits and is no event.
+/// `size` and `event` are those of the code.
 #[inline(always)]
 fn is_vector(size: usize, event: bool, form: Form) -> bool
     ensures vector { result ≡ true → (size ≢ 1) × (event ≡ false) × (form ≢ Form.RealText) }
@@ -79,10 +79,11 @@ fn is_vector(size: usize, event: bool, form: Form) -> bool
     (size != 1) & !event & (form != Form::RealText)
 }
 
-/// Writes the line of a change of this form under the identifier code `id`. The code of the change
-/// has this size, or is an event if `event` is true: that is written as `1`, whatever its text is.
-/// For a change of digits that is no event `text` must not be empty. If a write fails, a prefix was
-/// written.
+/// Writes the line of a change of this form under the identifier code `id`. `size` and `event` are
+/// those of the change's code. An event is written as `1`, whatever its text is; a real number as
+/// `r` and its text; digits of a code of one bit as a scalar (`1!`); and those of any other code as
+/// a vector (`b101 !`), with the shortest digits that extend to the same value. For a change of
+/// digits that is no event, `text` must not be empty. If a write fails, a prefix was written.
 #[inline(always)]
 pub(crate) fn put_line<W: Sink>(
     size: usize,

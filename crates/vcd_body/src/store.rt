@@ -43,9 +43,10 @@ fn holds_some(holding: Holding) -> bool
 }
 
 impl<'a> Table<'a> {
-    /// Returns the value of the code at index `code`, in the form in which it is held. `None` if
-    /// there is no such code. (In a table that `Table::new` has not made also if its share does not
-    /// lie within the values, or if it holds no digits though its state says so.)
+    /// Returns the value of the code at index `code`, in the form in which it is held. If the code
+    /// has no value, the state is `State::Unset`. `None` if there is no such code. (In a table that
+    /// `Table::new` has not made also if its share does not lie within the values, or if it holds
+    /// no digits though its state says so.)
     #[inline(always)]
     pub(crate) fn held(&self, code: usize) -> Option<HeldValue<'_>>
         ensures { IsLaidOut self.now → held_at self.now code ≡ held_or result }
@@ -64,8 +65,8 @@ impl<'a> Table<'a> {
     }
 }
 
-/// Sets the value of the code at index `code` to one digit: the one for which `number_of_digit`
-/// returns `tag`. It changes only the slot; nothing changes if there is no such code.
+/// Sets the value of the code at index `code` to the digit with this tag, which must be one that
+/// `number_of_digit` returns. It changes only the slot; nothing changes if there is no such code.
 #[inline(always)]
 pub(crate) fn set_tag(slots: &mut [Slot], code: usize, tag: u8)
     ensures changes { (d : ℕ) → one_digit (state_in tag) ≡ Some d
@@ -218,8 +219,8 @@ pub(crate) fn set_bits(slots: &mut [Slot], code: usize, bits: Bits)
 /// Adds 1 to a counter in the slot of the code at index `code`, and returns true. `way`, which must
 /// be below 3, chooses the counter: 0 that of falls, 2 that of rises, 1 that of other changes of
 /// the value. Returns false if the counter was at 255: then it is 0 now, and the caller has to add
-/// 256 to those of the share (`add_steps`). Returns false too, and changes nothing, if there is no
-/// such code.
+/// 256 to the counters of the share (`add_steps`). Returns false too, and changes nothing, if there
+/// is no such code.
 #[inline(always)]
 pub(crate) fn count_in_slot(slots: &mut [Slot], code: usize, way: usize) -> bool
     requires { way < 3 }

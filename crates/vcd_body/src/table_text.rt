@@ -7,9 +7,9 @@ use crate::table::Table;
 use vcd_text::{Sink, WriteFailed, put};
 use vcd_view::HeadView;
 
-/// Writes the line of a change that gives the code at index `code` the value that it has in the
-/// table, with the shortest digits; nothing if it has no value, or if there is no such code. If a
-/// write fails, a prefix was written.
+/// Writes the value that the code at index `code` has in the table, as the line of a change, with
+/// the shortest digits; nothing if it has no value, or if there is no such code. If a write fails,
+/// a prefix was written.
 pub fn put_short<W: Sink>(
     view: HeadView<'_>,
     table: &Table<'_>,

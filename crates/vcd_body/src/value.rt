@@ -1,11 +1,11 @@
-//! A value that a change gives a code.
+//! The value of a value change.
 ghost use Rattle.std.specs.Prelude.{◌≡◌, ℕ};
 ghost use Rattle.vcd_body.specs.Names.{Kept, with_change, with_text, with_value, with_value_change};
 
 use crate::bits::Bits;
 use crate::item::Form;
 
-/// A value that a change gives a code.
+/// The value of a value change.
 #[derive(Clone, Copy)]
 pub enum Value<'a> {
     /// Digits, as they are written.
@@ -17,8 +17,7 @@ pub enum Value<'a> {
 }
 
 impl<'a> Value<'a> {
-    /// Returns the value that a change of this form and text, as `change_text` returns it, gives
-    /// its code.
+    /// Returns the value of a change of this form and text, as `change_text` returns it.
     #[inline(always)]
     pub fn of_text(form: Form, text: &'a [u8]) -> Value<'a>
         ensures sets { (k : Kept) → with_value result k ≡ with_text form text.now k }

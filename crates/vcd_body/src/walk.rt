@@ -29,8 +29,8 @@ pub trait Visit<C>: Drop {
     // Whether it can continue in these bytes, with these registers after the items so far.
     ghost stands: { Self → C → List ℕ → Regs → Type 0 };
 
-    // Whether this is what it does with an item, from one stage of the walk to another, and what a
-    // write of what is due with it gives.
+    // Whether this is what it does with an item, from one stage of the walk to another, with this
+    // result of its writes.
     ghost takes: { HeadView → Stage Self C → Stage Self C → Result (Unit {0}) WriteFailed → Type 0 };
 
     // Whether the walk leaves a timestamp with this time, and a section's keyword if this is the
@@ -50,8 +50,8 @@ pub trait Visit<C>: Drop {
     fn is_over(&self) -> bool
         ensures { result ≡ over self.now };
 
-    /// Does what this visitor does with a timestamp of this time. `regs` are the registers before
-    /// it.
+    /// Handles a timestamp of this time, before which the walk does not have to stop
+    /// (`ends_before`). `regs` are the registers before it.
     fn take_timestamp(
         &mut self,
         command: &mut C,
@@ -72,8 +72,8 @@ pub trait Visit<C>: Drop {
         ensures stands { stands self.new command.new timestamp.entry.bytes.now
             (regs_after regs timestamp.entry.item) };
 
-    /// Does what this visitor does with a value change, and writes to `out` what is due with it.
-    /// `regs` are the registers, which a change leaves as they are. Fails if a write fails.
+    /// Handles a value change, and writes its output to `out`. `regs` are the registers, which a
+    /// change leaves as they are. Fails if a write fails.
     fn take_change<W: Sink>(
         &mut self,
         command: &mut C,
@@ -94,9 +94,8 @@ pub trait Visit<C>: Drop {
             (λ _. stands self.new command.new change.entry.bytes.now regs) }
         ensures over { over self.new ≡ over self.old };
 
-    /// Does what this visitor does with the begin or the end of a section, and writes to `out` what
-    /// is due with it. `before` are the registers before it, `after` those after it. Fails if a
-    /// write fails.
+    /// Handles the begin or the end of a section, and writes its output to `out`. `before` are the
+    /// registers before it, `after` those after it. Fails if a write fails.
     fn take_section<W: Sink>(
         &mut self,
         command: &mut C,
@@ -129,8 +128,8 @@ pub struct Walked<'a, V> {
     pub regs: Regs,
     /// The visit after these items.
     pub visit: V,
-    /// Whether the visit is over after the last of these items; or that a write of what is due with
-    /// it failed.
+    /// Whether the visit is over after the last of these items; or that a write of its output
+    /// failed.
     pub ended: Result<bool, WriteFailed>,
 }
 
@@ -318,8 +317,8 @@ fn take_next<C, V: Visit<C>, W: Sink>(
 }
 
 /// Has the visitor handle the next item ahead, if it is a change by `0` or `1` with a code of one
-/// byte, on a line of its own, whose code a look at one entry finds. Then it passes it and returns
-/// whether a write failed. Otherwise `None`, and nothing has changed.
+/// byte, on a line of its own, whose code a look at one entry finds. Then it moves past it and
+/// returns whether a write failed. Otherwise `None`, and nothing has changed.
 #[inline(always)]
 fn take_short<C, V: Visit<C>, W: Sink, const CR_LF: bool>(
     command: &mut C,
@@ -512,9 +511,9 @@ fn walk_items<'a, C, V: Visit<C>, W: Sink>(
 
 /// Has the visitor `visit` handle the items ahead, one after the other, and returns the look-ahead,
 /// the registers and the visitor after the last of them, and how the walk ended. Comments are
-/// passed, and the visitor gets none of them. The walk ends if the visitor ends it, if a write
-/// fails, or at an item that is bad or does not lie completely in the chunk. The first item is
-/// tried even if the visitor has already ended the walk.
+/// skipped. The walk ends if the visitor ends it, if a write fails, or at an item that is bad or
+/// does not lie completely in the chunk. The first item is tried even if the visitor has already
+/// ended the walk.
 // Registers, offset and visit come and go by value, so that the loop over items keeps them out of
 // memory: in a struct that is kept there they cost `check` of scalars 11 %. `take_lines` is called
 // in one place: a second call costs `merge` of scalars 3 %, also in walks that do not make it.
