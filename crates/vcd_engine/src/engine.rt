@@ -106,10 +106,10 @@ impl<'v, 'n, 'r> Engine<'v, 'n, 'r> {
         self.going
     }
 
-    /// Takes the next item of the feed, and writes to `out` what is due with it or at the end of
-    /// the body. Returns `Again` if the run goes on, otherwise what ended it. `view` is the
-    /// engine's own, passed by the caller so that a loop over steps does not load it again. Fails
-    /// at a fault of the body, at a failed read, and at a failed write.
+    /// Handles the next item of the feed, and writes its output, or that at the end of the body, to
+    /// `out`. Returns `Again` if the run goes on, otherwise what ended it. `view` is the engine's
+    /// own, passed by the caller so that a loop over steps does not load it again. Fails at a fault
+    /// of the body, at a failed read, and at a failed write.
     #[inline(always)]
     fn step_with_view<S: Source, W: Sink>(
         &mut self,
@@ -149,9 +149,10 @@ impl<'v, 'n, 'r> Engine<'v, 'n, 'r> {
         }
     }
 
-    /// Takes the items that lie completely in the feed's chunk, writes to `out` what is due with
-    /// each, and moves the feed past them. It reads nothing from the source, and `view` is the
-    /// engine's own. Fails if a write does, which ends the run.
+    /// Handles the items that lie completely in the feed's chunk, up to a timestamp that
+    /// `step_with_view` has to handle, writes their output to `out`, and moves the feed past them.
+    /// It reads nothing from the source, and `view` is the engine's own. Fails if a write does,
+    /// which ends the run.
     #[inline(never)]
     fn advance_ahead<S: Source, W: Sink>(
         &mut self,
@@ -188,10 +189,10 @@ impl<'v, 'n, 'r> Engine<'v, 'n, 'r> {
         }
     }
 
-    /// Takes the next item of the feed, and writes to `out` what is due with it or at the end of
-    /// the body. Returns `Again` if the run goes on, otherwise what ended it. It may wait for
-    /// input, so `out` must keep nothing back. `view` is the engine's own. Fails at a fault of the
-    /// body, at a failed read, and at a failed write.
+    /// Handles the next item of the feed, and writes its output, or that at the end of the body, to
+    /// `out`. Returns `Again` if the run goes on, otherwise what ended it. It may wait for input,
+    /// so `out` must keep nothing back. `view` is the engine's own. Fails at a fault of the body,
+    /// at a failed read, and at a failed write.
     #[inline(always)]
     fn read_on<S: Source, W: Sink>(
         &mut self,
@@ -209,10 +210,11 @@ impl<'v, 'n, 'r> Engine<'v, 'n, 'r> {
         self.step_with_view(view, feed, out)
     }
 
-    /// Takes the items that lie completely in the chunk, and then the next one, for which it may
-    /// wait for input: before that `out` passes on all that it keeps back. What is due with them
-    /// goes to `out`. Returns `Again` if the run goes on, otherwise what ended it. `view` is the
-    /// engine's own. Fails at a fault of the body, at a failed read, and at a failed write.
+    /// Handles the items that lie completely in the chunk, and then the next one, and writes their
+    /// output to `out`. The next one may have to wait for input, so `out` first writes all that it
+    /// keeps back to its device. Returns `Again` if the run goes on, otherwise what ended it.
+    /// `view` is the engine's own. Fails at a fault of the body, at a failed read, and at a failed
+    /// write.
     #[inline(always)]
     fn advance<S: Source, W: Sink>(
         &mut self,
@@ -238,7 +240,7 @@ impl<'v, 'n, 'r> Engine<'v, 'n, 'r> {
         self.read_on(view, feed, out)
     }
 
-    /// Writes what is due at the end of a body without fault: counts, values, or the line of the
+    /// Writes the output at the end of a body without fault: counts, values, or the line of the
     /// last time. Fails if a write does.
     // Not inlined, so that the loop over steps lends no view for it.
     #[inline(never)]
@@ -252,10 +254,11 @@ impl<'v, 'n, 'r> Engine<'v, 'n, 'r> {
         self.task_state.close(self.view, self.regs, out)
     }
 
-    /// Takes all items that are left, writes to `out` what is due with each and at the end, and
+    /// Handles all items that are left, writes the output of each and that at the end to `out`, and
     /// returns what ended the run: `Done::Whole` at the end of the body, or `Done::Early` at a
     /// timestamp after which the task needs no items. Fails at a fault of the body, at a failed
-    /// read, and at a failed write.
+    /// read, and at a failed write; then the output of the items before it was written, or a prefix
+    /// of that if a write failed.
     fn run_to_end<S: Source, W: Sink>(
         &mut self,
         feed: &mut Feed<'_, '_, '_, '_, S>,
@@ -281,8 +284,8 @@ impl<'v, 'n, 'r> Engine<'v, 'n, 'r> {
     }
 }
 
-/// Takes the next item of the feed, and writes to `out` what is due with it, or at the end of the
-/// body. Returns `Again` if the run goes on, otherwise what ended it. After any result but `Again`
+/// Handles the next item of the feed, and writes its output, or that at the end of the body, to
+/// `out`. Returns `Again` if the run goes on, otherwise what ended it. After any result but `Again`
 /// do not call it again.
 ///
 /// # Errors

@@ -1,4 +1,5 @@
-//! The text of kept items: the line of each, after the line of its time if that is due.
+//! The text of kept items: the line of each, after the line of its time unless that was written
+//! last.
 ghost use Rattle.std.specs.Prelude.{◌≡◌, ℕ, ◌-◌, ◌^◌, ◌<◌, ◌∷◌, [], List, Some, IfOk};
 ghost use Rattle.vcd_engine.specs.Names.{as_line, BodyItem, closing, Counts, Entry, HasGoodText, HasWritten, Header, IsItem, IsLine, IsNextItem, IsPart, IsViewOf, item_line, keyword_text, LastTells, may_be_kept, model_section, PutsBehind, PutsEntry, PutsCopy, PutsWhere, section_keyword, TakenBy, Takes, time_due, times_with};
 

@@ -29,7 +29,7 @@
 //! - `commands`: `check`, `pick`, `cut`, `sample`, `edges`
 //! - `choice`: which codes are chosen, a byte for each code
 //! - `item_text`: kept items as lines, each after the line of its time
-//! - `pending`: pending text, which is due and in the chunk, and is written piece by piece
+//! - `pending`: pending text: output that the chunk already has, and that is written piece by piece
 //! - `selection`: the variables that names select, as flags and as chosen codes
 //! - `report`, `rows`, `tally`: the seven lines of `check`; `list`; the counters of `edges`, and
 //!   its rows

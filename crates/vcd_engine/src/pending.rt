@@ -1,5 +1,5 @@
-//! Pending text: it is due, it is in the chunk, and it is not written yet. Pieces that adjoin are
-//! written in one call.
+//! Pending text: output that the chunk already has as bytes, and that is not written yet. Pieces
+//! that adjoin are written in one call.
 ghost use Rattle.std.specs.Prelude.{◌≡◌, ℕ, ◌+◌, ◌-◌, ◌^◌, ◌<◌, ◌≤◌, ◌++◌, ◌∷◌, List, [], length, slice_range, IfErr, IfOk};
 ghost use Rattle.vcd_engine.specs.Names.{bytes_without, pending_in, IsLine, IsPart, line_without, Puts, PutsBehind, time_line};
 

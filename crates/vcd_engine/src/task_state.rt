@@ -71,9 +71,9 @@ impl<'n, 'r> TaskState<'n, 'r> {
         }
     }
 
-    /// Takes an item that `next_item` returned, writes to `out` what is due with it, and returns
-    /// whether it ends the run. `text` is a change's text; for other items it may be anything.
-    /// `regs` are the registers after the item. Fails if a write does.
+    /// Handles an item that `next_item` returned, writes its output to `out`, and returns whether
+    /// it ends the run. `text` is a change's text; for other items it may be anything. `regs` are
+    /// the registers after the item. Fails if a write does.
     #[inline(always)]
     pub(crate) fn take<W: Sink>(
         &mut self,
@@ -107,9 +107,10 @@ impl<'n, 'r> TaskState<'n, 'r> {
         }
     }
 
-    /// Takes the items that lie completely in the chunk, from `ahead` on, writes to `out` what is
-    /// due with each, and returns how far it came, and whether a write failed. `regs` are the
-    /// registers before these items.
+    /// Handles the items that lie completely in the chunk, from `ahead` on, up to a timestamp that
+    /// `take` has to handle, and writes their output to `out`. Returns how many bytes ahead they
+    /// take, the registers after them, and whether a write failed. `regs` are the registers before
+    /// these items.
     // A loop for each task, so that no loop asks for the task at each item.
     pub(crate) fn take_ahead<W: Sink>(
         &mut self,
@@ -140,7 +141,7 @@ impl<'n, 'r> TaskState<'n, 'r> {
         }
     }
 
-    /// Writes what is due at the end of a body without fault: counts, values, or the line of the
+    /// Writes the output at the end of a body without fault: counts, values, or the line of the
     /// last time. `regs` are the registers there. Fails if a write does.
     pub(crate) fn close<W: Sink>(
         &self,

@@ -4,8 +4,8 @@ ghost use Rattle.vcd_engine.specs.Names.{AreHeld, BodyItem, HasBits, HasGoodText
 
 use vcd_body::{Bits, Item, Table, Value};
 
-/// Sets the value that a change gives its code, in the table: by its text, or by `bits`, the digits
-/// of the text as a number; `None` if that is not known. Any other item changes nothing.
+/// Sets the value of a change's code in the table: to `bits`, the digits of the text as a number,
+/// or to the text if `bits` is `None`. Any other item changes nothing.
 #[inline(always)]
 pub(crate) fn set_item(table: &mut Table<'_>, item: Item, text: &[u8], bits: Option<Bits>)
     requires bits { HasBits item text.now bits }

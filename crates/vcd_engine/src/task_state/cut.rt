@@ -118,7 +118,7 @@ impl<'r> Cut<'r> {
         self.started
     }
 
-    /// Takes a timestamp of this time, and returns whether it is above `to`, which ends the run.
+    /// Handles a timestamp of this time, and returns whether it is above `to`, which ends the run.
     /// Writes the start section if it is not written yet and `time` is at least `from`, and at the
     /// end of the run the line of `to`, unless it was written last. Fails if a write does.
     fn take_time<W: Sink>(
@@ -141,11 +141,11 @@ impl<'r> Cut<'r> {
         Ok(true)
     }
 
-    /// Takes an item that `next_item` returned, and returns whether it ends the run, as a timestamp
-    /// above `to` does. Until the start section is written, it sets the value that a change gives;
-    /// from then on it writes the item if `may_keep` allows it. `text` is a change's text; for
-    /// other items it may be anything. `regs` are the registers after the item. Fails if a write
-    /// does.
+    /// Handles an item that `next_item` returned, and returns whether it ends the run, as a
+    /// timestamp above `to` does. Until the start section is written, it sets the value of a change
+    /// in the table; from then on it writes the item if `may_keep` allows it. `text` is a change's
+    /// text; for other items it may be anything. `regs` are the registers after the item. Fails if
+    /// a write does.
     #[inline(never)]
     pub(crate) fn take<W: Sink>(
         &mut self,
@@ -203,8 +203,8 @@ impl<'r> AheadTask<NoLine> for Cut<'r> {
 
     ghost is_left = { λ command time. nat_le command.from time };
 
-    /// Returns whether the start section has to be written at a timestamp of this time: whether it
-    /// is at least `from`.
+    /// Returns whether the time is at least `from`: a walk then has to stop before a timestamp of
+    /// this time, since the start section is written there.
     #[inline(always)]
     fn leaves(&self, time: u64) -> bool {
         self.from <= time
@@ -214,8 +214,8 @@ impl<'r> AheadTask<NoLine> for Cut<'r> {
     #[inline(always)]
     fn note_time(&mut self, _time: u64) {}
 
-    /// Sets the value that a change gives. Any other item changes nothing. It writes nothing, and
-    /// never fails.
+    /// Sets the value of a change in the table. Any other item changes nothing. It writes nothing,
+    /// and never fails.
     #[inline(always)]
     fn take_item<W: Sink>(
         &mut self,
@@ -241,7 +241,7 @@ impl<'r> AheadTask<KnownLine> for Cut<'r> {
 
     ghost is_left = { λ command time. nat_lt command.to time };
 
-    /// Returns whether a timestamp of this time is above `to`, and so ends the `cut`.
+    /// Returns whether the time is above `to`: a timestamp of this time ends the `cut`.
     #[inline(always)]
     fn leaves(&self, time: u64) -> bool {
         self.to < time

@@ -51,7 +51,7 @@ impl<'n, 'r> Edges<'n, 'r> {
         })
     }
 
-    /// Takes a change of the code at index `code` of `codes`, whose size the look-up did not
+    /// Handles a change of the code at index `code` of `codes`, whose size the look-up did not
     /// return. For an event it counts the change, unless `inside` says that a section is open. For
     /// any other code it sets the value by this form and text, and counts a change if it differs.
     /// An index without a code changes nothing.
@@ -108,9 +108,9 @@ impl<'n, 'r> AheadTask<NoLine> for Edges<'n, 'r> {
     #[inline(always)]
     fn note_time(&mut self, _time: u64) {}
 
-    /// Sets the value that a change gives, and counts the change if the value differs, or if it is
-    /// of an event outside a section. Any other item changes nothing. `regs` are the registers
-    /// after the item. It writes nothing, and never fails.
+    /// Sets the value of a change in the table, and counts the change if the value differs, or if
+    /// it is of an event outside a section. Any other item changes nothing. `regs` are the
+    /// registers after the item. It writes nothing, and never fails.
     #[inline(always)]
     fn take_item<W: Sink>(
         &mut self,

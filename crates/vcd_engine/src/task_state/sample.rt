@@ -73,7 +73,7 @@ impl<'n, 'r> Sample<'n, 'r> {
         })
     }
 
-    /// Takes a timestamp of this time, and returns whether it is above all times asked for, which
+    /// Handles a timestamp of this time, and returns whether it is above all times asked for, which
     /// ends the run. Writes the lines of those below it that are not written yet. Fails if a write
     /// does.
     fn take_time<W: Sink>(
@@ -94,11 +94,11 @@ impl<'n, 'r> Sample<'n, 'r> {
         Ok(rest.is_empty())
     }
 
-    /// Takes an item that `next_item` returned, and returns whether it ends the run, as a timestamp
-    /// above all times asked for does. Sets the value that a change gives; at a timestamp writes
-    /// the lines of the times below it that are not written yet. `text` is a change's text; for
-    /// other items it may be anything. `regs` are the registers after the item. Fails if a write
-    /// does.
+    /// Handles an item that `next_item` returned, and returns whether it ends the run, as a
+    /// timestamp above all times asked for does. Sets the value of a change in the table; at a
+    /// timestamp writes the lines of the times below it that are not written yet. `text` is a
+    /// change's text; for other items it may be anything. `regs` are the registers after the item.
+    /// Fails if a write does.
     #[inline(always)]
     pub(crate) fn take<W: Sink>(
         &mut self,
@@ -157,8 +157,8 @@ impl<'n, 'r> AheadTask<NoLine> for Sample<'n, 'r> {
     #[inline(always)]
     fn note_time(&mut self, _time: u64) {}
 
-    /// Sets the value that a change gives. Any other item changes nothing. It writes nothing, and
-    /// never fails.
+    /// Sets the value of a change in the table. Any other item changes nothing. It writes nothing,
+    /// and never fails.
     #[inline(always)]
     fn take_item<W: Sink>(
         &mut self,

@@ -1,4 +1,5 @@
-//! The items that are whole in a feed's chunk, as a task takes them, and those that the feed gave.
+//! The items that lie completely in a feed's chunk, as a task handles them, and those that
+//! `next_item` returned.
 ghost use Rattle.std.specs.Prelude.{◌≡◌, ℕ, ◌-◌, ◌^◌, ◌<◌, ◌≤◌, Bool, List, [], length, false, true, IfOk};
 ghost use Rattle.vcd_text.specs.Ahead.{bytes_of, passed_of};
 ghost use Rattle.vcd_text.specs.Device.{Counts};
@@ -23,17 +24,17 @@ use vcd_view::HeadView;
 /// What a walk over the items in the chunk has left.
 #[derive(Clone, Copy)]
 pub(crate) struct WalkEnd {
-    /// How many bytes of the chunk are passed: those of the items that were taken.
+    /// How many bytes ahead the items take that were handled: the feed has to be moved past them.
     pub(crate) passed: usize,
     /// The registers after these items.
     pub(crate) regs: Regs,
-    /// Fails if a write of what is due with these items did.
+    /// Fails if a write of the output of these items did.
     pub(crate) written: Result<(), WriteFailed>,
 }
 
 impl WalkEnd {
-    /// Returns the result of a walk over the chunk that came to `ahead`: how many bytes were
-    /// passed, the registers there, and whether a write failed.
+    /// Returns the result of a walk over the chunk that ended at `ahead`: how many bytes ahead the
+    /// items take that were handled, the registers after these items, and whether a write failed.
     #[inline(always)]
     fn until(ahead: Ahead<'_>, regs: Regs, written: Result<(), WriteFailed>) -> WalkEnd
         ensures passed { result.passed ≡ passed_of ahead.entry }
@@ -120,7 +121,8 @@ impl LineMemory for KnownLine {
     }
 }
 
-/// What a task does with items, whole in the chunk or from the feed, that do not end the run.
+/// What a task does with the items that do not end the run, whether they lie completely in the
+/// chunk or come from `next_item`.
 pub(crate) trait AheadTask<L: LineMemory> {
     ghost use Rattle.vcd_engine.specs.declared.task_state.TaskState.{TaskState};
 
@@ -134,12 +136,12 @@ pub(crate) trait AheadTask<L: LineMemory> {
     ghost is_left: { Self → ℕ → Bool };
 
     /// Returns whether a walk over the chunk has to stop before a timestamp of this time, so that
-    /// `TaskState::take` handles it: it ends the run, or output is due with it.
+    /// `TaskState::take` handles it: it ends the run, or has output of its own.
     fn leaves(&self, time: u64) -> bool
         ensures { result ≡ is_left self.now time };
 
-    /// Does what the task does with a timestamp of this time that ends nothing, and with which no
-    /// output is due.
+    /// Handles a timestamp of this time for which `leaves` is false: it does not end the run, and
+    /// has no output.
     fn note_time(&mut self, time: u64)
         requires ready { is_ready self.old ≡ true }
         requires left { is_left self.old time ≡ false }
@@ -147,10 +149,9 @@ pub(crate) trait AheadTask<L: LineMemory> {
         ensures ready { is_ready self.new ≡ true }
         ensures same { SameTask (task_state self.old) (task_state self.new) };
 
-    /// Does what the task does with an item that is no timestamp. Its output is added to `pending`,
-    /// or written to `out` after all that is pending. `regs` are the registers after the item;
-    /// `line` says where the chunk has the last timestamp's line, if that is known. Fails if a
-    /// write does.
+    /// Handles an item that is no timestamp. Its output is added to `pending`, or written to `out`
+    /// after all that is pending. `regs` are the registers after the item; `line` says where the
+    /// chunk has the last timestamp's line, if that is known. Fails if a write does.
     fn take_item<W: Sink>(
         &mut self,
         view: HeadView<'_>,
@@ -246,9 +247,10 @@ impl<L: LineMemory, C: AheadTask<L>> Visit<C> for WalkState<L> {
     }
 }
 
-/// Has the task `command` take the items that lie completely in the chunk, from `ahead` on, writes
-/// to `out` what is due with them, and returns how far it came, and whether a write failed. `regs`
-/// are the registers before these items.
+/// Has the task `command` handle the items that lie completely in the chunk, from `ahead` on, up to
+/// a timestamp that it leaves to `TaskState::take`, and writes their output to `out`. Returns how
+/// many bytes ahead these items take, the registers after them, and whether a write failed. `regs`
+/// are the registers before them.
 // The loop of each task is a function of its own, so that it has all registers.
 #[inline(never)]
 pub(crate) fn take_each<L: LineMemory, C: AheadTask<L>, W: Sink>(
@@ -300,7 +302,7 @@ fn without_bytes<'a>(item: Item, text: &'a [u8]) -> ScannedItem<'a>
     }
 }
 
-/// Has the task `command` handle an item that `next_item` returned, and writes what is due with it.
+/// Has the task `command` handle an item that `next_item` returned, and writes its output to `out`.
 /// Returns false: the item does not end the run. `text` is a change's text; for other items it may
 /// be anything. `regs` are the registers after the item. Fails if a write does.
 // The item has no bytes in the chunk, so nothing of it stays pending: `pending` need no flush.
