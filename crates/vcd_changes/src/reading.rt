@@ -5,7 +5,8 @@ ghost use Rattle.vcd_changes.specs.Reading.{place_of, regs_of, section_at, secti
 use vcd_body::{Regs, Section};
 use vcd_text::Offset;
 
-/// Where the next call continues: numbers that a call leaves for it. All are 0 at first.
+/// Where the next call of `changes` continues, as numbers that a call sets for it. All are 0 before
+/// the first call.
 #[repr(C)]
 #[derive(Clone, Copy, PartialEq, Eq, Debug)]
 pub struct Place {

@@ -44,7 +44,7 @@ struct Collecting {
     room: usize,
     // The index of the code among the header's.
     index: usize,
-    // How many bytes of the chunk are passed where the change of the last row ends.
+    // How many bytes ahead there are up to the end of the last row's change.
     end: usize,
 }
 
@@ -59,9 +59,9 @@ impl Collecting {
         self.room <= self.count
     }
 
-    /// Returns how many bytes of the chunk the feed has to pass after a walk that came to `ahead`:
-    /// if the rows are full, those up to the end of the last row's change, otherwise all that the
-    /// walk passed.
+    /// Returns by how many bytes the feed has to be moved on after a walk that ended at `ahead`: up
+    /// to the end of the last row's change if the rows are full, otherwise past all items that the
+    /// walk handled.
     #[inline(always)]
     fn passed(&self, ahead: Ahead<'_>) -> usize
         ensures { result ≡ passed_with ahead.entry self.now }
@@ -75,7 +75,7 @@ impl Collecting {
 }
 
 // `is_over` is always false, so this visit ends a walk only before a timestamp or a section's begin
-// or end. Once the rows are full, the walk takes the changes up to the next one for nothing, and
+// or end. Once the rows are full, the walk still visits the changes up to the next of these, and
 // `passed` leaves them out.
 impl<'r> Visit<Rows<'r>> for Collecting {
     ghost use Rattle.std.specs.Prelude.{false};
@@ -154,9 +154,11 @@ impl<'r> Visit<Rows<'r>> for Collecting {
 }
 
 /// Fills the rows with the changes of one code among the items that lie completely in the chunk,
-/// from `ahead` on, until the rows are full, and returns how far it came. `collecting` says which
-/// code that is, and how many rows are filled before; they are not full then. `regs` are the
-/// registers before these items, and `ahead` has passed no byte.
+/// from `ahead` on, until the rows are full. Returns the look-ahead, the registers and `collecting`
+/// after the items that the walk handled; `passed` says which of these the feed has to move past.
+///
+/// `collecting` says which code that is, and how many rows are filled before; they must not be
+/// full. `regs` are the registers before these items, and `ahead` must be at its first byte.
 // Not inlined, so that the loop has all registers.
 #[inline(never)]
 fn walk_rows<'a>(
