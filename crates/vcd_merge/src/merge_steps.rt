@@ -12,8 +12,8 @@ use vcd_body::{Done, More, Stop, put_time_unless};
 use vcd_head::{Head, put_merged_head};
 use vcd_text::{Sink, Source, WriteFailed};
 
-/// Returns the greatest time that any input has come to, in ticks of the merged dump; `None` if
-/// none had a timestamp.
+/// Returns the greatest timestamp of all inputs so far, in ticks of the merged dump; `None` if none
+/// had a timestamp.
 fn greatest_time(seats: &[Seat]) -> Option<u64>
     ensures { result ≡ greatest_time seats.now }
 {
@@ -30,7 +30,7 @@ fn greatest_time(seats: &[Seat]) -> Option<u64>
 }
 
 /// Takes the turn of the input at index `turn.input`: reads its next item, and those after it while
-/// its time is below `turn.before`, and writes to `out` what is due with them. `heads`, `seats` and
+/// its time is below `turn.before`, and writes their output to `out`. `heads`, `seats` and
 /// `sources` have one element for each input, and `windows` one part; only those at this index are
 /// used. The seat then has the time and the registers of the input, and whether it has finished;
 /// `written` is the time whose line was written last, before the call and after it. Fails at a
@@ -199,10 +199,10 @@ fn order_of(seats: &mut [Seat], until: u64) -> TurnOrder
     TurnOrder::of(seats, until)
 }
 
-/// Takes the next item of the input whose turn it is, and writes to `out` what is due with it, or
-/// at the end of all inputs. `sources` has one source for each input, and `windows` one part. At
-/// the end of one input while others have items, nothing is written, and the input counts as
-/// finished. Before a read `out` passes on what it keeps back; if that fails, nothing is read.
+/// Handles the next item of the input whose turn it is, and writes its output, or that at the end
+/// of all inputs, to `out`. `sources` has one source for each input, and `windows` one part. At the
+/// end of one input while others have items, nothing is written, and the input counts as finished.
+/// Before a read `out` writes what it keeps back to its device; if that fails, nothing is read.
 /// Returns `Again` if some input has not finished. After any other result do not call it again.
 ///
 /// # Errors
@@ -263,10 +263,10 @@ pub fn merge_step<S: Source, W: Sink>(
 }
 
 impl<'h, 's> Merge<'h, 's> {
-    /// Takes all items that are left, to the end of the merge, writes to `out` what is due with
-    /// them, and returns `Done::Whole`. `sources` has one source for each input, and `windows` one
-    /// part. `going` has to be true. Fails at a fault of an input, at a failed read, and at a
-    /// failed write.
+    /// Handles all items that are left, to the end of the merge, writes their output to `out`, and
+    /// returns `Done::Whole`. `sources` has one source for each input, and `windows` one part.
+    /// `going` has to be true. Fails at a fault of an input, at a failed read, and at a failed
+    /// write.
     pub fn finish<S: Source, W: Sink>(
         &mut self,
         sources: &mut [S],

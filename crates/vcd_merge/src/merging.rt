@@ -45,7 +45,7 @@ fn put_due_time<W: Sink>(
     Ok(())
 }
 
-/// How far an input has come, as a change of it needs to know.
+/// What a change needs to know of its input.
 #[derive(Clone, Copy)]
 struct Reached {
     // The time of the input, in ticks of the merged dump.
@@ -228,11 +228,11 @@ impl Visit<Option<u64>> for Merging {
     }
 }
 
-/// Takes the items of an input that lie completely in its feed's chunk: the first one, and those
-/// after it while the input's time is below `before`. Writes to `out` what is due with them, and
-/// moves the feed past them. Returns whether the time has reached `before`. After it `seat` has the
-/// time and the registers of the input, and `written` is the time whose line was written last, as
-/// before the call. Fails if a write does.
+/// Handles the items of an input that lie completely in its feed's chunk: the first one, and those
+/// after it while the input's time is below `before`. Writes their output to `out`, and moves the
+/// feed past them. Returns whether the time has reached `before`. After it `seat` has the time and
+/// the registers of the input, and `written` is the time whose line was written last, as before the
+/// call. Fails if a write does.
 #[inline(never)]
 fn take_turn_ahead<S: Source, W: Sink>(
     head: &Head,
@@ -290,15 +290,17 @@ fn time_too_large(input: usize, line: u64) -> Stop
     }
 }
 
-/// Takes the next item of the input at index `input`, and writes to `out` what is due with it.
+/// Reads the next item of the input at index `input`. Writes a change under its code in the merged
+/// dump, after the line of its time unless that was written last; nothing for an event inside a
+/// section, and for any other item. It may wait for input, so `out` must keep nothing back.
+///
 /// After it `seat` has the time and the registers of the input, and whether it has finished;
-/// `written` has the time whose line was written last. It may wait for input, so `out` must keep
-/// nothing back. The caller parks the feed.
+/// `written` has the time whose line was written last. The caller parks the feed.
 ///
 /// # Errors
 ///
-/// The fault of the dump, also a time that is too large; a failed read; `Stop::Write` if a write
-/// failed.
+/// The fault of the dump, also a time that is 2^64 or more in ticks of the merged dump, or a failed
+/// read: nothing was written. `Stop::Write` if a write failed, after a prefix.
 #[inline(always)]
 fn take_item<S: Source, W: Sink>(
     head: &Head,
@@ -350,11 +352,11 @@ fn take_item<S: Source, W: Sink>(
     Ok(())
 }
 
-/// Takes the items of a turn with its input's feed, one and those after it while the input's time
-/// is below `turn.before`, and writes to `out` what is due with them. After it `seat` has the time
-/// and the registers of the input, and whether it has finished; `written` has the time whose line
-/// was written last. Before a read `out` passes on what it keeps back. Fails at a fault of the
-/// input, at a failed read, and at a failed write.
+/// Handles the items of a turn with its input's feed, one and those after it while the input's time
+/// is below `turn.before`, and writes their output to `out`. After it `seat` has the time and the
+/// registers of the input, and whether it has finished; `written` has the time whose line was
+/// written last. Before a read `out` writes what it keeps back to its device. Fails at a fault of
+/// the input, at a failed read, and at a failed write.
 // So most items cost no look at the seats and no new feed.
 #[inline(always)]
 fn take_turn<S: Source, W: Sink>(
@@ -392,8 +394,8 @@ fn take_turn<S: Source, W: Sink>(
     }
 }
 
-/// Takes the items of a turn with its input's own source, seat and parts of the windows: resumes
-/// its feed, takes the items as `take_turn` does, and parks the feed in the seat. After it `seat`
+/// Handles the items of a turn with its input's own source, seat and parts of the windows: resumes
+/// its feed, handles the items as `take_turn` does, and parks the feed in the seat. After it `seat`
 /// has the parked feed, the time and the registers of the input, and whether it has finished;
 /// `written` is the time whose line was written last. Fails at a fault of the input, at a failed
 /// read, and at a failed write.

@@ -10,7 +10,7 @@ use vcd_text::Parked;
 pub struct Seat {
     /// Its parked feed.
     pub(crate) parked: Parked,
-    /// The registers after the items that it gave.
+    /// The registers after its items so far.
     pub(crate) regs: Regs,
     /// The factor of its times.
     pub(crate) factor: u64,
