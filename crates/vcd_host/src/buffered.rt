@@ -10,7 +10,8 @@ use std::io::Write;
 use vcd_text::{Sink, WriteFailed};
 
 /// A sink whose bytes wait in a buffer until it is full or flushed. It counts the writes that
-/// failed. When it is dropped, it passes on what is in the buffer.
+/// failed. When it is dropped, it writes what is in the buffer to the device, and ignores a
+/// failure.
 ///
 /// A write of the device fails if it returns any error, also that it was interrupted, or if it
 /// takes nothing. The bytes that such a write does not take stay in the buffer.

@@ -54,9 +54,9 @@ impl<'a> LentOutput<'a> {
         Some(self.used as u64 + self.over)
     }
 
-    /// Takes some of these bytes, from the first one on, and returns how many. They are as long as
-    /// the room that the slice has left, or longer: those for which it has room are written. If it
-    /// has no room at all, all of them are counted and dropped.
+    /// Takes some of these bytes, from the first one on, and returns how many: as many as the slice
+    /// has room for, or all of them if it is full; then they are only counted, and dropped. There
+    /// must be at least as many bytes as there is room for.
     #[cold]
     #[inline(never)]
     fn write_over(&mut self, from: &[u8]) -> usize
@@ -89,7 +89,7 @@ impl Sink for LentOutput<'_> {
     ghost kept_back = { λ _. 0 };
 
     /// Takes bytes from the front of `from`, and returns how many: as many as the slice has room
-    /// for. Once it is full, all of them are counted and dropped. It never fails.
+    /// for, or all of them if it is full; then they are only counted, and dropped. It never fails.
     #[inline(always)]
     fn write(&mut self, from: &[u8]) -> Result<usize, WriteFailed> {
         if from.len() >= self.bytes.len() - self.used {
