@@ -4,8 +4,8 @@ use std::io::{ErrorKind, Read, Write};
 
 /// A reader or a writer whose interrupted calls are made again.
 ///
-/// Any other result is returned as it is. The contract says which bytes are given and taken if
-/// those of the device are known: a call that failed, also one that was interrupted, gave and took
+/// Any other result is returned as it is. The contract says which bytes are read and written if
+/// those of the device are known: a call that failed, also one that was interrupted, read and wrote
 /// none. It does not say which calls are made again.
 #[derive(Drop)]
 pub struct Again<D> {

@@ -25,7 +25,7 @@ pub(crate) struct WindowMemory {
 }
 
 /// Returns new memory for the buffers of this many inputs, at most 64, with the lengths that the
-/// job gives. Fails if there is none.
+/// job says. Fails if there is none.
 pub(crate) fn windows_for(
     alloc: Global,
     job: &Job,
