@@ -11,9 +11,9 @@ use vcd_words::{Job, UseFault, answer_text, command_of, job_of, parse_status};
 use vcdkit::{open_fault, run_within, use_fault, write_fault};
 
 /// Runs a job, which the parsed command line `matches` asks for: has `host` open its inputs, runs
-/// it over them, and returns the exit status. Output goes to `out`, which is not flushed, and
-/// messages go to `err`. If memory runs out or an input cannot be opened, nothing is written to
-/// `out`.
+/// it over them, and returns the exit status, as `run_program` does. Output goes to `out`, which is
+/// not flushed, and messages go to `err`. If memory runs out or an input cannot be opened, the
+/// status is 3, and nothing is written to `out`.
 fn run_job<H: Host, W: Sink, E: Sink, B: BuildHasher>(
     alloc: Global,
     job: Job,
@@ -52,9 +52,10 @@ fn run_job<H: Host, W: Sink, E: Sink, B: BuildHasher>(
     }
 }
 
-/// Does what a parsed command line asks for, and returns the exit status. `host` opens the inputs,
-/// output goes to `out`, which is not flushed, and messages go to `err`. If it asks for no valid
-/// job, no input is opened, and only a line is written to `err`.
+/// Does what a parsed command line asks for, and returns the exit status, as `run_program` does.
+/// `host` opens the inputs, output goes to `out`, which is not flushed, and messages go to `err`.
+/// If it asks for no valid job, only a line is written to `err`, and no input is opened; the status
+/// is then 2, or 3 if memory ran out.
 fn run_matches<H: Host, W: Sink, E: Sink, B: BuildHasher>(
     alloc: Global,
     matches: &ArgMatches<'_>,
@@ -102,8 +103,8 @@ fn answer<W: Sink, E: Sink>(alloc: Global, error: &Error, out: &mut W, err: &mut
 }
 
 /// Parses these arguments, the program's name first among them, does what they ask for, and returns
-/// the exit status. `host` opens the inputs, output goes to `out`, which is not flushed, and
-/// messages go to `err`.
+/// the exit status, as `run_program` does. `host` opens the inputs, output goes to `out`, which is
+/// not flushed, and messages go to `err`.
 fn parse_and_run<H: Host, W: Sink, E: Sink, B: BuildHasher>(
     alloc: Global,
     words: &[String],

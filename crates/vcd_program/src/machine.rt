@@ -22,7 +22,7 @@ const MAX_SHORT_FILE: u64 = 1_048_576;
 
 /// Returns the length of a file with this metadata, if it is short. `None` if it is no regular
 /// file, if it is longer than `MAX_SHORT_FILE`, or if its length is 0 or unknown. A file of length
-/// 0 may give bytes: the machine makes the bytes of some files while they are read.
+/// 0 may have bytes: the machine makes those of some files while they are read.
 fn short_len(about: io::Result<Metadata>) -> Option<usize> {
     let about = about.ok()?;
     let len = about.len();
@@ -100,12 +100,14 @@ impl Machine for HostRuntime {
         self.stdin()
     }
 
-    /// Returns the length that a short file has now; `None` for any other.
+    /// Returns the length that a regular file has now, if it is from 1 byte to 1 MiB (`short_len`);
+    /// `None` for any other.
     fn max_bytes_of_file(&self, file: &File) -> Option<usize> {
         short_len(file.metadata())
     }
 
-    /// Returns the length that standard input has now if it is a short file; `None` for any other.
+    /// Returns the length that standard input has now, if it is a regular file from 1 byte to 1 MiB
+    /// (`short_len`); `None` for any other.
     fn max_bytes_of_input(&self, _input: &Stdin) -> Option<usize> {
         short_len(fs::metadata(self, STANDARD_INPUT))
     }
