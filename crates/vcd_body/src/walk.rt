@@ -201,8 +201,8 @@ fn take_timestamp<'a, C, V: Visit<C>>(
 
 /// Has the visitor handle the begin or the end of a section whose keyword is that of `opening` and
 /// lies between `ahead` and `to`. Sets `regs` and `ahead` to those after it, and returns true,
-/// since it was no change. `None` if the token is anything else, if it may not come here, or if the
-/// visitor ends the walk before it; then nothing has changed.
+/// since it was no change, or that a write failed. `None` if the token is anything else, if it may
+/// not come here, or if the visitor ends the walk before it; then nothing has changed.
 #[inline(always)]
 fn take_section<'a, C, V: Visit<C>, W: Sink>(
     command: &mut C,
