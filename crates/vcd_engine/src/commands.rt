@@ -10,7 +10,7 @@ use vcd_view::HeadView;
 
 /// Reads the body that follows the header of `view`, writes the seven lines of its report (counts,
 /// and the last time), and returns `Done::Whole`. Fails at the first fault of the body, at a failed
-/// read, and at a failed write.
+/// read, and at a failed write. At a fault nothing is written.
 pub fn check<S: Source, W: Sink>(
     view: HeadView<'_>,
     feed: &mut Feed<'_, '_, '_, '_, S>,

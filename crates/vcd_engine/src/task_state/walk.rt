@@ -219,7 +219,7 @@ impl<L: LineMemory, C: AheadTask<L>> Visit<C> for WalkState<L> {
         command.note_time(time);
     }
 
-    /// Has the task handle a change.
+    /// Has the task handle a change. Fails if a write does.
     #[inline(always)]
     fn take_change<W: Sink>(
         &mut self,
@@ -232,7 +232,7 @@ impl<L: LineMemory, C: AheadTask<L>> Visit<C> for WalkState<L> {
         command.take_item(view, regs, change, &self.line, &mut self.pending, out)
     }
 
-    /// Has the task handle the begin or the end of a section.
+    /// Has the task handle the begin or the end of a section. Fails if a write does.
     #[inline(always)]
     fn take_section<W: Sink>(
         &mut self,
