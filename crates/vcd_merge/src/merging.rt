@@ -212,7 +212,7 @@ impl Visit<Option<u64>> for Merging {
         put_renamed_ahead(change, form, number, out)
     }
 
-    /// Does nothing.
+    /// Does nothing, and never fails.
     // A merge leaves out sections.
     #[inline(always)]
     fn take_section<W: Sink>(
