@@ -239,9 +239,10 @@ impl<'a> Table<'a> {
         }
     }
 
-    /// Returns the three counters of the code at index `code`: of all changes, and of the rises and
-    /// the falls among them. `bump` adds to only one of them. Each stops at 2^64 - 1, and is 0 if
-    /// there is no such code.
+    /// Returns the three counters of the code at index `code`: of the changes that were counted,
+    /// and of the rises and the falls among them. `follow` and `count` keep the three in step,
+    /// `bump` adds to only one, and `set` counts nothing. Each stops at 2^64 - 1, and is 0 if there
+    /// is no such code.
     #[inline]
     pub fn tally(&self, code: usize) -> [u64; 3]
         ensures { result ≡ counts_at self.now code }

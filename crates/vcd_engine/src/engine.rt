@@ -240,8 +240,8 @@ impl<'v, 'n, 'r> Engine<'v, 'n, 'r> {
         self.read_on(view, feed, out)
     }
 
-    /// Writes the output at the end of a body without fault: counts, values, or the line of the
-    /// last time. Fails if a write does.
+    /// Writes what the task still has to write at the end of a body without fault: counts, values,
+    /// or the line of the last time. Fails if a write does.
     // Not inlined, so that the loop over steps lends no view for it.
     #[inline(never)]
     fn close<W: Sink>(&self, out: &mut W) -> Result<(), WriteFailed>

@@ -107,10 +107,10 @@ impl<'n, 'r> TaskState<'n, 'r> {
         }
     }
 
-    /// Handles the items that lie completely in the chunk, from `ahead` on, up to a timestamp that
-    /// `take` has to handle, and writes their output to `out`. Returns how many bytes ahead they
-    /// take, the registers after them, and whether a write failed. `regs` are the registers before
-    /// these items.
+    /// Handles the items that lie completely in the chunk, from `ahead` on, up to a bad item or a
+    /// timestamp that `take` has to handle, and writes their output to `out`. Returns how many
+    /// bytes ahead they take, the registers after them, and whether a write failed; if one did, the
+    /// run is over. `regs` are the registers before these items.
     // A loop for each task, so that no loop asks for the task at each item.
     pub(crate) fn take_ahead<W: Sink>(
         &mut self,

@@ -45,8 +45,8 @@ fn end_before(seats: &[Seat], input: usize, other: usize) -> u64
     }
 }
 
-/// The inputs that wait for their turn, the next one last. They are sorted, so that a turn needs no
-/// look at all seats.
+/// The inputs that wait for their turn, the next one last. They are sorted by time, and at equal
+/// times by index, so that a turn needs no look at all seats.
 #[derive(Clone, Copy)]
 pub(crate) struct TurnOrder {
     // Those that wait, and room for a copy of 64 bytes from any of them on.

@@ -101,8 +101,8 @@ fn cut<'a>(alloc: Global) -> Result<Command<'a>, AllocError>
     with_file(alloc, "cut", help::CUT)?.arg(from)?.arg(to)
 }
 
-/// Returns the definition of the command `sample` for `clap`, with its options, its times, which
-/// are required, and names of variables. Fails if memory runs out.
+/// Returns the definition of the command `sample` for `clap`: its options, of which `--at` with the
+/// times is required, and any number of names of variables. Fails if memory runs out.
 fn sample<'a>(alloc: Global) -> Result<Command<'a>, AllocError>
     ensures { IfOk result (λ command. IsWhole command sample_app) }
 {
