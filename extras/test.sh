@@ -529,6 +529,10 @@ same 'vcdkit-explain: the lines around the fault' '       2 | $enddefinitions $e
        3 | #0
 >      4 | bUU !
        5 | #2' "$(vcdkit-explain "$folder/fault.vcd" 2> /dev/null | head -n 4)"
+{ printf "${body}#0\n"; head -c 60000000 /dev/zero | tr '\0' a; echo; } > "$folder/long.vcd"
+same 'vcdkit-explain: a long line' 'cause: a value of very many digits, or a binary file' \
+    "$(ulimit -v 100000; VCDKIT_WAY=program vcdkit-explain "$folder/long.vcd" 2>&1 | grep cause)"
+rm "$folder/long.vcd"
 gzip -c "$folder/fault.vcd" > "$folder/packed.vcd"
 same 'vcdkit-explain: gzip' 'a nine-state value of VHDL
 1' "$(explained "$folder/packed.vcd" able)"

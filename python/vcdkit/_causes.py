@@ -1,9 +1,8 @@
 """The usual causes of the faults of a dump, and what helps."""
 import io
 import re
-from typing import TYPE_CHECKING, Callable, Optional, Tuple
+from typing import TYPE_CHECKING, BinaryIO, Callable, Iterator, Optional, Tuple, cast
 
-from ._body import blocks
 from .errors import DumpFault
 
 if TYPE_CHECKING:
@@ -124,13 +123,24 @@ def printable(line: bytes) -> str:
     return "".join(c if " " <= c <= "~" or c == "\t" else "\\x%02x" % ord(c) for c in text)
 
 
+def short_lines(text: BinaryIO) -> Iterator[bytes]:
+    """Returns a text in blocks of whole lines, as they come. A line of more than FRONT bytes may
+    lack some of what is after these, so that it takes no more memory."""
+    read = cast(io.BufferedReader, text).read1
+    for block in iter(lambda: read(FRONT), b""):
+        rest = end = b"" if block.endswith(b"\n") else text.readline(FRONT)
+        while rest and not rest.endswith(b"\n"):
+            rest = text.readline(FRONT)
+        yield block + end + (b"\n" if rest and not end.endswith(b"\n") else b"")
+
+
 def look_at(dump: "Dump", fault: DumpFault, say: Callable[[str], object] = str
             ) -> Tuple[bytes, Optional[Cause]]:
     """Returns what is before the line of a fault, and the cause as of cause_of. `say` gets the
     lines around it."""
     before, bad, front, number = b"", b"", b"", 1
     with dump.open() as text:
-        for block in blocks(text):
+        for block in short_lines(text):
             front = front if len(front) >= FRONT else front + block[:FRONT]
             count = block.count(b"\n")
             if number + count < fault.line - 1:  # the fault is further on

@@ -14,10 +14,11 @@ Each line says what differs, and then shows both sides, A first:
 
 Values are compared at the end of each time, up to the end of the shorter dump. With --rise or
 --fall, the values just before the first edge of A's clock are compared with those just before the
-first edge of B's clock, and so on, whatever the times of the edges are. These do not matter: codes,
-types such as reg and wire, the order of changes within a time, values that are written again, and
-sections. Real numbers are compared as numbers, and NaN equals NaN. tb.q in one dump is tb.q[3:0] in
-the other. If you give NAMEs, only these are compared. With --map, the NAMEs are the new ones.
+first edge of B's clock, and so on, whatever the times of the edges are. These do not matter: dates
+and versions, codes, types such as reg and wire, the order of changes within a time, values that are
+written again, and sections. Real numbers are compared as numbers, and NaN equals NaN. tb.q in one
+dump is tb.q[3:0] in the other. If you give NAMEs, only these are compared. With --map, the NAMEs
+are the new ones.
 
 examples:
   vcdkit-diff golden.vcd.gz sim.vcd
@@ -259,7 +260,7 @@ def words_of(words: List[str]) -> argparse.Namespace:
     of.add_argument("--common", action="store_true", help="compare only what both have: no lines "
                     "timescale, alone, ends and edges")
     of.add_argument("--except", dest="exceptions", metavar="NAME", action="append", default=[],
-                    help="leave out this signal or scope")
+                    help="leave out this signal or scope; may be repeated")
     of.add_argument("--real-tolerance", dest="tolerance", metavar="T", type=tolerance, default=0.0,
                     help="real numbers may differ by T, or by T times the larger one")
     add_clock(of.add_mutually_exclusive_group(), "compare at the %s edges of this signal")
