@@ -104,7 +104,7 @@ def codes_in(dump):
 def differs(program, library, folder, seed):
     """Returns what is not the same, in words, or nothing."""
     r = random.Random(seed)
-    words, given, _, _ = case(seed, COMMANDS, folder)
+    words, given, *_ = case(seed, COMMANDS, folder, None)
     files = {}
     for name in words:
         if name.endswith(".vcd") and os.path.exists(os.path.join(folder, name)):
