@@ -1,18 +1,18 @@
 #!/usr/bin/env bash
-# check_speed.sh [MB | DUMP ...] [--large]   measures how fast `vcdkit check` is on a plain dump of
-# MB megabytes (200) or on these dumps, beside rivals and `wc -l`. On plain dumps it also measures
-# the peak memory of each program: on 1 MB, on that dump and, with --large, on 1 GB.
+# check_speed.sh [MB | DUMP...] [--large]   measures how fast `vcdkit check` is on a plain dump of
+# MB megabytes (200 by default) or on these dumps, beside rivals and `wc -l`. For plain dumps, it
+# also measures the peak memory of each program: on 1 MB, on that dump and, with --large, on 1 GB.
 #
 # Each program runs three times, in turn with the others, on standard input. The script prints the
 # best user and system time and the best wall time, as MB/s (of 1,000,000 bytes). The last column is
-# the speed of `vcdkit check` divided by that of the program in the line: if it is above 1, vcdkit
-# is faster.
+# the speed of `vcdkit check` divided by the speed of the program on that line: if it is above 1,
+# vcdkit is faster.
 #
 # `rival` is rival.rs, which is not verified: a byte loop over the chunk with a table of codes. It
-# counts what `check` counts. If its report is not the same byte for byte, the script stops. Without
-# rustc it is left out. RIVALS names more such programs, separated by blanks. `wc -l` only counts
-# line feeds, which is about the cost of reading. TMPDIR needs the size of the dumps (1.2 GB with
-# --large).
+# counts what `check` counts, and the script stops if the two reports differ in a byte. It is
+# skipped if there is no rustc. RIVALS names more such programs, separated by blanks. `wc -l` only
+# counts line feeds, which costs about as much as reading. TMPDIR needs room for the dumps (1.2 GB
+# with --large).
 set -eu
 here=$(cd "$(dirname "$0")" && pwd)
 . "$here/common.sh"

@@ -1,6 +1,6 @@
 #!/usr/bin/env bash
-# code_families.sh [CODES ...]   measures `vcdkit list` on headers with this many codes (100000 and
-# 200000), and `check` on dumps with four changes of each code, for each family of
+# code_families.sh [CODES...]   measures `vcdkit list` on headers with this many codes (by default,
+# 100000 and 200000), and `check` on dumps with four changes of each code, for each family of
 # code_families.py. It prints the time in ns for each byte of the dump, and that time divided by the
 # time for ordinary codes. TMPDIR needs 260 MB.
 set -eu

@@ -1,6 +1,6 @@
-# The scripts that measure time source this file. It has the program under test, a directory that is
-# removed at the end, and the way to measure one run. A script sets `here` before that, and defines
-# find_command, which sets `command` to the program and arguments of a run.
+# The scripts that measure time source this file. It provides the program under test, a directory
+# that is removed at the end, and functions that measure one run. A script first sets `here`, and
+# defines find_command, which sets `command` to the program and arguments of a run.
 vcdkit=${VCDKIT:-$here/../vcdkit}
 [ -x "$vcdkit" ] || { echo "${0##*/}: there is no program $vcdkit: run make first" >&2; exit 2; }
 

@@ -1,12 +1,12 @@
 #!/usr/bin/env bash
-# cut_speed.sh [DUMP ...]   measures the speed and the peak memory of `vcdkit cut`, beside `vcdkit
-# check` and `wc -l` on the same dump. Without arguments it makes two plain dumps of 200 MB, with 64
-# and with 20000 variables.
+# cut_speed.sh [DUMP...]   measures the speed and the peak memory of `vcdkit cut`, beside `vcdkit
+# check` and `wc -l` on the same dump. Without arguments, it makes two plain dumps of 200 MB, with
+# 64 and with 20000 variables.
 #
 # `cut before`: the window lies after the whole dump, so `cut` keeps each value, and writes only the
-# header and a section. `cut within`: the window is the whole dump, so `cut` writes everything.
-# `cut middle`: the window is the middle half of the time, and `cut` reads nothing after it. Before
-# the measurement, `check` has to accept each cut. TMPDIR needs as much as for pick_speed.sh.
+# header and a section. `cut within`: the window is the whole dump, so `cut` writes everything. `cut
+# middle`: the window is the middle half of the time, and `cut` reads nothing after it. Before the
+# measurement, `check` has to accept each cut. TMPDIR needs as much room as for pick_speed.sh.
 set -eu -o pipefail
 here=$(cd "$(dirname "$0")" && pwd)
 programs=(check 'cut before' 'cut within' 'cut middle' 'wc -l')

@@ -1,10 +1,10 @@
 #!/usr/bin/env bash
-# edges_speed.sh [DUMP ...]   measures the speed and the peak memory of `vcdkit edges`, for one
+# edges_speed.sh [DUMP...]   measures the speed and the peak memory of `vcdkit edges`, for one
 # variable (in the middle of `list`) and for all, beside `vcdkit check` and `wc -l` on the same
-# dump. Without arguments it makes two plain dumps of 200 MB, with 64 and with 20000 variables.
+# dump. Without arguments, it makes two plain dumps of 200 MB, with 64 and with 20000 variables.
 #
 # Before the measurement, the paths in the output for all variables have to be those of `list`.
-# TMPDIR needs as much as for pick_speed.sh.
+# TMPDIR needs as much room as for pick_speed.sh.
 set -eu -o pipefail
 here=$(cd "$(dirname "$0")" && pwd)
 programs=(check 'edges one' 'edges all' 'wc -l')

@@ -1,12 +1,12 @@
 #!/usr/bin/env python3
-"""families.py [FAMILY ..]   prints how many instructions commands take for each byte of unusual
+"""families.py [FAMILY...]   prints how many instructions commands take for each byte of unusual
 bodies, as multiples of what they take for each byte of scalars, and how many `check` takes for each
 line.
 
 valgrind counts, so other work on the machine does not change the figures. Each body has 2.5 MB. A
-second run reads only half of it, and a figure is the difference of the two runs, for each byte that
-only the first one reads. VCDKIT names the program, else it is the vcdkit in the directory above. It
-takes a minute or two."""
+second run reads only half of it, and a figure is the difference between the two runs for each byte
+that only the first one reads. VCDKIT names the program; by default it is the vcdkit in the
+directory above. The script takes a minute or two."""
 import os
 import sys
 import tempfile

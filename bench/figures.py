@@ -1,17 +1,18 @@
 #!/usr/bin/env python3
-"""figures.py DUMP ..   prints the table of figures of docs/PERFORMANCE.md for these dumps: the
+"""figures.py DUMP...   prints the table of figures of docs/PERFORMANCE.md for these dumps: the
 instructions that each command takes for an item (a timestamp or a change), and what other programs
-take that read the whole dump: wc, grep, and the converter vcd2fst if it is there.
+that read the whole dump take: wc, grep, and the converter vcd2fst if it is installed.
 
     bench/make_dumps.sh /tmp/dumps
     bench/figures.py /tmp/dumps/{scalars,many,wide,cpus}.vcd
 
-valgrind counts, so other work on the machine does not change the figures. Of each dump the first
-4 MB are read (MEGABYTES says how many, at least 3), cut off between two lines. A second run reads
-only half of that body, and a figure is the difference of the two runs, for each item that only the
-first one reads. So what the header takes is not in it, nor what a command writes at the end of a
-run, such as the rows of edges. All programs run in the C locale. VCDKIT names the program, else it
-is the vcdkit in the directory above. It takes two or three minutes for each dump."""
+valgrind counts, so other work on the machine does not change the figures. A run reads the first
+4 MB of a dump (or MEGABYTES, at least 3), cut off between two lines. A second run reads only
+half of that body, and a figure is the difference between the two runs for each item that only
+the first one reads. It therefore includes neither the header nor what a command writes at the
+end of a run, such as the rows of edges. All programs run in the C locale. VCDKIT names the
+program; by default it is the vcdkit in the directory above. The script takes two or three
+minutes for each dump."""
 import os
 import re
 import shutil

@@ -1,10 +1,10 @@
 #!/usr/bin/env bash
-# hard_headers.sh [CODES ...]   measures `vcdkit list`, `check` and `pick` on headers with this many
-# crafted codes (25000, 100000 and 400000), beside headers with ordinary codes. Crafted codes fall
-# close together in the hash that `indexmap` has without a seed (crafted_codes.py).
+# hard_headers.sh [CODES...]   measures `vcdkit list`, `check` and `pick` on headers with this many
+# crafted codes (by default, 25000, 100000 and 400000), beside headers with ordinary codes. Crafted
+# codes have hashes that are close together if `indexmap` hashes without a seed (crafted_codes.py).
 #
-# Then it measures `pick` of all variables and of the last one of 1000000 variables in 1000 nested
-# scopes, beside `check`; and `pick` of 1000 names among 200000 variables, beside `pick` of one.
+# Then it measures `pick` of all and of the last of 1000000 variables in 1000 nested scopes, beside
+# `check`; and `pick` of 1000 names among 200000 variables, beside `pick` of one.
 # TMPDIR needs 60 MB.
 set -eu
 here=$(cd "$(dirname "$0")" && pwd)

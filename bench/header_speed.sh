@@ -1,7 +1,7 @@
 #!/usr/bin/env bash
-# header_speed.sh [VARIABLES ...]   measures how fast `vcdkit list` and `vcdkit check` read headers
-# with this many variables (10000, 100000 and 1000000), beside `wc -l` on the same file, and their
-# peak memory. It takes two minutes.
+# header_speed.sh [VARIABLES...]   measures how fast `vcdkit list` and `vcdkit check` read headers
+# with this many variables (by default, 10000, 100000 and 1000000), beside `wc -l` on the same file,
+# and their peak memory. It takes two minutes.
 #
 # The headers are those of header_dump.py, one at a time (40 MB in TMPDIR for 1000000 variables),
 # without a body. `list` has to write a line for each variable, and `check` their number. If the

@@ -1,13 +1,14 @@
 #!/usr/bin/env python3
-"""jumps.py PROGRAM DUMP COMMAND ..  runs `PROGRAM COMMAND ..` on a dump under valgrind. Of the
-function that takes most instructions it prints how many jumps it executed that cross or end at a
-multiple of 32 bytes, at its present address and 16 bytes further.
+"""jumps.py PROGRAM DUMP COMMAND...  runs `PROGRAM COMMAND...` on a dump under valgrind. For
+the function that takes most instructions, it prints how many executed jumps cross or end at a
+multiple of 32 bytes, at the function's present address and 16 bytes further.
 
-Some processors decode such a jump anew each time: Intel's of 2015 to 2019, with the microcode that
-mends their erratum of conditional jumps. So a loop may take 20 % more time than the same
-instructions at another address, and any change to the source moves all loops after it, by a
-multiple of 16 bytes. To compare two designs, compare instructions and these counts before times.
-It needs valgrind and objdump, and minutes for 200 MB: a tenth of that says as much."""
+Some processors decode such a jump anew each time: those that Intel made from 2015 to 2019, with the
+microcode that fixes their erratum of conditional jumps. A loop may therefore take 20 % more time
+than the same instructions at another address, and any change to the source moves all loops after
+it by a multiple of 16 bytes. To compare two designs, compare instructions and these counts before
+times. The script needs valgrind and objdump. It takes minutes for 200 MB, but a tenth of that
+shows as much."""
 import collections
 import os
 import re

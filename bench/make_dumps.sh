@@ -1,11 +1,11 @@
 #!/usr/bin/env bash
-# make_dumps.sh FOLDER [MB] [KIND ..]   writes the dumps of the figures (docs/PERFORMANCE.md) to
-# FOLDER/KIND.vcd, each of about MB megabytes (5). It takes some minutes.
+# make_dumps.sh DIRECTORY [MB] [KIND...]   writes the dumps of the figures (docs/PERFORMANCE.md) to
+# DIRECTORY/KIND.vcd, each of about MB megabytes (5 by default). It takes some minutes.
 #
-# KIND is scalars, many, wide or cpus; without one it makes all four. A fifth one, header, has a
-# large header and nearly no body. designs/ has the sources, which say what they are. Verilator
-# simulates cpus, and Icarus Verilog the others (Debian: iverilog, verilator, g++, make). A dump
-# that is already there stays. Two runs of one simulator write the same; only the date differs.
+# KIND is scalars, many, wide or cpus; without one, it makes all four. A fifth kind, header, has a
+# large header and almost no body. designs/ has the sources, with comments that describe them.
+# Verilator simulates cpus, and Icarus Verilog the others (Debian: iverilog, verilator, g++, make).
+# An existing dump is kept. Two runs of one simulator write the same dump, except for the date.
 set -eu
 [ $# -ge 1 ] || { sed -n '2,/^set/s/^# //p' "$0" >&2; exit 2; }
 here=$(cd "$(dirname "$0")" && pwd)

@@ -1,7 +1,7 @@
 #!/usr/bin/env bash
-# merge_speed.sh [DUMP ...]   measures `vcdkit merge` of these dumps, beside `vcdkit check` of one
+# merge_speed.sh [DUMP...]   measures `vcdkit merge` of these dumps, beside `vcdkit check` of one
 # after the other. If the first dump has at most 20 MB, it also measures the merge of that dump with
-# itself, 64 times. Without arguments it makes two plain dumps of 200 MB, with 64 and with 20000
+# itself, 64 times. Without arguments, it makes two plain dumps of 200 MB, with 64 and with 20000
 # variables.
 #
 # It prints the best of three user and system times of both, and the speed of the merge divided by

@@ -1,8 +1,8 @@
 #!/usr/bin/env bash
-# names.sh [VARIABLES ...]   measures how long `vcdkit pick` takes for the last variable, and for
-# 1000 variables at equal distances, on headers with this many variables (200000 and 1000000),
-# beside `vcdkit check`. It prints the best of three user and system times, and the ratio of each to
-# the one before.
+# names.sh [VARIABLES...]   measures how long `vcdkit pick` takes for the last variable, and for
+# 1000 variables at equal distances, on headers with this many variables (by default, 200000 and
+# 1000000), beside `vcdkit check`. It prints the best of three user and system times, and the ratio
+# of each to the one before.
 #
 # The headers have no body. Their variables are in scopes of 20 (`spread`), in 1000 nested scopes
 # (`deep`), or in one scope (`flat`). `pick` of 1000 names has to keep 1000 variables. TMPDIR needs

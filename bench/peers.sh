@@ -1,9 +1,9 @@
 #!/usr/bin/env bash
-# bench/peers.sh DUMP..   prints the CPU seconds and the peak memory of `vcdkit check` and of other
+# bench/peers.sh DUMP...   prints the CPU seconds and the peak memory of `vcdkit check` and of other
 # programs that read the whole dump: wc -w counts its words, vcd2fst of GTKWave converts it, GTKWave
-# loads it and exits (on a display of Xvfb), and sigrok-cli converts it to bytes. Of three runs the
-# one with the least CPU time counts; a program that takes more than 10 s runs once. VCDKIT names
-# the program, else it is ./vcdkit. A program that is not there is left out.
+# loads it and exits (on an Xvfb display), and sigrok-cli converts it to bytes. Of three runs, the
+# one with the least CPU time counts; a program that takes more than 10 s runs only once. VCDKIT
+# names the program; by default it is ./vcdkit. Programs that are not installed are skipped.
 set -u
 program=${VCDKIT:-$(dirname "$0")/../vcdkit}
 out=$(mktemp) times=$(mktemp) display=

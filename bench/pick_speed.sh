@@ -1,13 +1,13 @@
 #!/usr/bin/env bash
-# pick_speed.sh [DUMP ...]   measures how fast `vcdkit pick` is for one variable and for all, beside
-# `vcdkit check` and `wc -l` on the same dump. Without arguments it makes two plain dumps of 200 MB,
-# with 64 and with 20000 variables.
+# pick_speed.sh [DUMP...]   measures how fast `vcdkit pick` is for one variable and for all, beside
+# `vcdkit check` and `wc -l` on the same dump. Without arguments, it makes two plain dumps of 200
+# MB, with 64 and with 20000 variables.
 #
-# `pick one` selects the variable in the middle of `list`, so what it writes depends on how often
-# that one changes; `pick all` names all scopes at the top. `pick` does what `check` does and also
-# writes, so the additional time is the cost of writing. Before the measurement, each pick is
-# written to a file, in which `check` has to find the last timestamp of the dump. TMPDIR needs the
-# size of the dump, and twice that for a plain one.
+# `pick one` selects the variable in the middle of `list`, so the size of its output depends on how
+# often that variable changes; `pick all` names all scopes at the top. `pick` does what `check` does
+# and also writes, so the additional time is the cost of writing. Before the measurement, each pick
+# is written to a file, in which `check` has to find the last timestamp of the dump. TMPDIR needs
+# room for the dump, or for twice that if the script makes it.
 set -eu -o pipefail
 here=$(cd "$(dirname "$0")" && pwd)
 programs=(check 'pick one' 'pick all' 'wc -l')

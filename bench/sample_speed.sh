@@ -1,13 +1,13 @@
 #!/usr/bin/env bash
-# sample_speed.sh [DUMP ...]   measures the speed and the peak memory of `vcdkit sample`, beside
-# `vcdkit check` and `wc -l` on the same dump. Without arguments it makes two plain dumps of 200 MB,
-# with 64 and with 20000 variables.
+# sample_speed.sh [DUMP...]   measures the speed and the peak memory of `vcdkit sample`, beside
+# `vcdkit check` and `wc -l` on the same dump. Without arguments, it makes two plain dumps of 200
+# MB, with 64 and with 20000 variables.
 #
 # `sample one` samples the variable in the middle of `list` at 1000 times, which are spread over the
 # whole dump; `sample all` samples all variables at 10 such times. `sample end` samples all at the
 # greatest time: it keeps each value, and writes it once. Before the measurement, a sample of all
-# has to have a line for each time and each variable, except events. TMPDIR needs as much as for
-# pick_speed.sh.
+# has to have a line for each time and each variable, except events. TMPDIR needs as much room as
+# for pick_speed.sh.
 set -eu -o pipefail
 here=$(cd "$(dirname "$0")" && pwd)
 programs=(check 'sample one' 'sample all' 'sample end' 'wc -l')

@@ -1,6 +1,7 @@
 #!/usr/bin/env bash
 # slow_inputs.sh [VARIABLES]   measures inputs that could be slow, each beside `vcdkit check` of the
-# same header with this many variables (200000). It prints the best of three user and system times.
+# same header with this many variables (200000 by default). It prints the best of three user and
+# system times.
 #
 #     `sample` of one variable at 1000 and at 20000 times
 #     `pick` of one name, given once and 30000 times; the same with another name among each 64

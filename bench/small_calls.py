@@ -1,12 +1,12 @@
 #!/usr/bin/env python3
-"""small_calls.py [BYTES]   what one call costs over a dump of so many bytes (1000, at most 65536):
-page faults, CPU time, and instructions, if valgrind is there. Beside the commands of vcdkit are
-`true`, which does nothing, `grep -c`, and `vcdkit --version`, which reads no dump. The last lines
-are 1,000 calls in a loop of the shell.
+"""small_calls.py [BYTES]   prints what one call costs over a dump of BYTES bytes (1000, at most
+65536): page faults, CPU time, and instructions, if valgrind is there. Beside the commands of vcdkit
+are `true`, which does nothing, `grep -c`, and `vcdkit --version`, which reads no dump. The last
+lines are for 1,000 calls in a shell loop.
 
 CPU time is user and system time, the least of 100 runs, of 30 for merges. Instructions are those of
-the process, with the loader's. All programs run in the C locale. VCDKIT names the program, else it
-is the vcdkit in the directory above."""
+the process, with the loader's. All programs run in the C locale. VCDKIT names the program; by
+default it is the vcdkit in the directory above."""
 import os
 import re
 import shutil

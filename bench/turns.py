@@ -1,21 +1,22 @@
 #!/usr/bin/env python3
-"""turns.py PROGRAM PROGRAM DUMP..   says which of two programs is faster, on a busy machine too:
-for each dump, the CPU time of both, and the ratio of the second to the first with its spread.
+"""turns.py PROGRAM PROGRAM DUMP...   reports which of two programs is faster, even on a busy
+machine: for each dump, the CPU time of both, and the ratio of the second to the first with its
+spread.
 
     bench/turns.py old/vcdkit ./vcdkit /tmp/dumps/*.vcd
     bench/turns.py --runs 200 --command 'cut --from 5 --to 9' old/vcdkit ./vcdkit dump.vcd
 
-The programs run in turn, in pairs whose order alternates, so that other work on the machine meets
-both. After each pair comes a process that only reads the dump (os.read of 64 KB in a fresh child of
-this script, timed from its first read to its last): its least time is taken off each time, so a
-ratio is about the work, and not about the copy out of the page cache. A time is user and system
-time together: Linux measures the sum, and estimates how it is divided.
+The programs run in turn, in pairs whose order alternates, so that other work on the machine
+affects both. After each pair comes a process that only reads the dump (os.read of 64 KB in a
+fresh child of this script, timed from its first read to its last): its least time is subtracted
+from each time, so a ratio is about the work, and not about the copy out of the page cache. A
+time is user and system time together: Linux measures the sum, and estimates how it is divided.
 
-A line says what a run took at least and in the middle (median), for each program, net of the read,
-and the ratio of the least times. Its spread is the range of the ratios of the least times of ten
-parts of the runs, without the lowest and the highest part. If 1 lies within that range, or within 1
-per cent of it, the line says 'no difference'. A difference of less than a fifth may come only from
-the address of a loop, if both programs take the same instructions: ask jumps.py."""
+A line shows the least and the median time of each program, without the read, and the ratio of
+the least times. Its spread is the range of the ratios of the least times of ten parts of the
+runs, without the lowest and the highest part. If 1 lies within that range, or within 1 per cent
+of it, the line says 'no difference'. A difference of less than a fifth may come only from the
+address of a loop, if both programs take the same instructions: see jumps.py."""
 import argparse
 import os
 import resource

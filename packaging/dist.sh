@@ -1,6 +1,6 @@
 #!/usr/bin/env bash
-# dist.sh PROGRAM FOLDER [LIBRARY]: packs a program with documents, man page, completions, samples,
-# scripts and the Python package, and writes to the directory:
+# dist.sh PROGRAM DIRECTORY [LIBRARY]: packs a program with documents, man page, completions,
+# samples, scripts and the Python package, and writes to the directory:
 #   vcdkit-VERSION-x86_64-linux.tar.gz   to unpack and run, or `make install` in it
 #   vcdkit_VERSION_amd64.deb             a Debian package of the program, if there is dpkg-deb
 #   python3-vcdkit_VERSION_*.deb         one of the Python package and of vcdkit-diff, ..
@@ -35,7 +35,7 @@ packed() {
 
 kit=${KIT:-}
 [[ -n $kit ]] || kit=$(dirname "$(dirname "$(readlink -f "$(command -v rt)")")")
-# licences FOLDER: the texts that go with the program, as NOTICE.md says
+# licences DIRECTORY: the texts that go with the program, as NOTICE.md says
 licences() {
     mkdir -p "$1"
     local part

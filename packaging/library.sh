@@ -1,5 +1,5 @@
 #!/bin/sh
-# library.sh ARCHIVE FOLDER: makes these files from a static library of rt, for callers in C:
+# library.sh ARCHIVE DIRECTORY: makes these files from a static library of rt, for callers in C:
 #   libvcdkit.a      the library with the C archives of the kit that it needs
 #   libvcdkit.so.0   the same as a shared library; libvcdkit.so is a link to it
 #   vcdkit.pc        for pkg-config, with the directories of PREFIX (/usr/local)

@@ -1,6 +1,6 @@
 #!/usr/bin/env python3
-"""links.py FOLDER: looks for the target of each link of the pages (*.md) below a directory, and for
-the heading that it names.
+"""links.py DIRECTORY: looks for the target of each link of the pages (*.md) below a directory, and
+for the heading that it names.
 
 It prints each link that leads nowhere or out of the directory, and ignores links to the web. The
 status is 0 if there is no such link."""

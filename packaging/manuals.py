@@ -1,8 +1,9 @@
 #!/usr/bin/env python3
-"""manuals.py FOLDER SCRIPT..: writes a man page for each script to the directory, from its --help.
+"""manuals.py DIRECTORY SCRIPT...: writes a man page for each script to the directory, made from its
+--help.
 
-A help consists of blocks with empty lines between them: first the usage, then the line that whatis
-shows. A later block is text, or it has a heading in small letters with a colon, such as options or
+A help text consists of blocks with empty lines between them: first the usage, then the line that
+whatis shows. A later block is text, or has a heading in lower case with a colon, such as options or
 examples. A script that cannot run here gets no page: its message says why."""
 import itertools
 import os

@@ -1,5 +1,5 @@
 #!/bin/sh
-# pages.sh FOLDER: copies the pages for users and the samples into the directory. Links to pages
+# pages.sh DIRECTORY: copies the pages for users and the samples into the directory. Links to pages
 # that only the repository has, such as those for developers, become plain text.
 set -eu
 [ $# = 1 ] || { sed -n '2,/^set/s/^# //p' "$0"; exit 2; }

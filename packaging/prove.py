@@ -1,6 +1,6 @@
 #!/usr/bin/env python3
-"""prove.py CRATE COMMAND [WORD ..]: proves each crate below crates/CRATE, runs
-`rt COMMAND WORD ..` in it, and shows how far it is.
+"""prove.py CRATE COMMAND [WORD...]: proves each crate below crates/CRATE, runs
+`rt COMMAND WORD...` in it, and shows how far it is.
 
 Crates that do not need each other are proved at the same time: one for each processor, if there are
 4 GB of available memory for each. An idle processor proves a crate of the library (BESIDE). While

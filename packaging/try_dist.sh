@@ -1,5 +1,5 @@
 #!/usr/bin/env bash
-# try_dist.sh FOLDER: tests what dist.sh left in the directory, without the kit on the PATH. All
+# try_dist.sh DIRECTORY: tests what dist.sh left in the directory, without the kit on the PATH. All
 # checks have to pass in the unpacked tarball. The program has to run in a directory with no other
 # file. The Debian packages need the right contents, and the links of their pages have to lead
 # somewhere. The wheel can be installed, and relink.sh links. In the repository, packing again has

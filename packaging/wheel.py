@@ -1,6 +1,6 @@
 #!/usr/bin/env python3
-"""wheel.py FOLDER PROGRAM [LIBRARY]: writes the Python package as a wheel into the directory, with
-the program, and with libvcdkit.so if it is there. It needs no build tool and no network.
+"""wheel.py DIRECTORY PROGRAM [LIBRARY]: writes the Python package as a wheel into the directory,
+with the program, and with libvcdkit.so if it is there. It needs no build tool and no network.
 
 After `pip install vcdkit-VERSION-py3-none-linux_x86_64.whl`, `import vcdkit` works, and the program
 and the scripts are on the PATH. The same files are packed as the same bytes: all times are
