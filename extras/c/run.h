@@ -42,7 +42,8 @@ static inline uint64_t seed(void) {
     return number;
 }
 
-/* Runs the words over one file, prints output and message, and returns the status. */
+/* Runs the words over one file, prints the output and then the message, as the program does, and
+ * returns the status. */
 static inline int run(const char *const *words, size_t count, const char *name) {
     struct vcdkit_bytes lent[16];
     struct vcdkit_file file = {bytes_of(name), file_of(name)};
@@ -61,6 +62,7 @@ static inline int run(const char *const *words, size_t count, const char *name) 
     } while (status != 4 && used > room);
     if (status != 4) {
         fwrite(out, 1, used, stdout);
+        fflush(stdout);
         fwrite(err, 1, said < sizeof err ? said : sizeof err, stderr);
     }
     free(out);

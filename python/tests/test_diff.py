@@ -1,6 +1,6 @@
 #!/usr/bin/env python3
 """Compares vcdkit-diff, over the program, with a plain reader of its own: COUNT pairs of random
-small dumps (2000), of a SEED (1). The second dump is the first as another tool could write it:
+small dumps (1000), of a SEED (1). The second dump is the first as another tool could write it:
 other codes, scopes, ranges, ticks and order, values written again, and now and then another one.
 Then it tries what vcdkit-diff has to refuse, and its JUnit file."""
 import contextlib
@@ -440,7 +440,7 @@ def tried():
 
 if __name__ == "__main__":
     with multiprocessing.Pool() as pool:
-        found = sum(pool.map(wrong, range(int(os.environ.get("COUNT", 2000))), 5), [])
+        found = sum(pool.map(wrong, range(int(os.environ.get("COUNT", 1000))), 5), [])
     found += tried()
     for one in sorted(found, key=lambda one: len(one[1]))[:3]:
         print("%s: of\n%s\n  wanted: %s\n  got:    %s" % one)

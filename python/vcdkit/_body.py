@@ -2,7 +2,6 @@
 command or a value."""
 import functools
 import io
-import itertools
 import re
 from typing import (TYPE_CHECKING, Any, BinaryIO, Callable, Collection, Dict, Iterable, Iterator,
                     List, NamedTuple, Optional, Set, Tuple, cast)
@@ -16,10 +15,11 @@ if TYPE_CHECKING:
 
 BLOCK = 1 << 22
 BODY = b"$enddefinitions $end\n"
-MAX_SEEN = 1 << 16  # values that are kept to be given again
+MAX_SEEN = 1 << 14  # values that are kept to be given again
+MAX_KEPT = 64  # bytes of a text that is kept
 FEW = 1 << 16
 Changes = List[Tuple[bytes, bytes]]  # a code and a value each
-Lines = Callable[[BinaryIO], Iterable[bytes]]
+Blocks = Callable[[BinaryIO], Iterable[bytes]]
 Edge = Tuple[bytes, bytes, bytes]  # the code of a clock, a digit and the digit after it
 
 
@@ -134,33 +134,32 @@ def change(line: bytes) -> Tuple[bytes, bytes]:
     return line[1:-1], first
 
 
-def timed(part: "Dump") -> Iterator[Tuple[int, List[bytes]]]:
-    """Returns each timestamp of a part of a dump with the lines up to the next one, without line
-    feeds, as soon as that comes. What comes before the first has time 0. A timestamp that is there
-    twice is one. A time that a fault leaves unfinished is left out."""
-    now, lines = 0, []
+def timed(part: "Dump", some: Optional[Blocks] = None) -> Iterator[Tuple[int, bytes]]:
+    """Returns each timestamp of a part of a dump with the lines up to the next one, as soon as that
+    comes: a text that does not end with a line feed. What comes before the first timestamp has time
+    0. A timestamp that is there twice is one, and one without lines is left out, as is a time that
+    a fault leaves unfinished. `some` may leave out lines of the body that do not matter."""
+    now, texts = 0, []
     fault: Optional[DumpFault] = None
     try:
         with part.body() as out:
-            for block in blocks(out):
-                first, *pieces = block[:-1].split(b"\n#")
-                if first[:1] == b"#":
-                    pieces.insert(0, first[1:])
-                else:
-                    lines += first.split(b"\n")
+            for block in (some or blocks)(out):
+                first, *pieces = (b"\n" + block[:-1]).split(b"\n#")
+                if first:
+                    texts.append(first[1:])
                 for piece in pieces:
-                    head, *rest = piece.split(b"\n")
+                    head, _, text = piece.partition(b"\n")
                     time = int(head)
-                    if time == now:
-                        lines += rest
-                    else:
-                        if lines:
-                            yield now, lines
-                        now, lines = time, rest
+                    if time != now:
+                        if texts:
+                            yield now, b"\n".join(texts) if len(texts) > 1 else texts[0]
+                        now, texts = time, [text] if text else []
+                    elif text:
+                        texts.append(text)
     except DumpFault as error:
         fault = error
-    if lines and (fault is None or part.is_finished(now, fault)):
-        yield now, lines
+    if texts and (fault is None or part.is_finished(now, fault)):
+        yield now, b"\n".join(texts)
     if fault:
         raise fault
 
@@ -172,31 +171,8 @@ def blocks(text: BinaryIO) -> Iterator[bytes]:
         yield block if block.endswith(b"\n") else block + text.readline()
 
 
-LAST = b"#-1"  # a timestamp of no time
-
-
-def pieces(part: "Dump", lines: Optional[Lines] = None) -> Iterator[bytes]:
-    """Returns the lines of the body of a part of a dump, without line feeds; with `lines` only
-    those that it takes. At the end comes LAST, unless a fault leaves the last time unfinished."""
-    def some() -> Iterator[Iterable[bytes]]:
-        time, fault = b"#0", None
-        try:
-            with part.body() as out:
-                for its in ([line[:-1]] for line in lines(out)) if lines else (
-                        block.split(b"\n") for block in blocks(out)):
-                    yield its
-                    time = next((line for line in reversed(its) if line[:1] == b"#"), time)
-        except DumpFault as error:
-            fault = error
-        if fault is None or part.is_finished(int(time[1:]), fault):
-            yield [LAST]
-        if fault:
-            raise fault
-    return itertools.chain.from_iterable(some())
-
-
 def steps(part: "Dump", codes: Collection[bytes], lead: Collection[bytes] = (),
-          is_cut: bool = False, lines: Optional[Lines] = None
+          is_cut: bool = False, some: Optional[Blocks] = None
           ) -> Iterator[Tuple[int, Changes, Changes]]:
     """Returns of each timestamp of a part of a dump the changes of some codes: those that are
     values from before it, and the others. What comes before the first timestamp has time 0. No two
@@ -204,45 +180,39 @@ def steps(part: "Dump", codes: Collection[bytes], lead: Collection[bytes] = (),
 
     The first value of a code is from before its time if it is in a `$dumpvars`, or if the code is
     in `lead`: `cut` begins with the values just before its first time, and goes on with what
-    changes at it. With `is_cut`, only the section with which `cut` begins has such values. `lines`
-    may leave out lines of the body that do not matter."""
-    known, first = _Known(codes), _First(codes, lead, is_cut)
-    waiting, get, time = first.waiting, known.get, 0
-    before: Changes = []
-    found: Changes = []
-    for line in pieces(part, lines):
-        one = get(line)
-        if one is None:
-            if line[:1] == b"#":
-                now = int(line[1:])
-                if now != time:
-                    if before or found:
-                        yield time, before, found
-                        before, found = [], []
-                    time = now
-                continue
-            if line[:1] == b"$":
-                first.note(line)
-                continue
-            one = known.add(line)
-        if one:
-            (before if waiting and first.is_before(one[0]) else found).append(one)
+    changes at it. With `is_cut`, only the section with which `cut` begins has such values. `some`
+    is that of timed."""
+    known, first = Known(codes), _First(codes, lead, is_cut)
+    changes_of, waiting = known.__getitem__, first.waiting  # faster than known[..]
+    none: Changes = []
+    for time, text in timed(part, some):
+        before, changes = none, changes_of(text)
+        if waiting:
+            before, changes = first.parted(text, changes, known)
+        if changes or before:
+            yield time, before, changes
 
 
-class _Known(Dict[bytes, Any]):
-    """Of lines that were seen the change that each is; an empty tuple of one that is none of some
-    codes."""
+class Known(Dict[bytes, Changes]):
+    """Of each text of lines the changes of some codes in it, which nobody may alter. Those of short
+    texts are kept to be given again, as most dumps have few of these."""
 
     def __init__(self, codes: Collection[bytes]):
-        super().__init__({b"": ()})
+        super().__init__()
         self._codes = codes
 
-    def add(self, line: bytes) -> Any:
-        """Returns the change of a line that was not seen."""
-        one = change(line + b"\n")
-        if len(self) > MAX_SEEN:
-            self.clear()
-        self[line] = its = one if one[0] in self._codes else ()
+    def __missing__(self, text: bytes) -> Changes:
+        if b"\n" in text:
+            its = [one for line in text.split(b"\n") for one in self[line]]
+        elif text[:1] in b"$":  # of a section, or empty
+            its = []
+        else:
+            one = change(text + b"\n")
+            its = [one] if one[0] in self._codes else []
+        if len(text) <= MAX_KEPT:
+            if len(self) >= MAX_SEEN:
+                self.clear()
+            self[text] = its
         return its
 
 
@@ -253,12 +223,25 @@ class _First:
         self.waiting, self._lead, self._is_cut = set(codes), lead, is_cut
         self._is_begin = self._has_section = False
 
-    def note(self, line: bytes) -> None:
+    def parted(self, text: bytes, changes: Changes, known: Known) -> Tuple[Changes, Changes]:
+        """Returns of the changes of a text those that are from before its time, and the others."""
+        if b"$" not in text and self.waiting.isdisjoint(dict(changes)):
+            return [], changes
+        before: Changes = []
+        others: Changes = []
+        for line in text.split(b"\n"):
+            if line[:1] == b"$":
+                self._note(line)
+            for one in known[line]:
+                (before if self._is_before(one[0]) else others).append(one)
+        return before, others
+
+    def _note(self, line: bytes) -> None:
         """Takes the line of a section."""
         self._is_begin = line == b"$dumpvars" and not (self._is_cut and self._has_section)
         self._has_section = True
 
-    def is_before(self, code: bytes) -> bool:
+    def _is_before(self, code: bytes) -> bool:
         """Whether the value of a code is from before its time."""
         if code not in self.waiting:
             return False
@@ -268,40 +251,24 @@ class _First:
 
 def at_edges(part: "Dump", codes: Collection[bytes], edges: Collection[Edge],
              lead: Collection[bytes] = ()) -> Iterator[Tuple[int, Changes]]:
-    """Returns each time that has one of some edges, with the changes of some codes since the last
-    such time, up to just before this one: those at the last one are among them, and so are values
-    from before this one. `lead` is as of steps."""
+    """Returns each time that has one of some edges, with the changes of some codes, and of the
+    clocks, since the last such time, up to just before this one: those at the last one are among
+    them, and so are values from before this one. `lead` is as of steps."""
     last = {code: b"" for code, _, _ in edges}
-    known, first = _Known({*codes, *last}), _First({*codes, *last}, lead)
-    waiting, get, time, is_edge, mark = first.waiting, known.get, 0, False, 0
-    found: Changes = []  # up to `mark` those before the time
-    for line in pieces(part):
-        one = get(line)
-        if one is None:
-            if line[:1] == b"#":
-                now = int(line[1:])
-                if now != time:
-                    if is_edge:
-                        yield time, found[:mark]
-                        found, is_edge = found[mark:], False
-                    elif mark > MAX_SEEN:
-                        found = list(dict(found).items())
-                    time, mark = now, len(found)
-                continue
-            if line[:1] == b"$":
-                first.note(line)
-                continue
-            one = known.add(line)
-        if not one:
-            continue
-        code, digit = one
-        if code in last:
-            is_edge = is_edge or (code, last[code], digit) in edges
-            last[code] = digit
-        if code in codes:
-            is_before = waiting and first.is_before(code)
-            found.insert(mark if is_before else len(found), one)
-            mark += bool(is_before)
+    found: Changes = []
+    for time, before, changes in steps(part, {*codes, *last}, lead):
+        is_edge = False
+        for code, digit in before + changes if before else changes:
+            if code in last:
+                is_edge = is_edge or (code, last[code], digit) in edges
+                last[code] = digit
+        found += before
+        if is_edge:
+            yield time, found
+            found = []
+        elif len(found) > MAX_SEEN:
+            found = list(dict(found).items())
+        found += changes
 
 
 def lead_of(out: BinaryIO, codes: Collection[bytes]) -> Set[bytes]:
@@ -338,12 +305,12 @@ def _value(text: bytes, size: int) -> Cell:
     return Value(digits if len(digits) == size else digits.rjust(size, extension(digits)))
 
 
-_kept_value = functools.lru_cache(maxsize=MAX_SEEN)(_value)
+value_of_size = functools.lru_cache(maxsize=MAX_SEEN)(_value)
 
 
 def value(text: bytes, signal: Signal) -> Cell:
     """Returns the value that a body has for a signal."""
-    return _kept_value(text, signal.size)
+    return value_of_size(text, signal.size)
 
 
 def changes(out: BinaryIO, signal: Signal) -> Iterator[Tuple[int, Cell]]:

@@ -108,13 +108,21 @@ def keys_of(signals: Iterable[Signal], others: Iterable[str] = ()) -> List[str]:
 
 
 class _Values:
-    """The last value of each signal of a table."""
+    """The last value of each signal of a table; `row` has them in order, None for none."""
 
     def __init__(self, columns: Sequence[Signal]):
-        self.codes = [one.code.encode() for one in columns]
-        self.signals = dict(zip(self.codes, columns))
-        self._texts: Dict[bytes, bytes] = {}
-        self._values: Dict[bytes, Cell] = {}
+        self.row: List[Cell] = [None] * len(columns)
+        self._texts: Dict[bytes, bytes] = {}  # as the body has them; empty for none
+        self._columns: Dict[bytes, Tuple[int, List[int]]] = {}  # of a code the size, and places
+        for at, one in enumerate(columns):
+            code = one.code.encode()
+            self._texts[code] = b""
+            self._columns.setdefault(code, (one.size, []))[1].append(at)
+
+    @property
+    def codes(self) -> Collection[bytes]:
+        """The codes of the signals."""
+        return self._columns.keys()
 
     def take(self, changes: _body.Changes) -> bool:
         """Takes changes, of which some may be of other signals; whether one of the values is
@@ -122,44 +130,52 @@ class _Values:
         is_other = False
         for code, text in changes if len(changes) < 2 else dict(changes).items():
             was = self._texts.get(code)
-            if code in self.signals and was != text:
+            if was is not None and was != text:
                 self._texts[code] = text
-                self._values[code] = _body.value(text, self.signals[code])
-                is_other = is_other or was is None or _body.same(text) != _body.same(was)
+                size, places = self._columns[code]
+                value = _body.value_of_size(text, size)
+                for place in places:
+                    self.row[place] = value
+                is_other = is_other or text[:1] != b"r" or _body.same(text) != _body.same(was)
         return is_other
 
-    def row(self) -> List[Cell]:
-        """Returns the values, `None` if there is none yet."""
-        return [self._values.get(code) for code in self.codes]
+
+Pair = Tuple[int, List[Cell]]  # a time and the values of a row
+
+
+def rows_of(pairs: Iterable[Pair]) -> Iterator[Row]:
+    """Makes a Row of each pair; Row() takes longer than all that makes a pair."""
+    return map(tuple.__new__, itertools.repeat(Row), pairs)
 
 
 def at_changes(part: "Dump", columns: Sequence[Signal], only: Optional["Condition"]
-               ) -> Iterator[Row]:
+               ) -> Iterator[Pair]:
     """Returns a row for each time at whose end a value is another one than before it, with the
     values at its end; only those at which a condition holds, if there is one."""
     values = _Values(columns)
-    codes = {*values.signals, *(only.codes if only else ())}
+    codes = {*values.codes, *(only.codes if only else ())}
     for time, before, changes in _body.steps(part, codes):
-        is_other = values.take(before + changes)
+        its = before + changes if before else changes
+        is_other = values.take(its)
         if only:
-            only.take(before + changes)
+            only.take(its)
         if is_other and (only is None or only.test(only.values) is True):
-            yield Row(time, values.row())
+            yield time, values.row[:]
         if only:
             only.end_events()
 
 
 def at_edges(part: "Dump", columns: Sequence[Signal], edges: Collection[_body.Edge],
-             lead: Collection[bytes], only: Optional["Condition"]) -> Iterator[Row]:
+             lead: Collection[bytes], only: Optional["Condition"]) -> Iterator[Pair]:
     """Returns a row for each time at which one of some edges is, with the values just before that
     time; only those at which a condition holds, if there is one. `lead` is that of _body.steps."""
     values = _Values(columns)
-    codes = {*values.signals, *(only.codes if only else ())}
+    codes = {*values.codes, *(only.codes if only else ())}
     for time, changes in _body.at_edges(part, codes, edges, lead):
         values.take(changes)
         if only:
             only.take(changes)
         if only is None or only.test(only.values) is True:
-            yield Row(time, values.row())
+            yield time, values.row[:]
         if only:
             only.end_events()

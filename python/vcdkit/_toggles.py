@@ -3,8 +3,8 @@ long it has each value; and these as SAIF, which power tools read."""
 import itertools
 import re
 from operator import lt
-from typing import (TYPE_CHECKING, Dict, Iterator, List, NamedTuple, Optional, Sequence,
-                    Tuple, Union)
+from typing import (TYPE_CHECKING, Dict, Iterable, Iterator, List, NamedTuple, Optional, Sequence,
+                    Set, Tuple, Union)
 
 from . import __version__, _body
 from ._condition import Ranges, declared
@@ -15,13 +15,16 @@ if TYPE_CHECKING:
     from .dump import Dump
 
 ODD = re.compile(r"([^A-Za-z0-9_])")  # what SAIF has a backslash before
-BATCH = 1 << 11  # times that are looked at together
+BATCH = 1 << 16  # lines that are looked at together
 ONES, UNKNOWNS, FLOATS = (str.maketrans("01xz", digits) for digits in ("0100", "0010", "0001"))
 BIT = (b"0", b"1", b"x", b"z")
+Time = Tuple[int, List[bytes]]  # a time and its lines
 
 
 class Counts:
     """A number for each bit of a vector: digit p of that of bit b is bit b of planes[p]."""
+
+    __slots__ = ("_planes",)
 
     def __init__(self) -> None:
         self._planes: List[int] = []
@@ -49,6 +52,8 @@ class Counts:
 
 class Count:
     """As Counts, of a single bit."""
+
+    __slots__ = ("_number",)
 
     def __init__(self) -> None:
         self._number = 0
@@ -138,7 +143,8 @@ class Bits:
         self.falls.add(1, len(falls))
         last = max(first[-1:] + second[-1:], default=self._since)
         is_high = len(first) == len(second) if self._ones else len(first) != len(second)
-        self.high.add(1, sum(falls) - sum(rises) + last * is_high - self._since * self._ones)
+        if self._has_ticks:
+            self.high.add(1, sum(falls) - sum(rises) + last * is_high - self._since * self._ones)
         self._since, self._ones = last, int(is_high)
         return True
 
@@ -169,21 +175,33 @@ def rows_of(dump: "Dump", names: List[str], begin: int, end: int, has_ticks: boo
     are asked for. Real numbers and events have none."""
     signals = [one for one in dump.select(names) if not one.is_real and one.type != "event"]
     found = {one.code.encode(): Bits(one.size, begin, has_ticks) for one in signals}
-    times = _body.timed(dump.cut(begin, end)._part(names))
-    known: Dict[bytes, Tuple[bytes, bytes]] = {}
+    taker = _Taker(found)
+    times = ((time, text.split(b"\n")) for time, text in
+             _body.timed(dump.cut(begin, end)._part(names)))
     for time, lines in itertools.islice(times, 1):
         _start(lines, found)
         rest = lines[lines.index(b"$end"):] if lines[0] == b"$dumpvars" else lines
-        _take([(time, rest)], found, known)
-    for batch in iter(lambda: list(itertools.islice(times, BATCH)), []):
-        _take(batch, found, known)
+        taker.take([(time, rest)])
+    for batch in _batches(times):
+        taker.take(batch)
     for bits in found.values():
         bits.settle()
         bits.pass_to(end)
     ranges = declared(dump, names)
-    its = {code: list(bits.counts()) for code, bits in found.items()}
     return [Row(one, place, *counts) for one in signals
-            for place, counts in zip(places_of(one, ranges), its[one.code.encode()])]
+            for place, counts in zip(places_of(one, ranges), found[one.code.encode()].counts())]
+
+
+def _batches(times: Iterable[Time]) -> Iterator[List[Time]]:
+    """Returns times in batches of some lines."""
+    batch, count = [], 0
+    for one in times:
+        batch.append(one)
+        count += len(one[1])
+        if count >= BATCH:
+            yield batch
+            batch, count = [], 0
+    yield batch
 
 
 def _start(lines: List[bytes], found: Dict[bytes, Bits]) -> None:
@@ -196,40 +214,48 @@ def _start(lines: List[bytes], found: Dict[bytes, Bits]) -> None:
             found[code].start(text)
 
 
-def _take(batch: List[Tuple[int, List[bytes]]], found: Dict[bytes, Bits],
-          known: Dict[bytes, Tuple[bytes, bytes]]) -> None:
-    """Takes the lines of some times. `known` has the changes of lines that were seen."""
-    of_bits: Dict[bytes, Tuple[List[int], List[int], List[int]]] = {
-        code: ([], [], []) for code, bits in found.items() if bits.size == 1}
-    adders = {digit + code: its[min(at, 2)].append for code, its in of_bits.items()
-              for at, digit in enumerate(BIT)}
-    get = adders.get
-    for time, lines in batch:
-        for line in lines:
-            add = get(line)
-            if add:
-                add(time)
-            elif line[:1] in (b"b", b"r"):
-                code, text = known.get(line) or _note(line, known)
-                if code in of_bits:
-                    of_bits[code][2].append(time)
-                elif code in found:
-                    found[code].take(time, text)
-    odd = {code for code, (falls, rises, others) in of_bits.items()
-           if others or (falls or rises) and not found[code].takes_all(falls, rises)}
-    for time, lines in batch if odd else ():
-        for line in lines:
-            code, text = known.get(line) or _note(line, known)
-            if code in odd:
-                found[code].take(time, text)
+class _Taker:
+    """Takes the lines of times for the Bits of each code, a batch at a time. A single bit that is
+    known, and another one each time that it is written, needs no look at each of its lines."""
 
+    def __init__(self, found: Dict[bytes, Bits]):
+        self._found, self._known = found, _body.Known(found)
+        # The times at which a single bit is written 0, 1 and anything else.
+        self._times: Dict[bytes, Tuple[List[int], List[int], List[int]]] = {
+            code: ([], [], []) for code, bits in found.items() if bits.size == 1}
+        self._adders = {digit + code: its[min(at, 2)].append for code, its in self._times.items()
+                        for at, digit in enumerate(BIT)}
 
-def _note(line: bytes, known: Dict[bytes, Tuple[bytes, bytes]]) -> Tuple[bytes, bytes]:
-    """Returns the change of a line that was not seen; no code for that of a section."""
-    if len(known) > _body.MAX_SEEN:
-        known.clear()
-    known[line] = one = (b"", b"") if line[:1] == b"$" else _body.change(line + b"\n")
-    return one
+    def take(self, batch: List[Time]) -> None:
+        """Takes the lines of some times."""
+        adder_of, changes_of = self._adders.get, self._known.__getitem__
+        others: Set[bytes] = set()  # further lines of single bits
+        for time, lines in batch:
+            for line in lines:
+                add = adder_of(line)
+                if add:
+                    add(time)
+                    continue
+                for code, text in changes_of(line):
+                    if code in self._times:
+                        self._times[code][2].append(time)
+                        others.add(line)
+                    else:
+                        self._found[code].take(time, text)
+        self._take_odd(batch, others)
+
+    def _take_odd(self, batch: List[Time], others: Set[bytes]) -> None:
+        """Takes the lines of the single bits that do not change in the simple way."""
+        odd = {code for code, (falls, rises, rest) in self._times.items()
+               if rest or (falls or rises) and not self._found[code].takes_all(falls, rises)}
+        its = {digit + code for code in odd for digit in BIT}.union(others)
+        for time, lines in batch if odd else ():
+            for line in filter(its.__contains__, lines):
+                for code, text in self._known[line]:
+                    self._found[code].take(time, text)
+        for lists in self._times.values():
+            for one in lists:
+                one.clear()
 
 
 def places_of(signal: Signal, ranges: Ranges) -> Sequence[Optional[int]]:

@@ -13,7 +13,7 @@ CODES = re.compile(rb"\n(?:[01xz]|[br]\S* )(.*)")  # of the lines that have a va
 
 
 class Lines:
-    """What steps() takes as `lines`: the values with one of some letters, each next value of their
+    """What timed() takes as `some`: the values with one of some letters, each next value of their
     codes, and the timestamps before these."""
 
     def __init__(self, letters: Collection[bytes]):
@@ -30,10 +30,11 @@ class Lines:
         for block in blocks(out):
             text = b"\n" + block
             starts = [found.start() for found in self._find(text)]
-            if len(starts) > MAX_STARTS:
-                yield from self._of_each_line(block)
-            else:
-                yield from self._of_some_lines(text, starts)
+            lines = (self._of_each_line(block) if len(starts) > MAX_STARTS
+                     else self._of_some_lines(text, starts))
+            its = b"".join(lines)
+            if its:
+                yield its
 
     def _is_wanted(self, line: bytes) -> bool:
         """Whether a line with a value matters; notes the value."""

@@ -362,10 +362,8 @@ class Dump:
         codes = {one.code.encode() for one in columns}.union(only.codes if only else ())
         lead = self._lead(codes.union(code for code, _, _ in edges) if edges else ())
         part = self._part(names)
-        if edges:
-            yield from _rows.at_edges(part, columns, edges, lead, only)
-        else:
-            yield from _rows.at_changes(part, columns, only)
+        yield from _rows.rows_of(_rows.at_edges(part, columns, edges, lead, only) if edges
+                                 else _rows.at_changes(part, columns, only))
 
     def _lead(self, codes: Collection[bytes]) -> Set[bytes]:
         """Returns those of some codes of a merge whose values begin with a `$dumpvars`, as a merge

@@ -1,5 +1,5 @@
 -- What a table keeps of a code whose value was set and whose step was counted.
-use Rattle.std.proofs.Common.{◌≡◌, ◌≢◌, ◌⊎◌, inl, inr, ℕ, ◌+◌, ◌<◌, ◌≤◌, ◌==◌, ◌||◌, ◌%◌, ◌^◌, max, not, Bool, true, false, cond, List, [], ◌∷◌, length, take, drop, slice_get, Option, Some, None, refl, subst, sym, ap, ◌∙◌, arith}
+use Rattle.std.proofs.Common.{◌≡◌, ◌≢◌, ◌⊎◌, inl, inr, ℕ, ◌+◌, ◌<◌, ◌≤◌, ◌==◌, ◌||◌, ◌%◌, ◌^◌, max, not, Bool, true, false, cond, List, [], ◌∷◌, length, map, take, drop, slice_get, Option, Some, None, refl, subst, sym, ap, ◌∙◌, arith}
 use Rattle.std.specs.Prelude.{option_map, unwrap_or}
 use Rattle.std.specs.Char.{to_ascii_lowercase}
 use Rattle.std.specs.Option.{option_eq}
@@ -11,7 +11,7 @@ use Rattle.vcd_body.specs.Contents.{ChangesCode, GivesValue, IsLaidOut, KeepsTab
 use Rattle.vcd_body.specs.Given.{IsText}
 use Rattle.vcd_body.specs.Binary.{binary_digits, count_in, is_proper, number_in}
 use Rattle.vcd_body.specs.Items.{model_form}
-use Rattle.vcd_body.specs.Kept.{Held, IsStep, Kept, differs, goes_from, last_digit_in, value_at_size, with_change, with_counted, with_held, with_number, with_number_change, with_step, with_text}
+use Rattle.vcd_body.specs.Kept.{Held, IsStep, Kept, differs, fits, goes_from, last_digit_in, value_at_size, with_change, with_counted, with_held, with_number, with_number_change, with_step, with_text}
 use Rattle.vcd_body.specs.Packed.{held_digit}
 use Rattle.vcd_body.specs.Stored.{AreLaidOut, ChangesAt, Whole, end_at, held_by, held_of, kept_in, kept_with, len_in, number_of, one_digit, share_of, some_by, state_in, used_by, whole}
 use Rattle.vcd_body.specs.declared.item.Form.{Form}
@@ -249,6 +249,19 @@ pub number_alone : (old new : Table) (code size l n : ℕ) (s : Step) → Change
 number_alone old new code size l n s sets is stayed =
     change_as code (with_number l n) (with_number_change size l n) old.values.now new.values.now old.slots.now new.slots.now old.shares.now new.shares.now
     (λ k at. sym (changed_to s size l n k (subst (λ (h : Held). IsStep s (value_at_size size h) (value_with size (model_form form.Vector) (binary_digits l n))) (held_is old code k at) is) ∙ ap (λ (b : Bool). cond b (with_step s.rises s.falls (with_number l n k)) (with_number l n k)) stayed)) sets
+
+-- the same digits again change nothing
+pub same_again : (t : Table) (code size : ℕ) (text : List ℕ) (s : Step) → 0 < length text → IsStep s (value_at_size size (held_at t code)) (value_with size (model_form form.Vector) text) → s.differs ≡ false → held_at t code ≡ Held.Digits (map held_digit text) → ChangesCode code (with_change size form.Vector text) t t
+same_again t code size text s some is stayed same =
+    change_as code (λ (k : Kept). k) (with_change size form.Vector text) t.values.now t.values.now t.slots.now t.slots.now t.shares.now t.shares.now
+    (λ k at. sym (changed_by s size form.Vector text k some (subst (λ (h : Held). IsStep s (value_at_size size h) (value_with size (model_form form.Vector) text)) (held_is t code k at) is)
+    ∙ ap (λ (b : Bool). cond b (with_step s.rises s.falls (with_text form.Vector text k)) (with_text form.Vector text k)) stayed
+    ∙ again k (sym same ∙ held_is t code k at) (fits form.Vector (length text) k.room)))
+    (nothing_changes code t.values.now t.slots.now t.shares.now)
+  where
+    again : (k : Kept) → Held.Digits (map held_digit text) ≡ k.held → (b : Bool) → with_held (cond b (Held.Digits (map held_digit text)) k.held) k ≡ k
+    again k e true = ap (λ (h : Held). with_held h k) e
+    again k e false = refl
 
 -- one call after another
 pub keeps_twice : (old mid new : Table) → KeepsTable old mid → KeepsTable mid new → KeepsTable old new

@@ -124,21 +124,12 @@ pub packs_by : (text bytes : List ℕ) (q : ℕ) → q ≡ quarter_of (length te
 packs_by text bytes q is packs = packs_again text bytes (subst (λ k. (j : ℕ) → j < k → get_or bytes j 0 ≡ packed_byte text k j) is packs)
 
 -- digits with `0` after them have the same codes before 64
-pub padded_is : (text : List ℕ) (k : ℕ) → length text ≤ 64 → k < 64 → two_bits_or (text ++ drop (length text) (replicate 64 48)) k ≡ two_bits_or text k
-padded_is text k few less = in_text (text ++ rest) k (omega (arith, long, less)) ∙ by_place (cases_lt k (length text))
+pub padded_is : (text block : List ℕ) (k : ℕ) → length block ≡ 64 → ((j : ℕ) → j < length text → get_or block j 0 ≡ get_or text j 0) → ((j : ℕ) → length text ≤ j → get_or block j 0 ≡ get_or {A = ℕ} (replicate 64 48) j 0) → k < 64 → two_bits_or block k ≡ two_bits_or text k
+padded_is text block k long front rest less = in_text block k (omega (arith, long, less)) ∙ by_place (cases_lt k (length text))
   where
-    rest : List ℕ
-    rest = drop (length text) (replicate 64 48)
-
-    long : length (text ++ rest) ≡ 64
-    long = let a = length-append text rest in let d = length-drop {A = ℕ} (length text) (replicate 64 48) in let r = length-replicate {A = ℕ} 64 48 in omega (arith, a, d, r, few)
-
-    by_place : (k < length text) ⊎ (length text ≤ k) → two_bits_of (get_or (text ++ rest) k 0) ≡ two_bits_or text k
-    by_place (inl h) = ap two_bits_of (get_or_append_left text rest 0 k h) ∙ sym (in_text text k h)
-    by_place (inr h) =
-        let i : length text + (k - length text) ≡ k = omega arith in
-        ap two_bits_of (get_or-append_right text rest (length text) k 0 refl h ∙ get_or-drop (length text) (replicate 64 48) (k - length text) 0 ∙ ap (λ (j : ℕ). get_or {A = ℕ} (replicate 64 48) j 0) i ∙ get_or-replicate 64 k 48 0 less)
-        ∙ sym (above_test k (length text) (two_bits_of (get_or text k 0)) 0 h)
+    by_place : (k < length text) ⊎ (length text ≤ k) → two_bits_of (get_or block k 0) ≡ two_bits_or text k
+    by_place (inl h) = ap two_bits_of (front k h) ∙ sym (in_text text k h)
+    by_place (inr h) = ap two_bits_of (rest k h ∙ get_or-replicate 64 k 48 0 less) ∙ sym (above_test k (length text) (two_bits_of (get_or text k 0)) 0 h)
 
 -- ---- one digit of a share
 

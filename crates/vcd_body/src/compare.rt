@@ -5,7 +5,6 @@ ghost use Rattle.vcd_body.specs.Names.{AreTwo, Decides, HasDigits, are_two, diff
 use crate::change::extended_by;
 use crate::held::{count_of, digit_or, digit_shown, last_held};
 use crate::item::Form;
-use crate::packed::holds_packed;
 use crate::slot::{HeldValue, State};
 
 /// Returns the digit, in lower case, by which a text of digits is extended on the left. It is `0`
@@ -96,10 +95,7 @@ fn several_differ(held: HeldValue<'_>, size: usize, text: &[u8]) -> bool
     if size.max(count) != size.max(text.len()) {
         return true;
     }
-    match held.holding.state {
-        State::Packed if count == text.len() && holds_packed(held.bytes, text) => false,
-        _ => !are_same(held, text, count.max(text.len())),
-    }
+    !are_same(held, text, count.max(text.len()))
 }
 
 /// Returns whether the held value, which has to be one of digits, and a text of digits are

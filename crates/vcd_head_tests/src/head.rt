@@ -47,7 +47,7 @@ fn read_good(alloc: Global, text: &[u8]) -> Result<Head, HeadFault> {
 
 // Rows of the header with nested scopes, by their indexes. The bytes of a new code lie before the
 // type of its first variable.
-const NESTED_ROWS: [(usize, Row); 5] = [
+static NESTED_ROWS: [(usize, Row); 5] = [
     (
         1,
         Row {
@@ -129,10 +129,10 @@ fn has_nested_codes(view: HeadView<'_>) -> bool {
 #[test]
 fn scopes_and_aliases(rt: HostRuntime) -> Result<(), Fail> {
     let head = read_good(rt.alloc(), NESTED)?;
-    for (position, row) in NESTED_ROWS {
+    for (position, row) in &NESTED_ROWS {
         assert_eq!(rt;
-            head.view().rows.get(position).copied(),
-            Some(row),
+            head.view().rows.get(*position).copied(),
+            Some(*row),
             "at {position}"
         );
     }
@@ -153,7 +153,7 @@ const SMALL: &[u8] = b"$timescale 1ns $end\n$scope module tb $end\n$var wire 1 !
     $var reg 4 \" q [3:0] $end\n$upscope $end\n$enddefinitions $end\n";
 
 // Texts that are no headers, the number of their fault, and its line.
-const FAULTS: [(&[u8], u8, u64); 16] = [
+static FAULTS: [(&[u8], u8, u64); 16] = [
     (b"", 2, 1),
     (b"$foo $end\n", 2, 2),
     (b"$comment x$end\n$enddefinitions $end\n", 2, 3),
@@ -187,9 +187,9 @@ fn fault_of(alloc: Global, text: &[u8]) -> Option<(u8, u64)> {
 
 #[test]
 fn faults_and_lines(rt: HostRuntime) {
-    for (text, number, line) in FAULTS {
+    for (text, number, line) in &FAULTS {
         let fault = fault_of(rt.alloc(), text);
-        assert_eq!(rt; fault, Some((number, line)), "fault {number}");
+        assert_eq!(rt; fault, Some((*number, *line)), "fault {number}");
     }
 }
 
@@ -216,7 +216,7 @@ fn needed(head: &Head) -> Need {
 }
 
 // Codes, and the indexes at which both look-ups find them.
-const FOUND: [(&[u8], Option<usize>); 8] = [
+static FOUND: [(&[u8], Option<usize>); 8] = [
     (b"~", Some(0)),
     (b"!", Some(1)),
     (b"!!", Some(2)),
@@ -231,8 +231,8 @@ const FOUND: [(&[u8], Option<usize>); 8] = [
 fn codes_are_found(rt: HostRuntime) -> Result<(), Fail> {
     let head = read_good(rt.alloc(), FOUR)?;
     assert_eq!(rt; head.view().index, [1, 2, 3, 0].as_slice());
-    for (code, position) in FOUND {
-        assert_eq!(rt; found(&head, code), [position; 2], "of {code:?}");
+    for (code, position) in &FOUND {
+        assert_eq!(rt; found(&head, code), [*position; 2], "of {code:?}");
     }
     Ok(())
 }
@@ -246,7 +246,7 @@ const CROWDED: &[u8] =
         $var wire 1 0123456789abcdef j $end $enddefinitions $end\n";
 
 // Codes, and the indexes at which both look-ups find them among these.
-const FOUND_CROWDED: [(&[u8], Option<usize>); 14] = [
+static FOUND_CROWDED: [(&[u8], Option<usize>); 14] = [
     (b"!", Some(0)),
     (b"1", Some(1)),
     (b"A", Some(2)),
@@ -270,8 +270,8 @@ fn crowded_codes_are_found(rt: HostRuntime) -> Result<(), Fail> {
         head.view().index,
         [0, 9, 1, 2, 3, 4, 5, 7, 8, 6].as_slice()
     );
-    for (code, position) in FOUND_CROWDED {
-        assert_eq!(rt; found(&head, code), [position; 2], "of {code:?}");
+    for (code, position) in &FOUND_CROWDED {
+        assert_eq!(rt; found(&head, code), [*position; 2], "of {code:?}");
     }
     Ok(())
 }
@@ -366,7 +366,7 @@ fn selected(head: &Head, name: &str) -> [bool; 3] {
 }
 
 // Names, and which of tb.a, tb.ab and tb.a.x they select.
-const SELECTED: [(&str, [bool; 3]); 8] = [
+static SELECTED: [(&str, [bool; 3]); 8] = [
     ("tb", [true; 3]),
     ("tb.a", [true, false, true]),
     ("tb.ab", [false, true, false]),
@@ -380,8 +380,8 @@ const SELECTED: [(&str, [bool; 3]); 8] = [
 #[test]
 fn names_select_whole_components(rt: HostRuntime) -> Result<(), Fail> {
     let head = read_good(rt.alloc(), BESIDE)?;
-    for (name, positions) in SELECTED {
-        assert_eq!(rt; selected(&head, name), positions, "by {name}");
+    for (name, positions) in &SELECTED {
+        assert_eq!(rt; selected(&head, name), *positions, "by {name}");
     }
     Ok(())
 }
@@ -410,7 +410,7 @@ fn marked(
 }
 
 // Names, and the marks of the seven rows, or the index of the name that is refused.
-const MARKED: [(&[&str], Result<[u8; 7], usize>); 6] = [
+static MARKED: [(&[&str], Result<[u8; 7], usize>); 6] = [
     (&[], Ok([1, 1, 1, 1, 1, 0, 0])),
     (&["tb.a"], Ok([1, 1, 0, 1, 1, 0, 0])),
     (&["tb.a.x"], Ok([1, 0, 0, 1, 1, 0, 0])),
@@ -422,8 +422,8 @@ const MARKED: [(&[&str], Result<[u8; 7], usize>); 6] = [
 #[test]
 fn selected_variables_are_marked(rt: HostRuntime) -> Result<(), Fail> {
     let head = read_good(rt.alloc(), BESIDE)?;
-    for (texts, marks) in MARKED {
-        assert_eq!(rt; marked(rt.alloc(), &head, texts)?, marks, "by {texts:?}");
+    for (texts, marks) in &MARKED {
+        assert_eq!(rt; marked(rt.alloc(), &head, texts)?, *marks, "by {texts:?}");
     }
     Ok(())
 }
@@ -452,7 +452,7 @@ fn marked_points(
 
 // Names in any order and repeated, and the marks of the eleven rows, or the index of the name that
 // is refused.
-const MARKED_POINTS: [(&[&str], Result<[u8; 11], usize>); 7] = [
+static MARKED_POINTS: [(&[&str], Result<[u8; 11], usize>); 7] = [
     (&["a"], Ok([1, 1, 1, 0, 0, 1, 1, 1, 0, 0, 0])),
     (&["a.b.c"], Ok([1, 1, 1, 0, 0, 1, 1, 0, 0, 0, 0])),
     (&["a.b.d"], Ok([0, 0, 0, 0, 0, 1, 0, 1, 0, 0, 0])),
@@ -468,10 +468,10 @@ const MARKED_POINTS: [(&[&str], Result<[u8; 11], usize>); 7] = [
 #[test]
 fn names_with_points_are_found(rt: HostRuntime) -> Result<(), Fail> {
     let head = read_good(rt.alloc(), POINTS)?;
-    for (texts, marks) in MARKED_POINTS {
+    for (texts, marks) in &MARKED_POINTS {
         assert_eq!(rt;
             marked_points(rt.alloc(), &head, texts)?,
-            marks,
+            *marks,
             "by {texts:?}"
         );
     }

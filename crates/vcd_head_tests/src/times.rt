@@ -6,7 +6,7 @@ use vcd_words::{UseFault, Want, Words, want_of};
 type Times<'a> = Result<(&'a [u64], &'a [Option<i8>]), UseFault<'a>>;
 
 // Words, and the times that they ask for.
-const TIMES: [(Words<'static, 'static>, Times<'static>); 47] = [
+static TIMES: [(Words<'static, 'static>, Times<'static>); 47] = [
     (
         Words::Cut("15ns", "15ns"),
         Ok((&[15, 15], &[Some(-9), Some(-9)])),

@@ -40,7 +40,7 @@ const NO_VALUE: Option<(ErrorKind, u8)> = Some((ErrorKind::InvalidValue, 2));
 const TWICE: Option<(ErrorKind, u8)> = Some((ErrorKind::ArgumentConflict, 2));
 
 // Words, the program's name first, and what their parse returns.
-const ANSWERS: [(&[&str], Option<(ErrorKind, u8)>); 52] = [
+static ANSWERS: [(&[&str], Option<(ErrorKind, u8)>); 52] = [
     // A command.
     (&["vcdkit", "check"], TAKEN),
     (&["vcdkit", "--help"], HELP),
@@ -183,7 +183,7 @@ fn refuse<'a, R: Abort + AllocGlobal>(rt: &R, words: &'a [&'a str], fault: UseFa
 }
 
 // Words, what they ask for, and the token limit.
-const ASKS: [(&[&str], Words<'static, 'static>, usize); 28] = [
+static ASKS: [(&[&str], Words<'static, 'static>, usize); 28] = [
     (&["vcdkit", "check"], Words::Check, LIMIT),
     (&["vcdkit", "check", "-i", "63"], Words::Check, LIMIT),
     (&["vcdkit", "list", "-i", "f.vcd"], Words::List, LIMIT),
@@ -333,7 +333,7 @@ fn words_ask_for_a_want_and_a_limit(rt: HostRuntime) {
 }
 
 // Words that are refused, and the fault.
-const REFUSED: [(&[&str], UseFault<'static>); 30] = [
+static REFUSED: [(&[&str], UseFault<'static>); 30] = [
     (&["vcdkit", "merge", "-", "-"], UseFault::InputTwice),
     (
         &["vcdkit", "merge", "a.vcd", "-", "b.vcd", "-"],
@@ -494,7 +494,7 @@ fn is_input<'a>(
 }
 
 // Words, and the input that they name.
-const INPUTS: [(&[&str], Option<&str>); 8] = [
+static INPUTS: [(&[&str], Option<&str>); 8] = [
     (&["vcdkit", "check", "--token-limit", "64"], None),
     (&["vcdkit", "list", "-i", "f.vcd"], Some("f.vcd")),
     (&["vcdkit", "check", "-i", ""], Some("")),

@@ -5,7 +5,7 @@ use Rattle.std.proofs.lemmas.Bool.Decides.{nat_tests}
 use Rattle.std.proofs.lemmas.Simd.{mask_l-mod, bit_mask_l, length-chunk, get_or-chunk, length-zip2, sum-zip2, swz_l, SwzOk, SwzOk-from_Each1, length-swz_l, get_or-swz_l}
 use Rattle.std.proofs.lemmas.List.{length-map, get_or-map, get_or_past, ext_get_or}
 use Rattle.std.specs.Int.{bit_at}
-use Rattle.std.proofs.lemmas.Nat.Bits.{bit_at-lt, bit_at-zero, bit_at_and, bit_at_mask_below, bit_at_mask_inside}
+use Rattle.std.proofs.lemmas.Nat.Bits.{bit_at-zero}
 use lib.Lanes.{chunk, mask_l, sel_l, sum_l, top, zip2, Each1}
 use lib.ListN.{replicate}
 use mir.Val.{zeroes}
@@ -127,27 +127,6 @@ bits-on chunk at at' stop w bit mask m set below kept no_more gone is =
       white = λ k h. m.white k (no_more k h);
       other = λ j le lt none. m.other j (omega arith) lt (λ h. sym (kept (j + 64 - w.next) (omega arith) (omega arith)) ∙ none h);
     }
-
--- the bits from k on are kept
-kept_bit : (bits k i : ℕ) → k ≤ i → i < 64 → bit_at (bit_and bits (2 ^ 64 - 2 ^ k)) i ≡ bit_at bits i
-kept_bit bits k i le lt = omega (arith, bit_at_and bits (2 ^ 64 - 2 ^ k) i, bit_at_mask_inside k 64 i le lt, bit_at-lt bits i)
-
--- and none below it
-set_bit : (bits k i : ℕ) → bit_at (bit_and bits (2 ^ 64 - 2 ^ k)) i ≡ 1 → (k ≤ i) × (bit_at bits i ≡ 1)
-set_bit bits k i set = elim (cases_lt i k) [
-  | inl lt ↦ absurd (omega (arith, bit_at_and bits (2 ^ 64 - 2 ^ k) i, bit_at_mask_below k 64 i lt, set))
-  | inr le ↦ (le, omega (arith, bit_at_and bits (2 ^ 64 - 2 ^ k) i, bit_at-lt bits i, bit_at-lt (2 ^ 64 - 2 ^ k) i, set))
-]
-
--- from a later offset on
-pub bits-from : (chunk : List ℕ) (at start stop : ℕ) (w : White) (k : ℕ) → BitsAreWhite chunk at stop w → at ≤ start → start < w.next → k + w.next ≡ start + 64 → BitsAreWhite chunk start stop (bits-of (bit_and w.bits (2 ^ 64 - 2 ^ k)) w.next)
-bits-from chunk at start stop w k m le lt is = record {
-  within = m.within;
-  ahead = λ i set. omega (arith, (set_bit w.bits k i set).0);
-  inside = λ i set. m.inside i (set_bit w.bits k i set).1;
-  white = λ i set. m.white i (set_bit w.bits k i set).1;
-  other = λ j from below none. m.other j (omega arith) below (λ h. sym (kept_bit w.bits k (j + 64 - w.next) (omega arith) (omega arith)) ∙ none h);
-}
 
 -- a load with no white byte
 pub tells-none : (chunk : List ℕ) (at next mask : ℕ) → ((j : ℕ) → at ≤ j → j < next → is_white_space (get_or chunk j 0) ≡ false) → TellsWhite chunk next 64 mask → mask ≡ 0

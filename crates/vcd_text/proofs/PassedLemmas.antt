@@ -290,6 +290,21 @@ before_bits bytes start w m stops k set = elim (cases_lt (start + 64) (w.next + 
 pub white_rest : (bytes : List ℕ) (from at start : ℕ) → from ≤ at → at ≤ start → AreWhite bytes from start → AreWhite bytes at start
 white_rest bytes from at start le far w = record { order = far; white = λ k h lt. w.white k (omega arith) lt }
 
+pub white_one : (bytes : List ℕ) (at : ℕ) → is_white_space (slice_index bytes at) ≡ true → AreWhite bytes at (at + 1)
+white_one bytes at e = record {
+  order = omega arith;
+  white = λ k from below. let here : at ≡ k = omega arith in subst (λ j. is_white_space (slice_index bytes j) ≡ true) here e;
+}
+
+pub white_on : (bytes : List ℕ) (from at to : ℕ) → AreWhite bytes from at → AreWhite bytes at to → AreWhite bytes from to
+white_on bytes from at to w more = record {
+  order = omega (arith, w.order, more.order);
+  white = λ k h lt. elim (cases_lt k at) [
+    | inl early ↦ w.white k h early
+    | inr late ↦ more.white k late lt
+  ];
+}
+
 -- of the bytes up to the white one after a run, only that one is white
 pub run_bits : (limit : ℕ) (bytes : List ℕ) (start n : ℕ) (w : White) → IsRun limit bytes start n → w.next ≡ start + n + 1
     → ((k : ℕ) → bit_at w.bits k ≡ 1 → k ≡ 63) → bit_at w.bits 63 ≡ 1 → BitsAreWhite bytes start (length bytes) w

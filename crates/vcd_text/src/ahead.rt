@@ -1,6 +1,6 @@
 //! The tokens that lie completely in a chunk: a caller's loop reads them without a change of the
 //! feed.
-ghost use Rattle.std.specs.Prelude.{◌≡◌, ◌≢◌, ℕ, ◌+◌, ◌^◌, ◌<◌, ◌≤◌, true, false, List, length, slice_index, IfSome, None, Some};
+ghost use Rattle.std.specs.Prelude.{◌≡◌, ◌≢◌, ℕ, ◌+◌, ◌-◌, ◌^◌, ◌<◌, ◌≤◌, true, false, List, length, slice_index, IfSome, None, Some};
 ghost use Rattle.vcd_text.specs.Names.{AreWhite, BitsAreWhite, IsRun, bit_at, is_white_space};
 
 use crate::scan::{is_white_space, low_16, lowest, run_len, white_64, without};
@@ -15,13 +15,18 @@ pub(crate) struct White {
 }
 
 impl White {
-    /// Returns what is known of the white bytes of a chunk before any byte was looked at: no white
-    /// byte.
+    /// Returns what is known of the white bytes of a chunk if no byte from offset `start` on was
+    /// looked at: no white byte.
     #[inline(always)]
-    pub(crate) fn unknown() -> Self
-        ensures { (chunk : List ℕ) (at stop : ℕ) → BitsAreWhite chunk at stop result }
+    pub(crate) fn unknown(start: usize) -> Self
+        ensures next { result.next ≡ start }
+        ensures bits { (chunk : List ℕ) (at stop : ℕ) → start ≤ at → start ≤ stop
+            → BitsAreWhite chunk at stop result }
     {
-        White { bits: 0, next: 0 }
+        White {
+            bits: 0,
+            next: start,
+        }
     }
 
     /// Returns whether the first white byte that is known ahead is the one at offset `at` of the
@@ -32,6 +37,7 @@ impl White {
         requires next { self.next + 64 < 2 ^ 64 }
         requires ahead { (k : ℕ) → bit_at self.bits k ≡ 1 → at + 64 ≤ self.next + k }
         ensures near { result ≡ true → self.next ≤ at + 64 }
+        ensures set { result ≡ true → bit_at self.bits (at + 64 - self.next) ≡ 1 }
         ensures white { result ≡ true → (chunk : List ℕ) (stop : ℕ) → BitsAreWhite chunk at stop self
             → (at < stop) × (is_white_space (slice_index chunk at) ≡ true) }
         ensures none { result ≡ false → (k : ℕ) → bit_at self.bits k ≡ 1 → at + 64 < self.next + k }
@@ -39,27 +45,18 @@ impl White {
         self.next + lowest(self.bits) - 64 == at
     }
 
-    /// Returns what is known of the white bytes from offset `start` of the chunk on: this `White`
-    /// without the earlier ones. If no byte from `start` on was looked at, no white byte is known,
-    /// and `next` is `start`. `start` is at least `next - 64`.
+    /// Returns this `White` without the first of its white bytes. Some white byte has to be known
+    /// (`bits` is not 0).
     #[inline(always)]
-    fn not_before(self, start: usize) -> White
-        requires near { self.next ≤ start + 64 }
-        requires fits { start + 64 < 2 ^ 64 }
-        ensures order { start ≤ result.next }
-        ensures within { (stop : ℕ) → self.next ≤ stop → start ≤ stop → result.next ≤ stop }
-        ensures bits { (chunk : List ℕ) (at stop : ℕ) → at ≤ start → start ≤ stop
-            → BitsAreWhite chunk at stop self → BitsAreWhite chunk start stop result }
+    fn after_first(self) -> White
+        requires some { self.bits ≢ 0 }
+        ensures next { result.next ≡ self.next }
+        ensures bits { (chunk : List ℕ) (at stop : ℕ) → self.next ≤ at + 64
+            → bit_at self.bits (at + 64 - self.next) ≡ 1 → BitsAreWhite chunk at stop self
+            → (at < self.next) × BitsAreWhite chunk (at + 1) stop result }
     {
-        if self.next <= start {
-            return White {
-                bits: 0,
-                next: start,
-            };
-        }
-        let passed = start + 64 - self.next;
         White {
-            bits: self.bits & (u64::MAX << passed),
+            bits: without(self.bits, lowest(self.bits)),
             next: self.next,
         }
     }
@@ -110,7 +107,7 @@ impl<'a> Ahead<'a> {
             bytes,
             at: 0,
             limit,
-            white: White::unknown(),
+            white: White::unknown(0),
         }
     }
 
@@ -140,7 +137,9 @@ impl<'a> Ahead<'a> {
     /// `None` if it does not lie completely in the chunk or is longer than the limit, and maybe if
     /// it ends fewer than 64 bytes before the end of the chunk; then nothing has changed, and
     /// `Feed::next` reads it.
-    // With a loop over the white bytes here, `check` of vectors takes 5 % more instructions.
+    // Mostly no white byte comes before the token, or only one: the LF of CR LF. Both cases ask only
+    // the mask, and no byte. With a loop over the white bytes here, `check` of vectors takes 5 %
+    // more instructions.
     #[inline(always)]
     pub fn next(&mut self) -> Option<&'a [u8]>
         ensures takes { IfSome result (λ token. TakesToken self.old self.new token.now) }
@@ -153,8 +152,12 @@ impl<'a> Ahead<'a> {
         if !white.begins_at(at) {
             return self.take(at, white);
         }
-        let start = white_end(self.bytes, at);
-        let white = white_ahead(self.bytes, white.not_before(start))?;
+        let mut start = at + 1;
+        let mut white = white_ahead(self.bytes, white.after_first())?;
+        if white.begins_at(start) {
+            start = past_white(self.bytes, start);
+            white = white_ahead(self.bytes, White::unknown(start))?;
+        }
         self.take(start, white)
     }
 
@@ -256,10 +259,7 @@ impl<'a> Ahead<'a> {
             bytes: self.bytes,
             at: self.at,
             limit: self.limit,
-            white: White {
-                bits: 0,
-                next: self.at,
-            },
+            white: White::unknown(self.at),
         };
     }
 
@@ -331,6 +331,8 @@ fn line_start<const CR_LF: bool>(bytes: &[u8], at: usize) -> Option<usize>
 /// Returns whether two bytes above the space (32) and a line feed come at offset `at`; or, if
 /// `CR_LF` is true, a line feed, two such bytes and a carriage return. It is false if fewer bytes
 /// are left.
+// The first byte of the line is asked last. A caller that asks whether it is `0` or `1` then gets
+// one comparison for both: in another order, `check` of scalars takes 6 % more instructions.
 #[inline(always)]
 fn is_two_byte_line<const CR_LF: bool>(bytes: &[u8], at: usize) -> bool
     requires { at ≤ length bytes.now }
@@ -342,10 +344,10 @@ fn is_two_byte_line<const CR_LF: bool>(bytes: &[u8], at: usize) -> bool
         return bytes.len() - at >= 4
             && bytes[at + 3] == b'\r'
             && bytes[at] == b'\n'
-            && bytes[at + 1] > b' '
-            && bytes[at + 2] > b' ';
+            && bytes[at + 2] > b' '
+            && bytes[at + 1] > b' ';
     }
-    bytes.len() - at >= 3 && bytes[at + 2] == b'\n' && bytes[at] > b' ' && bytes[at + 1] > b' '
+    bytes.len() - at >= 3 && bytes[at + 2] == b'\n' && bytes[at + 1] > b' ' && bytes[at] > b' '
 }
 
 /// Returns the offset of the first byte from offset `from` on, which is at most the length, that is
@@ -364,24 +366,6 @@ fn past_white(bytes: &[u8], from: usize) -> usize
         at += 1;
     }
     at
-}
-
-/// Returns the offset of the first byte after the one at offset `at`, which has to be white, that
-/// is not white, or the length if there is none.
-// Mostly that is the next byte, also after the LF of CR LF. Then no call is made.
-#[inline(always)]
-fn white_end(bytes: &[u8], at: usize) -> usize
-    requires { (at < length bytes.now) × (is_white_space (slice_index bytes.now at) ≡ true) }
-    ensures within { result ≤ length bytes.now }
-    ensures white { AreWhite bytes.now at result }
-    ensures stops { result < length bytes.now
-        → is_white_space (slice_index bytes.now result) ≡ false }
-{
-    let next = at + 1;
-    if next < bytes.len() && bytes[next] > b' ' {
-        return next;
-    }
-    past_white(bytes, at)
 }
 
 /// Returns white bytes ahead, at least one: `known`, if that knows one. Otherwise it looks at the

@@ -2,7 +2,7 @@
 use super::runs::{Case, DUMP, Input, LIMIT, READ_FAILED, REPORT, TB, give};
 use vcd_words::Words;
 
-const CHECKS: [Case<'static>; 31] = [
+static CHECKS: [Case<'static>; 31] = [
     (Words::Check, Input::Whole(DUMP), (REPORT, b"", 0)),
     (
         Words::Check,

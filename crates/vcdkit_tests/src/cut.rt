@@ -19,7 +19,7 @@ const NO_SCALE: &[u8] = b"vcdkit: (stdin): no timescale\n";
 
 const OUT_OF_RANGE: &[u8] = b"vcdkit: time out of range\n";
 
-const CUTS: [Case<'static>; 19] = [
+static CUTS: [Case<'static>; 19] = [
     (
         Words::Cut("10", "20"),
         Input::Whole(MIXED),

@@ -568,7 +568,7 @@ const MERGE_OF_TWO_SCALES_UNTIL_A_TIME_IS_TOO_LARGE_SECOND: [(&[u8], &[u8]); 4] 
     (b"0!\n", b""),
 ];
 
-const RUNS: [Row<'static>; 16] = [
+static RUNS: [Row<'static>; 16] = [
     Row {
         words: Words::Check,
         readers: Readers::Alone,
@@ -706,7 +706,7 @@ fn runs_with_failing_devices(rt: HostRuntime) {
     }
 }
 
-const MERGES: [Row<'static>; 4] = [
+static MERGES: [Row<'static>; 4] = [
     Row {
         words: Words::Merge(&[]),
         readers: Readers::WithSecond(OTHER_OF_MERGE_OF_ONE_FILE_TWICE_FIRST),

@@ -7,7 +7,7 @@ const FAULTY: &[u8] = b"$timescale 1ns $end\n$scope module tb $end\n$var wire 1 
     $var reg 4 \" q [3:0] $end\n$upscope $end\n$enddefinitions $end\n\
     #0\n0!\n?\n";
 
-const EDGES: [Case<'static>; 9] = [
+static EDGES: [Case<'static>; 9] = [
     (
         Words::Edges(Some(&[])),
         Input::Whole(

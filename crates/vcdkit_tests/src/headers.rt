@@ -6,7 +6,7 @@ use std::test::Fail;
 use vcd_words::Words;
 
 // Headers with a fault, in a declaration from the ninth on, and its line.
-const FAULTY: [Case<'static>; 16] = [
+static FAULTY: [Case<'static>; 16] = [
     (
         Words::Check,
         Input::Whole(b""),
@@ -114,7 +114,7 @@ const LONG: &[u8] =
 const NOTHING: &[u8] = b"scopes 0\nvariables 0\ncodes 0\ntimes 0\nsections 0\nchanges 0\nlast -\n";
 
 // With a token limit of 64, and of 65.
-const SHORT: [Case<'static>; 4] = [
+static SHORT: [Case<'static>; 4] = [
     (Words::Check, Input::Whole(GOOD), (NOTHING, b"", 0)),
     (Words::List, Input::Whole(GOOD), (b"", b"", 0)),
     (
@@ -129,7 +129,7 @@ const SHORT: [Case<'static>; 4] = [
     ),
 ];
 
-const LONGER: [Case<'static>; 1] = [(Words::Check, Input::Whole(LONG), (NOTHING, b"", 0))];
+static LONGER: [Case<'static>; 1] = [(Words::Check, Input::Whole(LONG), (NOTHING, b"", 0))];
 
 #[test]
 fn a_token_may_be_as_long_as_the_limit(rt: HostRuntime) {

@@ -2,7 +2,7 @@
 use super::runs::{ALIASES, Case, Input, LIMIT, NESTED, NESTED_LIST, give};
 use vcd_words::Words;
 
-const LISTS: [Case<'static>; 6] = [
+static LISTS: [Case<'static>; 6] = [
     (Words::List, Input::Whole(NESTED), (NESTED_LIST, b"", 0)),
     // Two names of one code.
     (

@@ -2,7 +2,7 @@
 use super::runs::{Case, DUMP, Input, LIMIT, give};
 use vcd_words::Words;
 
-const MERGES: [Case<'static>; 8] = [
+static MERGES: [Case<'static>; 8] = [
     // One input.
     (
         Words::Merge(&[]),

@@ -11,7 +11,7 @@ fn is_held(err: &Watch<Narrow>, text: &[u8], failures: u64) -> bool {
 }
 
 // Faults of words, their lines and their statuses.
-const USE_FAULTS: [(UseFault<'static>, &[u8], u8); 8] = [
+static USE_FAULTS: [(UseFault<'static>, &[u8], u8); 8] = [
     (UseFault::BadWords, b"vcdkit: bad words\n", 2),
     (
         UseFault::BadLimit("6 4"),

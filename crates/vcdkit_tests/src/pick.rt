@@ -21,7 +21,7 @@ const CHANGED_WRITTEN: &[u8] =
         $var reg 4 \" q [3:0] $end\n$upscope $end\n$enddefinitions $end\n\
         #0\n0!\n";
 
-const PICKS: [Case<'static>; 19] = [
+static PICKS: [Case<'static>; 19] = [
     (
         Words::Pick(&["tb"]),
         Input::Whole(

@@ -21,7 +21,7 @@ const NO_SCALE: &[u8] = b"vcdkit: (stdin): no timescale\n";
 
 const OUT_OF_RANGE: &[u8] = b"vcdkit: time out of range\n";
 
-const SAMPLES: [Case<'static>; 29] = [
+static SAMPLES: [Case<'static>; 29] = [
     (
         Words::Sample("0,1,2,3,4", Some(&[])),
         Input::Whole(

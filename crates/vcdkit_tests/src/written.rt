@@ -32,7 +32,7 @@ pub(crate) fn is_read_again(
 
 // What readers give, the words of a run, and of one over its output, and the output of this. The
 // lists were written by hand, from the headers; a merge numbers codes anew.
-const WRITTEN: [(
+static WRITTEN: [(
     Input<'static>,
     Words<'static, 'static>,
     Words<'static, 'static>,

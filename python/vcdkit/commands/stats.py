@@ -43,12 +43,15 @@ OTHERS = b"others"
 class Lengths:
     """How many lengths of time there are, the shortest, the longest and their sum, in ticks."""
 
+    __slots__ = ("count", "shortest", "longest", "sum")
+
     def __init__(self):
         self.count, self.shortest, self.longest, self.sum = 0, None, None, 0
 
     def add(self, length):
         """Counts a length."""
-        self.count, self.sum = self.count + 1, self.sum + length
+        self.count += 1
+        self.sum += length
         if self.count == 1:
             self.shortest = self.longest = length
         elif length < self.shortest:
@@ -59,6 +62,8 @@ class Lengths:
 
 class Value:
     """A value of a signal: its time in ticks, how often the signal takes it, and its pulses."""
+
+    __slots__ = ("text", "ticks", "times", "pulses")
 
     def __init__(self, text):
         self.text, self.ticks, self.times, self.pulses = text, 0, 0, Lengths()
@@ -152,34 +157,36 @@ def of_lengths(lengths):
 
 def of_reals(of):
     """Returns the facts of the numbers of a real signal; `None` if there is none."""
+    if not of.signal.is_real:
+        return None
     numbers = [(_body.value(text, of.signal), value.ticks) for text, value in of.values.items()]
     numbers = [pair for pair in numbers if isinstance(pair[0], float) and math.isfinite(pair[0])]
     span = sum(ticks for _, ticks in numbers)
-    if not of.signal.is_real or not span:
+    if not span:
         return None
     return {"least": min(numbers)[0], "largest": max(numbers)[0],
             "mean": sum(number * ticks for number, ticks in numbers) / span}
 
 
-def of_values(of, form):
-    """Returns the facts of each value, those with most time first."""
+def of_values(of, form, most):
+    """Returns the facts of values, those with most time first, at most so many if `most` is one."""
     every = sorted(of.values.values(), key=lambda value: -value.ticks)
     span = sum(value.ticks for value in every)
     return [{"value": "others" if value.text == OTHERS
              else shown(_body.value(value.text, of.signal), form),
              "ticks": value.ticks, "share": value.ticks / span, "times": value.times,
              "shortest": value.pulses.shortest, "longest": value.pulses.longest}
-            for value in every]
+            for value in every[:most]]
 
 
-def facts_of(signal, of, form):
+def facts_of(signal, of, form, most):
     """Returns what is counted of a signal, with times in ticks; what it does not have is `None`."""
     is_event = signal.type == "event"
     periods = of.periods
     duty = of.high_of_periods / periods.sum if periods.count and not is_event else None
     return {"path": signal.path, "type": signal.type, "size": signal.size, "changes": of.changes,
             "period": of_lengths(periods) if periods.count else None, "duty": duty,
-            "range": of_reals(of), "values": of_values(of, form)}
+            "range": of_reals(of), "values": of_values(of, form, most)}
 
 
 def times(count):
@@ -187,9 +194,9 @@ def times(count):
     return "%d time%s" % (count, "s" * (count != 1))
 
 
-def lines_of(dump, facts, asked):
-    """Returns the lines of a signal."""
-    time, most = times_of(dump, asked), asked.values
+def lines_of(dump, facts, rest, asked):
+    """Returns the lines of a signal, which has more values than its facts, if `rest` is above 0."""
+    time = times_of(dump, asked)
     yield "%(path)s %(type)s %(size)d" % facts
     yield "  changes %d" % facts["changes"]
     period, of = facts["period"], facts["range"]
@@ -202,13 +209,12 @@ def lines_of(dump, facts, asked):
     if of:
         yield "  range %s to %s, mean %.6g" % (shown(of["least"], None), shown(of["largest"], None),
                                                of["mean"])
-    for value in facts["values"][:most]:
+    for value in facts["values"]:
         pulses = "" if value["shortest"] is None else ", %s to %s" % (
             time(value["shortest"]), time(value["longest"]))
         yield "  value %s %s %.4g%%, %s%s" % (
             value["value"], time(value["ticks"]), 100 * value["share"],
             times(value["times"]), pulses)
-    rest = len(facts["values"]) - most
     if rest > 0:
         yield "  and %d other value%s" % (rest, "s" * (rest != 1))
 
@@ -268,9 +274,10 @@ def main(words):
         write_bits(dump, asked)
         return 0
     for signal, counted in statistics_of(dump, asked):
-        facts = facts_of(signal, counted, asked.form)
+        facts = facts_of(signal, counted, asked.form, None if asked.json else asked.values)
         if asked.json:
             write_json(facts)
         else:
-            print(*lines_of(dump, facts, asked), sep="\n")
+            rest = len(counted.values) - asked.values
+            print(*lines_of(dump, facts, rest, asked), sep="\n")
     return 0

@@ -75,9 +75,9 @@ def main(words: List[str]) -> int:
     decimal = scale.in_unit(in_unit) if scale and in_unit != "tick" else (lambda ticks: ticks)
     out = csv.writer(sys.stdout, lineterminator="\n")
     out.writerow(["time (%s)" % in_unit] + [one.path for one in columns])
-    digits = functools.lru_cache(maxsize=1 << 16)(shown)  # of numbers it would take 0 for -0
-    for time, values in rows:
-        out.writerow([decimal(time), *(
-            digits(value, asked.form) if value.__class__ is Value else shown(value, asked.form)
-            for value in values)])
+    digits = functools.lru_cache(maxsize=1 << 14)(shown)  # of numbers it would take 0 for -0
+    form = asked.form
+    out.writerows([decimal(time), *[
+        digits(value, form) if value.__class__ is Value else shown(value, form)
+        for value in values]] for time, values in rows)
     return 0

@@ -27,7 +27,7 @@ Signals = Dict[bytes, List[Signal]]
 def unknown(part: Dump, signals: Signals, lines: Lines) -> Iterator[Tuple[int, bytes, bytes]]:
     """Returns the time, the code and the text of each value that is listed."""
     last: Dict[bytes, Optional[bytes]] = {}  # the last value of each code, if it is shown
-    for time, before, found in _body.steps(part, signals, is_cut=True, lines=lines):
+    for time, before, found in _body.steps(part, signals, is_cut=True, some=lines):
         ends: Dict[bytes, bytes] = {}  # the last value of each code, in the order of these
         for code, text in before + found:
             ends.pop(code, None)

@@ -12,7 +12,7 @@ fn is_code(alloc: Global, number: u64, code: &[u8]) -> Result<bool, WriteFailed>
     Ok(out.device.as_slice() == code)
 }
 
-const CODES: [(u64, &[u8]); 9] = [
+static CODES: [(u64, &[u8]); 9] = [
     (0, b"!"),
     (1, b"\""),
     (93, b"~"),
@@ -26,8 +26,8 @@ const CODES: [(u64, &[u8]); 9] = [
 
 #[test]
 fn codes_of_numbers(rt: HostRuntime) -> Result<(), Fail> {
-    for (number, code) in CODES {
-        assert!(rt; is_code(rt.alloc(), number, code)?, "of {number}");
+    for (number, code) in &CODES {
+        assert!(rt; is_code(rt.alloc(), *number, code)?, "of {number}");
     }
     Ok(())
 }

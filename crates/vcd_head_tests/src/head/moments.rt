@@ -29,58 +29,68 @@ fn both(scale: i8, number: u64, unit: i8) -> [Result<u64, TickFault>; 2] {
 
 // The power of ten of a scale, this many of the units with another one, and both roundings, down
 // first.
-type Rounded = (i8, u64, i8, [Result<u64, TickFault>; 2]);
+type Rounded = (i8, u64, i8, Result<u64, TickFault>, Result<u64, TickFault>);
 
-const OUT: [Result<u64, TickFault>; 2] = [Err(TickFault::OutOfRange); 2];
+const OUT: Result<u64, TickFault> = Err(TickFault::OutOfRange);
 
-const ROUNDED: [Rounded; 22] = [
+static ROUNDED: [Rounded; 22] = [
     // Parts of a tick.
-    (-8, 0, -9, [Ok(0), Ok(0)]),
-    (-8, 5, -9, [Ok(0), Ok(1)]),
-    (-8, 10, -9, [Ok(1), Ok(1)]),
-    (-8, 11, -9, [Ok(1), Ok(2)]),
-    (-8, 14, -9, [Ok(1), Ok(2)]),
-    (-8, 15, -9, [Ok(1), Ok(2)]),
-    (-8, 25, -9, [Ok(2), Ok(3)]),
-    (-8, 29, -9, [Ok(2), Ok(3)]),
+    (-8, 0, -9, Ok(0), Ok(0)),
+    (-8, 5, -9, Ok(0), Ok(1)),
+    (-8, 10, -9, Ok(1), Ok(1)),
+    (-8, 11, -9, Ok(1), Ok(2)),
+    (-8, 14, -9, Ok(1), Ok(2)),
+    (-8, 15, -9, Ok(1), Ok(2)),
+    (-8, 25, -9, Ok(2), Ok(3)),
+    (-8, 29, -9, Ok(2), Ok(3)),
     // Coarse scales.
-    (0, 1_500, -3, [Ok(1), Ok(2)]),
-    (1, 1_500, -3, [Ok(0), Ok(1)]),
+    (0, 1_500, -3, Ok(1), Ok(2)),
+    (1, 1_500, -3, Ok(0), Ok(1)),
     (
         2,
         18_446_744_073_709_551_615,
         0,
-        [Ok(184_467_440_737_095_516), Ok(184_467_440_737_095_517)],
+        Ok(184_467_440_737_095_516),
+        Ok(184_467_440_737_095_517),
     ),
-    (2, 18_446_744_073_709_551_615, -15, [Ok(184), Ok(185)]),
+    (2, 18_446_744_073_709_551_615, -15, Ok(184), Ok(185)),
     // The last times that are in range, and the first ones that are not.
-    (-8, 18_446_744_073_709_551_615, 0, OUT),
-    (-15, 18_446, 0, [Ok(18_446_000_000_000_000_000); 2]),
-    (-15, 18_447, 0, OUT),
+    (-8, 18_446_744_073_709_551_615, 0, OUT, OUT),
+    (
+        -15,
+        18_446,
+        0,
+        Ok(18_446_000_000_000_000_000),
+        Ok(18_446_000_000_000_000_000),
+    ),
+    (-15, 18_447, 0, OUT, OUT),
     (
         -10,
         1_844_674_407_370_955_161,
         -9,
-        [Ok(18_446_744_073_709_551_610); 2],
+        Ok(18_446_744_073_709_551_610),
+        Ok(18_446_744_073_709_551_610),
     ),
-    (-10, 1_844_674_407_370_955_162, -9, OUT),
+    (-10, 1_844_674_407_370_955_162, -9, OUT, OUT),
     (
         -9,
         18_446_744_073_709_551_615,
         -9,
-        [Ok(18_446_744_073_709_551_615); 2],
+        Ok(18_446_744_073_709_551_615),
+        Ok(18_446_744_073_709_551_615),
     ),
     // Powers beyond the units.
-    (127, 18_446_744_073_709_551_615, -15, [Ok(0), Ok(1)]),
-    (127, 0, -15, [Ok(0), Ok(0)]),
-    (-15, 0, 127, [Ok(0), Ok(0)]),
-    (-15, 1, 127, OUT),
+    (127, 18_446_744_073_709_551_615, -15, Ok(0), Ok(1)),
+    (127, 0, -15, Ok(0), Ok(0)),
+    (-15, 0, 127, Ok(0), Ok(0)),
+    (-15, 1, 127, OUT, OUT),
 ];
 
 #[test]
 fn times_are_rounded(rt: HostRuntime) {
-    for (scale, number, unit, rounded) in ROUNDED {
-        assert_eq!(rt; both(scale, number, unit), rounded, "{number} in {scale}");
+    for (scale, number, unit, down, up) in &ROUNDED {
+        let rounded = both(*scale, *number, *unit);
+        assert_eq!(rt; rounded, [*down, *up], "{number} in {scale}");
     }
 }
 
@@ -93,38 +103,34 @@ fn in_small_ticks(unit: i8) -> [Result<u64, TickFault>; 3] {
     ]
 }
 
-const UNITS: [(i8, [Result<u64, TickFault>; 3]); 6] = [
+// The power of ten of a unit, and one of it in ticks of 1 fs, 10 fs and 100 fs.
+static UNITS: [(i8, [u64; 3]); 6] = [
     (
         0,
         [
-            Ok(1_000_000_000_000_000),
-            Ok(100_000_000_000_000),
-            Ok(10_000_000_000_000),
+            1_000_000_000_000_000,
+            100_000_000_000_000,
+            10_000_000_000_000,
         ],
     ),
-    (
-        -3,
-        [
-            Ok(1_000_000_000_000),
-            Ok(100_000_000_000),
-            Ok(10_000_000_000),
-        ],
-    ),
-    (-6, [Ok(1_000_000_000), Ok(100_000_000), Ok(10_000_000)]),
-    (-9, [Ok(1_000_000), Ok(100_000), Ok(10_000)]),
-    (-12, [Ok(1_000), Ok(100), Ok(10)]),
-    (-15, [Ok(1), Ok(1), Ok(1)]),
+    (-3, [1_000_000_000_000, 100_000_000_000, 10_000_000_000]),
+    (-6, [1_000_000_000, 100_000_000, 10_000_000]),
+    (-9, [1_000_000, 100_000, 10_000]),
+    (-12, [1_000, 100, 10]),
+    (-15, [1, 1, 1]),
 ];
 
 #[test]
 fn each_unit_has_ticks(rt: HostRuntime) {
-    for (unit, ticks) in UNITS {
-        assert_eq!(rt; in_small_ticks(unit), ticks, "at {unit}");
+    for (unit, ticks) in &UNITS {
+        let [one, ten, hundred] = *ticks;
+        let wanted = [Ok(one), Ok(ten), Ok(hundred)];
+        assert_eq!(rt; in_small_ticks(*unit), wanted, "at {unit}");
     }
 }
 
 // A scale, this many of a unit, whether they are rounded up, and their ticks.
-const WITHOUT: [(Option<i8>, u64, Option<i8>, bool, Result<u64, TickFault>); 4] = [
+static WITHOUT: [(Option<i8>, u64, Option<i8>, bool, Result<u64, TickFault>); 4] = [
     (None, 10, Some(-9), true, Err(TickFault::NoTimescale)),
     (None, 10, None, true, Ok(10)),
     (TEN_NANOSECONDS, 10, None, true, Ok(10)),
@@ -139,15 +145,15 @@ const WITHOUT: [(Option<i8>, u64, Option<i8>, bool, Result<u64, TickFault>); 4] 
 
 #[test]
 fn a_unit_needs_a_scale(rt: HostRuntime) {
-    for (scale, number, unit, up, wanted) in WITHOUT {
-        assert_eq!(rt; in_ticks(scale, number, unit, up), wanted, "{number}");
+    for (scale, number, unit, up, wanted) in &WITHOUT {
+        assert_eq!(rt; in_ticks(*scale, *number, *unit, *up), *wanted, "{number}");
     }
     assert_eq!(rt; TickFault::NoTimescale.number(), 12);
     assert_eq!(rt; TickFault::OutOfRange.number(), 22);
 }
 
 // Names of units, no name, and names of none, and what seven of them are.
-const NAMES: [(&[u8], Option<Moment>); 10] = [
+static NAMES: [(&[u8], Option<Moment>); 10] = [
     (
         b"s",
         Some(Moment {
@@ -204,7 +210,7 @@ const NAMES: [(&[u8], Option<Moment>); 10] = [
 
 #[test]
 fn units_have_powers(rt: HostRuntime) {
-    for (name, moment) in NAMES {
-        assert_eq!(rt; Moment::from_parts(7, name), moment, "of {name:?}");
+    for (name, moment) in &NAMES {
+        assert_eq!(rt; Moment::from_parts(7, name), *moment, "of {name:?}");
     }
 }

@@ -1,4 +1,5 @@
+use Rattle.std.proofs.Common.{arith}
 use Rattle.vcd_text.proofs.ahead.Ahead.new.Goals as goal
 
 pub invariant_of-result-clause-bits : goal.invariant_of-result-clause-bits
-invariant_of-result-clause-bits c = c.unknown.ensures _ _ _
+invariant_of-result-clause-bits c = c.unknown.ensures.bits _ _ _ (omega arith) (omega arith)

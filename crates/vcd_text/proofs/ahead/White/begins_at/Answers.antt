@@ -1,8 +1,16 @@
 use Rattle.std.proofs.Common.{◌≡◌, ◌+◌, ◌-◌, true, subst, arith}
+use Rattle.std.specs.Int.{bit_at}
 use Rattle.std.specs.Prelude.{slice_index}
 use Rattle.std.proofs.lemmas.Bool.{eqb-true}
 use Rattle.vcd_model.specs.Bytes.{is_white_space}
 use Rattle.vcd_text.proofs.ahead.White.begins_at.Goals as goal
+
+pub returns-clause-set : goal.returns-clause-set
+returns-clause-set c = λ e.
+    let here : c.args.self.next + c.lowest.result - 64 ≡ c.args.at = eqb-true _ _ e in
+    let ahead = c.requires.ahead c.lowest.result c.lowest.ensures.set in
+    let bit : c.lowest.result ≡ c.args.at + 64 - c.args.self.next = omega arith in
+    subst (λ k. bit_at c.args.self.bits k ≡ 1) bit c.lowest.ensures.set
 
 pub returns-clause-white : goal.returns-clause-white
 returns-clause-white c = λ e chunk stop m.
