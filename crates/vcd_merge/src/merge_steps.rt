@@ -173,9 +173,7 @@ fn run_step<S: Source, W: Sink>(
     ensures last { EndsAtReadOf (map S.last_failed sources.new) result }
     ensures order { result ≡ Ok More.Again → AllWait seats.new order.new.inputs order.new.len }
 {
-    let Some(next) = order.take_next(seats) else {
-        return Ok(More::Ended(Done::Whole));
-    };
+    let next = order.take_next(seats);
     run_turn(heads, next, seats, sources, windows, written, out)?;
     order.put(next.input, seats);
     if !order.is_empty() {

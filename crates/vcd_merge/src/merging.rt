@@ -14,7 +14,7 @@ use vcd_body::{
 };
 use vcd_head::Head;
 use vcd_text::{Feed, Sink, Source, WriteFailed};
-use vcd_view::{Code, HeadView, code_in};
+use vcd_view::{Code, HeadView};
 
 /// Returns whether a merge leaves out a change: that of an event (`event` is true) inside a section
 /// (`inside` is true).
@@ -58,8 +58,8 @@ struct Reached {
 
 /// Writes a change of the code at index `code` of `codes` under the code that the merged dump has
 /// for it, after the line of its time, unless `written` says that it was written last. It is for
-/// changes whose size the look-up did not return. Writes nothing for an event inside a section, and
-/// for an index without a code. Fails if a write does.
+/// changes whose size the look-up did not return. Writes nothing for an event inside a section.
+/// Fails if a write does.
 // Not inlined, since it is rare.
 #[cold]
 #[inline(never)]
@@ -79,9 +79,7 @@ fn put_unsized<W: Sink>(
         written.old written.new (W.device out.old) (W.device out.new) result }
     ensures counts { Counts (W.device out.old) (W.device out.new) result }
 {
-    let Some(declared) = code_in(codes, code) else {
-        return Ok(());
-    };
+    let declared = codes[code];
     if is_left_out(declared.event, reached.inside) {
         return Ok(());
     }
@@ -188,7 +186,7 @@ impl Visit<Option<u64>> for Merging {
         out: &mut W,
     ) -> Result<(), WriteFailed> {
         let Item::Change { code, form } = change.item else {
-            return Ok(());
+            unreachable!()
         };
         if let Some(digit) = only_digit(change, form) {
             self.put_due_line(written, out)?;

@@ -1,5 +1,5 @@
 //! The order in which the inputs of a merge have their turns.
-ghost use Rattle.std.specs.Prelude.{◌≡◌, ◌≢◌, ℕ, ◌+◌, ◌<◌, ◌≤◌, ◌⊎◌, true, false, get_or, slice_get, length, All, MatchOption, IfSome, Some};
+ghost use Rattle.std.specs.Prelude.{◌≡◌, ◌≢◌, ℕ, ◌+◌, ◌<◌, ◌≤◌, ◌⊎◌, true, false, get_or, slice_get, length, Some};
 ghost use Rattle.vcd_merge.specs.MergeOrder.{IsNext};
 ghost use Rattle.vcd_merge.specs.Order.{AllWait, ComesBefore, IsFirstBefore, IsOrder, MayJoin, time_of};
 
@@ -178,25 +178,24 @@ impl TurnOrder {
     }
 
     /// Removes the input with the least time, at equal times the one with the least index, from the
-    /// order, and returns its turn. `None` if no input waits, so that all have finished.
+    /// order, in which some input waits, and returns its turn.
     ///
     /// After the turn, pass its input to `put` before the next call. Until then, no time of another
     /// seat may change.
     #[inline(always)]
-    pub(crate) fn take_next(&mut self, seats: &[Seat]) -> Option<Turn>
-        requires { AllWait seats.now self.old.inputs self.old.len }
-        ensures run { MatchOption result (All (λ (s : Seat). s.finished ≡ true) seats.now)
-            (λ run. IsNext seats.now run.input × IsFirstBefore seats.now run.input run.before
-            × IsOrder seats.now (length seats.now) run.input self.new.inputs self.new.len) }
-        ensures until { IfSome result (λ run. run.before ≤ self.old.until) }
-        ensures room { IfSome result (λ _. self.new.len < 64) }
+    pub(crate) fn take_next(&mut self, seats: &[Seat]) -> Turn
+        requires order { AllWait seats.now self.old.inputs self.old.len }
+        requires some { 0 < self.old.len }
+        ensures next { IsNext seats.now result.input }
+        ensures before { IsFirstBefore seats.now result.input result.before }
+        ensures others { IsOrder
+            seats.now (length seats.now) result.input self.new.inputs self.new.len }
+        ensures until { result.before ≤ self.old.until }
+        ensures room { self.new.len < 64 }
     {
-        if self.len == 0 {
-            return None;
-        }
         self.len -= 1;
         let input = self.inputs[self.len] as usize;
         let before = self.end_of(input, self.len, seats).min(self.until);
-        Some(Turn { input, before })
+        Turn { input, before }
     }
 }
