@@ -46,7 +46,7 @@ EndsSo names asked before after last_failed out out' err err' status =
 pub data Leaves (due : List Input → Outcome) (want : Want) (limit : ℕ) (texts : List Text) (old new : List Supply) (out out' err err' : Device) (status : ℕ) : Type 0 where
   WithOutcome : (inputs : List Input) (read : AreRead (is_settled want) limit 65536 [] texts old new inputs) (needed : AreNeeded want limit 65536 old new inputs) (in_turn : AreInTurn want limit 65536 texts old new inputs out out') (leaves : IsOutcome (due inputs) out out' err err' status)
       → Leaves due want limit texts old new out out' err err' status
-  NoMemory : (inputs : List Input) (read : AreRead is_header_over limit 65536 [] texts old new inputs) (in_turn : AreInTurn want limit 65536 texts old new inputs out out') (fails : Fails (codes "out of memory") out out' err err' status)
+  NoMemory : (inputs : List Input) (read : AreRead is_header_over limit 65536 [] texts old new inputs) (needed : AreNeeded want limit 65536 old new inputs) (in_turn : AreInTurn want limit 65536 texts old new inputs out out') (fails : Fails (codes "out of memory") out out' err err' status)
       → Leaves due want limit texts old new out out' err err' status
 
 -- ---- what words leave that were parsed

@@ -95,7 +95,7 @@ module _ (want : Want) (asked : List (List ℕ)) (limit chunk : ℕ) (names text
       let output : o.output ≡ [] = ap (λ (o : Outcome). o.output) e.leaves.0 ∙ refused_output (name_at names 0) why in
       WithOutcome e.lefts e.read e.needed e.in_turn (Whole (subst (λ (l : List ℕ). Writes out out' l) (sym output) e.leaves.1) (subst (λ (l : List ℕ). Shows err err' l) (sym (ap (λ (o : Outcome). o.message) e.leaves.0)) s)
       (k ∙ sym (ap (λ (o : Outcome). o.status) e.leaves.0 ∙ refused_status (name_at names 0) why)))
-  has_run (Err OutOfMemory) e k s = NoMemory e.lefts e.read e.in_turn e.leaves s k
+  has_run (Err OutOfMemory) e k s = NoMemory e.lefts e.read e.needed e.in_turn e.leaves s k
 
 -- nothing is said
 pub shows_nothing : (err : Device) → Shows err err []

@@ -141,5 +141,5 @@ pub data HasRun (want : model.Want) (limit chunk : ℕ) (names texts : List (Lis
   WithOutcome : (inputs : List Input) (read : AreRead (is_settled want) limit chunk [] texts old new inputs) (needed : AreNeeded want limit chunk old new inputs) (in_turn : AreInTurn want limit chunk texts old new inputs out out') (leaves : IsOutcome (model.outcome want limit names inputs) out out' err err' status)
       → HasRun want limit chunk names texts old new out out' err err' status
   -- without output, if memory ran out; no more was read than the headers
-  NoMemory : (inputs : List Input) (read : AreRead is_header_over limit chunk [] texts old new inputs) (in_turn : AreInTurn want limit chunk texts old new inputs out out') (written : Writes out out' []) (shown : Shows err err' (program_line (codes "out of memory"))) (status_is : status ≡ 3)
+  NoMemory : (inputs : List Input) (read : AreRead is_header_over limit chunk [] texts old new inputs) (needed : AreNeeded want limit chunk old new inputs) (in_turn : AreInTurn want limit chunk texts old new inputs out out') (written : Writes out out' []) (shown : Shows err err' (program_line (codes "out of memory"))) (status_is : status ≡ 3)
       → HasRun want limit chunk names texts old new out out' err err' status

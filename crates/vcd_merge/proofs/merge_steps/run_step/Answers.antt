@@ -14,13 +14,16 @@ use Rattle.vcd_merge.proofs.MergeTrails.{has_ended, was_cut, was_stopped, went_o
 use Rattle.vcd_merge.proofs.OrderLemmas.{none_waiting, others_stay, some_waits}
 use Rattle.vcd_merge.proofs.merge_steps.run_step.Goals as goal
 
-pub take_next-requires-clause-some : goal.take_next-requires-clause-some
-take_next-requires-clause-some g c =
+pub take_next-next-requires-clause-some : goal.take_next-next-requires-clause-some
+take_next-next-requires-clause-some g c =
     let n = c.requires.ready.some.1 in
     let within = slice_get_within c.args.seats.now c.requires.ready.some.0 n.seat n.there in
     let waits = c.requires.order.all c.requires.ready.some.0 (record { within = within; other = λ e. omega (arith, within, e); seat = n.seat; there = n.there; unfinished = n.unfinished }) in
     let place = waits.1 in
     omega (arith, place)
+
+pub run_turn-requires-clause-input : goal.run_turn-requires-clause-input
+run_turn-requires-clause-input g c = let next = c.take_next-next.ensures.next in slice_get_within c.args.seats.now c.take_next-next.result.input next.seat next.there
 
 pub put-requires-clause-input : goal.put-requires-clause-input
 put-requires-clause-input g c =
