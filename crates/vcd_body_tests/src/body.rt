@@ -119,7 +119,7 @@ fn transcript(alloc: Global, header: &[u8], body: &[u8], fails: bool) -> Result<
 }
 
 // Bodies and their items, up to the end or the fault.
-const BODIES: [(&[u8], &str); 25] = [
+static BODIES: [(&[u8], &str); 25] = [
     (b"", "Finish"),
     (
         b"#0\n$dumpvars\nZ!\nBx \"\n$end\n#05\n1!\nb101 \"\n#5\n",
@@ -179,9 +179,9 @@ fn give<R: Abort + AllocGlobal>(
 }
 
 // An event whose value is wider than its size.
-const WIDE_EVENT: [(&[u8], &str); 1] = [(b"b101 % 1%", "0:Vector:101 0:Scalar:1 Finish")];
+static WIDE_EVENT: [(&[u8], &str); 1] = [(b"b101 % 1%", "0:Vector:101 0:Scalar:1 Finish")];
 
-const BROKEN: [(&[u8], &str); 1] = [(b"#5\n1!\n#4", "#5 0:Scalar:1 fault 31 at 9")];
+static BROKEN: [(&[u8], &str); 1] = [(b"#5\n1!\n#4", "#5 0:Scalar:1 fault 31 at 9")];
 
 #[test]
 fn bodies_have_their_items(rt: HostRuntime) -> Result<(), Fail> {
@@ -340,7 +340,7 @@ const COMMENT: &[u8] =
 // left to the reader that names the fault, and so are the begin of a section inside another one,
 // the end of none, and a real number without digits. Comments are passed, except one that does not
 // end in the chunk before its last 64 bytes.
-const TAKEN: [(&[u8], &str); 8] = [
+static TAKEN: [(&[u8], &str); 8] = [
     (
         b"#0\n1!\nb101 \"\n#05 Z! bx \"\n#4\n",
         "#0 0:Scalar:1 1:Vector:101 #5 0:Scalar:Z 1:Vector:x then fault 14 at 11",
@@ -373,9 +373,9 @@ const TAKEN: [(&[u8], &str); 8] = [
 
 #[test]
 fn items_are_taken_ahead(rt: HostRuntime) -> Result<(), Fail> {
-    for (body, items) in TAKEN {
+    for (body, items) in &TAKEN {
         let taken = taken_ahead(rt.alloc(), [HEAD, body, COMMENT])?;
-        assert_eq!(rt; taken.items.as_str(), items);
+        assert_eq!(rt; taken.items.as_str(), *items);
     }
     Ok(())
 }
@@ -388,7 +388,7 @@ const CODES: &[u8] =
 // Changes, and which of them have their lines as bytes: single digits, vectors of a few digits,
 // vectors with digits that are left out, vectors of more than 30 digits that are left out and that
 // are not, and real numbers.
-const STANDING: [(&[u8], &str); 6] = [
+static STANDING: [(&[u8], &str); 6] = [
     (b"1!\nZ!\n 0!\nx! 1!\n1\"\n1%\n#5\n0!\n", "=.===...="),
     (
         b"b101 \"\nB101 \"\nb0101 \"\nb00 \"\nb0x \"\nbzz1 \"\nbzx0 \"\nb1X \"\nb10  \"\nb10\t\"\n\
@@ -416,9 +416,9 @@ const STANDING: [(&[u8], &str); 6] = [
 
 #[test]
 fn changes_that_stand_as_their_lines(rt: HostRuntime) -> Result<(), Fail> {
-    for (body, marks) in STANDING {
+    for (body, marks) in &STANDING {
         let taken = taken_ahead(rt.alloc(), [CODES, body, &[b'\n'; 64]])?;
-        assert_eq!(rt; taken.marks.as_str(), marks);
+        assert_eq!(rt; taken.marks.as_str(), *marks);
     }
     Ok(())
 }
@@ -432,7 +432,7 @@ fn writes(size: usize, event: bool, form: Form, text: &[u8], id: Id<'_>, line: &
 }
 
 // A size, a change of a code of it, and the line that is written.
-const LINES: [(usize, Form, &[u8], &[u8]); 17] = [
+static LINES: [(usize, Form, &[u8], &[u8]); 17] = [
     (1, Form::Vector, b"1", b"1!\n"),
     (1, Form::Scalar, b"Z", b"z!\n"),
     (4, Form::Scalar, b"1", b"b1 !\n"),
@@ -459,16 +459,16 @@ const LINES: [(usize, Form, &[u8], &[u8]); 17] = [
 
 #[test]
 fn changes_are_written(rt: HostRuntime) {
-    for (size, form, text, line) in LINES {
-        assert!(rt; writes(size, false, form, text, Id::Own(b"!"), line));
+    for (size, form, text, line) in &LINES {
+        assert!(rt; writes(*size, false, *form, text, Id::Own(b"!"), line));
     }
-    for (event, form, text, id, line) in OTHER_LINES {
-        assert!(rt; writes(2, event, form, text, id, line));
+    for (event, form, text, id, line) in &OTHER_LINES {
+        assert!(rt; writes(2, *event, *form, text, *id, line));
     }
 }
 
 // A number, and events, whose form and text do not count.
-const OTHER_LINES: [(bool, Form, &[u8], Id<'static>, &[u8]); 3] = [
+static OTHER_LINES: [(bool, Form, &[u8], Id<'static>, &[u8]); 3] = [
     (
         false,
         Form::RealText,
@@ -481,7 +481,7 @@ const OTHER_LINES: [(bool, Form, &[u8], Id<'static>, &[u8]); 3] = [
 ];
 
 // Changes, and how many digits of which number are given: 1 to 32 binary ones, wherever they end.
-const TOLD: [(&[u8], Option<(usize, usize)>); 10] = [
+static TOLD: [(&[u8], Option<(usize, usize)>); 10] = [
     (b"b0 & ", Some((1, 0))),
     (b"b1 & ", Some((1, 1))),
     (b" b01 & ", Some((2, 1))),
@@ -502,9 +502,9 @@ const TOLD: [(&[u8], Option<(usize, usize)>); 10] = [
 
 #[test]
 fn digits_told_as_a_number(rt: HostRuntime) -> Result<(), Fail> {
-    for (body, told) in TOLD {
+    for (body, told) in &TOLD {
         let bits = taken_ahead(rt.alloc(), [CODES, body, &[b'1'; 64]])?.bits;
-        match told {
+        match *told {
             Some((len, number)) => {
                 assert!(rt;
                     bits.is_some() && bits == Bits::new(len, number),

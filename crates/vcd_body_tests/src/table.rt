@@ -159,7 +159,7 @@ fn text_of(alloc: Global, size: usize, digits: Digits) -> Result<Vec<u8>, AllocE
 }
 
 // Digits that set a code, the shortest for them, and those in full.
-const VALUES: [(&str, Digits, Digits, Digits); 9] = [
+static VALUES: [(&str, Digits, Digits, Digits); 9] = [
     (
         "1",
         Digits::Alone(b'1'),
@@ -215,10 +215,10 @@ const VALUES: [(&str, Digits, Digits, Digits); 9] = [
 fn digits_of_each_form_at_each_size(rt: HostRuntime) -> Result<(), Fail> {
     let alloc = rt.alloc();
     for size in [1, 2, 4, 5, 63, 64, 65, 1_000] {
-        for (name, digits, shortest, full) in VALUES {
-            let text = text_of(alloc, size, digits)?;
-            let shortest = text_of(alloc, size, shortest)?;
-            let full = text_of(alloc, size, full)?;
+        for (name, digits, shortest, full) in &VALUES {
+            let text = text_of(alloc, size, *digits)?;
+            let shortest = text_of(alloc, size, *shortest)?;
+            let full = text_of(alloc, size, *full)?;
             assert!(rt;
                 are_shown(alloc, size, &text, &shortest, &full)?,
                 "{name} at {size}"
@@ -242,7 +242,7 @@ fn real_number_at_each_size(rt: HostRuntime) -> Result<(), Fail> {
 }
 
 // A size, digits that set a code of it, the shortest for them, and those in full.
-const SHORT_DIGITS: [(usize, &[u8], &[u8], &[u8]); 10] = [
+static SHORT_DIGITS: [(usize, &[u8], &[u8], &[u8]); 10] = [
     (4, b"10", b"10", b"0010"),
     (4, b"x10", b"x10", b"xx10"),
     (4, b"zx0", b"zx0", b"zzx0"),
@@ -257,8 +257,8 @@ const SHORT_DIGITS: [(usize, &[u8], &[u8], &[u8]); 10] = [
 
 #[test]
 fn short_digits_are_extended(rt: HostRuntime) -> Result<(), Fail> {
-    for (size, text, shortest, full) in SHORT_DIGITS {
-        assert!(rt; are_shown(rt.alloc(), size, text, shortest, full)?);
+    for (size, text, shortest, full) in &SHORT_DIGITS {
+        assert!(rt; are_shown(rt.alloc(), *size, text, shortest, full)?);
     }
     Ok(())
 }
@@ -295,7 +295,7 @@ fn is_nothing(table: &Table<'_>, view: HeadView<'_>) -> bool {
 
 // A text that sets a code of 6 bits, what is shown then, the digits by their indexes, and the text
 // of a real number.
-const PLACES: [(Form, &[u8], Shown, [Option<u8>; 7], &[u8]); 3] = [
+static PLACES: [(Form, &[u8], Shown, [Option<u8>; 7], &[u8]); 3] = [
     (
         Form::Vector,
         b"X0z10",
@@ -338,9 +338,9 @@ fn digits_by_their_places(rt: HostRuntime) -> Result<(), Fail> {
     let mut slots = [Slot::new()];
     let mut shares = [Share::new()];
     let mut table = table_in(view, &mut values, &mut slots, &mut shares);
-    for (form, text, kind, digits, real) in PLACES {
-        set(&mut table, 0, form, text);
-        assert_eq!(rt; table.get(0), kind);
+    for (form, text, kind, digits, real) in &PLACES {
+        set(&mut table, 0, *form, text);
+        assert_eq!(rt; table.get(0), *kind);
         for position in 0..7 {
             assert_eq!(rt;
                 table.digit(view, 0, position),
@@ -348,7 +348,7 @@ fn digits_by_their_places(rt: HostRuntime) -> Result<(), Fail> {
                 "at {position}"
             );
         }
-        assert_eq!(rt; table.real(0), real);
+        assert_eq!(rt; table.real(0), *real);
     }
     Ok(())
 }
@@ -371,7 +371,7 @@ fn is_changed(
 }
 
 // A size, two texts that set a code of it, and whether they are two values.
-const PAIRS: [(usize, (Form, &[u8]), (Form, &[u8]), bool); 9] = [
+static PAIRS: [(usize, (Form, &[u8]), (Form, &[u8]), bool); 9] = [
     (4, (Form::Vector, b"10"), (Form::Vector, b"010"), false),
     (4, (Form::Vector, b"x10"), (Form::Vector, b"XX10"), false),
     (4, (Form::Vector, b"10"), (Form::Vector, b"x10"), true),
@@ -395,8 +395,8 @@ const PAIRS: [(usize, (Form, &[u8]), (Form, &[u8]), bool); 9] = [
 
 #[test]
 fn texts_that_are_two_values(rt: HostRuntime) -> Result<(), Fail> {
-    for (size, first, second, differs) in PAIRS {
-        assert_eq!(rt; is_changed(rt.alloc(), size, first, second)?, differs);
+    for (size, first, second, differs) in &PAIRS {
+        assert_eq!(rt; is_changed(rt.alloc(), *size, *first, *second)?, *differs);
     }
     Ok(())
 }
@@ -408,7 +408,7 @@ fn step_of(differs: bool, way: i8) -> [u64; 3] {
 
 // Texts that set a code of 9 bits one after another, whether its value differs by each, and whether
 // its last digit goes up (1) or down (-1).
-const STEPS: [(Form, &[u8], bool, i8); 12] = [
+static STEPS: [(Form, &[u8], bool, i8); 12] = [
     (Form::Scalar, b"Z", false, 0),
     (Form::Scalar, b"z", false, 0),
     (Form::Vector, b"01", true, 0),
@@ -432,8 +432,11 @@ fn steps_of_values(rt: HostRuntime) -> Result<(), Fail> {
     let mut slots = [Slot::new()];
     let mut shares = [Share::new()];
     let mut table = table_in(view, &mut values, &mut slots, &mut shares);
-    for (form, text, differs, way) in STEPS {
-        assert_eq!(rt; follow(&mut table, 0, 9, form, text), step_of(differs, way));
+    for (form, text, differs, way) in &STEPS {
+        assert_eq!(rt;
+            follow(&mut table, 0, 9, *form, text),
+            step_of(*differs, *way)
+        );
     }
     assert_eq!(rt; table.tally(0), [7, 2, 2]);
     Ok(())
@@ -502,7 +505,7 @@ fn shares_lie_apart(rt: HostRuntime) -> Result<(), Fail> {
 }
 
 // Texts that set a code of 8 bits without room, of which only the first one is taken.
-const WITHOUT_ROOM: [(Form, &[u8]); 4] = [
+static WITHOUT_ROOM: [(Form, &[u8]); 4] = [
     (Form::Vector, b"1"),
     (Form::Vector, b"01"),
     (Form::RealText, b"1"),
@@ -516,8 +519,8 @@ fn texts_without_room_are_passed_over(rt: HostRuntime) {
     let mut slots = [Slot::new()];
     let mut shares = [Share::new()];
     let mut table = table_in(view, &mut [], &mut slots, &mut shares);
-    for (form, text) in WITHOUT_ROOM {
-        set(&mut table, 0, form, text);
+    for (form, text) in &WITHOUT_ROOM {
+        set(&mut table, 0, *form, text);
     }
     assert!(rt; is_full(&table, view, 0, b"00000001"));
 }

@@ -28,7 +28,7 @@ struct Worked {
     line: u64,
 }
 
-const WORKED: [Worked; 16] = [
+static WORKED: [Worked; 16] = [
     // Values are extended on the left: by 0 before 0 and 1, by x before x, by z before z.
     Worked {
         head: HEAD_B,
