@@ -41,8 +41,8 @@ impl<'a> Table<'a> {
 
     /// Sets the value of the code at index `code` to the digits of a text, and counts the change,
     /// if several digits are held, and either one of the last differs or all are the same. Returns
-    /// whether this is so. If not, nothing changes, also if there is no such code. The text must not
-    /// have exactly one digit.
+    /// whether this is so. If not, nothing changes, also if there is no such code. The text must
+    /// not have exactly one digit.
     // Values that differ mostly do so in their last digits: without it `edges` of wide vectors
     // takes 18 % more. The same digits are not written again: otherwise `edges` of `b1x "` again
     // and again takes about 1.8 times as many instructions.
