@@ -549,6 +549,16 @@ class Rules(Case):
                              ("tb.q", ["differs 10ns tb.q[3:0] 0010 0011"]), ("tb", [])):
             self.assertEqual(said("vcdkit-diff", "--except", name, one, other)[:-1], wanted)
 
+    def test_a_path_in_both_dumps_is_compared_if_a_name_selects_it_in_one(self):
+        more = SLICES.replace(b"$upscope", b"$scope module q $end $var wire 1 # s $end $upscope "
+                              b"$end $upscope")
+        less = SLICES.replace(b"q[7:4]", b"r")
+        one, other = self.file("a.vcd", less), self.file("b.vcd", more.replace(b"b10 !", b"b11 !"))
+        self.assertEqual(said("vcdkit-diff", one, other, "tb.q"), [
+            "alone B tb.q 1", "differs 10ns tb.q[3:0] 0010 0011", "status 1"])
+        self.assertEqual(said("vcdkit-diff", "--except", "tb.q", one, other), [
+            "alone A tb.r 1", "alone B tb.q[7:4] 1", "status 1"])
+
     def test_alone_counts_variables(self):
         one = self.file("a.vcd", b"$scope module t $end $scope module u $end $var wire 1 ! b $end "
                         b"$var wire 1 \" b $end $upscope $end $var wire 1 # c $end $upscope $end "

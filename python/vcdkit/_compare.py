@@ -150,15 +150,16 @@ def _groups(sides: Sides) -> Iterator[Tuple[str, str]]:
 
 
 def choose(sides: Sides, names: Sequence[str], exceptions: Sequence[str]) -> None:
-    """Takes the signals that names select, all without names, but for the exceptions. What a name
-    selects in one dump, it also selects in the other one if that has it with another range."""
+    """Takes the signals that names select, all without names, but for the exceptions. If a name
+    selects a signal in one dump, it also selects what this is compared with in the other one."""
     asked = [*names, *exceptions]
     found = [side.selected(asked) for side in sides]
-    for mine, its in _groups(sides) if asked else ():
-        for name in asked if mine != its else ():
-            if mine in found[0][name] or its in found[1][name]:
-                found[0][name].add(mine)
-                found[1][name].add(its)
+    other = dict(_groups(sides)) if asked else {}
+    one = {its: mine for mine, its in other.items()}
+    for name, mine in found[0].items():
+        its = found[1][name]
+        mine.update(one[path] for path in its if path in one)
+        its.update(other[path] for path in mine if path in other)
     for side, of in zip(sides, found):
         side.found.update(name for name in asked if of[name])
         chosen = set().union(*map(of.__getitem__, names)) if names else side.of_name.keys()
