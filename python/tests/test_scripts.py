@@ -567,6 +567,29 @@ class Rules(Case):
                           b"$enddefinitions $end #0")
         self.assertEqual(said("vcdkit-diff", one, other), ["alone A t.u 2", "status 1"])
 
+    def test_alone_in_a_scope_of_both(self):
+        one, other = (self.file(name + ".vcd", (
+            "$scope module tb $end $scope module %s $end $var wire 2 ! q[1:0] $end $scope module q "
+            "$end $var wire 1 \" s $end $upscope $end $upscope $end $upscope $end $enddefinitions "
+            "$end #0 0!" % name).encode()) for name in ("rtl", "gate"))
+        both = ["alone A tb.rtl 2", "alone B tb.gate 2", "status 1"]
+        for words, wanted in (
+                ([], both), (["tb"], both), (["--common", "tb"], ["status 2"]),
+                (["--map=tb.gate=tb.rtl"], ["status 0"]),
+                # What only one dump has keeps its name if a part of it is left out.
+                (["--except=tb.rtl.q.s"], ["alone A tb.rtl 1", *both[1:]]),
+                (["--except=tb.gate"], [both[0], "status 1"]),
+                # As B now has a signal in tb.rtl too, this is no longer the name.
+                (["--map=tb.gate.q.s=tb.rtl.x"], [
+                    "alone A tb.rtl.q[1:0] 1", "alone A tb.rtl.q 1", "alone B tb.gate 1",
+                    "alone B tb.rtl.x 1", "status 1"]),
+                # The variable tb.rtl.q[1:0] is in both, but the scope tb.rtl.q is not.
+                (["--map=tb.gate.q[1:0]=tb.rtl.q[1:0]", "--map=tb.gate.q=tb.rtl.y"], [
+                    "alone A tb.rtl.q 1", "alone B tb.rtl.y 1", "status 1"])):
+            names = [word for word in words if word[:2] != "--"]
+            options = [word for word in words if word[:2] == "--"]
+            self.assertEqual(said("vcdkit-diff", *options, one, other, *names), wanted, words)
+
     def test_bits_of_two_variables_of_one_path(self):
         dump = self.file("bits.vcd", b"$var wire 2 ! q [1:0] $end $var wire 2 \" q [3:2] $end "
                          b"$enddefinitions $end\n#0 b0 ! b0 \" #5 b1 ! b11 \" #6 b11 \"\n")

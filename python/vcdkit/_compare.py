@@ -108,18 +108,17 @@ class Side:
             raise UsageError("%s: %s is no clock of one bit" % (self.dump.name, name))
         return its[0]
 
-    def alone(self) -> List[Tuple[str, int]]:
-        """Returns the names of what the other does not have, and how many signals each has."""
+    def alone(self, other: "Side") -> List[Tuple[str, int]]:
+        """Returns the names of what the other one does not have, and how many signals each has. A
+        name is a path, or the outermost scope around it of which the other one has nothing."""
         paths = [name for name in self.of_name if name not in self.common]
-        if not paths:
-            return []
-        every = [one._replace(path=name) for one, name in zip(self.signals, self.names)]
-        count = dict.fromkeys(names_for(paths, every), 0)
+        has = _with_scopes(other.names) | self.common if paths else set()
+        count: Dict[str, int] = {}
         for path in paths:
-            signals = len(self.of_name[path])
-            while path not in count:
-                path = path.rpartition(".")[0]
-            count[path] += signals
+            name, scope = path, path.rpartition(".")[0]
+            while scope and scope not in has:
+                name, scope = scope, scope.rpartition(".")[0]
+            count[name] = count.get(name, 0) + len(self.of_name[path])
         return list(count.items())
 
     def picked(self, paths: Sequence[str]) -> Optional[Dump]:
@@ -132,6 +131,16 @@ class Side:
 
 
 Sides = Tuple[Side, Side]
+
+
+def _with_scopes(paths: Iterable[str]) -> Set[str]:
+    """Returns paths, and the scopes around them."""
+    found: Set[str] = set()
+    for path in paths:
+        while path and path not in found:
+            found.add(path)
+            path = path.rpartition(".")[0]
+    return found
 
 
 def _groups(sides: Sides) -> Iterator[Tuple[str, str]]:
