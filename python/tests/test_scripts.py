@@ -357,7 +357,8 @@ class Answers(Case):
                 ("when", ["--from", "50ns", self.file("torn", TORN[:-5]), "a"], 2,
                  self.folder.name.encode() + b"/torn:17: unexpected end of input\n"),
                 ("stats", ["--from", "50ns", file, "a"], 2, b"--from: " + late),
-                ("values", ["--at", "50ns", file, "a"], 0, b"--at: " + late),
+                ("values", ["--at", "50ns", file, "a"], 0, b"warning: --at: " + late[:-1]
+                 + b"; its values are the last ones\n"),
                 ("values", ["--at", "30ns", file, "a"], 0, b"")):
             with self.subTest(name=name, words=words):
                 got, _, messages = run("vcdkit-" + name, words)
