@@ -663,18 +663,20 @@ def compared(sides: Sequence[Sequence[Variable]], names: Sequence[str], exceptio
             for side, its, others in zip(sides, paths(names), paths(exceptions))]
 
 
-def alone(every: Sequence[Variable], its: Sequence[Variable], common: Set[str]
+def alone(others: Sequence[Variable], its: Sequence[Variable], common: Set[str]
           ) -> List[Tuple[str, int]]:
-    """What only one dump has, by as few names as there can be: a path, or the outermost scope in
-    which nothing else is; and how many variables it has there."""
-    left = [one for one in its if one.path not in common]
+    """What only one dump has: a path, or the outermost scope around it of which the other dump has
+    nothing, neither a variable in it nor one of this path; and how many variables it has there.
+    Decided: the other dump has what it declares, also if no name selects it. A path that both have
+    with another range is in both."""
     lines: Dict[str, int] = {}
-    for one in left:
+    for one in its:
         words = one.path.split(".")
         names = [".".join(words[:at]) for at in range(1, len(words) + 1)]
-        name = next(name for name in names if name == one.path or all(
-            other in left for other in every if other.path.startswith(name + ".")))
-        lines[name] = lines.get(name, 0) + 1
+        name = next(name for name in names if name == one.path or name not in common and not any(
+            (other.path + ".").startswith(name + ".") for other in others))
+        if one.path not in common:
+            lines[name] = lines.get(name, 0) + 1
     return list(lines.items())
 
 
@@ -772,7 +774,7 @@ def headers(dumps: Sequence[Dump], its: Sequence[Sequence[Variable]]) -> List[st
     both = [{pair[at] for pair in pairs(*its)} for at in (0, 1)]
     return ["timescale %s %s" % tuple(scales)] * (scales[0] != scales[1]) + [
         "alone %s %s %d" % (letter, *one) for at, letter in enumerate("AB")
-        for one in alone(dumps[at].variables, its[at], both[at])]
+        for one in alone(dumps[1 - at].variables, its[at], both[at])]
 
 
 def ends(dumps: Sequence[Dump], counts: Sequence[int], asked: Compare, is_different: bool

@@ -46,8 +46,11 @@ def condition_of(dump: by_definition.Dump, name: str) -> Tuple[Optional[List[int
 
 def ask_names(asked: Asked, folder: str, stride: int) -> None:
     """Asks which variables each name selects: the package, a condition, pick and vcdkit-diff."""
-    paths = folder + "/one.vcd", folder + "/other.vcd"
-    for header in itertools.islice(headers(), 0, None, stride):
+    paths, every = (folder + "/one.vcd", folder + "/other.vcd"), list(headers())
+    for number in range(0, len(every), stride):
+        header = every[number]
+        for other in every[number - 1], every[7 * number % len(every)]:
+            ask_two(asked, (header, other), paths)
         texts = [(header + END + body(header, digit)).encode() for digit in "01"]
         dumps, dump = [dump_of(text) for text in texts], Dump(texts[0])
         for path, text in zip(paths, texts):
@@ -66,14 +69,29 @@ def ask_names(asked: Asked, folder: str, stride: int) -> None:
             times, is_refused = condition_of(dumps[0], name)
             asked.same("names: condition", name, header, (times or [], is_refused), lambda: refusal(
                 answered(lambda: dump.when(name + " is not z"))))
-            asks: List[Tuple[List[str], List[str]]] = [([name], []), ([], [name])]
-            for names, exceptions in asks:
-                lines, is_bad = by_definition.compare(dumps, by_definition.Compare(
-                    names, exceptions, False, True, "", "", 0))
-                words = ["--every", *("--except=" + one for one in exceptions), *paths, *names]
-                asked.same("names: vcdkit-diff", "%s except %s" % (names, exceptions), header, (
-                    lines, 2 if is_bad else int(bool(lines)), is_bad),
-                    lambda: said(diff.main, words))
+            ask_diff(asked, header, dumps, paths, name)
+
+
+def ask_two(asked: Asked, headers_of: Tuple[str, str], paths: Tuple[str, str]) -> None:
+    """Asks vcdkit-diff what only one of two dumps has, also if names select a part of them."""
+    texts = [(header + END + body(header, "1")).encode() for header in headers_of]
+    for path, text in zip(paths, texts):
+        with open(path, "wb") as file:
+            file.write(text)
+    for name in ["", *NAMES]:
+        ask_diff(asked, "\nand\n".join(headers_of), list(map(dump_of, texts)), paths, name)
+
+
+def ask_diff(asked: Asked, text: str, dumps: List[by_definition.Dump], paths: Tuple[str, str],
+             name: str) -> None:
+    """Asks how two dumps differ in what a name selects, and in all else."""
+    asks: List[Tuple[List[str], List[str]]] = [([name], []), ([], [name])] if name else [([], [])]
+    for names, exceptions in asks:
+        lines, is_bad = by_definition.compare(dumps, by_definition.Compare(
+            names, exceptions, False, True, "", "", 0))
+        words = ["--every", *("--except=" + one for one in exceptions), *paths, *names]
+        asked.same("names: vcdkit-diff", "%s except %s" % (names, exceptions), text, (
+            lines, 2 if is_bad else int(bool(lines)), is_bad), lambda: said(diff.main, words))
 
 
 def ask_finds(asked: Asked, header: str, lists: by_definition.Dump, dump: Dump, path: str) -> None:

@@ -175,16 +175,15 @@ def groups_of(sides):
     return exact
 
 
-def alone(side, every, common):
-    """What one has alone, by as few names as there can be, each with its count."""
+def alone(side, others, common):
+    """What one has and the other has not, each with its count: the outermost scope or path that is
+    none of those of the other one."""
+    known = {*common, *(path[:at] for path in (one[0] + "." for one in others)
+                        for at, letter in enumerate(path) if letter == ".")}
     lines = {}
     for path in dict.fromkeys(one[0] for one in side if one[0] not in common):
-        name, scope = path, path
-        while scope:
-            its = [one for one in every if (one[0] + ".").startswith(scope + ".")]
-            if all(one in side and one[0] not in common for one in its):
-                name = scope
-            scope = scope.rpartition(".")[0]
+        fronts = [path[:at] for at, letter in enumerate(path) if letter == "."]
+        name = next((front for front in fronts if front not in known), path)
         lines.setdefault(name, []).extend(one for one in side if one[0] == path)
     return lines
 
@@ -254,10 +253,10 @@ def expected(texts, scales, asked):
     lines, pairs = [], []
     if not asked["common"]:
         lines += ["timescale %s %s" % tuple(scales)] * (scales[0] != scales[1])
-        for letter, side, all_of, common in zip("AB", sides, every, zip(*groups) if groups else (
-                (), ())):
+        for letter, side, others, common in zip("AB", sides, every[::-1], zip(*groups) if groups
+                                                else ((), ())):
             lines += ["alone %s %s %d" % (letter, name, len(paths))
-                      for name, paths in alone(side, all_of, common).items()]
+                      for name, paths in alone(side, others, common).items()]
     for one, other in groups:
         mine, its = ([signal for signal in side if signal[0] == path]
                      for side, path in zip(sides, (one, other)))
@@ -301,8 +300,12 @@ def time_of(scales):
 
 
 def other_variables(of):
-    """The variables as another tool declares them."""
-    made = [one for one in VARIABLES if of.random() > .06 or one[1] == "c"]
+    """The variables as another tool declares them, now and then with other scopes and names."""
+    old, new = of.choice([("t", "t")] * 5 + [("t.u", "t.w"), ("t.u.v", "t.u.w"), ("t.u.v", "t.w")])
+    made = [(re.sub(r"\A%s\b" % old, new, one[0]), *one[1:])
+            for one in VARIABLES if of.random() > .06 or one[1] == "c"]
+    if of.random() < .2:
+        made = [(scope, name.replace("p", "o"), *rest) for scope, name, *rest in made]
     if of.random() < .3:
         made.sort(key=lambda one: (one[0], of.random()))
     found = []

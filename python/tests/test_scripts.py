@@ -357,7 +357,8 @@ class Answers(Case):
                 ("when", ["--from", "50ns", self.file("torn", TORN[:-5]), "a"], 2,
                  self.folder.name.encode() + b"/torn:17: unexpected end of input\n"),
                 ("stats", ["--from", "50ns", file, "a"], 2, b"--from: " + late),
-                ("values", ["--at", "50ns", file, "a"], 0, b"--at: " + late),
+                ("values", ["--at", "50ns", file, "a"], 0, b"warning: --at: " + late[:-1]
+                 + b"; its values are the last ones\n"),
                 ("values", ["--at", "30ns", file, "a"], 0, b"")):
             with self.subTest(name=name, words=words):
                 got, _, messages = run("vcdkit-" + name, words)
@@ -549,6 +550,16 @@ class Rules(Case):
                              ("tb.q", ["differs 10ns tb.q[3:0] 0010 0011"]), ("tb", [])):
             self.assertEqual(said("vcdkit-diff", "--except", name, one, other)[:-1], wanted)
 
+    def test_a_path_in_both_dumps_is_compared_if_a_name_selects_it_in_one(self):
+        more = SLICES.replace(b"$upscope", b"$scope module q $end $var wire 1 # s $end $upscope "
+                              b"$end $upscope")
+        less = SLICES.replace(b"q[7:4]", b"r")
+        one, other = self.file("a.vcd", less), self.file("b.vcd", more.replace(b"b10 !", b"b11 !"))
+        self.assertEqual(said("vcdkit-diff", one, other, "tb.q"), [
+            "alone B tb.q 1", "differs 10ns tb.q[3:0] 0010 0011", "status 1"])
+        self.assertEqual(said("vcdkit-diff", "--except", "tb.q", one, other), [
+            "alone A tb.r 1", "alone B tb.q[7:4] 1", "status 1"])
+
     def test_alone_counts_variables(self):
         one = self.file("a.vcd", b"$scope module t $end $scope module u $end $var wire 1 ! b $end "
                         b"$var wire 1 \" b $end $upscope $end $var wire 1 # c $end $upscope $end "
@@ -556,6 +567,29 @@ class Rules(Case):
         other = self.file("b.vcd", b"$scope module t $end $var wire 1 # c $end $upscope $end "
                           b"$enddefinitions $end #0")
         self.assertEqual(said("vcdkit-diff", one, other), ["alone A t.u 2", "status 1"])
+
+    def test_alone_in_a_scope_of_both(self):
+        one, other = (self.file(name + ".vcd", (
+            "$scope module tb $end $scope module %s $end $var wire 2 ! q[1:0] $end $scope module q "
+            "$end $var wire 1 \" s $end $upscope $end $upscope $end $upscope $end $enddefinitions "
+            "$end #0 0!" % name).encode()) for name in ("rtl", "gate"))
+        both = ["alone A tb.rtl 2", "alone B tb.gate 2", "status 1"]
+        for words, wanted in (
+                ([], both), (["tb"], both), (["--common", "tb"], ["status 2"]),
+                (["--map=tb.gate=tb.rtl"], ["status 0"]),
+                # What only one dump has keeps its name if a part of it is left out.
+                (["--except=tb.rtl.q.s"], ["alone A tb.rtl 1", *both[1:]]),
+                (["--except=tb.gate"], [both[0], "status 1"]),
+                # As B now has a signal in tb.rtl too, this is no longer the name.
+                (["--map=tb.gate.q.s=tb.rtl.x"], [
+                    "alone A tb.rtl.q[1:0] 1", "alone A tb.rtl.q 1", "alone B tb.gate 1",
+                    "alone B tb.rtl.x 1", "status 1"]),
+                # The variable tb.rtl.q[1:0] is in both, but the scope tb.rtl.q is not.
+                (["--map=tb.gate.q[1:0]=tb.rtl.q[1:0]", "--map=tb.gate.q=tb.rtl.y"], [
+                    "alone A tb.rtl.q 1", "alone B tb.rtl.y 1", "status 1"])):
+            names = [word for word in words if word[:2] != "--"]
+            options = [word for word in words if word[:2] == "--"]
+            self.assertEqual(said("vcdkit-diff", *options, one, other, *names), wanted, words)
 
     def test_bits_of_two_variables_of_one_path(self):
         dump = self.file("bits.vcd", b"$var wire 2 ! q [1:0] $end $var wire 2 \" q [3:2] $end "

@@ -108,18 +108,17 @@ class Side:
             raise UsageError("%s: %s is no clock of one bit" % (self.dump.name, name))
         return its[0]
 
-    def alone(self) -> List[Tuple[str, int]]:
-        """Returns the names of what the other does not have, and how many signals each has."""
+    def alone(self, other: "Side") -> List[Tuple[str, int]]:
+        """Returns the names of what the other one does not have, and how many signals each has. A
+        name is a path, or the outermost scope around it of which the other one has nothing."""
         paths = [name for name in self.of_name if name not in self.common]
-        if not paths:
-            return []
-        every = [one._replace(path=name) for one, name in zip(self.signals, self.names)]
-        count = dict.fromkeys(names_for(paths, every), 0)
+        has = _with_scopes(other.names) | self.common if paths else set()
+        count: Dict[str, int] = {}
         for path in paths:
-            signals = len(self.of_name[path])
-            while path not in count:
-                path = path.rpartition(".")[0]
-            count[path] += signals
+            name, scope = path, path.rpartition(".")[0]
+            while scope and scope not in has:
+                name, scope = scope, scope.rpartition(".")[0]
+            count[name] = count.get(name, 0) + len(self.of_name[path])
         return list(count.items())
 
     def picked(self, paths: Sequence[str]) -> Optional[Dump]:
@@ -132,6 +131,16 @@ class Side:
 
 
 Sides = Tuple[Side, Side]
+
+
+def _with_scopes(paths: Iterable[str]) -> Set[str]:
+    """Returns paths, and the scopes around them."""
+    found: Set[str] = set()
+    for path in paths:
+        while path and path not in found:
+            found.add(path)
+            path = path.rpartition(".")[0]
+    return found
 
 
 def _groups(sides: Sides) -> Iterator[Tuple[str, str]]:
@@ -150,15 +159,16 @@ def _groups(sides: Sides) -> Iterator[Tuple[str, str]]:
 
 
 def choose(sides: Sides, names: Sequence[str], exceptions: Sequence[str]) -> None:
-    """Takes the signals that names select, all without names, but for the exceptions. What a name
-    selects in one dump, it also selects in the other one if that has it with another range."""
+    """Takes the signals that names select, all without names, but for the exceptions. If a name
+    selects a signal in one dump, it also selects what this is compared with in the other one."""
     asked = [*names, *exceptions]
     found = [side.selected(asked) for side in sides]
-    for mine, its in _groups(sides) if asked else ():
-        for name in asked if mine != its else ():
-            if mine in found[0][name] or its in found[1][name]:
-                found[0][name].add(mine)
-                found[1][name].add(its)
+    other = dict(_groups(sides)) if asked else {}
+    one = {its: mine for mine, its in other.items()}
+    for name, mine in found[0].items():
+        its = found[1][name]
+        mine.update(one[path] for path in its if path in one)
+        its.update(other[path] for path in mine if path in other)
     for side, of in zip(sides, found):
         side.found.update(name for name in asked if of[name])
         chosen = set().union(*map(of.__getitem__, names)) if names else side.of_name.keys()

@@ -3,7 +3,7 @@
 Each line says what differs, and then shows both sides, A first:
   timescale 1ns 100ps     the time scales (times are compared nevertheless)
   alone A tb.core[1] 9    only A has this variable or scope, and how many
-                          variables are in it
+                          variables are in it; both have the scope around it
   size tb.q 4 8           the sizes; or the types, if one is real or event
   differs 35ns tb.q 1 0   the values of a variable at the first time with a
                           difference (-: no value yet; of an event: whether
@@ -18,7 +18,8 @@ first edge of B's clock, and so on, whatever the times of the edges are. These d
 and versions, codes, types such as reg and wire, the order of changes within a time, values that are
 written again, and sections. Real numbers are compared as numbers, and NaN equals NaN. tb.q in one
 dump is tb.q[3:0] in the other. If you give NAMEs, only these are compared. With --map, the NAMEs
-are the new ones.
+are the new ones, and so are the names in the lines. If a scope has two names, as in the lines
+`alone A tb.rtl 9` and `alone B tb.gate 9`, --map tb.gate=tb.rtl compares what is in it.
 
 examples:
   vcdkit-diff golden.vcd.gz sim.vcd
@@ -163,8 +164,8 @@ def say_headers(report: Report, sides: Sides, apart: Sequence[Pair], is_common: 
         scales = [side.scale for side in sides]
         texts = [str(scale) if scale else None for scale in scales]
         report.say("timescale", [("timescale", *texts)] if scales[0] != scales[1] else [])
-        for letter, side in zip("AB", sides):
-            report.say_some("alone", [("alone", letter, *one) for one in side.alone()])
+        for letter, side, other in zip("AB", sides, sides[::-1]):
+            report.say_some("alone", [("alone", letter, *one) for one in side.alone(other)])
     report.say("size", [("size", pair.name, *map(kind, pair.signals)) for pair in apart])
 
 

@@ -1,9 +1,11 @@
 """Writes the values of signals at some times, a line each: the path and the value
 
 The values are those at the end of each time of --at, or at the end of the dump. If there are
-several times, each line begins with its time. Without NAMEs all signals are written, except events,
-which have no value. `-` means that there is no value yet. If a value has an x or a z, --hex writes
-x or z for four such digits and X for a mixture, and the other options write all digits.
+several times, each line begins with its time. At a time after the end of the dump, the values are
+the last ones; a warning on standard error says so, and the status is 0. Without NAMEs all signals
+are written, except events, which have no value. `-` means that there is no value yet. If a value
+has an x or a z, --hex writes x or z for four such digits and X for a mixture, and the other options
+write all digits.
 
 examples:
   vcdkit-values --at 115ns --hex sim.vcd tb.cpu
@@ -31,7 +33,8 @@ def main(words):
     signals = {place: one for place, one in dump._places(names).items() if one.type != "event"}
     is_late = after_end(dump, max(times, key=dump.ticks)) if is_given else ""
     if is_late:
-        print("vcdkit-values: --at: " + is_late, file=sys.stderr)
+        print("vcdkit-values: warning: --at: %s; its values are the last ones" % is_late,
+              file=sys.stderr)
     for time, values in dump._rows_at(signals, list(map(dump.ticks, times)), names):
         for one, value in zip(signals.values(), values):
             if asked.json:
