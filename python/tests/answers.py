@@ -571,9 +571,12 @@ def statistics_text(facts: Dict[str, Any], tick: Optional[int]) -> List[str]:
 
 
 def mean_text(tick: Optional[int], mean: Fraction) -> str:
-    """A mean length of time to six digits of the largest unit of which it has one."""
+    """A mean length of time to six digits of the largest unit of which it has one; 0 in that of the
+    time scale, as time_text has it."""
     if tick is None:
         return "%.6g" % mean
+    if not mean:
+        return time_text(tick, 0)
     units = [(unit, mean * Fraction(tick, 10**power)) for unit, power in UNITS.items()]
     unit, number = next((one for one in units if one[1] >= 1), units[-1])
     return "%.6g%s" % (number, unit)

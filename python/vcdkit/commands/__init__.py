@@ -127,7 +127,8 @@ def add_names(to: _Parser, count: str) -> None:
     to.needs_names = count == "+"
     add_names_of(to)
     to.add_argument("names", metavar="NAME", nargs="*", default=[],
-                    help="a path that vcdkit list shows, or a scope for all that is in it")
+                    help="a path that vcdkit list shows, or a scope for all that is in it"
+                    + " (required without --names)" * to.needs_names)
 
 
 def add_names_of(to: argparse.ArgumentParser) -> None:
@@ -231,20 +232,22 @@ def times_of(dump: Dump, asked: argparse.Namespace) -> Callable[[int], str]:
 
 def mean_text(dump: Dump, ticks: float, unit: Optional[str]) -> str:
     """Returns a mean length of time to six digits: in a unit that is given, else in the largest one
-    of which it has one."""
+    of which it has one. 0 is in the unit of the time scale, as in other times."""
     scale = dump.timescale
     if scale is None or unit == "tick":
         return "%.6g" % ticks
+    if not ticks:
+        return dump.time(0, unit or "")
     lengths = [(scale.seconds(ticks) * 1000**power, its) for power, its in enumerate(UNITS)]
     its = [pair for pair in lengths if pair[1] == unit] or [
         pair for pair in lengths if pair[0] >= 1] or lengths[-1:]
     return "%.6g%s" % its[0]
 
 
-def add_json(to: argparse._ActionsContainer) -> None:
+def add_json(to: argparse._ActionsContainer,
+             what: str = "write a JSON object on each line, with times in ticks") -> None:
     """Adds --json."""
-    to.add_argument("--json", action="store_true", help="write a JSON object on each line, with "
-                    "times in ticks")
+    to.add_argument("--json", action="store_true", help=what)
 
 
 def natural(text: str) -> int:

@@ -50,7 +50,7 @@ def main(words):
     of.add_argument("--scopes", type=int, default=5, metavar="N",
                     help="how many of the largest scopes to list (5)")
     add_unit(of)
-    add_json(of)
+    add_json(of, "write one JSON object; first_tick and last_tick are ticks")
     add_file(of)
     asked = of.parse_args(words)
     dump = dump_of(asked)

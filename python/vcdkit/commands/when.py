@@ -19,8 +19,7 @@ conditions:
                    next 5 edges of the clock; or in time: within 20ns,
                    within 20tick
   !(req -> ack within 5)
-                   req begins to hold, and ack does not follow; if the dump
-                   ends before that is known, neither of the two holds
+                   req begins to hold, and ack does not follow
   "tb.a&b" == 1    a name that contains such signs
 
 If the answer to a comparison depends on x or z digits, or on a signal that has no value yet, it is
@@ -30,6 +29,11 @@ With --latency, each line of `req -> ack within 5` has the time at which req beg
 ack, and how long that is: the number of edges, or a time if `within` gives a time. The last line
 has the least, the mean and the greatest of these, and how many of req had no ack in time. (With
 --json there is no such line.)
+
+If the dump or --to ends before N of `within N` has passed, a request without an answer is neither
+in time nor late: neither form of the condition holds, and --latency does not list or count it. In a
+CI job, choose an N that fits between the last request and the end of the dump. `vcdkit-when --count
+sim.vcd tb.req`, with the same clock and window, says how many requests there were.
 
 examples:
   vcdkit-when sim.vcd 'tb.bus == 0xdeadbeef'
