@@ -17,7 +17,7 @@ changing   A file grows or shrinks, before its length is asked for, after that, 
            The outcome is that of its last text. In a short file that grows, a token may have as
            many bytes as the longest input had when the lengths were asked for, or 4,096.
 many       64 files have a token limit of 16 MB, if 4 GB of memory are free."""
-import fcntl, os, struct, subprocess, sys, tempfile, termios, time
+import fcntl, os, select, struct, subprocess, sys, tempfile, termios, time
 from contextlib import contextmanager
 from functools import partial
 from itertools import combinations, product
@@ -151,6 +151,11 @@ def failing_outputs(program, case):
                    program.run(case.words(files), folder, out=full))
         reader, writer = os.pipe()
         os.close(reader)
+        # A process that another thread has just forked may hold the reader until it starts a
+        # program. The only event of a pipe that no event was asked for is that it has no reader.
+        ended = select.poll()
+        ended.register(writer, 0)
+        ended.poll()
         yield "%s | true" % case.name, wants, program.run(case.words(files), folder, out=writer)
         os.close(writer)
 
