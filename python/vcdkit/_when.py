@@ -57,7 +57,7 @@ class _Question:
         """Returns the requests that get their answer in time, as they do, and those that get none,
         as soon as that is known. What the end of the dump leaves open is neither. If nobody wants
         the late ones, the last of them may be left out."""
-        condition, ticks, now = self.condition, self.ticks, 0
+        condition, ticks = self.condition, self.ticks
         assert condition.answer and condition.span
         waiting: Waiting = collections.deque()
         for count, (time, is_start) in enumerate(self.starts()):
@@ -68,12 +68,13 @@ class _Question:
             if waiting and condition.answer(condition.values) is True:
                 yield from [Outcome(begin, time, now - until + ticks) for begin, until in waiting]
                 waiting.clear()
+            if not condition.span.unit:  # each edge is looked at once
+                yield from _late(waiting, now + 1)
             if len(waiting) > MAX_WAITING:
                 raise UsageError("more than %d times wait for an answer: give a shorter time"
                                  % MAX_WAITING)
-        if wants_late and waiting:
-            last = (self.dump.check().last or 0) if condition.span.unit else now
-            yield from _late(waiting, last + 1)
+        if wants_late and waiting and condition.span.unit:
+            yield from _late(waiting, (self.dump.check().last or 0) + 1)
 
 
 def _late(waiting: Waiting, now: int) -> Iterator[Outcome]:
