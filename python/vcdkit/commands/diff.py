@@ -16,10 +16,11 @@ Values are compared at the end of each time, up to the end of the shorter dump. 
 --fall, the values just before the first edge of A's clock are compared with those just before the
 first edge of B's clock, and so on, whatever the times of the edges are. These do not matter: dates
 and versions, codes, types such as reg and wire, the order of changes within a time, values that are
-written again, and sections. Real numbers are compared as numbers, and NaN equals NaN. tb.q in one
-dump is tb.q[3:0] in the other. If you give NAMEs, only these are compared. With --map, the NAMEs
-are the new ones, and so are the names in the lines. If a scope has two names, as in the lines
-`alone A tb.rtl 9` and `alone B tb.gate 9`, --map tb.gate=tb.rtl compares what is in it.
+written again, and whether a value is in a section. Real numbers are compared as numbers, and NaN
+equals NaN. tb.q in one dump is tb.q[3:0] in the other. If you give NAMEs, only these are compared.
+With --map, the NAMEs are the new ones, and so are the names in the lines. If a scope has two names,
+as in the lines `alone A tb.rtl 9` and `alone B tb.gate 9`, --map tb.gate=tb.rtl compares what is in
+it.
 
 examples:
   vcdkit-diff golden.vcd.gz sim.vcd
