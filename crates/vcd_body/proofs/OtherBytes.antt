@@ -1,28 +1,32 @@
 -- A mask of the bytes that are another one, and digits that are left out where they are not.
-use Rattle.std.proofs.Common.{◌≡◌, ◌≢◌, ℕ, zero, suc, ◌+◌, ◌<◌, ◌≤◌, ◌*◌, ◌%◌, ◌^◌, ◌==◌, ◌⊎◌, inl, inr, Bool, true, false, cond, not, List, [], ◌∷◌, length, map, replicate, drop, get_or, w8, refl, sym, ap, ◌∙◌, arith}
+use Rattle.std.proofs.Common.{◌≡◌, ◌≢◌, ℕ, zero, suc, ◌+◌, ◌<◌, ◌≤◌, ◌%◌, ◌^◌, ◌==◌, ◌⊎◌, inl, inr, Bool, true, false, cond, not, List, [], ◌∷◌, length, map, replicate, drop, get_or, w8, refl, sym, ap, ap₂, ◌∙◌, arith}
 use Rattle.std.specs.Prelude.{slice_index}
 use Rattle.std.specs.Char.{to_ascii_lowercase}
 use Rattle.std.specs.Int.{bit_at}
 use Rattle.std.specs.Str.{str_to_ascii_lowercase}
 use Rattle.std.proofs.lemmas.Bool.{agree_below_at, eq-eqb, eqb-true, ne_eqb}
-use Rattle.std.proofs.lemmas.List.{get_or-map, length-map}
-use Rattle.std.proofs.lemmas.Simd.{bit_mask_l, get_or-chunk, length-chunk, length-zip2, mask_l-mod, tops_compared, zip2_splat}
+use Rattle.std.proofs.lemmas.List.{get_or-replicate, length-replicate}
+use Rattle.std.proofs.lemmas.Simd.{bit_mask_l, get_or-chunk, get_or-zip2, length-chunk, length-zip2, mask_l-mod, tops_compared}
 use lib.Lanes.{chunk, mask_l, top, zip2}
 use Rattle.vcd_model.specs.Values.{extension}
 use Rattle.vcd_body.specs.Changes.{AreBinary}
 use Rattle.vcd_body.proofs.Shortest.{Suffices, one_of_two, one_out}
 
+pub differ_bit : (xs ys : List ℕ) (n : ℕ) → length xs ≡ n → length ys ≡ n → n ≤ 64 → (k : ℕ) → k < n
+    → bit_at (mask_l (map (top 7) (zip2 (λ x y. cond (not (x == y)) 255 0) xs ys)) % 2 ^ 64) k ≡ cond {A = ℕ} (not (get_or xs k 0 == get_or ys k 0)) 1 0
+differ_bit xs ys n a b few k less =
+    let p : ℕ → ℕ → Bool = λ x y. not (x == y) in
+    let ms = zip2 p xs ys in
+    let long = length-zip2 p xs ys (a ∙ sym b) in
+    let mask = ap (λ l. mask_l l % 2 ^ 64) (tops_compared w8 p xs ys) ∙ mask_l-mod ms 64 (omega (arith, long, a)) in
+    let at = get_or-zip2 p xs ys k 0 0 false (omega (arith, a, less)) (omega (arith, b, less)) in
+    ap (λ m. bit_at m k) mask ∙ bit_mask_l ms k ∙ ap (λ (t : Bool). cond {A = ℕ} t 1 0) at
+
 pub others_bit : (b : ℕ) (xs : List ℕ) (i n : ℕ) → i + n ≤ length xs → n ≤ 64 → (k : ℕ) → k < n
     → bit_at (mask_l (map (top 7) (zip2 (λ x y. cond (not (x == y)) 255 0) (chunk i n xs) (replicate n b))) % 2 ^ 64) k ≡ cond {A = ℕ} (not (slice_index xs (i + k) == b)) 1 0
 others_bit b xs i n room few k less =
-    let v = chunk i n xs in
-    let p : ℕ → Bool = λ x. not (x == b) in
-    let ms = map p v in
-    let long : length v ≡ n = length-chunk i n xs room in
-    let tests : map (top 7) (zip2 (λ x y. cond (not (x == y)) 255 0) v (replicate n b)) ≡ ms = tops_compared w8 (λ x y. not (x == y)) v (replicate n b) ∙ zip2_splat (λ x y. not (x == y)) v n b long in
-    let mask = ap (λ l. mask_l l % 2 ^ 64) tests ∙ mask_l-mod ms 64 (omega (arith, length-map v p)) in
-    let at : get_or ms k false ≡ p (get_or xs (i + k) 0) = get_or-map p v k 0 false (omega arith) ∙ ap p (get_or-chunk i n xs k 0 less) in
-    ap (λ m. bit_at m k) mask ∙ bit_mask_l ms k ∙ ap (λ (t : Bool). cond {A = ℕ} t 1 0) at
+    differ_bit (chunk i n xs) (replicate n b) n (length-chunk i n xs room) (length-replicate n b) few k less
+    ∙ ap₂ (λ x y. cond {A = ℕ} (not (x == y)) 1 0) (get_or-chunk i n xs k 0 less) (get_or-replicate n k b 0 less)
 
 -- its bits tell
 pub clear_is : (x b : ℕ) {bit : ℕ} → bit ≡ cond {A = ℕ} (not (x == b)) 1 0 → bit ≡ 0 → x ≡ b
@@ -38,27 +42,9 @@ set_is x b is set same =
     let one = sym (ap (λ (r : Bool). cond {A = ℕ} (not r) 1 0) t) ∙ sym is ∙ set in
     absurd (omega (arith, one))
 
--- rows with no such byte are the same
-all_same : (xs ys : List ℕ) → length xs ≡ length ys → mask_l (zip2 (λ x y. not (x == y)) xs ys) ≡ 0 → xs ≡ ys
-all_same [] [] long e = refl
-all_same [] (y ∷ ys) long e = absurd (omega arith)
-all_same (x ∷ xs) [] long e = absurd (omega arith)
-all_same (x ∷ xs) (y ∷ ys) long e =
-    let none : cond {A = ℕ} (not (x == y)) 1 0 + 2 * mask_l (zip2 (λ x y. not (x == y)) xs ys) ≡ 0 = e in
-    let here : x ≡ y = clear_is x y refl (omega (arith, none)) in
-    let others : xs ≡ ys = all_same xs ys (omega arith) (omega (arith, none)) in
-    rw (here, others) refl
-
 pub off : (b : Bool) → not b ≡ true → b ≡ false
 off true h = cc
 off false h = refl
-
-pub mask_same : (xs ys : List ℕ) → length xs ≡ 16 → length ys ≡ 16 → (mask_l (map (top 7) (zip2 (λ a b. cond (not (a == b)) 255 0) xs ys)) % 2 ^ 64 == 0) ≡ true → xs ≡ ys
-mask_same xs ys a b none =
-    let tests = zip2 (λ x y. not (x == y)) xs ys in
-    let long = length-zip2 (λ x y. not (x == y)) xs ys (a ∙ sym b) in
-    let whole = ap (λ l. mask_l l % 2 ^ 64) (tops_compared w8 (λ x y. not (x == y)) xs ys) ∙ mask_l-mod tests 64 (omega (arith, long, a)) in
-    all_same xs ys (a ∙ sym b) (sym whole ∙ eqb-true _ 0 none)
 
 -- ---- digits that are 0 and 1 alone
 

@@ -22,7 +22,7 @@ use Rattle.vcd_body.specs.Binary.{binary_digits, bit_of}
 use Rattle.vcd_body.specs.Changes.{AreBinary}
 use Rattle.vcd_body.proofs.Shortest.{number_two, one_of_two as by_bit}
 use Rattle.vcd_body.specs.declared.bits.Bits.{Bits}
-use Rattle.vcd_body.specs.Words.{Begins, IsScalar, StandsFor, command_is, is_either}
+use Rattle.vcd_body.specs.Words.{Begins, InClear, IsScalar, StandsFor, command_is, is_either}
 use Rattle.vcd_body.specs.declared.words.PhraseKind.{PhraseKind}
 use Rattle.vcd_body.specs.declared.words.PhraseKind.TheVariants as kind
 
@@ -177,9 +177,9 @@ pub known_tell : (xs : List ℕ) (i n : ℕ) (f : ℕ → ℕ) (z : List ℕ) �
     → (k : ℕ) → k < n → bit_at (mask_l (map (top 7) z) % 2 ^ 64) k ≡ 0 → is_value_digit (slice_index xs (i + k)) ≡ true
 known_tell xs i n f z room few fits e all k less none = let t = mask_tells is_known xs i n f z room few fits e all k less none in unknown_alone (slice_index xs (i + k)) t.0 t.1
 
--- where two masks have no bit in common, one of them has none at each place
-pub none_of_two : (m m' k : ℕ) → bit_and m m' ≡ 0 → (bit_at m k ≡ 0) ⊎ (bit_at m' k ≡ 0)
-none_of_two m m' k e = by_min (bit_at m k) (bit_at m' k) (sym (bit_at_and m m' k) ∙ ap (λ n. bit_at n k) e ∙ bit_at-zero k)
+-- a bit that two masks do not have in common is clear in one of them
+pub none_of_two : (m m' k : ℕ) → bit_at (bit_and m m') k ≡ 0 → (bit_at m k ≡ 0) ⊎ (bit_at m' k ≡ 0)
+none_of_two m m' k e = by_min (bit_at m k) (bit_at m' k) (sym (bit_at_and m m' k) ∙ e)
   where
     by_min : (a b : ℕ) → min a b ≡ 0 → (a ≡ 0) ⊎ (b ≡ 0)
     by_min zero b h = inl refl
@@ -219,6 +219,10 @@ pub behind : (P : ℕ → Type 0) (i n : ℕ) → ((k : ℕ) → k < n → P (i 
 behind P i n h k low high =
     let back : i + (k - i) ≡ k = omega arith in
     subst P back (h (k - i) (omega arith))
+
+-- what is so at each place of a block whose mask is 0
+pub in_block : (P : ℕ → Type 0) {gives : ℕ → ℕ → Type 0} {n k : ℕ} → InClear gives n k → ((at : ℕ) → gives at 0 → (j : ℕ) → j < n → P (at + j)) → P k
+in_block P {n = n} {k = k} b each = behind P b.at n (each b.at b.clear) k b.from b.to
 
 -- ---- digits that are in some bytes
 

@@ -43,7 +43,7 @@ pub use Rattle.vcd_body.specs.Id.{id_text}
 pub use Rattle.vcd_body.specs.Items.{AreRegsAfter, AreRegsWith, model_form, regs_after}
 pub use Rattle.vcd_body.specs.Kept.{AreTwo, Held, IsStep, Kept, are_two, as_chosen, bytes_for, counts_if, counts_with, differs, digit_in, goes_from, last_bit, last_digit_in, one_more, real_text, unset, value_at_size, with_change, with_held, with_number, with_number_change, with_step, with_text}
 pub use Rattle.vcd_body.specs.Lines.{IsDigitLine, IsFront, IsTextLine, LeavesFront, LeavesLine, LeavesShortest, LeavesText, MayBe}
-pub use Rattle.vcd_body.specs.Packed.{ArePacked, HasFour, MayPack, two_bits_at, two_bits_of, two_bits_or, digit_of, digits_in, packed_byte, held_digit, quarter_of, shifted}
+pub use Rattle.vcd_body.specs.Packed.{ArePacked, HasFour, two_bits_at, two_bits_of, two_bits_or, digit_of, digits_in, packed_byte, held_digit, quarter_of, shifted}
 pub use Rattle.vcd_body.specs.Reads.{AsksForCode, Begun, Fails, FailsAfter, GaveItems, Looks, OpensPhrase, Passes, PassesScalar, Reads, ReadsAll, ReadsChange, ReadsPhrase, Refuses}
 pub use Rattle.vcd_body.specs.Spelled.{HasChange, HasTimestamp, HasPlaces, IsSpelled, IsSpelledAs, Names, StandsAt, bytes_without, line_without}
 pub use Rattle.vcd_body.specs.Steps.{ChangesRoomy, LeavesNumber, LeavesSteps, LeavesFlip, StepsTo, TellsStep, FlipsTo, counts_after, counts_plus, counts_plus_if, with_steps}
@@ -51,7 +51,7 @@ pub use Rattle.vcd_body.specs.Stored.{AreLaidOut, ChangesAt, ChangesSlot, IsHeld
 pub use Rattle.vcd_body.specs.Taken.{HasTime, IsChangeBy, IsFound, IsFoundScalar, IsSection, LeavesRegs, Opens, OpensVector, TakesItem, TakesOpened, TakesOpenedAfter}
 pub use Rattle.vcd_body.specs.Values.{by_text, form_in, text_in, with_value, with_value_change}
 pub use Rattle.vcd_body.specs.Whole.{HoldsItem, IsPrompt}
-pub use Rattle.vcd_body.specs.Words.{Begins, IsScalar, StandsFor, command_is, is_comment, mark_time}
+pub use Rattle.vcd_body.specs.Words.{Begins, InClear, IsScalar, StandsFor, command_is, is_comment, mark_time}
 pub use Rattle.vcd_body.specs.declared.item.Form.{Form}
 pub use Rattle.vcd_body.specs.declared.item.Item.{Item}
 pub use Rattle.vcd_body.specs.declared.words.PhraseKind.{PhraseKind}

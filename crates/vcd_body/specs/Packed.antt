@@ -1,6 +1,6 @@
 -- Digits, four to a byte: one of each quarter of the text, that of the first quarter in the lowest
 -- bits. The last quarter ends where the text does: it may begin with digits of the third one.
-use Rattle.std.specs.Prelude.{◌≡◌, ◌<◌, ◌≤◌, ℕ, ◌/◌, ◌%◌, ◌+◌, ◌-◌, ◌*◌, ◌^◌, ◌==◌, nat_lt, min, cond, List, length, map, get_or}
+use Rattle.std.specs.Prelude.{◌≡◌, ◌<◌, ℕ, ◌/◌, ◌%◌, ◌+◌, ◌-◌, ◌*◌, ◌^◌, ◌==◌, nat_lt, min, cond, List, length, map, get_or}
 use Rattle.std.specs.List.{range_with_len}
 use Rattle.std.specs.Str.{byte}
 
@@ -50,9 +50,3 @@ HasFour share text quarter position = get_or share position 0 ≡ packed_byte te
 
 abbrev pub ArePacked : List ℕ → List ℕ → ℕ → Type 0
 ArePacked share text quarter = (position : ℕ) → position < quarter → HasFour share text quarter position
-
--- a share has room for a byte of each quarter of a text, of 16 digits or more
-pub record MayPack (share text : List ℕ) (n : ℕ) : Type 0 where
-  pub room : n ≤ length share
-  pub many : 16 ≤ n
-  pub quarter : 3 * n ≤ length text

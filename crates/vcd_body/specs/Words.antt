@@ -1,5 +1,5 @@
 -- What a token is that comes where a phrase of a body begins.
-use Rattle.std.specs.Prelude.{◌≡◌, ℕ, ◌^◌, Bool, true, false, cond, ◌&&◌, nat_lt, IsTrue, ◌==◌, List, [], ◌∷◌, drop, Option, Some, None}
+use Rattle.std.specs.Prelude.{◌≡◌, ℕ, ◌+◌, ◌<◌, ◌≤◌, ◌^◌, Bool, true, false, cond, ◌&&◌, nat_lt, IsTrue, ◌==◌, List, [], ◌∷◌, drop, Option, Some, None}
 use Rattle.std.specs.List.{list_any}
 use Rattle.std.specs.Str.{byte}
 use Rattle.std.specs.Prelude.{bytes_eq}
@@ -78,3 +78,10 @@ Begins token Scalar = (d : ℕ) × (code : List ℕ) × IsTrue (is_value_digit d
 Begins token Vector = (b : ℕ) × (digits : List ℕ) × IsTrue (is_either (byte "b") (byte "B") b) × (token ≡ b ∷ digits)
 Begins token Real = (r : ℕ) × (text : List ℕ) × IsTrue (is_either (byte "r") (byte "R") r) × (token ≡ r ∷ text)
 Begins token Other = BeginsOther token
+
+-- byte k is in a block of n bytes whose mask is 0
+pub record InClear (gives : ℕ → ℕ → Type 0) (n k : ℕ) : Type 0 where
+  pub at : ℕ
+  pub from : at ≤ k
+  pub to : k < at + n
+  pub clear : gives at 0

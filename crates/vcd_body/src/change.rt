@@ -3,7 +3,7 @@ ghost use Rattle.std.specs.Prelude.{◌≡◌, ◌≢◌, ℕ, ◌-◌, ◌^◌,
 ghost use Rattle.vcd_body.specs.Names.{Puts, PutsTo, PutsWhere, extended, extension, line_under, short, str_to_ascii_lowercase, to_ascii_lowercase as lower};
 
 use crate::item::Form;
-use crate::words::{clear_bits, others_32, rest_of};
+use crate::words::{clear_bits, first_marked, others_32, rest_of};
 use vcd_text::{Sink, WriteFailed, put};
 
 /// Returns the digit by which a value that begins with `digit` is extended on the left: `0` for a
@@ -30,16 +30,8 @@ fn same_as_first(bytes: &[u8]) -> usize
     ensures same { (k : ℕ) → k < result → get_or bytes.now k 0 ≡ get_or bytes.now 0 0 }
 {
     let first = bytes[0];
-    let last = bytes.len() - 32;
-    let mut at = 0;
-    while at < last {
-        let others = others_32(bytes, at, first);
-        if others != 0 {
-            return at + clear_bits(others, 32);
-        }
-        at += 32;
-    }
-    last + clear_bits(others_32(bytes, last, first), 32)
+    let (at, others) = first_marked::<32, _>(bytes.len(), |at| others_32(bytes, at, first));
+    at + clear_bits(others, 32)
 }
 
 /// Returns a shorter end of `digits`, of which there is at least one, that extends to the same

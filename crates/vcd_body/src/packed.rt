@@ -1,8 +1,8 @@
 // Digits in a share: four to a byte, one of each quarter of them.
 ghost use Rattle.std.specs.Prelude.{◌≡◌, ◌≢◌, ◌≤◌, ◌<◌, ◌+◌, ◌-◌, ◌*◌, ◌/◌, ℕ, Some, get_or, length, map, slice_get, false, true};
-ghost use Rattle.vcd_body.specs.Names.{ArePacked, AreTwo, HasFour, MayPack, chunk, two_bits_at, two_bits_of, two_bits_or, digit_of, digits_in, packed_byte, held_digit, quarter_of, shifted, str_to_ascii_lowercase};
+ghost use Rattle.vcd_body.specs.Names.{ArePacked, AreTwo, HasFour, bit_at, chunk, two_bits_at, two_bits_of, two_bits_or, digit_of, digits_in, packed_byte, held_digit, quarter_of, shifted, str_to_ascii_lowercase};
 
-use crate::words::are_all_digits;
+use crate::words::{are_all_digits, first_marked};
 use std::simd::prelude::*;
 
 /// Returns the digit, in lower case, that two bits stand for where digits are packed four to a
@@ -186,40 +186,21 @@ fn pack_16(bytes: &mut [u8], text: &[u8], quarter: usize, at: usize)
     packed_16(text, quarter, at).copy_to_slice(&mut bytes[at..]);
 }
 
-/// Returns whether the 16 bytes from offset `at` on are what `pack_16` writes there: the packed
-/// digits at the indexes `at` to `at + 15` of each quarter of the text. A quarter has `quarter`
-/// digits, at least `at + 16`.
+/// Returns a mask of the 16 bytes from offset `at` on: bit k is set if byte `at + k` is not what
+/// `pack_16` writes there. All 16 have to be there.
 #[inline(always)]
-fn are_packed_16(bytes: &[u8], text: &[u8], quarter: usize, at: usize) -> bool
+fn differing_16(bytes: &[u8], text: &[u8], quarter: usize, at: usize) -> u64
     requires within { at + 16 ≤ quarter }
     requires room { quarter ≤ length bytes.now }
     requires quarter { 3 * quarter ≤ length text.now }
-    ensures { result ≡ true → (k : ℕ) → k < 16 → HasFour bytes.now text.now quarter (at + k) }
+    ensures { (k : ℕ) → k < 16 → bit_at result k ≡ 0 → HasFour bytes.now text.now quarter (at + k) }
 {
     let packed = packed_16(text, quarter, at);
-    u8x16::from_slice(&bytes[at..]).simd_ne(packed).to_bitmask() == 0
+    u8x16::from_slice(&bytes[at..]).simd_ne(packed).to_bitmask()
 }
 
 /// Returns whether the first bytes of `bytes` are what `pack` writes for this text. The quarters of
-/// the text have `quarter` digits, at least 16. It compares 16 bytes in one step, and some of the
-/// last 16 twice.
-fn are_many_packed(bytes: &[u8], text: &[u8], quarter: usize) -> bool
-    requires { MayPack bytes.now text.now quarter }
-    ensures { result ≡ true → ArePacked bytes.now text.now quarter }
-{
-    let last = quarter - 16;
-    let mut at = 0;
-    while at < last {
-        if !are_packed_16(bytes, text, quarter, at) {
-            return false;
-        }
-        at += 16;
-    }
-    are_packed_16(bytes, text, quarter, last)
-}
-
-/// Returns whether the first bytes of `bytes` are what `pack` writes for this text. The quarters of
-/// the text have `quarter` digits.
+/// the text have `quarter` digits. It compares 16 bytes in one step.
 #[inline(always)]
 fn are_packed(bytes: &[u8], text: &[u8], quarter: usize) -> bool
     requires room { quarter ≤ length bytes.now }
@@ -227,10 +208,9 @@ fn are_packed(bytes: &[u8], text: &[u8], quarter: usize) -> bool
     ensures { result ≡ true → ArePacked bytes.now text.now quarter }
 {
     if quarter < 16 {
-        bytes[..quarter] == packed_few(text, quarter)[..quarter]
-    } else {
-        are_many_packed(bytes, text, quarter)
+        return bytes[..quarter] == packed_few(text, quarter)[..quarter];
     }
+    first_marked::<16, _>(quarter, |at| differing_16(bytes, text, quarter, at)).1 == 0
 }
 
 /// Returns whether the text consists of digits of a value, and `bytes` begins with what `pack`
@@ -256,7 +236,9 @@ pub(crate) fn holds_packed(bytes: &[u8], text: &[u8]) -> bool
 /// text have `quarter` digits, at least 16. It packs 16 of each at a time, some of the last 16
 /// twice.
 fn pack_many(bytes: &mut [u8], text: &[u8], quarter: usize)
-    requires { MayPack bytes.old text.now quarter }
+    requires room { quarter ≤ length bytes.old }
+    requires many { 16 ≤ quarter }
+    requires quarter { 3 * quarter ≤ length text.now }
     ensures { ArePacked bytes.new text.now quarter }
 {
     let last = quarter - 16;

@@ -1,6 +1,6 @@
 // What tokens of a body are.
 ghost use Rattle.std.specs.Prelude.{◌≡◌, ◌≢◌, slice_index, ℕ, ◌+◌, ◌<◌, ◌≤◌, length, true, List, drop, take, ◌∷◌, ◌^◌, ◌&&◌, not, Some, None, ◌-◌, ◌/◌, ◌%◌, IfSome};
-ghost use Rattle.vcd_body.specs.Names.{AreBinary, AreBinaryIf, AreBitsAt, Begins, IsBinaryAt, IsDigitAt, MayBe, StandsAt, StandsFor, binary_digits, bit_at, bit_in, byte, command_is, is_comment, is_empty, is_end as ends, is_value_digit as is_digit, list_all};
+ghost use Rattle.vcd_body.specs.Names.{AreBinary, AreBinaryIf, AreBitsAt, Begins, InClear, IsBinaryAt, IsDigitAt, MayBe, StandsAt, StandsFor, binary_digits, bit_at, bit_in, byte, command_is, is_comment, is_empty, is_end as ends, is_value_digit as is_digit, list_all};
 
 use crate::bits::Bits;
 use crate::item::Section;
@@ -212,14 +212,14 @@ fn known_32(bytes: &[u8], at: usize) -> u64
     v.simd_ne(u8x32::splat(b'X')).to_bitmask()
 }
 
-/// Returns whether the 32 bytes from offset `at` on are all digits of a value: `0`, `1`, `x`, `X`,
-/// `z` or `Z`. All 32 have to be there.
+/// Returns a mask of the 32 bytes from offset `at` on: bit k is set if byte `at + k` is no digit of
+/// a value. All 32 have to be there.
 #[inline(always)]
-fn are_digits_32(bytes: &[u8], at: usize) -> bool
+fn nondigits_32(bytes: &[u8], at: usize) -> u64
     requires { at + 32 ≤ length bytes.now }
-    ensures { result ≡ true → (k : ℕ) → k < 32 → IsDigitAt bytes.now (at + k) }
+    ensures { (k : ℕ) → k < 32 → bit_at result k ≡ 0 → IsDigitAt bytes.now (at + k) }
 {
-    nonbinary_32(bytes, at) & known_32(bytes, at) == 0
+    nonbinary_32(bytes, at) & known_32(bytes, at)
 }
 
 /// Returns whether the `n` bytes from offset `at` on, at most 32, are only `0` and `1`. All 32
@@ -246,8 +246,36 @@ fn are_few_binary(digits: &[u8]) -> bool
     largest <= 1
 }
 
+/// Returns the offset of the first block of `N` bytes whose mask is not 0, and this mask. If all
+/// masks are 0, it returns the offset of the last block, and 0. `marks` returns the mask of the
+/// block at an offset. There are `len` bytes, at least `N`, and the last block may begin in the one
+/// before it.
+#[inline(always)]
+pub(crate) fn first_marked<const N: usize, F: Fn(usize) -> u64>(
+    len: usize,
+    marks: F,
+) -> (usize, u64)
+    requires some { (1 ≤ N) × (N ≤ len) }
+    requires callable { (at : ℕ) → at + N ≤ len → F.pre marks at }
+    ensures within { result.0 + N ≤ len }
+    ensures marked { F.post marks result.0 result.1 }
+    ensures before { (k : ℕ) → k < result.0 → InClear (F.post marks) N k }
+    ensures none { result.1 ≡ 0 → (k : ℕ) → k < len → InClear (F.post marks) N k }
+{
+    let last = len - N;
+    let mut at = 0;
+    while at < last {
+        let mask = marks(at);
+        if mask != 0 {
+            return (at, mask);
+        }
+        at += N;
+    }
+    (last, marks(last))
+}
+
 /// Returns whether the digits are only `0` and `1`. It compares 32 in one step if there are as
-/// many, and some of the last 32 twice.
+/// many.
 #[inline(never)]
 pub(crate) fn are_binary(digits: &[u8]) -> bool
     ensures { result ≡ true → AreBinary digits.now }
@@ -255,15 +283,7 @@ pub(crate) fn are_binary(digits: &[u8]) -> bool
     if digits.len() < 32 {
         return are_few_binary(digits);
     }
-    let last = digits.len() - 32;
-    let mut at = 0;
-    'loads: while at < last {
-        if nonbinary_32(digits, at) != 0 {
-            return false;
-        }
-        at += 32;
-    }
-    nonbinary_32(digits, last) == 0
+    first_marked::<32, _>(digits.len(), |at| nonbinary_32(digits, at)).1 == 0
 }
 
 /// Returns whether there are at least 32 bytes and all are digits of a value: `0`, `1`, `x`, `X`,
@@ -271,18 +291,7 @@ pub(crate) fn are_binary(digits: &[u8]) -> bool
 fn are_many_digits(digits: &[u8]) -> bool
     ensures { result ≡ true → list_all is_digit digits.now ≡ true }
 {
-    if digits.len() < 32 {
-        return false;
-    }
-    let last = digits.len() - 32;
-    let mut at = 0;
-    'loads: while at < last {
-        if !are_digits_32(digits, at) {
-            return false;
-        }
-        at += 32;
-    }
-    are_digits_32(digits, last)
+    digits.len() >= 32 && first_marked::<32, _>(digits.len(), |at| nondigits_32(digits, at)).1 == 0
 }
 
 /// Returns whether all of these bytes are digits of a value: `0`, `1`, `x`, `X`, `z` or `Z`. It

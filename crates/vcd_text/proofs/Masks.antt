@@ -77,15 +77,6 @@ above_space b e = grind (arith, nat_tests)
 pub no_bits : (mask k : ℕ) → mask ≡ 0 → bit_at mask k ≡ 0
 no_bits mask k e = ap (λ m. bit_at m k) e ∙ bit_at-zero k
 
--- others up to i, and then r more
-pub others_before : (xs : List ℕ) (i n mask r : ℕ) → ((k : ℕ) → k < i → is_white_space (get_or xs k 0) ≡ false) → TellsWhite xs i n mask → r ≤ n → ((k : ℕ) → k < r → bit_at mask k ≡ 0)
-    → (k : ℕ) → k < i + r → is_white_space (get_or xs k 0) ≡ false
-others_before xs i n mask r front t le none k lt = elim (cases_lt k i) [
-  | inl early ↦ front k early
-  | inr late ↦ (let back : i + (k - i) ≡ k = omega arith in
-      subst (λ j. is_white_space (get_or xs j 0) ≡ false) back (t.other (k - i) (omega arith) (none (k - i) (omega arith))))
-]
-
 -- ---- the white bytes of a look ahead
 
 abbrev pub bits-of : ℕ → ℕ → White

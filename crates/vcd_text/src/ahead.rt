@@ -1,9 +1,9 @@
 //! The tokens that lie completely in a chunk: a caller's loop reads them without a change of the
 //! feed.
 ghost use Rattle.std.specs.Prelude.{◌≡◌, ◌≢◌, ℕ, ◌+◌, ◌-◌, ◌^◌, ◌<◌, ◌≤◌, true, false, List, length, slice_index, IfSome, None, Some};
-ghost use Rattle.vcd_text.specs.Names.{AreWhite, BitsAreWhite, IsRun, bit_at, is_white_space};
+ghost use Rattle.vcd_text.specs.Names.{AreWhite, BitsAreWhite, IsRun, bit_at, is_white_at, is_white_space};
 
-use crate::scan::{is_white_space, low_16, lowest, run_len, white_64, without};
+use crate::scan::{is_white_space, low_16, lowest, white_64, without};
 
 // White space that was seen ahead. Each byte before `next` was looked at.
 #[derive(Clone, Copy)]
@@ -420,4 +420,21 @@ fn look_ahead(bytes: &[u8], from: usize) -> White
         }
     }
     White { bits: 0, next }
+}
+
+/// Returns how many bytes come before the first white byte; all of them if none is white.
+pub(crate) fn run_len(bytes: &[u8]) -> usize
+    ensures within { result ≤ length bytes.now }
+    ensures other { (k : ℕ) → k < result → is_white_at bytes.now k ≡ false }
+    ensures stops { result < length bytes.now → is_white_at bytes.now result ≡ true }
+{
+    let white = look_ahead(bytes, 0);
+    if white.bits != 0 {
+        return white.next + lowest(white.bits) - 64;
+    }
+    let mut at = white.next;
+    while at < bytes.len() && !is_white_space(bytes[at]) {
+        at += 1;
+    }
+    at
 }

@@ -2,10 +2,11 @@
 ghost use Rattle.std.specs.Prelude.{◌≡◌, ℕ, ◌+◌, ◌-◌, ◌^◌, ◌<◌, ◌≤◌, ◌≢◌, ◌++◌, length, take, slice_range, true, false};
 ghost use Rattle.vcd_text.specs.Names.{Collects, Fills, Finishes, Fits, GoesOnIn, Halts, KeepsFit, MayGoOn, Skips, StillFits, TakesShort, is_white_at, looked, stepped_past};
 
+use crate::ahead::run_len;
 use crate::answer::{Halt, Next};
 use crate::device::Source;
 use crate::registers::{Parked, Phase};
-use crate::scan::{is_white_space, low_16, lowest, run_len, white_len};
+use crate::scan::{is_white_space, low_16, lowest, white_len};
 use std::simd::prelude::*;
 
 /// How much of a token the chunk had.

@@ -1,18 +1,11 @@
-use Rattle.std.proofs.Common.{◌≡◌, ◌-◌, true, length, inl, inr, arith}
-use Rattle.std.specs.Prelude.{slice_index}
-use Rattle.std.proofs.lemmas.Bool.{cases_lt}
+use Rattle.std.proofs.Common.{rules}
+use Rattle.std.proofs.lemmas.Bool.{eqb-true}
+use Rattle.std.proofs.lemmas.Nat.Bits.{bit_at-zero}
 use Rattle.vcd_model.specs.BodyPhrases.{is_value_digit}
-use Rattle.vcd_body.proofs.WordLemmas.{all_by_place, behind}
+use Rattle.vcd_body.specs.Changes.{IsDigitAt}
+use Rattle.vcd_body.proofs.WordLemmas.{all_by_place, in_block}
 use Rattle.vcd_body.proofs.words.are_many_digits.Goals as goal
 
-pub loads-preserved : goal.loads-preserved
-loads-preserved c = λ k less. elim (cases_lt k c.loads.at) [
-  | inl before ↦ c.loads.invariant k before
-  | inr late ↦ behind (λ j. is_value_digit (slice_index c.args.digits.now j) ≡ true) c.loads.at 32 (c.are_digits_32.ensures c.if-not-are_digits_32.false) k late less
-]
-
-pub returns : goal.returns
-returns c = λ e. all_by_place is_value_digit c.args.digits.now (λ k less. elim (cases_lt k c.loads.at) [
-  | inl before ↦ c.loads.invariant k before
-  | inr late ↦ behind (λ j. is_value_digit (slice_index c.args.digits.now j) ≡ true) (length c.args.digits.now - 32) 32 (c.are_digits_32-2.ensures e) k (omega (arith, c.loads-test.false)) (omega arith)
-])
+pub returns-then-digits-ge32 : goal.returns-then-digits-ge32
+returns-then-digits-ge32 c = λ e. all_by_place is_value_digit c.args.digits.now (λ k less.
+    in_block (IsDigitAt c.args.digits.now) (c.first_marked.ensures.none (eqb-true _ _ e) k less) (λ at none j few. let z = bit_at-zero j in search rules))
