@@ -51,13 +51,49 @@ pub(crate) fn skip(chunk: &[u8], parked: &mut Parked)
 }
 
 /// Copies the bytes of a token from the chunk into `token`, after those that earlier calls copied,
-/// and moves `parked` past them.
+/// and moves `parked` past them. If no token has begun, the line is that of the next byte.
 ///
 /// Returns `Whole` if the chunk has the end of the token, and moves past the white byte there too.
 /// Returns `Part` if the bytes that may be looked at end first. Returns `TooLong`, and changes
 /// nothing, if the token has more bytes than `token`.
 #[inline(always)]
 pub(crate) fn collect(chunk: &[u8], token: &mut [u8], parked: &mut Parked) -> Collected
+    requires registers { MayGoOn (length chunk.now) parked.old }
+    requires size { parked.old.size ≤ length token.old }
+    requires line { parked.old.size ≡ 0 → parked.old.line ≡ parked.old.line_feeds + 1 }
+    ensures collects { Collects chunk.now token.old token.new parked.old parked.new result }
+    ensures fits { KeepsFit (length chunk.now) (length token.old) parked.old parked.new }
+    ensures part { result ≡ Collected.Part → parked.new.at ≡ parked.new.stop }
+    ensures whole { result ≡ Collected.Whole
+        → looked parked.old + parked.new.size < looked parked.new + parked.old.size }
+    ensures on { GoesOnIn parked.old parked.new }
+{
+    if collect_new(chunk, token, parked) {
+        return Collected::Whole;
+    }
+    collect_any(chunk, token, parked)
+}
+
+/// Collects a short token as `collect_short` does, if no token has begun. Returns whether it did
+/// so; otherwise nothing has changed.
+// The first token of a line that is indented or comes after CR LF is such. Without this, the header
+// of 184,002 codes with CR LF takes 6 % more, and one of Verilator 4 %.
+#[inline(always)]
+fn collect_new(chunk: &[u8], token: &mut [u8], parked: &mut Parked) -> bool
+    requires { MayGoOn (length chunk.now) parked.old }
+    ensures new { result ≡ true → parked.old.size ≡ 0 }
+    ensures takes { result ≡ true → TakesShort chunk.now token.old token.new parked.old parked.new }
+    ensures none { result ≡ false → (parked.new ≡ parked.old) × (token.new ≡ token.old) }
+{
+    if parked.size > 0 {
+        return false;
+    }
+    collect_short(chunk, token, parked)
+}
+
+/// Collects a token of any length as `collect` does.
+#[inline(always)]
+fn collect_any(chunk: &[u8], token: &mut [u8], parked: &mut Parked) -> Collected
     requires registers { MayGoOn (length chunk.now) parked.old }
     requires size { parked.old.size ≤ length token.old }
     ensures collects { Collects chunk.now token.old token.new parked.old parked.new result }
