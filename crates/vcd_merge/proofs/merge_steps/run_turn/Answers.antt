@@ -1,38 +1,22 @@
-use Rattle.std.proofs.Common.{◌≡◌, ◌≢◌, ◌^◌, ◌<◌, ℕ, List, Option, Result, Err, Some, sym, ap, subst, ◌∙◌, ◌+◌, length, arith, rules, map, slice_set}
+use Rattle.std.proofs.Common.{◌≡◌, ◌≢◌, ◌^◌, ◌<◌, ℕ, Err, Some, sym, ap, subst, ◌∙◌, ◌+◌, length, arith, rules, map, slice_set}
 use Rattle.std.proofs.lemmas.Option.{get_or_from_slice_get, slice_get-get_or}
-use Rattle.vcd_model.specs.Items.{BodyItem}
 use Rattle.vcd_text.specs.Advances.{HasNotFailed}
-use Rattle.vcd_text.specs.Device.{Device}
 use Rattle.vcd_text.specs.Feed.{parked_answer, parked_seen}
 use Rattle.vcd_text.specs.declared.answer.Halt.TheVariants as halt
 use Rattle.vcd_text.specs.Registers.{Fits}
-use Rattle.vcd_text.specs.declared.device.Source.{Ghosts}
-use Rattle.vcd_text.specs.declared.feed.Feed.{Feed}
 use Rattle.vcd_text.specs.declared.registers.Parked.{Parked}
 use Rattle.vcd_view.specs.Shown.{HeadShown}
 use Rattle.vcd_head.specs.Shown.{shown}
 use Rattle.vcd_view.specs.Views.{Views}
 use Rattle.vcd_merge.specs.MergeParts.{part_len}
-use Rattle.vcd_merge.specs.MergeTrail.{RunTurns, stage_with}
-use Rattle.vcd_merge.specs.Seat.{AtSeat, Lane, Spot, spot_with}
-use Rattle.vcd_merge.specs.declared.seat.Seat.{Seat}
+use Rattle.vcd_merge.specs.Seat.{AtSeat, spot_with}
 use Rattle.vcd_merge.proofs.PartLemmas.{len_put, lent_len, part_other, spot_lent, spot_put, spot_other, seated_put}
 use Rattle.vcd_body.specs.Answer.{NamesInput, reads_failed}
-use Rattle.vcd_body.specs.declared.answer.Stop.{Stop}
 use Rattle.vcd_merge.proofs.MergeCounts.{get_map_or, left_moved, map_set, set_last}
 use Rattle.vcd_merge.proofs.SeatTrails.{run_from}
 use Rattle.vcd_body.proofs.Results.{if_ok_more}
 use Rattle.vcd_merge.proofs.merge_steps.run_turn.Goals as goal
 use Rattle.vcd_body.proofs.StoreLemmas.{get_other}
-
--- the turn from where the feed was resumed is the turn from the seat
-resumed : {X A : Type 0} {g : Ghosts X} (failures : X → ℕ) (k scale first : ℕ) (l : Lane) (before : ℕ) (items : List BodyItem) (written written' : Option ℕ) (seat : Seat) (f : Feed X g) (source : X) (chunk token : List ℕ) (s : Spot) (out out' : Device) (r : Result A Stop)
-    → f.source.now ≡ source → f.chunk.now ≡ chunk → f.token.now ≡ token → f.parked ≡ seat.parked → AtSeat scale first l items (record { seat = seat; rest = g.rest source; chunk = chunk; token = token })
-    → (AtSeat scale first l items (spot_with seat f) → RunTurns g.rest failures k scale first l before (stage_with items written seat f out) written' s out' r)
-    → RunTurns g.rest failures k scale first l before (record { items = items; written = written; seat = seat; source = source; chunk = chunk; token = token; out = out }) written' s out' r
-resumed {X} {A} {g} failures k scale first l before items written written' seat f source chunk token s out out' r a b c d at turns =
-    let here : AtSeat scale first l items (spot_with seat f) = rw (a, b, c, d) at in
-    run_from failures k scale first l before items written written' seat f source chunk token s out out' r a b c d (turns here)
 
 pub returns-clause-turns : goal.returns-clause-turns
 returns-clause-turns g c = λ scale first l items h s there views at is.
@@ -52,8 +36,8 @@ returns-clause-turns g c = λ scale first l items h s there views at is.
     let old = subst (AtSeat scale first l items) e is in
     let same : shown c.index-heads-input.result ≡ shown h = ap shown (c.index-heads-input.is ∙ get_or_from_slice_get c.args.heads.now k h c.index-heads-input.result there) in
     let shown_views = subst (λ (x : HeadShown). Views x l.header) (sym same) views in
-    let told = resumed g.S.Source.failures k scale first l c.args.turn.before items c.args.written.now c.take_turn-answer.new.written _ c.resume-feed.result _ _ _ (spot_with c.take_turn-answer.new.seat c.take_turn-answer.new.feed) (g.W.Sink.device c.args.out.now) (g.W.Sink.device c.take_turn-answer.new.out) c.take_turn-answer.result
-    shows.source_is shows.chunk_is shows.token_is c.resume-feed.ensures.parked old (c.take_turn-answer.ensures.turns scale first l items shown_views) in (
+    let told = run_from g.S.Source.failures k scale first l c.args.turn.before items c.args.written.now c.take_turn-answer.new.written _ c.resume-feed.result _ _ _ (spot_with c.take_turn-answer.new.seat c.take_turn-answer.new.feed) (g.W.Sink.device c.args.out.now) (g.W.Sink.device c.take_turn-answer.new.out) c.take_turn-answer.result
+    shows.source_is shows.chunk_is shows.token_is c.resume-feed.ensures.parked (c.take_turn-answer.ensures.turns scale first l items shown_views (rw (shows.source_is, shows.chunk_is, shows.token_is, c.resume-feed.ensures.parked) old)) in (
       spot_with c.take_turn-answer.new.seat c.take_turn-answer.new.feed,
       rw (e1, e2, c.parked-seat.ensures.parked) (spot_put g.S.Source.rest seats c.args.sources.now chunks tokens k (record c.take_turn-answer.new.seat { parked = c.take_turn-answer.new.feed.parked }) c.take_turn-answer.new.feed.source.now c.take_turn-answer.new.feed.chunk.now c.take_turn-answer.new.feed.token.now c.requires.input h2 parts.chunks_are parts.tokens_are lc lt),
       record { seat = _; source = _; chunk = _; token = _; spot_is = e; source_at = slice_get-get_or c.args.sources.now k c.index-sources-input.result h2; turns = told },
