@@ -4,13 +4,13 @@ ghost use Rattle.vcd_merge.specs.Names.{AllWait, AreBegun, AreMarked, AreParts, 
 
 use crate::beginning::set_seats;
 use crate::merge_state::Merge;
-use crate::merging::resume_turn;
+use crate::merging::take_turn;
 use crate::order::{Turn, TurnOrder};
 use crate::seat::Seat;
 use crate::windows::Windows;
 use vcd_body::{Done, More, Stop, put_time_unless};
 use vcd_head::{Head, put_merged_head};
-use vcd_text::{Sink, Source, WriteFailed};
+use vcd_text::{Feed, Sink, Source, WriteFailed};
 
 /// Returns the greatest timestamp of all inputs so far, in ticks of the merged dump; `None` if none
 /// had a timestamp.
@@ -69,21 +69,22 @@ fn run_turn<S: Source, W: Sink>(
     ensures left { IfOk result (λ _. left_of seats.new < left_of seats.old) }
 {
     let input = turn.input;
-    let chunk = windows.chunks.len() / seats.len();
+    let chunk_len = windows.chunks.len() / seats.len();
     let limit = windows.tokens.len() / seats.len();
-    let chunk_at = input * chunk;
+    let chunk_at = input * chunk_len;
     let token_at = input * limit;
-    resume_turn(
-        &heads[input],
-        turn,
-        &mut sources[input],
-        &mut windows.chunks[chunk_at..chunk_at + chunk],
-        &mut windows.tokens[token_at..token_at + limit],
-        &mut windows.values[token_at..token_at + limit],
-        &mut seats[input],
-        written,
-        out,
-    )
+    let chunk = &mut windows.chunks[chunk_at..chunk_at + chunk_len];
+    let token = &mut windows.tokens[token_at..token_at + limit];
+    let value = &mut windows.values[token_at..token_at + limit];
+    let seat = &mut seats[input];
+    let mut feed = Feed::resume(&mut sources[input], chunk, token, value, seat.parked);
+    let answer = take_turn(&heads[input], turn, &mut feed, seat, written, out);
+    seat.parked = feed.parked();
+    // A proof knows what a part holds after the feed only if the part is used after it.
+    prove!(chunk.len() == chunk_len);
+    prove!(token.len() == limit);
+    prove!(value.len() == limit);
+    answer
 }
 
 impl<'h, 's> Merge<'h, 's> {

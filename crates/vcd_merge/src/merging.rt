@@ -1,6 +1,6 @@
-//! The turn of one input of a merge, over its own source and its parts of the windows.
-ghost use Rattle.std.specs.Prelude.{◌≡◌, ◌≢◌, ℕ, ◌+◌, ◌-◌, ◌^◌, ◌<◌, ◌≤◌, ◌++◌, [], List, Option, Some, None, length, slice_get, IfOk, IfSome, MatchOption, Ok, true, false, is_some, ◌&&◌};
-ghost use Rattle.vcd_merge.specs.Names.{Advances, AheadTurns, AtSeat, BodyItem, bytes_of, CallEnd, chunk_len_of, Code, Counts, CountsWrites, Device, EndsAtRead, failures_after, Fits, HasNotFailed, IsGoodText, IsRun, IsSeated, Lane, limit_of, longest_of, Moved, NamesInput, parked_of, parked_seen, parts, passed_of, Puts, PutsDue, reads_failed, RunTurns, SameLoans, SameSeat, seat_with, seen, shown, source_of, spot, spot_with, stage, stage_with, time_due, Turns, Views};
+//! The turn of one input of a merge, over its feed.
+ghost use Rattle.std.specs.Prelude.{◌≡◌, ◌≢◌, ℕ, ◌-◌, ◌^◌, ◌<◌, ◌≤◌, ◌++◌, [], List, Option, Some, None, slice_get, IfOk, IfSome, MatchOption, Ok, true, false, is_some, ◌&&◌};
+ghost use Rattle.vcd_merge.specs.Names.{Advances, AheadTurns, AtSeat, BodyItem, bytes_of, CallEnd, chunk_len_of, Code, Counts, CountsWrites, Device, failures_after, Fits, HasNotFailed, IsGoodText, IsRun, Lane, limit_of, longest_of, Moved, NamesInput, parked_of, passed_of, Puts, PutsDue, RunTurns, SameLoans, SameSeat, seat_with, seen, shown, source_of, spot_with, stage_with, time_due, Turns, Views};
 ghost use Rattle.vcd_body.specs.declared.answer.Stop.TheVariants as stop;
 ghost use Rattle.vcd_body.specs.declared.item.Item.TheVariants as item;
 ghost use Rattle.vcd_body.specs.declared.item.Regs.{Regs};
@@ -357,7 +357,7 @@ fn take_item<S: Source, W: Sink>(
 /// the input, at a failed read, and at a failed write.
 // So most items cost no look at the seats and no new feed.
 #[inline(always)]
-fn take_turn<S: Source, W: Sink>(
+pub(crate) fn take_turn<S: Source, W: Sink>(
     head: &Head,
     turn: Turn,
     feed: &mut Feed<'_, '_, '_, '_, S>,
@@ -390,51 +390,4 @@ fn take_turn<S: Source, W: Sink>(
             return Ok(());
         }
     }
-}
-
-/// Handles the items of a turn with its input's own source, seat and parts of the windows: resumes
-/// its feed, handles the items as `take_turn` does, and parks the feed in the seat. After it `seat`
-/// has the parked feed, the time and the registers of the input, and whether it has finished;
-/// `written` is the time whose line was written last. Fails at a fault of the input, at a failed
-/// read, and at a failed write.
-#[inline(always)]
-pub(crate) fn resume_turn<S: Source, W: Sink>(
-    head: &Head,
-    turn: Turn,
-    source: &mut S,
-    chunk: &mut [u8],
-    token: &mut [u8],
-    value: &mut [u8],
-    seat: &mut Seat,
-    written: &mut Option<u64>,
-    out: &mut W,
-) -> Result<(), Stop>
-    requires failures { S.failures source.old < 2 ^ 64 - 1 }
-    requires out_failures { (W.device out.old).failures < 2 ^ 64 - 1 }
-    requires chunk_some { 0 < length chunk.old }
-    requires token_some { 0 < length token.old }
-    requires same_limit { length value.old ≡ length token.old }
-    requires seated { IsSeated (length chunk.old) (length token.old) seat.old }
-    requires unfinished { seat.old.finished ≡ false }
-    ensures turns { (scale first : ℕ) (l : Lane) (items : List BodyItem) → Views (shown head.now) l.header
-        → AtSeat scale first l items (spot seat.old (S.rest source.old) chunk.old token.old)
-        → RunTurns S.rest S.failures turn.input scale first l turn.before
-        (stage items written.old seat.old source.old chunk.old token.old (W.device out.old))
-        written.new (spot seat.new (S.rest source.new) chunk.new token.new)
-        (W.device out.new) result }
-    ensures seated { IfOk result (λ _. IsSeated (length chunk.old) (length token.old) seat.new) }
-    ensures same { SameSeat seat.old seat.new }
-    ensures reads { S.failures source.new ≡ S.failures source.old + reads_failed result }
-    ensures last { EndsAtRead (S.last_failed source.new) result }
-    ensures named { NamesInput turn.input result }
-    ensures writes { CountsWrites (W.device out.old) (W.device out.new) result }
-    ensures progress { IfOk result
-        (λ _. seat.new.finished ≡ false
-        → parked_seen seat.old.parked < parked_seen seat.new.parked) }
-    ensures bounded { parked_seen seat.new.parked < 2 ^ 63 }
-{
-    let mut feed = Feed::resume(source, chunk, token, value, seat.parked);
-    let answer = take_turn(head, turn, &mut feed, seat, written, out);
-    seat.parked = feed.parked();
-    answer
 }
