@@ -128,7 +128,7 @@ impl<'r> Visit<Rows<'r>> for Collecting {
         _out: &mut W,
     ) -> Result<(), WriteFailed> {
         let Item::Change { code, form } = change.item else {
-            return Ok(());
+            unreachable!()
         };
         if code == self.index && !self.is_full() {
             rows.rows[self.count] = row_of(regs.time, form, change.text);

@@ -27,9 +27,9 @@ fn begin_line(section: Section) -> &'static [u8]
     }
 }
 
-/// Writes the line of a change, or of the begin or end of a section. Writes nothing for a
-/// timestamp, for the end of the body, and for a change if the header has no code at its index.
-/// `text` is a change's text; for other items it may be anything. Fails if a write does.
+/// Writes the line of a change, or of the begin or end of a section. Writes nothing for a timestamp
+/// and for the end of the body. `text` is a change's text; for other items it may be anything.
+/// Fails if a write does.
 #[inline(always)]
 fn put_item<W: Sink>(
     view: HeadView<'_>,
@@ -47,9 +47,7 @@ fn put_item<W: Sink>(
         Item::Begin(section) => put(out, begin_line(section)),
         Item::End => put(out, b"$end\n"),
         Item::Change { code, form } => {
-            let Some(code) = view.code_at(code) else {
-                return Ok(());
-            };
+            let code = view.codes[code];
             let id = view.text_at(code.start, code.len as usize);
             put_change(code.size, code.event, form, text, Id::Own(id), out)
         }
