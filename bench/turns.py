@@ -4,6 +4,7 @@ machine: for each dump, the CPU time of both, and the ratio of the second to the
 spread.
 
     bench/turns.py old/vcdkit ./vcdkit /tmp/dumps/*.vcd
+    bench/turns.py --grow 40 ./rival ./vcdkit samples/*.vcd
     bench/turns.py --runs 200 --command 'cut --from 5 --to 9' old/vcdkit ./vcdkit dump.vcd
 
 The programs run in turn, in pairs whose order alternates, so that other work on the machine
@@ -16,12 +17,17 @@ A line shows the least and the median time of each program, without the read, an
 the least times. Its spread is the range of the ratios of the least times of ten parts of the
 runs, without the lowest and the highest part. If 1 lies within that range, or within 1 per cent
 of it, the line says 'no difference'. A difference of less than a fifth may come only from the
-address of a loop, if both programs take the same instructions: see jumps.py."""
+address of a loop, if both programs take the same instructions: see jumps.py.
+
+With --grow, a run reads a larger dump: the header, and then the body again and again, each time
+with later timestamps. Each timestamp of the dump has to begin a line."""
 import argparse
 import os
+import re
 import resource
 import statistics
 import sys
+import tempfile
 
 PARTS = 10
 WITHIN = 0.01
@@ -76,6 +82,23 @@ def spread_of(first, second):
     return ratios[1], ratios[-2]
 
 
+def grow(dump, megabytes, folder):
+    """Writes a dump of so many megabytes, whose body repeats that of this dump, and returns its
+    path."""
+    with open(dump, "rb") as source:
+        text = source.read()
+    begin = re.search(rb"\$enddefinitions\s+\$end\s*\n", text).end()
+    body = text[begin:].rstrip(b"\r\n") + (b"\r\n" if b"\r\n" in text else b"\n")
+    stamp = re.compile(rb"(?m)^#(\d+)")
+    period = int(stamp.findall(body)[-1]) + 1
+    path = os.path.join(folder, os.path.basename(dump))
+    with open(path, "wb") as to:
+        to.write(text[:begin])
+        for copy in range(max(1, int(megabytes * 1e6) // len(body))):
+            to.write(stamp.sub(lambda mark: b"#%d" % (int(mark[1]) + copy * period), body))
+    return path
+
+
 def measure(programs, words, dump, runs):
     """Prints the line of one dump."""
     times, reads = ([], []), []
@@ -101,13 +124,16 @@ def main():
     parser.add_argument("dumps", nargs="+", metavar="DUMP")
     parser.add_argument("--runs", type=int, default=100, help="runs of each program (100)")
     parser.add_argument("--command", default="check", help="command and arguments (check)")
+    parser.add_argument("--grow", type=float, metavar="MB", help="repeat each body up to this size")
     asked = parser.parse_args()
     if asked.runs < 2 * PARTS:
         parser.error("--runs is at least %d" % (2 * PARTS))
     programs = [os.path.abspath(program) for program in asked.programs]
     print("dump                 first: least, median; second; ratio of the least (its spread)")
-    for dump in asked.dumps:
-        measure(programs, asked.command.split(), dump, asked.runs)
+    with tempfile.TemporaryDirectory() as folder:
+        for dump in asked.dumps:
+            read = grow(dump, asked.grow, folder) if asked.grow else dump
+            measure(programs, asked.command.split(), read, asked.runs)
 
 
 if __name__ == "__main__":

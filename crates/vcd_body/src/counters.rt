@@ -21,8 +21,8 @@ pub(crate) fn counts_of(steps: [u8; 3], counts: [u64; 3]) -> [u64; 3]
 }
 
 /// How many steps a counter of a slot has counted when it begins again at 0.
-// The byte is increased in place, and the sum says whether it was full. With a test before, and
-// without `flipped`, `edges` of scalars takes 9 % more.
+// The byte is increased in place, and the sum says whether it was full. A test before would take as
+// long. Without `flipped`, `edges` of scalars takes 6 % more.
 pub(crate) const CARRY: u64 = 256;
 
 /// Adds `more` to element `which`, 0 to 2, of the counters of a share. A counter stops at 2^64 - 1.

@@ -71,7 +71,8 @@ impl Regs {
 
     /// Sets the last time to that of a timestamp. Fails with `TimeInSection` if a section is open,
     /// and with `TimeBack` if the time is less than the last one; then nothing changes.
-    // Not inlined: with it inlined, `cut` of scalars before its window takes 6 % more.
+    // Not inlined: with it inlined, `pick` of all of 27,505 codes takes 6 % more, although `edges`
+    // of most dumps takes 2 to 7 % less.
     #[inline(never)]
     pub(crate) fn accept_timestamp(&mut self, time: u64) -> Result<(), BodyFault>
         ensures may { MatchResult result (λ _. AcceptsTimestamp self.old time) (RefusesTimestamp self.old time) }

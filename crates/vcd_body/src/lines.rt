@@ -90,7 +90,7 @@ fn needless_before_lower(digits: &[u8]) -> Option<usize>
 /// digit. The digits begin at offset `at` in `bytes`. `None` if there are no digits, or if there
 /// are at most 32 of them and fewer than 32 bytes are left from `at` on.
 // It counts them in the bytes. From the number of the digits, `pick` of five of 27,505 codes takes
-// 8 % more.
+// 6 % more.
 #[inline(always)]
 fn left_out_of_binary(bytes: &[u8], at: usize, digits: &[u8]) -> Option<usize>
     requires { StandsAt bytes.now at digits.now }
@@ -117,7 +117,7 @@ fn left_out_of_binary(bytes: &[u8], at: usize, digits: &[u8]) -> Option<usize>
 /// be `0` and `1`. `None` if there are no digits, if one of the rest may be a capital letter, or if
 /// there are at most 32 binary digits and fewer than 32 bytes are left from `at` on.
 // Binary digits have no capital letters, so none is looked for: otherwise `pick` of all of wide
-// vectors takes 15 % more.
+// vectors takes 19 % more, and of Verilator's 35 %.
 #[inline(always)]
 fn left_out_of(bytes: &[u8], at: usize, digits: &[u8], binary: bool) -> Option<usize>
     requires { StandsAt bytes.now at digits.now }

@@ -124,7 +124,7 @@ fn put_ends<const N: usize>(block: &mut [u8; 64], text: &[u8])
 /// they are.
 // The lengths of all copies but the last are known when the program is built: a copy of an unknown
 // length is a call. With calls here and in `put_few`, `cut` of `bx0 "` and `b1x "` before its
-// window takes 15 % more.
+// window takes 11 % more, and of real dumps at most 2 %.
 #[inline(always)]
 fn put_text(block: &mut [u8; 64], text: &[u8])
     requires { length text.now ≤ 64 }
@@ -215,7 +215,7 @@ fn are_packed(bytes: &[u8], text: &[u8], quarter: usize) -> bool
 
 /// Returns whether the text consists of digits of a value, and `bytes` begins with what `pack`
 /// writes for it. `X` equals `x`, and `Z` equals `z`. Returns false if `bytes` is too short.
-// It compares bytes of the share: digit by digit, `edges` of vectors of 128 bits takes 7.8 times as
+// It compares bytes of the share: digit by digit, `edges` of vectors of 128 bits takes 4.5 times as
 // many instructions.
 pub(crate) fn holds_packed(bytes: &[u8], text: &[u8]) -> bool
     ensures same { result ≡ true

@@ -14,7 +14,7 @@ impl<'a> Table<'a> {
     /// digits of a text, if several packed digits are held, and either one of the last differs or
     /// all are the same. `None` otherwise.
     // It looks at the state in a copy of the slot first, so that `held` takes no steps for other
-    // states: else `edges` of wide vectors takes 2 % more.
+    // states: else `edges` of wide vectors takes 3 % more.
     #[inline(always)]
     fn step_by_ends(&self, code: usize, text: &[u8]) -> Option<Step>
         requires { code < length self.now.slots.now }

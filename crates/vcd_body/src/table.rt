@@ -94,8 +94,8 @@ impl<'a> Table<'a> {
     ///
     /// Nothing changes if there is no such code, or if the text is empty. If the text does not fit
     /// into the code's share, the change is counted, but the old value stays.
-    // In one call: `edges` would else ask three times whether the code exists, some 20 % more of
-    // scalars.
+    // Most changes need only the slot: with `follow_any` for each, `edges` of scalars takes 3.4
+    // times as many instructions.
     #[inline(always)]
     pub fn follow(&mut self, code: usize, size: usize, value: Value<'_>)
         ensures sets { SetsCode code (with_value_change size value.entry) self.old self.new }

@@ -7,8 +7,8 @@ use vcd_text::{Sink, WriteFailed, put_parts};
 
 /// Writes the line of a timestamp with this time: `#`, the digits and a line feed. If a write
 /// fails, a prefix was written.
-// One write. With one each for the `#`, the digits and the line feed, `merge` of scalars takes 2 %
-// more.
+// One write. With one each for the `#`, the digits and the line feed, `merge` of most dumps takes 1
+// to 3 % more.
 #[cold]
 #[inline(never)]
 pub fn put_time<W: Sink>(time: u64, out: &mut W) -> Result<(), WriteFailed>

@@ -237,7 +237,7 @@ fn take_section<'a, C, V: Visit<C>, W: Sink>(
 /// returns whether a write failed. `None` if the header does not declare the code, or if the digits
 /// are bad or too many for it; then nothing has changed.
 // Two arms, so that the compiler knows in each whether the digits have a number: without numbers
-// `edges` of 27,505 codes takes 53 % more, and in one arm `check` takes 4 % more of Verilator's.
+// `edges` of 27,505 codes takes 53 % more, and in one arm `check` of these takes 11 % more.
 #[inline(always)]
 fn take_vector<C, V: Visit<C>, W: Sink>(
     command: &mut C,
@@ -400,7 +400,8 @@ fn take_timestamp_line<C, V: Visit<C>, const CR_LF: bool>(
 /// short timestamp on a line of its own, and returns the look-ahead, the registers and the visitor
 /// after the last of them, and how the walk ended. The lines end with CR LF if `CR_LF` is true,
 /// otherwise with LF. It also ends if the visitor ends the walk, or if a write fails.
-// Without this loop `check` of scalars takes 55 % more, and of other dumps 1 to 2 % less.
+// Without this loop `check` of scalars takes 72 % more and of 27,505 codes 3 % more, but of GHDL's
+// dumps 16 % less, of rtl_433's 12 %, and of other tools' some 4 %.
 #[inline(never)]
 fn take_lines_with_end<'a, C, V: Visit<C>, W: Sink, const CR_LF: bool>(
     command: &mut C,
@@ -474,7 +475,7 @@ fn take_lines<'a, C, V: Visit<C>, W: Sink>(
 /// visitor has already ended the walk.
 // In each arm of an item the compiler knows whether it was a change. At its end, the walk forgets
 // the white space that it has seen: otherwise this is saved before each item, and `check` of 27,505
-// codes takes 5 % more.
+// codes takes 6 % more.
 #[inline(always)]
 fn walk_items<'a, C, V: Visit<C>, W: Sink>(
     command: &mut C,
@@ -515,8 +516,7 @@ fn walk_items<'a, C, V: Visit<C>, W: Sink>(
 /// does not lie completely in the chunk. The first item is tried even if the visitor has already
 /// ended the walk.
 // Registers, offset and visit come and go by value, so that the loop over items keeps them out of
-// memory: in a struct that is kept there they cost `check` of scalars 11 %. `take_lines` is called
-// in one place: a second call costs `merge` of scalars 3 %, also in walks that do not make it.
+// memory: in a struct that is kept there they cost `check` of scalars 11 %.
 #[inline(always)]
 pub fn walk_ahead<'a, C, V: Visit<C>, W: Sink>(
     command: &mut C,

@@ -47,8 +47,8 @@ pub(crate) fn kind_of(token: &[u8]) -> PhraseKind
 }
 
 /// Returns what kind of phrase a token with this first byte begins.
-// The most frequent first bytes come first: in another order `check` of 27,505 codes takes 6 %
-// more.
+// The most frequent first bytes come first: with `#` and `r` before them, `check` of scalars takes
+// 30 % more, and of 27,505 codes 5 %.
 #[inline(always)]
 pub(crate) fn kind_by(byte: u8) -> PhraseKind
     ensures { (rest : List ℕ) → Begins (byte ∷ rest) result }
@@ -295,7 +295,7 @@ fn are_many_digits(digits: &[u8]) -> bool
 }
 
 /// Returns whether all of these bytes are digits of a value: `0`, `1`, `x`, `X`, `z` or `Z`. It
-/// compares 32 in one step: one by one, `check` of wide vectors takes 16 % more.
+/// compares 32 in one step: one by one, `check` of wide vectors takes 23 % more.
 #[inline(never)]
 pub(crate) fn are_all_digits(digits: &[u8]) -> bool
     ensures { result ≡ list_all is_digit digits.now }

@@ -55,8 +55,8 @@ fn greatest_of(text: &[u8], codes: &[Code], in_order: bool) -> usize
 /// greatest `code_number` of these codes. It is the least power of two that has one entry for each
 /// code, or twice as many if three for each code allow that. If `greatest` is less than that power,
 /// each code has an entry of its own, and no more are needed.
-// With 1.5 to 3 entries for each code, the header of 184,002 codes in order takes 2 % more
-// instructions.
+// With 1.5 to 3 entries for each code, the header of 184,002 codes in order takes 1 % more
+// instructions, and 14 % more page faults.
 fn count_for(codes: usize, greatest: usize) -> usize
     requires { (0 < codes) × (codes < 2 ^ 60) }
     ensures { result ≤ 3 * codes }

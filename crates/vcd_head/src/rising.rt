@@ -12,7 +12,7 @@ pub(crate) fn last_rising(rising: &[u64]) -> u64
 
 /// Returns the index of `number` in `rising`, whose numbers increase; `None` if it is not among
 /// them.
-// Most new codes need one comparison and no hash: otherwise the header of 184,002 codes takes 17 %
+// Most new codes need one comparison and no hash: otherwise the header of 184,002 codes takes 15 %
 // more instructions.
 #[inline(always)]
 pub(crate) fn index_in_rising(rising: &[u64], number: u64) -> Option<usize>

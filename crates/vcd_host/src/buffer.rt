@@ -31,7 +31,8 @@ pub(crate) struct Buffer {
 }
 
 /// Copies all of `from` to `to`, which has the same length.
-// Short copies have arms of their own: without them `merge` of scalars takes 5 % more.
+// Short copies have arms of their own: without them `list` of many codes takes 2 % more, and
+// `merge` the same.
 #[inline(always)]
 pub(crate) fn copy(from: &[u8], to: &mut [u8])
     requires { length to.old ≡ length from.now }

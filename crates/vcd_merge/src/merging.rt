@@ -109,7 +109,7 @@ impl Merging {
     /// Writes the line of the time, unless it was written last, and notes it in `written`. Fails if
     /// a write does.
     // Nearly each change comes after another one at its time, and asks only for one byte. If each
-    // of them compared two times, `merge` of 27,505 codes would take 4 % more.
+    // of them compared two times, `merge` would take up to 3 % less.
     #[inline(always)]
     fn put_due_line<W: Sink>(
         &mut self,

@@ -105,8 +105,8 @@ impl TurnOrder {
         ensures until { self.new.until ≡ self.old.until }
     {
         let index = self.index_for(input, seats);
-        // Always 64 bytes, since a copy of an unknown length is a call: with that, `merge` of
-        // scalars takes 1.5 % more.
+        // Always 64 bytes, since a copy of an unknown length is a call: with that, `merge` takes 1
+        // to 3 % more, and of 32 inputs 4 %.
         let mut moved = [0; 64];
         moved.copy_from_slice(&self.inputs[index..index + 64]);
         self.inputs[index + 1..index + 65].copy_from_slice(&moved);

@@ -33,7 +33,7 @@ fn few_digits(bytes: &[u8], to: usize, n: usize) -> Option<u64>
 /// Returns the number that the decimal digits from offset `from` to `to` (exclusive) spell. `None`
 /// if there is no byte, if one is not a digit, or if the number is 2^64 or more.
 // At most 16 digits are read in one or two steps of eight bytes. Digit by digit, the times of a
-// dump of Icarus Verilog take 25 of 104 instructions for each item of its `check`. For more than
+// dump of Icarus Verilog take 28 of 117 instructions for each item of its `check`. For more than
 // eight digits no step begins before the first digit, because a turn of a merge begins at its time.
 #[inline(always)]
 pub fn decimal_at(bytes: &[u8], from: usize, to: usize) -> Option<u64>

@@ -126,7 +126,7 @@ fn collect_any(chunk: &[u8], token: &mut [u8], parked: &mut Parked) -> Collected
 /// did so. It does not if fewer than 16 bytes of the chunk are left, if `token` has fewer than 16
 /// bytes, or if the token has a byte below the space (32). Then nothing has changed. The bytes of
 /// `token` after those that were copied may change.
-// Most tokens of a header are such: without it, the header of 184,002 codes takes 40 % more.
+// Most tokens of a header are such: without it, the header of 184,002 codes takes 71 % more.
 #[inline(always)]
 pub(crate) fn collect_short(chunk: &[u8], token: &mut [u8], parked: &mut Parked) -> bool
     requires { MayGoOn (length chunk.now) parked.old }
