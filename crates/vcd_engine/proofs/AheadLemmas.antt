@@ -1,5 +1,5 @@
 -- Items that a task's state takes ahead in a feed's chunk, one after the other.
-use Rattle.std.proofs.Common.{◌≡◌, ℕ, ◌+◌, ◌^◌, ◌<◌, ◌≤◌, false, List, [], ◌∷◌, ◌++◌, length, sym, ap, subst, ◌∙◌, append-nil, append_assoc, arith, Bool, true, Result, Ok, Err, inl, inr, ◌⊎◌, ◌||◌, refl}
+use Rattle.std.proofs.Common.{◌≡◌, ℕ, ◌+◌, ◌^◌, ◌<◌, ◌≤◌, false, List, [], ◌∷◌, ◌++◌, length, sym, ap, subst, ◌∙◌, append-nil, append_assoc, arith, Result, Ok, Err}
 use Rattle.std.specs.List.{list_any}
 use Rattle.std.proofs.lemmas.List.{length-append}
 use Rattle.vcd_model.specs.Declarations.{IdCode}
@@ -15,7 +15,6 @@ use Rattle.vcd_text.specs.declared.device.Source.{Ghosts}
 use Rattle.vcd_text.specs.declared.feed.Feed.{Feed}
 use Rattle.vcd_text.proofs.Writes.{both-written, some-behind}
 use Rattle.vcd_body.proofs.CallerLemmas.{gave_none_ahead}
-use Rattle.vcd_body.proofs.Results.{writes-none}
 use Rattle.vcd_body.specs.Ahead.{GaveAhead}
 use Rattle.vcd_body.specs.Given.{IsItem}
 use Rattle.vcd_body.specs.Items.{AreRegsAfter, regs_after}
@@ -27,23 +26,12 @@ use Rattle.vcd_body.specs.Device.{Grows, GrowsSome}
 use Rattle.vcd_engine.specs.Engine.{CanRun, Keeps, Runs, last_time_of, request_of_engine}
 use Rattle.vcd_engine.specs.declared.engine.Engine.{Engine}
 use Rattle.vcd_engine.specs.declared.task_state.TaskState.{TaskState}
-use Rattle.vcd_engine.specs.Ahead.{RunsAhead}
-use Rattle.vcd_engine.specs.Several.{TakesSeveral}
+use Rattle.vcd_engine.specs.Ahead.{EndsAhead, RunsAhead}
 use Rattle.vcd_engine.specs.PendingCopy.{GrowsBut, pending_in}
 use Rattle.vcd_engine.specs.declared.pending.PendingCopy.{PendingCopy}
-use Rattle.vcd_body.proofs.AskedLemmas.{split_last}
 use Rattle.vcd_engine.proofs.PieceLemmas.{but_some, but_written}
 use Rattle.vcd_text.specs.Device.{Puts, Writes, WritesSome}
-use Rattle.std.specs.Prelude.{IfErr}
 use Rattle.vcd_engine.proofs.EngineLemmas.{last_more, none_at}
-
--- what is due grows with each item
-pub grows_on : (out mid new : Device) (a b c : List ℕ) → Grows out mid a b → Grows mid new b c → Grows out new a c
-grows_on out mid new a b c first then = (first.0 ++ then.0, then.1 ∙ ap (λ l. l ++ then.0) first.1 ∙ append_assoc a first.0 then.0, both-written out mid new first.0 then.0 first.2 then.2)
-
--- or of the last a prefix
-pub some_on : (out mid new : Device) (a b c : List ℕ) → Grows out mid a b → GrowsSome mid new b c → GrowsSome out new a c
-some_on out mid new a b c first then = (first.0 ++ then.0, then.1 ∙ ap (λ l. l ++ then.0) first.1 ∙ append_assoc a first.0 then.0, some-behind out mid new first.0 then.0 first.2 then.2)
 
 -- what one text has more than what stands was written
 pub written_behind : (begin out new : Device) (text more : List ℕ) → Writes begin out text → Grows out new text more → Writes begin new more
@@ -72,45 +60,14 @@ module _ (t : Request) (h : Header) (limit lines : ℕ) (bytes : List ℕ) (befo
           on = subst (λ l. list_any (ends_early t) l ≡ false) e (none_at (ends_early t) (before ++ items) x s.on stays);
         }
 
--- where none of some items does, none of the first does
-none_first : (test : BodyItem → Bool) (p q : List BodyItem) → list_any test (p ++ q) ≡ false → list_any test p ≡ false
-none_first test [] q h = refl
-none_first test (y ∷ p) q h = by_first (test y) (none_first test p q) h
-  where
-    by_first : (b : Bool) → (list_any test (p ++ q) ≡ false → list_any test p ≡ false) → (b || list_any test (p ++ q)) ≡ false → (b || list_any test p) ≡ false
-    by_first true rest h = cc
-    by_first false rest h = rest h
-
--- a text that is no longer than its first part has no other part
-none_behind : (text due : List ℕ) → text ≡ text ++ due → length due ≡ 0
-none_behind text due e = omega (arith, length-append text due, ap length e)
-
-module _ (t : Request) (h : Header) (limit lines : ℕ) (bytes : List ℕ) (before : List BodyItem) (p : PendingCopy) (out mid out' : Device) {A E : Type 0} (result : Result A E) (some : IfErr result (λ _. 0 < length (pending_in bytes p))) (puts : Puts mid out' (pending_in bytes p) result) where
-  abbrev Stands : ℕ → Regs → List BodyItem → Type 0
-  Stands n r l = GaveAhead h.codes limit lines bytes n before l × AreRegsAfter (before ++ l) r × (list_any (ends_early t) (before ++ l) ≡ false) × GrowsBut out mid (pending_in bytes p) (open_text t h before) (open_text t h (before ++ l))
-
+module _ (t : Request) (h : Header) (limit lines : ℕ) (bytes : List ℕ) (before : List BodyItem) (p : PendingCopy) (out mid out' : Device) {A E : Type 0} (result : Result A E) (puts : Puts mid out' (pending_in bytes p) result) where
   -- how the items end where no other is taken, and what is pending is written
   pub ends_before : (n : ℕ) (items : List BodyItem) (m : TaskState) (r : Regs) → StandsAhead t h limit lines bytes before n items m r → GrowsBut out mid (pending_in bytes p) (open_text t h before) (open_text t h (before ++ items)) → RunsAhead t h limit lines bytes before n m r out out' result
-  ends_before n items m r s g = by_result result some puts
+  ends_before n items m r s g = record { more = items; on = s.on; last = by_result result puts }
     where
-      by_last : (e : E) → WritesSome mid out' (pending_in bytes p) → 0 < length (pending_in bytes p) → (items ≡ []) ⊎ ((front : List BodyItem) × (x : BodyItem) × (items ≡ front ++ x ∷ [])) → RunsAhead t h limit lines bytes before {A = A} n m r out out' (Err e)
-      by_last e w more (inl none) =
-          let none_is = subst (Stands n r) none (s.gave, s.known, s.on, g) in
-          let grown = none_is.3 in
-          let long : length (grown.0 ++ pending_in bytes p) ≡ 0 = none_behind (open_text t h before) (grown.0 ++ pending_in bytes p) (ap (open_text t h) (sym (append-nil before)) ∙ grown.1) in
-          absurd (omega (arith, long, length-append grown.0 (pending_in bytes p), more))
-      by_last e w more (inr l) =
-          let front = l.0 in
-          let x = l.1 in
-          let all = subst (Stands n r) l.2 (s.gave, s.known, s.on, g) in
-          let assoc = append_assoc before front (x ∷ []) in
-          let on = none_first (ends_early t) (before ++ front) (x ∷ []) (subst (λ l. list_any (ends_early t) l ≡ false) (sym assoc) all.2) in
-          let due = but_some out mid out' (pending_in bytes p) (open_text t h before) (open_text t h (before ++ (front ++ x ∷ []))) all.3 w in
-          record { more = front; on = on; last = (x, record { gave = all.0; known = all.1 }, subst (λ l. GrowsSome out out' (open_text t h before) (open_text t h l)) (sym assoc) due) }
-
-      by_result : (q : Result A E) → IfErr q (λ _. 0 < length (pending_in bytes p)) → Puts mid out' (pending_in bytes p) q → RunsAhead t h limit lines bytes before n m r out out' q
-      by_result (Ok v) some puts = record { more = items; on = s.on; last = (s, but_written out mid out' (pending_in bytes p) (open_text t h before) (open_text t h (before ++ items)) g puts) }
-      by_result (Err e) some puts = by_last e puts some (split_last items)
+      by_result : (q : Result A E) → Puts mid out' (pending_in bytes p) q → EndsAhead t h limit lines bytes before n m r out out' q items
+      by_result (Ok v) puts = (s, but_written out mid out' (pending_in bytes p) (open_text t h before) (open_text t h (before ++ items)) g puts)
+      by_result (Err e) puts = (s.gave, s.known, but_some out mid out' (pending_in bytes p) (open_text t h before) (open_text t h (before ++ items)) g puts)
 
 -- at first none is taken
 pub stands_first : {X : Type 0} {g : Ghosts X} (e : Engine) (h : Header) (i : Input) (front : List Token) (items : List BodyItem) (f : Feed X g) (limit lines : ℕ) (bytes : List ℕ) → Runs e h i front items f

@@ -50,7 +50,6 @@ use Rattle.vcd_engine.proofs.ItemTextLemmas.{may_is}
 use Rattle.vcd_engine.proofs.ListLemmas.{next}
 use Rattle.vcd_engine.proofs.ValuesLemmas.{held_still}
 use Rattle.vcd_view.proofs.ListLemmas.{there}
-use Rattle.vcd_body.proofs.OtherBytes.{off}
 
 -- ---- the values before a time
 

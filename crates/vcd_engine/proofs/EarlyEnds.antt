@@ -1,6 +1,7 @@
 -- What a run leaves that ends with an item.
-use Rattle.std.proofs.Common.{◌≡◌, ℕ, ◌+◌, inl, Bool, true, false, List, [], ◌∷◌, ◌++◌, Option, Result, Ok, Err, refl, sym, ap, subst, ◌∙◌, append-nil, append_assoc}
+use Rattle.std.proofs.Common.{◌≡◌, ℕ, inl, Bool, true, false, List, [], ◌∷◌, ◌++◌, take, Option, Result, Ok, Err, refl, sym, ap, subst, ◌∙◌, append-nil, append_assoc}
 use Rattle.std.specs.Prelude.{IfErr, IfOk}
+use Rattle.std.specs.Io.KnownBytes.{Appends}
 use Rattle.std.specs.List.{list_any}
 use Rattle.vcd_model.specs.Input.{Input}
 use Rattle.vcd_model.specs.Tokens.{Token, stream_of}
@@ -15,18 +16,20 @@ use Rattle.vcd_text.specs.declared.device.Source.{Ghosts}
 use Rattle.vcd_text.specs.declared.feed.Feed.{Feed}
 use Rattle.vcd_text.proofs.Writes.{some-first}
 use Rattle.vcd_body.specs.Ahead.{GaveLast}
+use Rattle.vcd_body.specs.Device.{Grows, GrowsSome}
 use Rattle.vcd_body.specs.declared.item.Regs.{Regs}
 use Rattle.vcd_text.specs.Device.{Device, Supply, Writes, WritesSome}
 use Rattle.vcd_engine.specs.Engine.{CanRun}
 use Rattle.vcd_engine.specs.TaskRun.{Belongs, Follows, IsRefused, is_early}
-use Rattle.vcd_body.proofs.AskedLemmas.{read_to_item}
 use Rattle.vcd_body.specs.declared.answer.Done.{Done}
 use Rattle.vcd_body.specs.declared.answer.Done.TheVariants.{Early}
 use Rattle.vcd_body.specs.declared.answer.Stop.{Stop}
 use Rattle.vcd_body.specs.declared.answer.Stop.TheVariants.{Write}
+use Rattle.vcd_engine.proofs.AheadLemmas.{some_written, written_behind}
 use Rattle.vcd_engine.proofs.EngineLemmas.{none_at}
+use Rattle.vcd_engine.proofs.ReadLemmas.{keeping_up, read_to_item}
 use Rattle.vcd_model.proofs.BodyPrefix.{items_begin}
-use Rattle.vcd_engine.proofs.BodyOutcomes.{goes_behind, over_matched, any_at, early_outcome, begins_with}
+use Rattle.vcd_engine.proofs.BodyOutcomes.{over_matched, any_at, early_outcome, begins_with}
 
 module _ {X : Type 0} {g : Ghosts X} (t : Request) (h : Header) (i : Input) (front : List Token) (items : List BodyItem) (name : List ℕ) (limit chunk : ℕ) (before : Supply) (out new : Device) (can : CanRun t h) (on : list_any (ends_early t) items ≡ false) (f : Feed X g) (same : limit_of f ≡ limit) (size : chunk_len_of f ≡ chunk) where
   -- and so with what is due behind one item more
@@ -37,11 +40,13 @@ module _ {X : Type 0} {g : Ghosts X} (t : Request) (h : Header) (i : Input) (fro
       by_item true e = ([], ap (λ (o : Outcome). o.output) (early_outcome t h items more x name fault on e) ∙ sym (append-nil (open_text t h (items ++ x ∷ []))))
       by_item false e = begins_with t h (items ++ x ∷ []) more name fault can.valid (none_at (ends_early t) items x on e)
 
-  -- an answer that belongs to the outcome of every body that begins with one item more
-  follows_first : (r : Regs) (x : BodyItem) (a : Result Done Stop) → (supply_of f).failures ≡ before.failures → GaveLast h.codes i front items x f r → ((more : List BodyItem) (fault : Option Fault) → Belongs t (over_body t h ((items ++ x ∷ []) ++ more) name fault) name out new a)
+  -- An answer that belongs to the outcome of every body that begins with one item more. All that is
+  -- due with the items before it was written, and then more, or nothing.
+  follows_first : (mid : Device) (r : Regs) (x : BodyItem) (a : Result Done Stop) (more : List ℕ) → (supply_of f).failures ≡ before.failures → GaveLast h.codes i front items x f r → Writes out mid (open_text t h items) → Appends mid.held new.held more
+      → ((more : List BodyItem) (fault : Option Fault) → Belongs t (over_body t h ((items ++ x ∷ []) ++ more) name fault) name out new a)
       → ((more : List BodyItem) → IfOk a (λ done. is_early done ≡ list_any (ends_early t) ((items ++ x ∷ []) ++ more))) → IfErr a (IsRefused t h) → Follows t limit chunk i front h name before (supply_of f) out new a
   unfolding body_of
-  follows_first r x a q m belongs early refused =
+  follows_first mid r x a more q m all then belongs early refused =
       let gave = m.gave in
       let first = gave.stands.given_first in
       let rest = gave.given ++ first.0 in
@@ -50,27 +55,33 @@ module _ {X : Type 0} {g : Ghosts X} (t : Request) (h : Header) (i : Input) (fro
       let fault = body_fault_of (stream_of limit i) (read_body h.codes rest) in
       let is : over_dump t name (record { header = h; stream = stream_of limit i; rest = rest }) ≡ over_body t h ((items ++ x ∷ []) ++ b.0) name fault =
       over_matched t name (record { header = h; stream = stream_of limit i; rest = rest }) can.body can.matched ∙ ap (λ l. over_body t h l name fault) items_are in
+      let read = read_to_item t h i front items f limit chunk before can on same size x r m in
       record {
         left = i;
         is_left = inl (q, refl);
         rest = rest;
         tokens = ap (λ n. (stream_of n i).tokens) (sym same) ∙ first.1 ∙ append_assoc front gave.given first.0;
         belongs = subst (λ (o : Outcome). Belongs t o name out new a) (sym is) (belongs b.0 fault);
-        read = read_to_item t h i front items f limit chunk before same size (goes_behind t h can) on x r m;
+        read = read.task;
+        keeps_up = keeping_up t h limit chunk i front items before (supply_of f) out mid new more read all then;
         early = subst (λ l. IfOk a (λ done. is_early done ≡ list_any (ends_early t) l)) (sym items_are) (early b.0);
         refused = refused;
       }
 
-  -- a time mark ended the run
-  pub ended_early : (r : Regs) (x : BodyItem) → (supply_of f).failures ≡ before.failures → ends_early t x ≡ true → GaveLast h.codes i front items x f r → Writes out new (open_text t h (items ++ x ∷ [])) → Follows t limit chunk i front h name before (supply_of f) out new (Ok Early)
-  ended_early r x q ends gave whole =
-      follows_first r x (Ok Early) q gave (λ more fault. subst (λ (o : Outcome). Belongs t o name out new (Ok Early)) (sym (early_outcome t h items more x name fault on ends)) (refl, whole))
-      (λ more. sym (ap (list_any (ends_early t)) (append_assoc items (x ∷ []) more) ∙ any_at (ends_early t) items more x ends)) tt
+  -- `mid` holds what is due with the items before
+  module _ (mid : Device) (r : Regs) (x : BodyItem) (q : (supply_of f).failures ≡ before.failures) (gave : GaveLast h.codes i front items x f r) (all : Writes out mid (open_text t h items)) where
+    -- a time mark ended the run
+    pub ended_early : ends_early t x ≡ true → Grows mid new (open_text t h items) (open_text t h (items ++ x ∷ [])) → Follows t limit chunk i front h name before (supply_of f) out new (Ok Early)
+    ended_early ends due =
+        let whole = written_behind out mid new (open_text t h items) (open_text t h (items ++ x ∷ [])) all due in
+        follows_first mid r x (Ok Early) due.0 q gave all due.2.0 (λ more fault. subst (λ (o : Outcome). Belongs t o name out new (Ok Early)) (sym (early_outcome t h items more x name fault on ends)) (refl, whole))
+        (λ more. sym (ap (list_any (ends_early t)) (append_assoc items (x ∷ []) more) ∙ any_at (ends_early t) items more x ends)) tt
 
-  -- a write of what is due behind an item failed
-  pub stopped_item : (r : Regs) (x : BodyItem) → (supply_of f).failures ≡ before.failures → GaveLast h.codes i front items x f r → WritesSome out new (open_text t h (items ++ x ∷ [])) → Follows t limit chunk i front h name before (supply_of f) out new (Err Write)
-  stopped_item r x q gave some =
-      follows_first r x (Err Write) q gave
-      (λ more fault.
-      let b = begins_first x more fault in
-      subst (WritesSome out new) (sym b.1) (some-first out new (open_text t h (items ++ x ∷ [])) b.0 some)) (λ more. tt) tt
+    -- a write of what is due with the item failed
+    pub stopped_item : GrowsSome mid new (open_text t h items) (open_text t h (items ++ x ∷ [])) → Follows t limit chunk i front h name before (supply_of f) out new (Err Write)
+    stopped_item due =
+        let some = some_written out mid new (open_text t h items) (open_text t h (items ++ x ∷ [])) all due in
+        follows_first mid r x (Err Write) (take due.2.0.0 due.0) q gave all due.2.0.1
+        (λ more fault.
+        let b = begins_first x more fault in
+        subst (WritesSome out new) (sym b.1) (some-first out new (open_text t h (items ++ x ∷ [])) b.0 some)) (λ more. tt) tt

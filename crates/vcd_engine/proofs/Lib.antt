@@ -10,6 +10,7 @@ pub mod PieceLemmas
 pub mod CheckLemmas
 pub mod RoomLemmas
 pub mod BodyOutcomes
+pub mod ReadLemmas
 pub mod RunEnds
 pub mod EarlyEnds
 pub mod StartStops

@@ -20,7 +20,7 @@ use Rattle.vcd_view.specs.Shown.{HeadShown}
 use Rattle.vcd_view.specs.Views.{IsCode, IsRow, Views, code_text}
 use Rattle.vcd_view.proofs.RowLemmas.{rows_len, row_at, row_of_variable, there}
 use Rattle.vcd_head.proofs.SelectionLemmas.{take-next}
-use Rattle.vcd_head.proofs.WriteLemmas.{code_there, own_text}
+use Rattle.vcd_head.proofs.WriteLemmas.{own_text}
 
 -- the line of a variable that has these declarations before it
 abbrev pub line_after : List Declaration → Variable → List ℕ

@@ -1,5 +1,6 @@
 -- One item that a command takes ahead, after those before.
 use Rattle.std.proofs.Common.{◌≡◌, ℕ, ◌+◌, ◌≤◌, ◌<◌, ◌^◌, false, List, [], ◌∷◌, ◌++◌, length, Result, Ok, Err, refl, sym, subst, append_assoc}
+use Rattle.std.specs.List.{list_any}
 use Rattle.std.specs.Prelude.{IfOk}
 use Rattle.vcd_model.specs.Declarations.{IdCode}
 use Rattle.vcd_model.specs.Header.{Header}
@@ -8,7 +9,6 @@ use Rattle.vcd_model.specs.Outcome.{Request, ends_early, open_text}
 use Rattle.vcd_model.proofs.SampleSteps.{goes_on_other}
 use Rattle.vcd_text.specs.Ahead.{bytes_of, passed_of}
 use Rattle.vcd_text.specs.Device.{Device}
-use Rattle.vcd_text.specs.declared.ahead.Ahead.{Ahead}
 use Rattle.vcd_view.specs.Views.{IsViewOf}
 use Rattle.vcd_view.specs.declared.view.HeadView.{HeadView}
 use Rattle.vcd_body.specs.Ahead.{GaveAhead, LooksOver}
@@ -16,8 +16,7 @@ use Rattle.vcd_body.specs.Device.{DueBy, GrowsSome}
 use Rattle.vcd_body.specs.Given.{IsItem}
 use Rattle.vcd_body.specs.Items.{AreRegsAfter, regs_after}
 use Rattle.vcd_body.specs.declared.item.Item.{Item}
-use Rattle.vcd_body.specs.declared.item.Regs.{Regs}
-use Rattle.vcd_engine.specs.Ahead.{GaveOneAhead, StandsAhead}
+use Rattle.vcd_engine.specs.Ahead.{RunsAhead, StandsAhead}
 use Rattle.vcd_engine.specs.Cut.{IsNoTimestamp}
 use Rattle.vcd_engine.specs.Engine.{Keeps, request_in}
 use Rattle.vcd_engine.specs.Next.{TakesMore, TakesNext, Walk}
@@ -26,6 +25,7 @@ use Rattle.vcd_engine.specs.Quiet.{TakesQuietly}
 use Rattle.vcd_engine.specs.declared.task_state.TaskState.{TaskState}
 use Rattle.vcd_engine.specs.declared.pending.PendingCopy.{PendingCopy}
 use Rattle.vcd_engine.proofs.AheadLemmas.{few_ahead, stands_on}
+use Rattle.vcd_engine.proofs.EngineLemmas.{none_at}
 use Rattle.vcd_engine.proofs.PieceLemmas.{but_failed, but_on, none_on}
 use Rattle.vcd_engine.proofs.SampleLemmas.{no_marks}
 
@@ -60,15 +60,14 @@ module _ {A E : Type 0} (t : Request) (h : Header) (limit lines : ℕ) (bytes : 
   taken : TakesMore (λ due. PutsOn (pending_in (bytes_of w.ahead) p) (pending_in (bytes_of w.ahead) p') out out' due result) (Keeps m' h ((before ++ items) ++ next ∷ [])) t h (before ++ items) next result
   taken = subst (λ (q : Request). TakesMore (λ due. PutsOn (pending_in (bytes_of w.ahead) p) (pending_in (bytes_of w.ahead) p') out out' due result) (Keeps m' h ((before ++ items) ++ next ∷ [])) q h (before ++ items) next result) same (n.one h (before ++ items) next views s.known one.1 (few_ahead t h limit lines bytes before (passed_of w.ahead) items m w.regs s within few) s.keeps)
 
-  -- it was given
-  pub next_given : GaveOneAhead t h limit lines bytes before (passed_of w'.ahead) items next w'.regs
-  next_given = record { gave = one.2; known = subst (AreRegsAfter (before ++ (items ++ next ∷ []))) (sym n.regs) one.3 }
+  known : AreRegsAfter (before ++ (items ++ next ∷ [])) w'.regs
+  known = subst (AreRegsAfter (before ++ (items ++ next ∷ []))) (sym n.regs) one.3
 
   -- the run continues
   pub next_stands : (a : A) → result ≡ Ok a → StandsAhead t h limit lines bytes before (passed_of w'.ahead) (items ++ next ∷ []) m' w'.regs
   next_stands a e =
       let keeps = subst (λ (q : Result A E). IfOk q (λ _. Keeps m' h ((before ++ items) ++ next ∷ []))) e taken.keeps in
-      stands_on t h limit lines bytes before (passed_of w.ahead) items m w.regs s (passed_of w'.ahead) m' w'.regs n.scanned.text.now n.scanned.item next one.1 one.2 next_given.known n.regs keeps taken.on
+      stands_on t h limit lines bytes before (passed_of w.ahead) items m w.regs s (passed_of w'.ahead) m' w'.regs n.scanned.text.now n.scanned.item next one.1 one.2 known n.regs keeps taken.on
 
   -- what is due with it
   due : DueBy (λ due. PutsOn (pending_in bytes p) (pending_in bytes p') out out' due result) (open_text t h (before ++ items)) (open_text t h ((before ++ items) ++ next ∷ []))
@@ -82,7 +81,13 @@ module _ {A E : Type 0} (t : Request) (h : Header) (limit lines : ℕ) (bytes : 
         subst (λ l. GrowsBut begin out' (pending_in bytes p') (open_text t h before) (open_text t h l)) (append_assoc before items (next ∷ [])) (but_on begin out out' (pending_in bytes p) (open_text t h before) (open_text t h (before ++ items)) grown (pending_in bytes p') due.0 _ due.1 put)
 
     -- or a write failed
-    pub next_fails : (f : E) → result ≡ Err f → GrowsSome begin out' (open_text t h before) (open_text t h ((before ++ items) ++ next ∷ []))
-    next_fails f e =
+    pub next_fails : {F : Type 0} (f : E) (told : F) → result ≡ Err f → RunsAhead t h limit lines bytes before {A = A} (passed_of w'.ahead) m' w'.regs begin out' (Err told)
+    next_fails f told e =
         let put = subst (λ (q : Result A E). PutsOn (pending_in bytes p) (pending_in bytes p') out out' due.0 q) e due.2 in
-        but_failed begin out out' (pending_in bytes p) (open_text t h before) (open_text t h (before ++ items)) grown due.0 _ due.1 put
+        let assoc = append_assoc before items (next ∷ []) in
+        let some = but_failed begin out out' (pending_in bytes p) (open_text t h before) (open_text t h (before ++ items)) grown due.0 _ due.1 put in
+        record {
+          more = items ++ next ∷ [];
+          on = subst (λ l. list_any (ends_early t) l ≡ false) assoc (none_at (ends_early t) (before ++ items) next s.on taken.on);
+          last = (one.2, known, subst (λ l. GrowsSome begin out' (open_text t h before) (open_text t h l)) assoc some);
+        }

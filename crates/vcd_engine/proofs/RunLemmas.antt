@@ -1,16 +1,15 @@
 -- What steps leave when the run has ended.
-use Rattle.std.proofs.Common.{◌≡◌, ℕ, ◌+◌, inl, inr, false, List, [], ◌∷◌, ◌++◌, Result, Ok, Err, refl, ap, subst, ◌∙◌, ◌≤◌, add-zero, append-nil, arith}
+use Rattle.std.proofs.Common.{◌≡◌, ℕ, ◌+◌, false, List, [], ◌∷◌, ◌++◌, length, Result, Ok, Err, refl, ap, subst, ◌∙◌, ◌≤◌, add-zero, append-nil, arith}
 use Rattle.std.specs.List.{list_any}
+use Rattle.std.proofs.lemmas.List.{length-append}
 use Rattle.vcd_model.specs.Input.{Input}
 use Rattle.vcd_model.specs.Tokens.{Token}
 use Rattle.vcd_model.specs.Header.{Header}
 use Rattle.vcd_model.specs.Items.{BodyItem}
 use Rattle.vcd_model.specs.BodyReading.{body_grammar}
-use Rattle.vcd_model.specs.Outcome.{Request, ends_early, open_text, close_text}
-use Rattle.vcd_model.specs.Settled.{is_settled_behind}
+use Rattle.vcd_model.specs.Outcome.{Request, ends_early, open_text}
 use Rattle.vcd_model.proofs.SoFarLemmas.{so_far-nothing}
 use Rattle.vcd_text.specs.Feed.{HasGiven, chunk_len_of, limit_of, seen, source_of, supply_of}
-use Rattle.vcd_text.specs.ReadAhead.{ReadsAsNeeded}
 use Rattle.vcd_text.specs.declared.device.Source.{Ghosts}
 use Rattle.vcd_text.specs.declared.feed.Feed.{Feed}
 use Rattle.vcd_body.specs.Answer.{EndsAtRead, reads_failed}
@@ -19,8 +18,6 @@ use Rattle.vcd_body.specs.Device.{Grows}
 use Rattle.vcd_engine.specs.Engine.{CanRun, Holds, Runs, request_of_engine}
 use Rattle.vcd_engine.specs.TaskRun.{Follows}
 use Rattle.vcd_body.proofs.CallerLemmas.{last_given}
-use Rattle.vcd_engine.proofs.AheadLemmas.{grows_on, some_on}
-use Rattle.vcd_body.proofs.AskedLemmas.{read_to_item}
 use Rattle.vcd_engine.specs.Step.{LastGives, StepGives, StepsGive, step_end}
 use Rattle.vcd_text.specs.Advances.{Advances, CallEnd, HasNotFailed}
 use Rattle.vcd_body.specs.declared.answer.Done.{Done}
@@ -30,10 +27,10 @@ use Rattle.vcd_body.specs.declared.answer.More.TheVariants.{Again, Ended}
 use Rattle.vcd_body.specs.declared.answer.Stop.{Stop}
 use Rattle.vcd_body.specs.declared.answer.Stop.TheVariants.{Dump, Read, Write, Unmatched}
 use Rattle.vcd_engine.specs.declared.engine.Engine.{Engine}
-use Rattle.vcd_engine.proofs.BodyOutcomes.{goes_behind}
-use Rattle.vcd_engine.proofs.RunEnds.{ended_whole, stopped_close, stopped_dump, stopped_read}
-use Rattle.vcd_engine.proofs.EarlyEnds.{ended_early, stopped_item}
-use Rattle.vcd_engine.proofs.AheadLemmas.{written_behind, some_written}
+use Rattle.vcd_engine.proofs.RunEnds.{ended_whole, stopped_dump, stopped_read, stopped_write}
+use Rattle.vcd_engine.proofs.EarlyEnds.{ended_early}
+use Rattle.vcd_engine.proofs.AheadLemmas.{written_behind}
+use Rattle.vcd_engine.proofs.ReadLemmas.{HasReadFor, read_to_item}
 
 none_few : (n : ℕ) → 0 ≤ n
 none_few n = omega arith
@@ -65,60 +62,46 @@ module _ {X : Type 0} {g : Ghosts X} (t : Request) (h : Header) (i : Input) (fro
   -- the run has ended
   pub followed : (done : Done) → (supply_of f).failures ≡ before.failures → LastGives t h i front items e f out new (Ok (Ended done)) more → Follows t limit chunk i front h name before (supply_of f) begin new (Ok done)
   followed Whole q s = ended_whole t h i front all name limit chunk before begin s.0 new can on (written_behind begin out s.0 text (open_text t h all) open_is s.1) f same size e q s.2
-  followed Early q s = ended_early t h i front all name limit chunk before begin new can on f same size e.regs s.0 q s.1 s.2 (written_behind begin out new text (open_text t h (all ++ s.0 ∷ [])) open_is s.3)
+  followed Early q s =
+      let step = s.2 in
+      let first = written_behind begin out s.0 text (open_text t h all) open_is s.1 in
+      ended_early t h i front all name limit chunk before begin new can on f same size s.0 e.regs step.0 q (last_given h.codes i front all step.0 f e.regs step.2) first step.1 step.3
 
   -- the run has stopped
   pub followed_stop : (stop : Stop) → (supply_of f).failures ≡ before.failures + reads_failed {A = Done} (Err stop) → LastGives t h i front items e f out new (Err stop) more → Follows t limit chunk i front h name before (supply_of f) begin new (Err stop)
   followed_stop (Dump input line fault) q s = stopped_dump t h i front all name limit chunk before begin s.0 new can on (written_behind begin out s.0 text (open_text t h all) open_is s.1) f same size e input line fault (q ∙ add-zero before.failures) s.2
   followed_stop (Read input) q s = stopped_read t h i front all name limit chunk before begin s.0 new can on (written_behind begin out s.0 text (open_text t h all) open_is s.1) f same size e input q s.2
   followed_stop (Unmatched place) q s = absurd s.2
-  followed_stop Write q s = by_due s
-    where
-      by_due : LastGives t h i front items e f out new (Err Write) more → Follows t limit chunk i front h name before (supply_of f) begin new (Err Write)
-      by_due (inl d) = stopped_item t h i front all name limit chunk before begin new can on f same size e.regs d.0 (q ∙ add-zero before.failures) d.1 (some_written begin out new text (open_text t h (all ++ d.0 ∷ [])) open_is d.2)
-      by_due (inr d) = stopped_close t h i front all name limit chunk before begin new can on f same size e.regs (q ∙ add-zero before.failures) d.0 (some_written begin out new text (open_text t h all ++ close_text t h all) open_is d.1)
-
--- a step after some items more
-behind : {X : Type 0} {g : Ghosts X} (t : Request) (h : Header) (i : Input) (front : List Token) (items more : List BodyItem) (e : Engine) (f : Feed X g) (out mid new : Device) (r : Result More Stop) → Grows out mid (open_text t h items) (open_text t h (items ++ more)) → StepGives t h i front (items ++ more) e f mid new r
-    → LastGives t h i front items e f out new r more
-behind t h i front items more e f out mid new (Ok Again) w s = (mid, w, s)
-behind t h i front items more e f out mid new (Ok (Ended Whole)) w s = (mid, w, s)
-behind t h i front items more e f out mid new (Ok (Ended Early)) w s = (s.0, s.1, last_given h.codes i front (items ++ more) s.0 f e.regs s.2, grows_on out mid new (open_text t h items) (open_text t h (items ++ more)) (open_text t h ((items ++ more) ++ s.0 ∷ [])) w s.3)
-behind t h i front items more e f out mid new (Err (Dump input line fault)) w s = (mid, w, s)
-behind t h i front items more e f out mid new (Err (Read input)) w s = (mid, w, s)
-behind t h i front items more e f out mid new (Err Write) w (inl s) = inl (s.0, last_given h.codes i front (items ++ more) s.0 f e.regs s.1, some_on out mid new (open_text t h items) (open_text t h (items ++ more)) (open_text t h ((items ++ more) ++ s.0 ∷ [])) w s.2)
-behind t h i front items more e f out mid new (Err Write) w (inr s) =
-    let all = items ++ more in
-    inr (s.0, some_on out mid new (open_text t h items) (open_text t h all) (open_text t h all ++ close_text t h all) w (s.1.0, ap (λ l. open_text t h all ++ l) s.1.1, s.1.2))
-behind t h i front items more e f out mid new (Err (Unmatched name)) w s = absurd s
+  followed_stop Write q s = stopped_write t h i front all name limit chunk before begin s.0 new can on (written_behind begin out s.0 text (open_text t h all) open_is s.1) f same size e (q ∙ add-zero before.failures) s.2
 
 -- items that were taken ahead, and a step after them
 pub steps_behind : {X : Type 0} {g : Ghosts X} (t : Request) (h : Header) (i : Input) (front : List Token) (items more : List BodyItem) (e : Engine) (f : Feed X g) (out out' new : Device) (r : Result More Stop) → list_any (ends_early t) (items ++ more) ≡ false
     → Grows out out' (open_text t h items) (open_text t h (items ++ more)) → StepGives t h i front (items ++ more) e f out' new r → StepsGive t h i front items e f out new r
-steps_behind t h i front items more e f out out' new r on grows s = record { more = more; on = on; last = behind t h i front items more e f out out' new r grows s }
+steps_behind t h i front items more e f out out' new r on grows s = record { more = more; on = on; last = (out', grows, s) }
 
 -- `out` holds what is due after these items; some steps took the run from there to `new`
 module _ {X : Type 0} {g : Ghosts X} (t : Request) (h : Header) (i : Input) (front : List Token) (items : List BodyItem) (begin out new : Device) (open_is : Writes begin out (open_text t h items)) (e : Engine) (f : Feed X g) where
-  -- the run continues
-  pub steps_go_on : StepsGive t h i front items e f out new (Ok Again) → (more : List BodyItem) × Runs e h i front more f × Writes begin new (open_text t h more)
-  steps_go_on s =
-      let all = items ++ s.more in
-      let mid = s.last.0 in
-      let step = s.last.2 in
-      let first = written_behind begin out mid (open_text t h items) (open_text t h all) open_is s.last.1 in
-      (all ++ step.0 ∷ [], step.1, written_behind begin mid new (open_text t h all) (open_text t h (all ++ step.0 ∷ [])) first step.2)
-
   module _ (name : List ℕ) (limit chunk : ℕ) (before : Supply) (can : CanRun t h) (same : limit_of f ≡ limit) (size : chunk_len_of f ≡ chunk) where
+    -- the run continues
+    pub steps_go_on : StepsGive t h i front items e f out new (Ok Again) → (more : List BodyItem) × Runs e h i front more f × Writes begin new (open_text t h more) × HasReadFor t h limit chunk i front more before (supply_of f)
+    steps_go_on s =
+        let all = items ++ s.more in
+        let mid = s.last.0 in
+        let step = s.last.2 in
+        let x = step.0 in
+        let grows = step.2 in
+        let first = written_behind begin out mid (open_text t h items) (open_text t h all) open_is s.last.1 in
+        let read = read_to_item t h i front all f limit chunk before can s.on same size x e.regs (last_given h.codes i front all x f e.regs step.3) in
+        let longer : length (open_text t h all) ≤ length (open_text t h (all ++ x ∷ [])) = omega (arith, ap length grows.1, length-append (open_text t h all) grows.0) in (
+          all ++ x ∷ [],
+          step.1,
+          written_behind begin mid new (open_text t h all) (open_text t h (all ++ x ∷ [])) first grows,
+          record { task = read.task; output = λ written le. read.output written (omega (arith, longer, le)) },
+        )
+
     -- it has ended
     pub steps_end : (done : Done) → (supply_of f).failures ≡ before.failures → StepsGive t h i front items e f out new (Ok (Ended done)) → Follows t limit chunk i front h name before (supply_of f) begin new (Ok done)
     steps_end done q s = followed t h i front items s.more name limit chunk before begin out new can s.on open_is e f same size done q s.last
-
-    -- how much was read where it continues
-    pub steps_read : StepsGive t h i front items e f out new (Ok Again) → ReadsAsNeeded limit chunk before (supply_of f) i front (is_settled_behind t h)
-    steps_read s =
-        let all = items ++ s.more in
-        let step = s.last.2 in
-        read_to_item t h i front all f limit chunk before same size (goes_behind t h can) s.on step.0 e.regs (last_given h.codes i front all step.0 f e.regs step.3)
 
     -- it has stopped
     pub steps_stop : (stop : Stop) → (supply_of f).failures ≡ before.failures + reads_failed {A = Done} (Err stop) → StepsGive t h i front items e f out new (Err stop) → Follows t limit chunk i front h name before (supply_of f) begin new (Err stop)

@@ -1,5 +1,5 @@
 -- What a run leaves that stops at its begin.
-use Rattle.std.proofs.Common.{◌≡◌, ℕ, inl, List, [], Err, refl, sym, ap, subst, ◌∙◌}
+use Rattle.std.proofs.Common.{◌≡◌, ℕ, inl, List, [], take, Err, refl, sym, ap, subst, ◌∙◌}
 use Rattle.vcd_model.specs.Input.{Input}
 use Rattle.vcd_model.specs.Tokens.{Token, stream_of}
 use Rattle.vcd_model.specs.Header.{Header}
@@ -11,7 +11,7 @@ use Rattle.vcd_text.specs.declared.feed.Feed.{Feed}
 use Rattle.vcd_text.proofs.Writes.{AppendsSome, appends-first}
 use Rattle.vcd_text.specs.Device.{Device, Supply, Writes}
 use Rattle.vcd_engine.specs.Engine.{StopsAtStart}
-use Rattle.vcd_engine.specs.TaskRun.{Belongs, Follows, IsRefused}
+use Rattle.vcd_engine.specs.TaskRun.{Belongs, Follows, IsRefused, KeepsUp}
 use Rattle.vcd_body.specs.declared.answer.Stop.{Stop}
 use Rattle.vcd_body.specs.declared.answer.Stop.TheVariants.{Dump, Read, Write, Unmatched}
 use Rattle.vcd_engine.proofs.BodyOutcomes.{over_matched, over_unmatched, begins_with}
@@ -27,12 +27,19 @@ never_begun t limit i front h name chunk before out out' f stop l st starts = re
   tokens = ap (λ n. (stream_of n i).tokens) (sym l) ∙ st.given_first.1;
   belongs = by_stop stop starts;
   read = Nothing refl;
+  keeps_up = by_text stop starts;
   early = tt;
   refused = by_refusal stop starts;
 }
   where
     o : Opened
     o = record { header = h; stream = stream_of limit i; rest = st.given_first.0 }
+
+    by_text : (s : Stop) → StopsAtStart t h out out' s → KeepsUp t limit chunk i front h before before out out'
+    by_text Write b = (take b.1.0.0 (open_text t h []), b.1.0.1, Nothing refl)
+    by_text (Unmatched place) b = ([], b.1.0, Nothing refl)
+    by_text (Dump input line fault) b = absurd b
+    by_text (Read input) b = absurd b
 
     by_refusal : (s : Stop) → StopsAtStart t h out out' s → IsRefused t h s
     by_refusal Write b = tt

@@ -1,5 +1,5 @@
 -- What a run leaves that stops before a read.
-use Rattle.std.proofs.Common.{◌≡◌, ℕ, ◌+◌, inl, inr, false, List, [], ◌++◌, Result, Ok, Err, refl, sym, ap, subst, ◌∙◌, append-nil, append_assoc, add-zero, ◌⊎◌}
+use Rattle.std.proofs.Common.{◌≡◌, ℕ, ◌+◌, inl, inr, false, List, [], ◌++◌, take, Result, Ok, Err, refl, sym, ap, subst, ◌∙◌, append-nil, append_assoc, add-zero}
 use Rattle.std.specs.List.{list_any}
 use Rattle.vcd_model.specs.Input.{Input}
 use Rattle.vcd_model.specs.Tokens.{Token, stream_of}
@@ -24,13 +24,14 @@ use Rattle.vcd_body.specs.declared.answer.Stop.{Stop}
 use Rattle.vcd_body.specs.declared.answer.Stop.TheVariants.{Write}
 use Rattle.vcd_body.specs.declared.item.Regs.{Regs}
 use Rattle.vcd_engine.specs.Engine.{CanRun, Runs, request_of_engine}
-use Rattle.vcd_engine.specs.TaskRun.{Follows}
+use Rattle.vcd_engine.specs.TaskRun.{Follows, KeepsUp}
 use Rattle.vcd_engine.specs.Step.{StepsGive}
 use Rattle.vcd_engine.specs.Several.{TakesSeveral}
-use Rattle.vcd_engine.specs.Waits.{StepsOrStops, StopsAfter, StopsOn}
+use Rattle.vcd_engine.specs.Waits.{StepsOrStops, StopsOn}
 use Rattle.vcd_engine.specs.declared.engine.Engine.{Engine}
 use Rattle.vcd_engine.proofs.AheadLemmas.{some_written}
 use Rattle.vcd_engine.proofs.BodyOutcomes.{begins_with, over_matched}
+use Rattle.vcd_engine.proofs.ReadLemmas.{HasReadFor, keeping_up}
 
 -- several steps, and then nothing more was written
 pub grows_still : (out mid out' : Device) (text more : List ℕ) → Grows out mid text more → Writes mid out' [] → Grows out out' text more
@@ -40,11 +41,12 @@ grows_still out mid out' text more w none = (w.0, w.1, subst (Writes out out') (
 pub some_still : (out mid out' : Device) (text more : List ℕ) → Grows out mid text more → WritesSome mid out' [] → GrowsSome out out' text more
 some_still out mid out' text more w none = (w.0, w.1, subst (WritesSome out out') (append-nil w.0) (some-behind out mid out' w.0 [] w.2 none))
 
--- after these items nothing more was read, and what is due with them could not be passed on
+-- after these items nothing more was read, and a write of what is due with them failed
 pub stopped_before : {X : Type 0} {g : Ghosts X} (t : Request) (h : Header) (i : Input) (front : List Token) (items : List BodyItem) (name : List ℕ) (limit chunk : ℕ) (before : Supply) (out new : Device) (f : Feed X g) (r : Regs) → CanRun t h → list_any (ends_early t) items ≡ false → limit_of f ≡ limit
-    → (supply_of f).failures ≡ before.failures → GaveItems h.codes i front items f r → WritesSome out new (open_text t h items) → ReadsAsNeeded limit chunk before (supply_of f) i front (is_settled_behind t h) → Follows t limit chunk i front h name before (supply_of f) out new (Err Write)
+    → (supply_of f).failures ≡ before.failures → GaveItems h.codes i front items f r → WritesSome out new (open_text t h items) → ReadsAsNeeded limit chunk before (supply_of f) i front (is_settled_behind t h) → KeepsUp t limit chunk i front h before (supply_of f) out new
+    → Follows t limit chunk i front h name before (supply_of f) out new (Err Write)
 unfolding body_of
-stopped_before t h i front items name limit chunk before out new f r can on same q gave some read =
+stopped_before t h i front items name limit chunk before out new f r can on same q gave some read keeps_up =
     let first = gave.stands.given_first in
     let rest = gave.given ++ first.0 in
     let b = items_begin h.codes gave.given first.0 gave.placed gave.so_far in
@@ -60,6 +62,7 @@ stopped_before t h i front items name limit chunk before out new f r can on same
       tokens = ap (λ n. (stream_of n i).tokens) (sym same) ∙ first.1 ∙ append_assoc front gave.given first.0;
       belongs = (subst (AppendsSome out.held new.held) (sym (ap (λ (x : Outcome). x.output) is ∙ whole.1)) (appends-first out.held new.held (open_text t h items) whole.0 some.0), some.1);
       read = read;
+      keeps_up = keeps_up;
       early = tt;
       refused = tt;
     }
@@ -72,14 +75,15 @@ steps_done e e' h i front items f f' out out' more (inr s) r = let e = s.0 in ab
 stop_is : (stop : Stop) → ◌≡◌ {A = Result More Stop} (Err stop) (Err Write) → stop ≡ Write
 stop_is stop e = cc
 
--- what is due could not be passed on before a read
+-- a write failed before a read
 pub stops_before : {X : Type 0} {g : Ghosts X} (t : Request) (e : Engine) (h : Header) (i : Input) (front : List Token) (items : List BodyItem) (name : List ℕ) (limit chunk : ℕ) (before : Supply) (begin out new : Device) (f f' : Feed X g) (stop : Stop) → request_of_engine e ≡ t → CanRun t h → limit_of f' ≡ limit
-    → (supply_of f').failures ≡ before.failures + reads_failed {A = Done} (Err stop) → Writes begin out (open_text t h items) → ReadsAsNeeded limit chunk before (supply_of f) i front (is_settled_behind t h) → StopsOn e f f' out new (Err stop) → Runs e h i front items f
+    → (supply_of f').failures ≡ before.failures + reads_failed {A = Done} (Err stop) → Writes begin out (open_text t h items) → HasReadFor t h limit chunk i front items before (supply_of f) → StopsOn e f f' out new (Err stop) → Runs e h i front items f
     → Follows t limit chunk i front h name before (supply_of f') begin new (Err stop)
 stops_before {X} {g} t e h i front items name limit chunk before begin out new f f' stop is can same q open_is read s runs =
     let w = stop_is stop s.0 in
     let u = subst (λ (r : Request). TakesSeveral r items (λ more. (regs : Regs) × GaveItems h.codes i front (items ++ more) f' regs × GrowsSome out new (open_text r h items) (open_text r h (items ++ more)))) is (s.2 h i front items runs) in
+    let due = u.last.2 in
     let none : (supply_of f').failures ≡ before.failures = subst (λ (x : Stop). (supply_of f').failures ≡ before.failures + reads_failed {A = Done} (Err x)) w q ∙ add-zero before.failures in
-    let near = subst (λ (x : X). ReadsAsNeeded limit chunk before (supply g.rest g.failures x) i front (is_settled_behind t h)) (sym s.1) read in
+    let near = subst (λ (x : X). HasReadFor t h limit chunk i front items before (supply g.rest g.failures x)) (sym s.1) read in
     subst (λ (x : Stop). Follows t limit chunk i front h name before (supply_of f') begin new (Err x)) (sym w)
-    (stopped_before t h i front (items ++ u.more) name limit chunk before begin new f' u.last.0 can u.on same none u.last.1 (some_written begin out new (open_text t h items) (open_text t h (items ++ u.more)) open_is u.last.2) near)
+    (stopped_before t h i front (items ++ u.more) name limit chunk before begin new f' u.last.0 can u.on same none u.last.1 (some_written begin out new (open_text t h items) (open_text t h (items ++ u.more)) open_is due) near.task (keeping_up t h limit chunk i front items before (supply_of f') begin out new (take due.2.0.0 due.0) near open_is due.2.0.1))

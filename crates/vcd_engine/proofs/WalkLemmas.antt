@@ -1,6 +1,6 @@
 -- The loop over the items ahead, step by step.
-use Rattle.std.proofs.Common.{◌≡◌, ℕ, ◌+◌, ◌≤◌, ◌<◌, Bool, true, false, List, [], ◌∷◌, ◌++◌, length, Result, Ok, Err, refl, sym, ap, subst, ◌∙◌, append-nil}
-use Rattle.std.specs.Prelude.{IfErr, IfOk}
+use Rattle.std.proofs.Common.{◌≡◌, ℕ, ◌+◌, ◌≤◌, Bool, true, false, List, [], ◌∷◌, ◌++◌, length, Result, Ok, Err, refl, sym, ap, subst, ◌∙◌, append-nil}
+use Rattle.std.specs.Prelude.{IfOk}
 use Rattle.vcd_model.specs.Tokens.{Token}
 use Rattle.vcd_text.specs.Ahead.{bytes_of, longest_of, passed_of}
 use Rattle.vcd_text.specs.Passed.{Passed}
@@ -23,7 +23,7 @@ use Rattle.vcd_engine.specs.declared.task_state.walk.WalkState.{WalkState}
 use Rattle.vcd_engine.specs.declared.task_state.walk.WalkEnd.{WalkEnd}
 use Rattle.vcd_engine.specs.declared.pending.PendingCopy.{PendingCopy}
 use Rattle.vcd_engine.proofs.AheadLemmas.{ends_before}
-use Rattle.vcd_engine.proofs.NextLemmas.{next, next_fails, next_given, next_grows, next_stands}
+use Rattle.vcd_engine.proofs.NextLemmas.{next, next_fails, next_grows, next_stands}
 use Rattle.vcd_engine.proofs.PieceLemmas.{but_none}
 
 -- whole tokens were passed, up to there
@@ -93,29 +93,20 @@ module _ (v : HeadView) (a : Ahead) (r : Regs) (m : TaskState) (begin : Device) 
         rw (passed_is, regs_is, written_is) (record {
           gives = λ h lines before views few s.
               let all = walked.stands h lines before views few s in
-              record {
-                more = all.0;
-                on = all.1.on;
-                last = (
-                  next task h limit lines bytes before v views few _ _ _ _ _ _ _ _ _ n all.0 walked.over walked.same.0 within_all all.1,
-                  next_given task h limit lines bytes before v views few _ _ _ _ _ _ _ _ _ n all.0 walked.over walked.same.0 within_all all.1,
-                  next_fails task h limit lines bytes before v views few _ _ _ _ _ _ _ _ _ n all.0 walked.over walked.same.0 within_all all.1 begin all.2 failed e,
-                );
-              };
+              next_fails task h limit lines bytes before v views few _ _ _ _ _ _ _ _ _ n all.0 walked.over walked.same.0 within_all all.1 begin all.2 failed told e;
           passes = passes;
           counts = subst (λ (q : Result A E). Counts out out' q) e n.counts ∙ ap (λ (k : ℕ). k + 1) walked.failures;
           same = (n.same.0 ∙ walked.same.0, n.same.1 ∙ walked.same.1);
         })
 
   -- it ends, and what is pending is written
-  pub walk_ends : (out' : Device) (t : WalkEnd) → t.passed ≡ passed_of w.ahead → t.regs ≡ w.regs → PassesTo a (passed_of w.ahead) → Puts out out' (pending_in (bytes_of w.ahead) p) t.written → IfErr t.written (λ _. 0 < length (pending_in (bytes_of w.ahead) p)) → RunsOver v a r m m' begin out' t
-  walk_ends out' t passed_is regs_is passes puts some =
+  pub walk_ends : (out' : Device) (t : WalkEnd) → t.passed ≡ passed_of w.ahead → t.regs ≡ w.regs → PassesTo a (passed_of w.ahead) → Puts out out' (pending_in (bytes_of w.ahead) p) t.written → RunsOver v a r m m' begin out' t
+  walk_ends out' t passed_is regs_is passes puts =
       let here = subst (λ (bs : List ℕ). Puts out out' (pending_in bs p) t.written) walked.over.1 puts in
-      let more = subst (λ (bs : List ℕ). IfErr t.written (λ _. 0 < length (pending_in bs p))) walked.over.1 some in
       record {
         gives = λ h lines before views few s.
             let all = walked.stands h lines before views few s in
-            rw (passed_is, regs_is) (ends_before (request_in m) h _ lines (bytes_of a) before p begin out out' t.written more here _ all.0 _ _ all.1 all.2);
+            rw (passed_is, regs_is) (ends_before (request_in m) h _ lines (bytes_of a) before p begin out out' t.written here _ all.0 _ _ all.1 all.2);
         passes = rw passed_is passes;
         counts = counts-on begin out out' t.written walked.failures puts.1;
         same = walked.same;

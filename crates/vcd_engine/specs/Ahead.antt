@@ -1,5 +1,5 @@
 -- What is left when a task takes items that lie completely in a feed's chunk.
-use Rattle.std.specs.Prelude.{◌≡◌, ℕ, ◌+◌, ◌<◌, ◌^◌, false, List, [], ◌∷◌, ◌++◌, length, Result, Ok, Err}
+use Rattle.std.specs.Prelude.{◌≡◌, ℕ, ◌+◌, ◌<◌, ◌^◌, false, List, [], ◌++◌, length, Result, Ok, Err}
 use Rattle.std.specs.List.{list_any}
 use Rattle.vcd_model.specs.Header.{Header}
 use Rattle.vcd_model.specs.Items.{BodyItem}
@@ -32,16 +32,11 @@ module _ (task : Request) (h : Header) (limit lines : ℕ) (bytes : List ℕ) (b
     pub keeps : Keeps m h (before ++ items)
     pub on : list_any (ends_early task) (before ++ items) ≡ false
 
-  -- one more item lies after those
-  pub record GaveOneAhead (n : ℕ) (items : List BodyItem) (x : BodyItem) (r : Regs) : Type 0 where
-    pub gave : GaveAhead h.codes limit lines bytes n before (items ++ x ∷ [])
-    pub known : AreRegsAfter (before ++ (items ++ x ∷ [])) r
-
   -- how taking them ends after these items: no other was taken; or a write of what is due with
-  -- these or with one more failed
+  -- these failed
   abbrev pub EndsAhead : {A E : Type 0} → ℕ → TaskState → Regs → Device → Device → Result A E → List BodyItem → Type 0
   EndsAhead n m r out out' (Ok v) items = StandsAhead n items m r × Grows out out' (open_text task h before) (open_text task h (before ++ items))
-  EndsAhead n m r out out' (Err e) items = (x : BodyItem) × GaveOneAhead n items x r × GrowsSome out out' (open_text task h before) (open_text task h ((before ++ items) ++ x ∷ []))
+  EndsAhead n m r out out' (Err e) items = GaveAhead h.codes limit lines bytes n before items × AreRegsAfter (before ++ items) r × GrowsSome out out' (open_text task h before) (open_text task h (before ++ items))
 
   -- some of the items were taken, and what is due with them was written, or a prefix of it if a
   -- write failed

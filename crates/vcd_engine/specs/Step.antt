@@ -10,9 +10,8 @@ use Rattle.vcd_text.specs.declared.feed.Feed.{Feed}
 use Rattle.vcd_text.specs.Answer.{failed_after}
 use Rattle.vcd_text.specs.Feed.{GaveOnlySeen, seen, source_of, token_of}
 use Rattle.vcd_text.specs.Advances.{Advances, CallEnd}
-use Rattle.vcd_body.specs.Ahead.{GaveLast}
 use Rattle.vcd_body.specs.Answer.{goes_on}
-use Rattle.vcd_body.specs.Reads.{FailsOver, GaveAll, GaveItem}
+use Rattle.vcd_body.specs.Reads.{FailsOver, GaveAll, GaveItem, GaveItems}
 use Rattle.vcd_body.specs.declared.answer.Stop.{Stop}
 use Rattle.vcd_body.specs.declared.answer.Stop.TheVariants.{Dump, Read, Write, Unmatched}
 use Rattle.vcd_text.specs.Device.{Device, Writes}
@@ -41,15 +40,8 @@ StepGives task h i front items e f out out' (Err Write) =
     ⊎ (GaveAll h.codes i front items f e.regs × GrowsSome out out' [] (close_text task h items))
 StepGives task h i front items e f out out' (Err (Unmatched name)) = ⊥
 
--- What several steps leave after these items and some more, by all that they wrote: the last one is
--- a step after those. If it takes an item after which the run is over, it is not known on which
--- line that is; and a write that failed may belong to any item that was not there before.
+-- what several steps leave after these items and some more: the last one is a step after those
 abbrev pub LastGives : {X : Type 0} {g : Ghosts X} → Request → Header → Input → List Token → List BodyItem → Engine → Feed X g → Device → Device → Result More Stop → List BodyItem → Type 0
-LastGives task h i front items e f out out' (Ok (Ended Early)) more =
-    (x : BodyItem) × (ends_early task x ≡ true) × GaveLast h.codes i front (items ++ more) x f e.regs × Grows out out' (open_text task h items) (open_text task h ((items ++ more) ++ x ∷ []))
-LastGives task h i front items e f out out' (Err Write) more =
-    ((x : BodyItem) × GaveLast h.codes i front (items ++ more) x f e.regs × GrowsSome out out' (open_text task h items) (open_text task h ((items ++ more) ++ x ∷ [])))
-    ⊎ (GaveAll h.codes i front (items ++ more) f e.regs × GrowsSome out out' (open_text task h items) (open_text task h (items ++ more) ++ close_text task h (items ++ more)))
 LastGives task h i front items e f out out' result more = (mid : Device) × Grows out mid (open_text task h items) (open_text task h (items ++ more)) × StepGives task h i front (items ++ more) e f mid out' result
 
 -- what several steps leave: items were given and taken, of which none ends the run, and then a last
@@ -57,10 +49,10 @@ LastGives task h i front items e f out out' result more = (mid : Device) × Grow
 abbrev pub StepsGive : {X : Type 0} {g : Ghosts X} → Request → Header → Input → List Token → List BodyItem → Engine → Feed X g → Device → Device → Result More Stop → Type 0
 StepsGive task h i front items e f out out' result = TakesSeveral task items (LastGives task h i front items e f out out' result)
 
--- what the items that lie ahead leave: they were taken; or a write of what is due with them failed
+-- what the items that lie ahead leave: they were taken, or a write of what is due with them failed
 abbrev pub AheadGives : {X A E : Type 0} {g : Ghosts X} → Request → Header → Input → List Token → List BodyItem → Engine → Feed X g → Device → Device → Result A E → List BodyItem → Type 0
 AheadGives task h i front items e f out out' (Ok v) more = Runs e h i front (items ++ more) f × Grows out out' (open_text task h items) (open_text task h (items ++ more))
-AheadGives task h i front items e f out out' (Err v) more = (x : BodyItem) × GaveLast h.codes i front (items ++ more) x f e.regs × GrowsSome out out' (open_text task h items) (open_text task h ((items ++ more) ++ x ∷ []))
+AheadGives task h i front items e f out out' (Err v) more = GaveItems h.codes i front (items ++ more) f e.regs × GrowsSome out out' (open_text task h items) (open_text task h (items ++ more))
 
 -- some items were taken, and then this
 abbrev pub TakesAhead : {X A E : Type 0} {g : Ghosts X} → Request → Header → Input → List Token → List BodyItem → Engine → Feed X g → Device → Device → Result A E → Type 0

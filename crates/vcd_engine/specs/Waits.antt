@@ -1,4 +1,4 @@
--- What a run leaves that stops before a read, because what is due could not be passed on.
+-- What a run leaves that stops before a read, because a write failed.
 use Rattle.std.specs.Prelude.{◌≡◌, ◌⊎◌, List, ◌++◌, Result, Err}
 use Rattle.vcd_model.specs.Header.{Header}
 use Rattle.vcd_model.specs.Input.{Input}
@@ -25,7 +25,7 @@ abbrev pub StopsAfter : {X : Type 0} {g : Ghosts X} → Engine → Header → In
 StopsAfter e h i front items f out out' = TakesSeveral (request_of_engine e) items (λ more. (regs : Regs) × GaveItems h.codes i front (items ++ more) f regs
     × GrowsSome out out' (open_text (request_of_engine e) h items) (open_text (request_of_engine e) h (items ++ more)))
 
--- a write failed, of what was kept back, and nothing was read
+-- a write failed, and nothing was read
 abbrev pub StopsOn : {X : Type 0} {g : Ghosts X} → Engine → Feed X g → Feed X g → Device → Device → Result More Stop → Type 0
 StopsOn e f f' out out' result = (result ≡ Err Write) × (source_of f' ≡ source_of f)
     × ((h : Header) (i : Input) (front : List Token) (items : List BodyItem) → Runs e h i front items f → StopsAfter e h i front items f' out out')

@@ -9,9 +9,10 @@
 //! # The relations
 //!
 //! `Follows task .. result` says what a run ends with: an input, whole, or what its source gave
-//! until a read failed; that no more of it was read than settles the task; and that output and
-//! result belong to the definitions' outcome for it. Between steps an engine `Runs`: the feed has
-//! given these items, and the engine `Holds` what is due after them.
+//! until a read failed; that no more of it was read than settles the task; that no read ran ahead
+//! of the output (`KeepsUp`); and that output and result belong to the definitions' outcome for it.
+//! Between steps an engine `Runs`: the feed has given these items, and the engine `Holds` what is
+//! due after them.
 //!
 //! A step (`StepGives`) takes one more item, and the output grows by exactly what is due with it.
 //! Or the step ends the run: at the end of the body, where it writes what is due there; at an item

@@ -1,5 +1,5 @@
 -- How a run ends, and what it leaves.
-use Rattle.std.proofs.Common.{◌≡◌, ◌==◌, ℕ, Bool, true, false, cond, zero, suc, ◌+◌, ◌<◌, ◌≤◌, ◌++◌, inl, inr, List, [], ◌∷◌, length, map, get_or, set, slice_set, Option, None, Some, Result, Ok, Err, refl, sym, ap, subst, ◌∙◌, arith}
+use Rattle.std.proofs.Common.{◌≡◌, ◌==◌, ℕ, Bool, true, false, cond, zero, suc, ◌+◌, ◌<◌, ◌≤◌, ◌++◌, inl, inr, List, [], ◌∷◌, length, take, map, get_or, set, slice_set, Option, None, Some, Result, Ok, Err, refl, sym, ap, subst, ◌∙◌, arith}
 use Rattle.std.specs.Prelude.{MatchResult, IfOk, IfErr}
 use Rattle.std.specs.List.{list_any}
 use Rattle.vcd_model.specs.Input.{Input}
@@ -23,7 +23,7 @@ use Rattle.vcd_text.specs.Feed.{HasGiven, limit_of}
 use Rattle.vcd_text.specs.declared.device.Source.{Ghosts}
 use Rattle.vcd_text.specs.declared.feed.Feed.{Feed}
 use Rattle.vcd_text.proofs.Writes.{appends-none}
-use Rattle.vcd_engine.specs.TaskRun.{Belongs, Follows, IsRefused, is_early}
+use Rattle.vcd_engine.specs.TaskRun.{Belongs, Follows, IsRefused, KeepsUp, is_early}
 use Rattle.vcd_body.specs.Answer.{EndsAtRead as EndsAtStop, reads_failed, writes_failed}
 use Rattle.vcd_body.specs.declared.answer.Done.{Done}
 use Rattle.vcd_body.specs.declared.answer.Stop.{Stop}
@@ -77,6 +77,11 @@ list_ends items (Err stop) m = tt
 list_stops : (h : Header) (r : Result Done Stop) → MatchResult r (λ done. done ≡ Done.Whole) (λ stop. stop ≡ Write) → IfErr r (IsRefused Request.Listing h)
 list_stops h (Ok done) m = tt
 list_stops h (Err stop) m = rw m tt
+
+-- nothing is read
+list_keeps_up : (limit chunk : ℕ) (i : Input) (front : List Token) (h : Header) (before : Supply) (out out' : Device) (r : Result Done Stop) → Takes out out' (list_text h) r → KeepsUp Request.Listing limit chunk i front h before before out out'
+list_keeps_up limit chunk i front h before out out' (Ok done) t = (list_text h, t, Nothing refl)
+list_keeps_up limit chunk i front h before out out' (Err stop) t = (take t.0 (list_text h), t.1, Nothing refl)
 
 -- a list reads nothing, and where it stops a write failed
 pub list_reads : (n : ℕ) (r : Result Done Stop) → MatchResult r (λ done. done ≡ Done.Whole) (λ stop. stop ≡ Write) → n ≡ n + reads_failed r
@@ -143,6 +148,7 @@ listed limit chunk i front h name before old out out' r l st t f answer = record
   tokens = ap (λ n. (stream_of n i).tokens) (sym l) ∙ st.given_first.1;
   belongs = list_belongs limit i st.given_first.0 h name out out' r t f (only_write r answer);
   read = Nothing refl;
+  keeps_up = list_keeps_up limit chunk i front h before out out' r t;
   early = list_ends (body_items (read_body h.codes st.given_first.0)) r answer;
   refused = list_stops h r answer;
 }

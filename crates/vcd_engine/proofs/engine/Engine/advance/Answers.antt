@@ -1,4 +1,4 @@
-use Rattle.std.proofs.Common.{◌≡◌, ◌++◌, Ok, Err, inl, inr, refl, rules, subst}
+use Rattle.std.proofs.Common.{◌≡◌, ◌++◌, Err, inl, inr, refl, rules, subst}
 use Rattle.vcd_model.specs.Outcome.{Request}
 use Rattle.vcd_body.specs.declared.answer.Stop.TheVariants.{Write}
 use Rattle.vcd_engine.specs.Engine.{request_of_engine}
@@ -8,10 +8,15 @@ use Rattle.vcd_engine.proofs.RunLemmas.{steps_behind}
 use Rattle.vcd_engine.proofs.engine.Engine.advance.Goals as goal
 
 pub returns-in_err-advance_ahead-clause-gives : goal.returns-in_err-advance_ahead-clause-gives
-returns-in_err-advance_ahead-clause-gives g c = inl (λ h i front items s.
+returns-in_err-advance_ahead-clause-gives g c =
     let e : c.from_residual.result ≡ Err Write = search rules in
-    let a = c.in_err-advance_ahead.ensures.gives h i front items s in
-    rw e (record { more = a.more; on = a.on; last = inl a.last }))
+    inr (
+      e,
+      c.in_err-advance_ahead.ensures.source,
+      λ h i front items s.
+          let a = c.in_err-advance_ahead.ensures.gives h i front items s in
+          record { more = a.more; on = a.on; last = (c.advance_ahead.new.self.regs, a.last.0, a.last.1) },
+    )
 
 pub returns-in-Err-clause-gives : goal.returns-in-Err-clause-gives
 returns-in-Err-clause-gives g c =

@@ -1,4 +1,4 @@
-use Rattle.std.proofs.Common.{◌+◌, ◌^◌, ◌<◌, ◌++◌, ◌∷◌, [], length, refl, sym, subst, arith}
+use Rattle.std.proofs.Common.{◌+◌, ◌^◌, ◌<◌, [], length, refl, sym, subst, arith}
 use Rattle.vcd_text.specs.Ahead.{ahead_of, bytes_of, lines_of, longest_of}
 use Rattle.vcd_text.specs.Feed.{limit_of, seen}
 use Rattle.vcd_text.specs.declared.device.WriteFailed.{WriteFailed}
@@ -56,7 +56,5 @@ returns-in-Err-clause-gives g c = λ h i front items s.
     let first = subst (λ n. StandsAhead (request_of_engine e) h (longest_of ahead) lines (bytes_of ahead) items n [] e.task_state e.regs) (sym a.passed) (stands_first e h i front items f (longest_of ahead) lines (bytes_of ahead) s) in
     let r = subst (λ q. RunsAhead (request_of_engine e) h (longest_of ahead) lines (bytes_of ahead) items {E = WriteFailed} c.take_ahead-taken.result.passed c.take_ahead-taken.new.self c.take_ahead-taken.result.regs (g.W.Sink.device c.args.out.now) (g.W.Sink.device c.take_ahead-taken.new.out) q)
     c.in-Err.is (c.take_ahead-taken.ensures.gives h lines items v few first) in
-    let x = r.last.0 in
-    let one = r.last.1 in
-    let over = gave_over h.codes (longest_of ahead) (limit_of f) lines (bytes_of ahead) (ahead_of f) c.take_ahead-taken.result.passed items (r.more ++ x ∷ []) a.limit a.bytes one.gave in
-    record { more = r.more; on = r.on; last = (x, c.pass_items.ensures.ends h.codes i front items r.more x e.regs c.take_ahead-taken.result.regs s.gave over one.known, r.last.2) }
+    let over = gave_over h.codes (longest_of ahead) (limit_of f) lines (bytes_of ahead) (ahead_of f) c.take_ahead-taken.result.passed items r.more a.limit a.bytes r.last.0 in
+    record { more = r.more; on = r.on; last = (c.pass_items.ensures.gives h.codes i front items r.more e.regs c.take_ahead-taken.result.regs s.gave over r.last.1, r.last.2) }

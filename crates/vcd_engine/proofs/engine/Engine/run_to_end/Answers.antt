@@ -11,7 +11,7 @@ use Rattle.vcd_body.specs.declared.answer.Stop.{Stop}
 use Rattle.vcd_body.specs.declared.answer.Stop.TheVariants.{Read}
 use Rattle.vcd_body.specs.declared.answer.More.TheVariants.{Again, Ended}
 use Rattle.vcd_text.specs.ReadAhead.ReadsAsNeeded.{Nothing}
-use Rattle.vcd_engine.proofs.RunLemmas.{runs_first, steps_end, steps_stop, steps_go_on, steps_read, asked, can_run, step_last, step_reads}
+use Rattle.vcd_engine.proofs.RunLemmas.{runs_first, steps_end, steps_stop, steps_go_on, asked, can_run, step_last, step_reads}
 use Rattle.vcd_engine.proofs.WaitLemmas.{steps_done, stops_before}
 use Rattle.vcd_engine.proofs.engine.Engine.run_to_end.Goals as goal
 
@@ -22,7 +22,7 @@ items-init g c = (
   refl,
   refl,
   (refl, refl),
-  λ h i front begin holds st w. ([], runs_first c.args.self.now h i front c.args.feed.now holds st, w, Nothing refl),
+  λ h i front begin holds st w. ([], runs_first c.args.self.now h i front c.args.feed.now holds st, w, record { task = Nothing refl; output = λ written le. Nothing refl }),
 )
 
 pub advance-requires : goal.advance-requires
@@ -94,7 +94,6 @@ items-preserved g c =
       λ h i front begin holds st w.
           let s = c.items.invariant.5 h i front begin holds st w in
           let gives = asked (request_of_engine c.items.self) t h i front s.0 c.advance.new.self c.advance.new.feed out new _ (Ok Again) same again (steps_done c.items.self c.advance.new.self h i front s.0 c.items.feed c.advance.new.feed out new _ c.in_ok-advance.ensures.gives s.1) in
-          let on = steps_go_on t h i front s.0 begin out new s.2 c.advance.new.self c.advance.new.feed gives in
           let since = c.items.invariant.0 in
-          (on.0, on.1, on.2, steps_read t h i front s.0 begin out new s.2 c.advance.new.self c.advance.new.feed [] _ _ _ (can_run t c.items.self h i front s.0 c.items.feed same s.1) (c.in_ok-advance.ensures.over.advances.limit ∙ since.limit) (c.in_ok-advance.ensures.over.advances.chunk ∙ since.chunk) gives),
+          steps_go_on t h i front s.0 begin out new s.2 c.advance.new.self c.advance.new.feed [] _ _ _ (can_run t c.items.self h i front s.0 c.items.feed same s.1) (c.in_ok-advance.ensures.over.advances.limit ∙ since.limit) (c.in_ok-advance.ensures.over.advances.chunk ∙ since.chunk) gives,
     )

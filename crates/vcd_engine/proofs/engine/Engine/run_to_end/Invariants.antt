@@ -4,13 +4,12 @@ use Rattle.vcd_model.specs.Tokens.{Token}
 use Rattle.vcd_model.specs.Header.{Header}
 use Rattle.vcd_model.specs.Items.{BodyItem}
 use Rattle.vcd_model.specs.Outcome.{open_text}
-use Rattle.vcd_model.specs.Settled.{is_settled_behind}
 use Rattle.vcd_text.specs.Feed.{HasGiven, chunk_len_of, limit_of, seen, supply_of}
-use Rattle.vcd_text.specs.ReadAhead.{ReadsAsNeeded}
 use Rattle.vcd_text.specs.Device.{Device, Writes}
 use Rattle.vcd_engine.specs.Engine.{Holds, Runs, is_going, request_of_engine}
 use Rattle.vcd_text.specs.Advances.{Advances, CallEnd}
 use Rattle.vcd_engine.specs.Room.{room_in, view_in}
+use Rattle.vcd_engine.proofs.ReadLemmas.{HasReadFor}
 use Rattle.vcd_engine.proofs.engine.Engine.run_to_end.Given as goal
 
 abbrev pub invariant-items : goal.invariant-items
@@ -19,7 +18,7 @@ invariant-items g l = Advances g.S.Source.failures l.fn.feed l.feed CallEnd.Goes
     × ((h : Header) (i : Input) (front : List Token) (begin : Device) → Holds l.fn.self h [] → HasGiven i front l.fn.feed
     → Writes begin (g.W.Sink.device l.fn.out) (open_text (request_of_engine l.fn.self) h [])
     → ((items : List BodyItem) × Runs l.self h i front items l.feed × Writes begin (g.W.Sink.device l.out) (open_text (request_of_engine l.fn.self) h items)
-    × ReadsAsNeeded (limit_of l.fn.feed) (chunk_len_of l.fn.feed) (supply_of l.fn.feed) (supply_of l.feed) i front (is_settled_behind (request_of_engine l.fn.self) h)))
+    × HasReadFor (request_of_engine l.fn.self) h (limit_of l.fn.feed) (chunk_len_of l.fn.feed) i front items (supply_of l.fn.feed) (supply_of l.feed)))
 
 abbrev pub decreases-items : goal.decreases-items
 decreases-items g l = 2 ^ 63 - seen l.feed

@@ -1,5 +1,4 @@
-use Rattle.std.proofs.Common.{◌<◌, length, refl, subst}
-use Rattle.std.specs.Prelude.{IfErr}
+use Rattle.std.proofs.Common.{subst}
 use Rattle.vcd_text.specs.Device.{Puts}
 use Rattle.vcd_engine.specs.PendingCopy.{pending_in}
 use Rattle.vcd_engine.proofs.WalkLemmas.{passed_to, walk_begins, walk_ends, walk_over, walk_wrong}
@@ -23,9 +22,8 @@ returns-in-Ok g c =
     let mid = g.W.Sink.device c.walk_ahead-walked.new.out in
     let new = g.W.Sink.device c.flush.new.out in
     let puts = subst (λ bs. Puts mid new (pending_in bs p) c.flush.result) c.bytes.ensures c.flush.ensures.puts in
-    let some = subst (λ bs. IfErr c.flush.result (λ _. 0 < length (pending_in bs p))) c.bytes.ensures c.flush.ensures.some in
     let passes = passed_to _ _ _ _ _ _ _ c.walk_ahead-walked.ensures in
-    walk_ends _ _ _ _ _ _ _ _ _ w new _ u.passed u.regs passes (rw u.written puts) (rw u.written some)
+    walk_ends _ _ _ _ _ _ _ _ _ w new _ u.passed u.regs passes (rw u.written puts)
 
 pub returns-in-Err : goal.returns-in-Err
 returns-in-Err g c =

@@ -1,4 +1,4 @@
-use Rattle.std.proofs.Common.{◌≡◌, List, ℕ, [], ◌∷◌, ◌++◌, sym, subst, ◌∙◌, refl}
+use Rattle.std.proofs.Common.{List, ℕ, [], ◌∷◌, ◌++◌, subst, ◌∙◌, refl}
 use Rattle.std.specs.Prelude.{IfOk}
 use Rattle.vcd_model.specs.Outcome.{open_text}
 use Rattle.vcd_body.specs.Device.{DueBy}

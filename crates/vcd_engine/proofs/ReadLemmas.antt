@@ -1,0 +1,76 @@
+-- How much of a body was read, and what is on the output by then.
+use Rattle.std.proofs.Common.{◌≡◌, ℕ, ◌≤◌, ◌∙◌, Bool, false, nat_lt, List, [], ◌++◌, append-nil, length, ap, arith, sym, subst}
+use Rattle.std.specs.Io.KnownBytes.{Appends}
+use Rattle.std.specs.List.{list_any}
+use Rattle.std.proofs.lemmas.Bool.Decides.{nat_tests}
+use Rattle.std.proofs.lemmas.List.{length-append}
+use Rattle.vcd_model.specs.Backward.{up_to_first}
+use Rattle.vcd_model.specs.Input.{Input}
+use Rattle.vcd_model.specs.Tokens.{Token}
+use Rattle.vcd_model.specs.Header.{Header}
+use Rattle.vcd_model.specs.Items.{BodyItem}
+use Rattle.vcd_model.specs.Outcome.{Request, ends_early, open_text}
+use Rattle.vcd_model.specs.Settled.{is_settled_behind}
+use Rattle.vcd_model.proofs.CutGrows.{goes_on}
+use Rattle.vcd_text.specs.Device.{Device, Supply, Writes}
+use Rattle.vcd_text.specs.Feed.{chunk_len_of, limit_of, supply_of}
+use Rattle.vcd_text.specs.ReadAhead.{ReadsAsNeeded}
+use Rattle.vcd_text.specs.declared.device.Source.{Ghosts}
+use Rattle.vcd_text.specs.declared.feed.Feed.{Feed}
+use Rattle.vcd_text.proofs.Writes.{appends-twice}
+use Rattle.vcd_body.specs.Ahead.{GaveLast}
+use Rattle.vcd_body.specs.Asked.{HaveJust}
+use Rattle.vcd_body.specs.Reads.{GaveAll, StopsAt}
+use Rattle.vcd_body.specs.declared.item.Regs.{Regs}
+use Rattle.vcd_body.proofs.AskedLemmas.{asked_to_end, asked_to_item, asked_to_stop, unsettled}
+use Rattle.vcd_engine.specs.Engine.{CanRun}
+use Rattle.vcd_engine.specs.TaskRun.{KeepsUp, is_more_due}
+use Rattle.vcd_engine.proofs.BodyOutcomes.{goes_behind}
+
+-- where no item ends the run, all of them count
+all_count : (test : BodyItem → Bool) (items : List BodyItem) → list_any test items ≡ false → up_to_first test items ≡ items
+all_count test items on = ap (up_to_first test) (sym (append-nil items)) ∙ goes_on test items [] on ∙ append-nil items
+
+-- what is due with tokens that have just these items is no more than what was written
+no_more : (t : Request) (h : Header) (items : List BodyItem) (on : list_any (ends_early t) items ≡ false) (written : ℕ) → length (open_text t h items) ≤ written → (ts : List Token) → HaveJust h.codes items ts → is_more_due t h written ts ≡ false
+no_more t h items on written le ts have =
+    let no : nat_lt written (length (open_text t h items)) ≡ false = grind (arith, nat_tests) in
+    rw (have.1, all_count (ends_early t) items on) no
+
+-- no more of a body was read than work needs that these items do not settle: that of the task, and
+-- that which waits until more is due than was written, if all that is due with them was
+pub record HasReadFor (t : Request) (h : Header) (limit chunk : ℕ) (i : Input) (front : List Token) (items : List BodyItem) (old new : Supply) : Type 0 where
+  pub task : ReadsAsNeeded limit chunk old new i front (is_settled_behind t h)
+  pub output : (written : ℕ) → length (open_text t h items) ≤ written → ReadsAsNeeded limit chunk old new i front (is_more_due t h written)
+
+module _ {X : Type 0} {g : Ghosts X} (t : Request) (h : Header) (i : Input) (front : List Token) (items : List BodyItem) (f : Feed X g) (limit chunk : ℕ) (before : Supply) (can : CanRun t h) (on : list_any (ends_early t) items ≡ false) (same : limit_of f ≡ limit) (size : chunk_len_of f ≡ chunk) where
+  abbrev Reads : (settled : List Token → Bool) → Type 0
+  Reads settled = ReadsAsNeeded (limit_of f) (chunk_len_of f) before (supply_of f) i front settled
+
+  has_read : ((settled : List Token → Bool) → ((ts : List Token) → HaveJust h.codes items ts → settled ts ≡ false) → Reads settled) → HasReadFor t h limit chunk i front items before (supply_of f)
+  has_read reads = record {
+    task = under (is_settled_behind t h) (reads (is_settled_behind t h) (λ ts have. unsettled t h items ts (goes_behind t h can) on have));
+    output = λ written le. under (is_more_due t h written) (reads (is_more_due t h written) (no_more t h items on written le));
+  }
+    where
+      under : (settled : List Token → Bool) → Reads settled → ReadsAsNeeded limit chunk before (supply_of f) i front settled
+      under settled read = subst (λ n. ReadsAsNeeded n chunk before (supply_of f) i front settled) same (subst (λ n. ReadsAsNeeded (limit_of f) n before (supply_of f) i front settled) size read)
+
+  -- up to where the body is refused
+  pub read_to_stop : StopsAt h.codes i front items f → HasReadFor t h limit chunk i front items before (supply_of f)
+  read_to_stop s = has_read (λ settled still. asked_to_stop h.codes i front items f before settled still s)
+
+  -- up to its end
+  pub read_to_end : (r : Regs) → GaveAll h.codes i front items f r → HasReadFor t h limit chunk i front items before (supply_of f)
+  read_to_end r a = has_read (λ settled still. asked_to_end h.codes i front items f before settled still r a)
+
+  -- up to one item more
+  pub read_to_item : (x : BodyItem) (r : Regs) → GaveLast h.codes i front items x f r → HasReadFor t h limit chunk i front items before (supply_of f)
+  read_to_item x r m = has_read (λ settled still. asked_to_item h.codes i front items f before settled still x r m)
+
+-- all that is due with these items was written, and then maybe more
+pub keeping_up : (t : Request) (h : Header) (limit chunk : ℕ) (i : Input) (front : List Token) (items : List BodyItem) (old new : Supply) (out mid out' : Device) (more : List ℕ) → HasReadFor t h limit chunk i front items old new → Writes out mid (open_text t h items) → Appends mid.held out'.held more
+    → KeepsUp t limit chunk i front h old new out out'
+keeping_up t h limit chunk i front items old new out mid out' more read all then =
+    let text = open_text t h items in
+    (text ++ more, appends-twice out.held mid.held out'.held text more all.0 then, read.output (length (text ++ more)) (omega (arith, length-append text more)))
