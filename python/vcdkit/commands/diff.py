@@ -4,10 +4,11 @@ Each line says what differs, and then shows both sides, A first:
   timescale 1ns 100ps     the time scales (times are compared nevertheless)
   alone A tb.core[1] 9    only A has this variable or scope, and how many
                           variables are in it; both have the scope around it
-  size tb.q 4 8           the sizes; or the types, if one is real or event
+  size tb.q 4 8           the sizes; or the types, if one is real or event; the
+                          same twice if one has more variables of this path
   differs 35ns tb.q 1 0   the values of a variable at the first time with a
-                          difference (-: no value yet; of an event: whether
-                          it is triggered)
+                          difference, in ticks of A, rounded down (-: no
+                          value yet; of an event: whether it is triggered)
   ends 122ns 92ns         the last timestamps
   edges 60 59             with --rise or --fall: the numbers of edges, if the
                           values at the edges that both have are the same
