@@ -10,13 +10,12 @@ use vcd_program::run_words_on_machine;
 use vcd_text::Watch;
 
 /// The command lines, without the program's name.
-const LINES: [&str; 14] = [
+const LINES: [&str; 13] = [
     "list",
     "check -i a.vcd",
     "list b.vcd",
-    "list long.vcd",
     "cut --from 2 b.vcd",
-    "merge b.vcd a.vcd",
+    "merge long.vcd a.vcd",
     "check -i bad.vcd",
     "check -i none.vcd",
     "merge a.vcd none.vcd",

@@ -13,23 +13,24 @@ pub(crate) struct Scale {
 // The scale of a dump that declares none, if several are merged.
 pub(crate) const SECOND: Scale = Scale { exponent: 15 };
 
+// The units and their exponents.
+static UNITS: [(&[u8], u8); 6] = [
+    (b"s", 15),
+    (b"ms", 12),
+    (b"us", 9),
+    (b"ns", 6),
+    (b"ps", 3),
+    (b"fs", 0),
+];
+
 // Returns the exponent of a unit.
 pub(crate) fn unit_of(text: &[u8]) -> Option<u8> {
-    if text == b"s".as_slice() {
-        Some(15)
-    } else if text == b"ms".as_slice() {
-        Some(12)
-    } else if text == b"us".as_slice() {
-        Some(9)
-    } else if text == b"ns".as_slice() {
-        Some(6)
-    } else if text == b"ps".as_slice() {
-        Some(3)
-    } else if text == b"fs".as_slice() {
-        Some(0)
-    } else {
-        None
+    for (unit, exponent) in &UNITS {
+        if text == *unit {
+            return Some(*exponent);
+        }
     }
+    None
 }
 
 // Returns the exponent of a scale's number.

@@ -34,47 +34,31 @@ pub(crate) enum Keyword {
     End,
 }
 
-fn declaration_keyword(text: &[u8]) -> Option<Keyword> {
-    if text == b"$comment".as_slice() {
-        Some(Keyword::Comment)
-    } else if text == b"$date".as_slice() {
-        Some(Keyword::Date)
-    } else if text == b"$enddefinitions".as_slice() {
-        Some(Keyword::EndDefinitions)
-    } else if text == b"$scope".as_slice() {
-        Some(Keyword::Scope)
-    } else if text == b"$timescale".as_slice() {
-        Some(Keyword::Timescale)
-    } else if text == b"$upscope".as_slice() {
-        Some(Keyword::Upscope)
-    } else if text == b"$var".as_slice() {
-        Some(Keyword::Var)
-    } else if text == b"$version".as_slice() {
-        Some(Keyword::Version)
-    } else {
-        None
-    }
-}
-
-fn simulation_keyword(text: &[u8]) -> Option<Keyword> {
-    if text == b"$dumpall".as_slice() {
-        Some(Keyword::Dump(Section::All))
-    } else if text == b"$dumpoff".as_slice() {
-        Some(Keyword::Dump(Section::Off))
-    } else if text == b"$dumpon".as_slice() {
-        Some(Keyword::Dump(Section::On))
-    } else if text == b"$dumpvars".as_slice() {
-        Some(Keyword::Dump(Section::Vars))
-    } else if text == b"$end".as_slice() {
-        Some(Keyword::End)
-    } else {
-        None
-    }
-}
+// The keywords and their texts.
+static KEYWORDS: [(&[u8], Keyword); 13] = [
+    (b"$comment", Keyword::Comment),
+    (b"$date", Keyword::Date),
+    (b"$enddefinitions", Keyword::EndDefinitions),
+    (b"$scope", Keyword::Scope),
+    (b"$timescale", Keyword::Timescale),
+    (b"$upscope", Keyword::Upscope),
+    (b"$var", Keyword::Var),
+    (b"$version", Keyword::Version),
+    (b"$dumpall", Keyword::Dump(Section::All)),
+    (b"$dumpoff", Keyword::Dump(Section::Off)),
+    (b"$dumpon", Keyword::Dump(Section::On)),
+    (b"$dumpvars", Keyword::Dump(Section::Vars)),
+    (b"$end", Keyword::End),
+];
 
 // Returns the keyword that the whole token is.
 pub(crate) fn keyword_of(text: &[u8]) -> Option<Keyword> {
-    declaration_keyword(text).or(simulation_keyword(text))
+    for (spelled, keyword) in &KEYWORDS {
+        if text == *spelled {
+            return Some(*keyword);
+        }
+    }
+    None
 }
 
 // What a token that is no keyword begins with.

@@ -1,14 +1,16 @@
-// Files of the machine whose reads fail: no such read is taken for the end of a dump.
+// Files of the machine that cannot be read: a failed read is not taken for the end of a dump, and
+// no other file is opened.
 use super::command_lines::words_of;
 use std::alloc::AllocError;
 use vcd_program::run_words_on_machine;
 use vcd_text::Watch;
 
 // A directory, and the memory of the process, of which nothing can be read at its first address.
-// Both can be opened.
-static UNREADABLE: [(&str, &[u8]); 2] = [
+// Both can be opened. There is no file of the last name, which is that of a device and a space.
+static UNREADABLE: [(&str, &[u8]); 3] = [
     ("/", b"vcdkit: /: read failed\n"),
     ("/proc/self/mem", b"vcdkit: /proc/self/mem: read failed\n"),
+    ("/dev/null ", b"vcdkit: /dev/null : cannot be opened\n"),
 ];
 
 // The status and the message of a check of this file.

@@ -1,6 +1,6 @@
-//! The tests of `vcdkit`, which use only public functions: what jobs leave. They are a crate of
-//! their own so that the library is proved once: a crate with tests in it is proved again with
-//! them.
+//! The tests of `vcdkit`, which use only public functions: what jobs leave, and that
+//! `vcd_evaluator` says the same (`evaluator`). They are a crate of their own so that the libraries
+//! are proved once: a crate with tests in it is proved again with them.
 #![tactic(auto)]
 
 #[cfg(test)]
@@ -13,6 +13,8 @@ mod cut;
 mod devices;
 #[cfg(test)]
 mod edges;
+#[cfg(test)]
+mod evaluator;
 #[cfg(test)]
 mod headers;
 #[cfg(test)]
