@@ -2,6 +2,7 @@
 use Rattle.std.proofs.Common.{◌≡◌, ℕ, inl, List, [], take, Err, refl, sym, ap, subst, ◌∙◌}
 use Rattle.vcd_model.specs.Input.{Input}
 use Rattle.vcd_model.specs.Tokens.{Token, stream_of}
+use Rattle.vcd_model.specs.Due.{due_after}
 use Rattle.vcd_model.specs.Header.{Header}
 use Rattle.vcd_model.specs.Outcome.{Outcome, Opened, Request, over_dump, body_of, items_in, fault_in, open_text}
 use Rattle.vcd_text.specs.Feed.{HasGiven, limit_of}
@@ -35,7 +36,7 @@ never_begun t limit i front h name chunk before out out' f stop l st starts = re
     o : Opened
     o = record { header = h; stream = stream_of limit i; rest = st.given_first.0 }
 
-    by_text : (s : Stop) → StopsAtStart t h out out' s → KeepsUp t limit chunk i front h before before out out'
+    by_text : (s : Stop) → StopsAtStart t h out out' s → KeepsUp (due_after t h) limit chunk i front before before out out'
     by_text Write b = (take b.1.0.0 (open_text t h []), b.1.0.1, Nothing refl)
     by_text (Unmatched place) b = ([], b.1.0, Nothing refl)
     by_text (Dump input line fault) b = absurd b

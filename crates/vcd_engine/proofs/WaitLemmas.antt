@@ -3,6 +3,7 @@ use Rattle.std.proofs.Common.{◌≡◌, ℕ, ◌+◌, inl, inr, false, List, []
 use Rattle.std.specs.List.{list_any}
 use Rattle.vcd_model.specs.Input.{Input}
 use Rattle.vcd_model.specs.Tokens.{Token, stream_of}
+use Rattle.vcd_model.specs.Due.{due_after}
 use Rattle.vcd_model.specs.Header.{Header}
 use Rattle.vcd_model.specs.Items.{BodyItem}
 use Rattle.vcd_model.specs.BodyReading.{read_body, body_fault_of}
@@ -43,7 +44,7 @@ some_still out mid out' text more w none = (w.0, w.1, subst (WritesSome out out'
 
 -- after these items nothing more was read, and a write of what is due with them failed
 pub stopped_before : {X : Type 0} {g : Ghosts X} (t : Request) (h : Header) (i : Input) (front : List Token) (items : List BodyItem) (name : List ℕ) (limit chunk : ℕ) (before : Supply) (out new : Device) (f : Feed X g) (r : Regs) → CanRun t h → list_any (ends_early t) items ≡ false → limit_of f ≡ limit
-    → (supply_of f).failures ≡ before.failures → GaveItems h.codes i front items f r → WritesSome out new (open_text t h items) → ReadsAsNeeded limit chunk before (supply_of f) i front (is_settled_behind t h) → KeepsUp t limit chunk i front h before (supply_of f) out new
+    → (supply_of f).failures ≡ before.failures → GaveItems h.codes i front items f r → WritesSome out new (open_text t h items) → ReadsAsNeeded limit chunk before (supply_of f) i front (is_settled_behind t h) → KeepsUp (due_after t h) limit chunk i front before (supply_of f) out new
     → Follows t limit chunk i front h name before (supply_of f) out new (Err Write)
 unfolding body_of
 stopped_before t h i front items name limit chunk before out new f r can on same q gave some read keeps_up =

@@ -3,9 +3,9 @@
 use Rattle.std.specs.Prelude.{◌≡◌, ℕ, ◌+◌, ◌<◌, ◌-◌, ◌^◌, nat_lt, List, ◌++◌, length, Result, IfOk, IfErr, ◌==◌, Bool, true, false, Some, Ok, Err, []}
 use Rattle.std.specs.Io.KnownBytes.{Appends}
 use Rattle.std.specs.List.{list_any}
-use Rattle.vcd_model.specs.Backward.{up_to_first}
 use Rattle.vcd_model.specs.BodyReading.{read_body, body_items}
 use Rattle.vcd_model.specs.Bound.{RoomSize}
+use Rattle.vcd_model.specs.Due.{due_after}
 use Rattle.vcd_model.specs.Input.{Input}
 use Rattle.vcd_model.specs.Tokens.{Token, stream_of}
 use Rattle.vcd_model.specs.Header.{Header}
@@ -48,19 +48,14 @@ abbrev pub IsRefused : Request → Header → Stop → Type 0
 IsRefused task h (Unmatched index) = first_unmatched (names_of task) h.declarations ≡ Some index
 IsRefused task h stop = Unit {0}
 
--- what is due with these first tokens after the header: the text of the items that are whole with
--- them, up to one that ends the run
-abbrev pub text_due : Request → Header → List Token → List ℕ
-text_due task h ts = open_text task h (up_to_first (ends_early task) (body_items (read_body h.codes ts)))
-
--- that is more than this many bytes
-abbrev pub is_more_due : Request → Header → ℕ → List Token → Bool
-is_more_due task h written ts = nat_lt written (length (text_due task h ts))
+-- more is due with these first tokens than this many bytes
+abbrev pub is_more_due : (due : List Token → List ℕ) → ℕ → List Token → Bool
+is_more_due due written ts = nat_lt written (length (due ts))
 
 -- The output keeps up with the reads: at most a chunk was read past the token with which more is
 -- due than was written.
-abbrev pub KeepsUp : Request → (limit chunk : ℕ) → Input → List Token → Header → (old new : Supply) → (out out' : Device) → Type 0
-KeepsUp task limit chunk i front h old new out out' = (written : List ℕ) × Appends out.held out'.held written × ReadsAsNeeded limit chunk old new i front (is_more_due task h (length written))
+abbrev pub KeepsUp : (due : List Token → List ℕ) → (limit chunk : ℕ) → Input → List Token → (old new : Supply) → (out out' : Device) → Type 0
+KeepsUp due limit chunk i front old new out out' = (written : List ℕ) × Appends out.held out'.held written × ReadsAsNeeded limit chunk old new i front (is_more_due due (length written))
 
 -- after these tokens, which are those of this header, a run does this task
 pub record Follows (task : Request) (limit chunk : ℕ) (i : Input) (front : List Token) (h : Header) (name : List ℕ) (old new : Supply) (out out' : Device) (result : Result Done Stop) : Type 0 where
@@ -72,7 +67,7 @@ pub record Follows (task : Request) (limit chunk : ℕ) (i : Input) (front : Lis
   -- no more was read than what settles the task
   pub read : ReadsAsNeeded limit chunk old new left front (is_settled_behind task h)
   -- nor did a read run ahead of the output, not even after a failed write
-  pub keeps_up : KeepsUp task limit chunk left front h old new out out'
+  pub keeps_up : KeepsUp (due_after task h) limit chunk left front old new out out'
   -- it ended early if and only if an item ends it
   pub early : IfOk result (λ done. is_early done ≡ list_any (ends_early task) (body_items (read_body h.codes rest)))
   pub refused : IfErr result (IsRefused task h)

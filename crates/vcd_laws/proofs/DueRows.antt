@@ -10,7 +10,8 @@ use Rattle.vcd_model.specs.Outcome.{declarations_allowed}
 use Rattle.vcd_model.specs.SettledMerge.{Seen}
 use Rattle.vcd_model.specs.Tokens.{stream_of, tokens_of}
 use Rattle.vcd_laws.specs.Checked.{run_of}
-use Rattle.vcd_laws.specs.Due.{due, due_of_merge}
+use Rattle.vcd_model.specs.Due.{due}
+use Rattle.vcd_laws.specs.Due.{due_of_merge}
 use Rattle.vcd_laws.proofs.CutOff.{cut_off_is_a_prefix}
 use Rattle.vcd_laws.proofs.DueText.{due_is_never_revised, due_is_left_at_a_halt}
 

@@ -21,7 +21,8 @@ use Rattle.vcd_model.specs.Settled.{is_faulty, body_settles, is_settled_behind, 
 use Rattle.vcd_model.specs.Laws.{IsPrefixOf, IsValid}
 use Rattle.vcd_laws.specs.Checked.{run_of}
 use Rattle.vcd_laws.specs.Final.{BeginsWith, first_tokens}
-use Rattle.vcd_laws.specs.Due.{due_of_body, due_after, due_of_request, due_at, due, DueGrows, DueIsNeverRevised, DueIsLeftAtAHalt, DueIsAllThatIsKnown, SettledDueIsAll}
+use Rattle.vcd_model.specs.Due.{due_of_body, due_after, due_of_request, due_at, due}
+use Rattle.vcd_laws.specs.Due.{DueGrows, DueIsNeverRevised, DueIsLeftAtAHalt, DueIsAllThatIsKnown, SettledDueIsAll}
 use Rattle.vcd_model.proofs.CutGrows.{goes_on}
 use Rattle.vcd_model.proofs.JobLemmas.{requests_are_valid}
 use Rattle.vcd_model.proofs.Revised.{nothing_revised}

@@ -42,7 +42,7 @@ EndsSo names asked before after last_failed out out' err err' status =
     × EndsAtReadOf last_failed why
 
 -- over inputs with these texts: the outcome that is due for what was read of each; no more was read
--- than what settles it, and of a merge none before its turn; or nothing if memory ran out
+-- than what settles it, and no read ran ahead of the output; or nothing if memory ran out
 pub data Leaves (due : List Input → Outcome) (want : Want) (limit : ℕ) (texts : List Text) (old new : List Supply) (out out' err err' : Device) (status : ℕ) : Type 0 where
   WithOutcome : (inputs : List Input) (read : AreRead (is_settled want) limit 65536 [] texts old new inputs) (needed : AreNeeded want limit 65536 old new inputs) (in_turn : AreInTurn want limit 65536 texts old new inputs out out') (leaves : IsOutcome (due inputs) out out' err err' status)
       → Leaves due want limit texts old new out out' err err' status

@@ -1,8 +1,10 @@
 -- How much was read of an input for its header, and why a header ends a run.
-use Rattle.std.proofs.Common.{◌≡◌, ◌≢◌, ◌==◌, ℕ, ◌+◌, Bool, true, false, ◌++◌, inl, inr, List, [], ◌∷◌, length, Some, None, Err, refl, sym, ap, subst, ◌∙◌, arith}
+use Rattle.std.proofs.Common.{◌≡◌, ◌≢◌, ◌==◌, ℕ, ◌+◌, Bool, true, false, nat_lt, ◌++◌, inl, inr, List, [], ◌∷◌, length, Some, None, Err, refl, sym, ap, subst, ◌∙◌, arith}
 use Rattle.std.specs.Prelude.{IfSome}
+use Rattle.std.proofs.lemmas.Bool.Decides.{nat_tests}
 use Rattle.std.proofs.lemmas.List.{append-nil}
 use Rattle.vcd_model.specs.Input.{Input}
+use Rattle.vcd_model.specs.Due.{due, due_at, due_of_request}
 use Rattle.vcd_model.specs.Job.{Want, request_of}
 use Rattle.vcd_model.specs.Laws.{IsPrefixOf}
 use Rattle.vcd_model.specs.Settled.{is_header_over, is_over, is_settled, is_settled_at, is_settled_by}
@@ -32,6 +34,7 @@ use Rattle.vcd_head.specs.Shown.{shown}
 use Rattle.vcd_head.specs.declared.fault.HeadFault.{HeadFault}
 use Rattle.vcd_head.specs.declared.fault.HeadFault.TheVariants.{TokenTooLong, EndOfInput, UnknownCommand, OutOfPlace, BadTimescale, BadScope, BadVariable, CodeDiffers, NoScope, TooDeep, TooMany, InputTooLong, ReadFailed, OutOfMemory}
 use Rattle.vcd_body.specs.Answer.{IsLeft}
+use Rattle.vcd_engine.specs.TaskRun.{is_more_due}
 use Rattle.vcd_text.specs.Registers.{Fits}
 use Rattle.vcd_text.specs.Advances.{HasNotFailed}
 use Rattle.vcd_text.specs.declared.answer.Halt.TheVariants as halt
@@ -68,6 +71,24 @@ settled_run wanted most given ts placed w = rw (whole-more (header_grammar most)
 pub settled_header : (most : ℕ) (given ts : List Token) (placed : List (Placed HeaderPhrase)) → IsWhole (header_grammar most) given placed → is_header_over most (given ++ ts) ≡ true
 unfolding is_header_over
 settled_header most given ts placed w = rw (whole-more (header_grammar most) given placed ts w) refl
+
+-- nothing is due before a header is whole
+undue_going : (wanted : Want) (r : Reading HeaderPhrase) (x : Ending) → is_over x ≡ false → due_at wanted r x ≡ []
+undue_going wanted r (AtFault fault) e = refl
+undue_going wanted r AtEnd e = refl
+undue_going wanted r AtLast e = cc
+
+pub undue_header : (wanted : Want) (most written : ℕ) (given : List Token) → is_header_over most given ≡ false → is_more_due (due wanted most) written given ≡ false
+unfolding is_header_over due
+undue_header wanted most written given e =
+    let none : nat_lt written 0 ≡ false = grind (arith, nat_tests) in
+    ap (λ text. nat_lt written (length text)) (undue_going wanted (reading_of (header_grammar most) given) (reading_of (header_grammar most) given).ending e) ∙ none
+
+-- a whole header leaves it to the tokens after it
+pub due_run : (wanted : Want) (most : ℕ) (given ts : List Token) (placed : List (Placed HeaderPhrase)) → IsWhole (header_grammar most) given placed
+    → due wanted most (given ++ ts) ≡ due_of_request (request_of (header_of (phrases_of placed)).scale wanted) (header_of (phrases_of placed)) ts
+unfolding due
+due_run wanted most given ts placed w = rw (whole-more (header_grammar most) given placed ts w) refl
 
 -- what was read for work was read for work that takes longer
 pub reads_for : (limit chunk : ℕ) (old new : Supply) (i : Input) (front : List Token) (settled later : List Token → Bool) → ((ts : List Token) → settled ts ≡ false → later ts ≡ false)

@@ -1,9 +1,10 @@
 -- How a run ends, and what it leaves.
-use Rattle.std.proofs.Common.{◌≡◌, ◌==◌, ℕ, Bool, true, false, cond, zero, suc, ◌+◌, ◌<◌, ◌≤◌, ◌++◌, inl, inr, List, [], ◌∷◌, length, take, map, get_or, set, slice_set, Option, None, Some, Result, Ok, Err, refl, sym, ap, subst, ◌∙◌, arith}
+use Rattle.std.proofs.Common.{◌≡◌, ◌==◌, ℕ, Bool, true, false, cond, zero, suc, ◌+◌, ◌<◌, ◌≤◌, ◌++◌, inl, inr, List, [], ◌∷◌, length, nat_lt, take, map, get_or, set, slice_set, Option, None, Some, Result, Ok, Err, refl, sym, ap, subst, ◌∙◌, arith}
 use Rattle.std.specs.Prelude.{MatchResult, IfOk, IfErr}
 use Rattle.std.specs.List.{list_any}
 use Rattle.vcd_model.specs.Input.{Input}
-use Rattle.vcd_model.specs.Job.{outcome, over_opened, request_of}
+use Rattle.vcd_model.specs.Due.{due, due_after, due_of_request}
+use Rattle.vcd_model.specs.Job.{Refusal as ModelRefusal, outcome, over_opened, request_of}
 use Rattle.vcd_model.specs.Settled.{is_header_over, is_settled, is_settled_behind, is_settled_by}
 use Rattle.vcd_model.specs.SoFar.{IsWhole}
 use Rattle.vcd_model.specs.HeaderPhrases.{HeaderPhrase}
@@ -23,7 +24,7 @@ use Rattle.vcd_text.specs.Feed.{HasGiven, limit_of}
 use Rattle.vcd_text.specs.declared.device.Source.{Ghosts}
 use Rattle.vcd_text.specs.declared.feed.Feed.{Feed}
 use Rattle.vcd_text.proofs.Writes.{appends-none}
-use Rattle.vcd_engine.specs.TaskRun.{Belongs, Follows, IsRefused, KeepsUp, is_early}
+use Rattle.vcd_engine.specs.TaskRun.{Belongs, Follows, IsRefused, KeepsUp, is_early, is_more_due}
 use Rattle.vcd_body.specs.Answer.{EndsAtRead as EndsAtStop, reads_failed, writes_failed}
 use Rattle.vcd_body.specs.declared.answer.Done.{Done}
 use Rattle.vcd_body.specs.declared.answer.Stop.{Stop}
@@ -39,8 +40,8 @@ use Rattle.vcd_words.specs.Job.{is_merge, model_want, names_asked}
 use Rattle.vcdkit.specs.Inputs.{HasFailed, IsBegun}
 use Rattle.vcdkit.specs.Run.{Ends, EndsAll, IsAfter, IsOfJob, Leaves, LeavesAll, settled_for}
 use Rattle.vcdkit.proofs.NeededLemmas.{none_others}
-use Rattle.vcdkit.proofs.TurnLemmas.{none_in_turn}
-use Rattle.vcdkit.proofs.HeaderLemmas.{all_read, left_since, reads_for, settled_header, settled_run, unsettled_header}
+use Rattle.vcdkit.proofs.TurnLemmas.{one_in_turn, one_keeps_up}
+use Rattle.vcdkit.proofs.HeaderLemmas.{all_read, due_run, left_since, reads_for, settled_header, settled_run, undue_header, unsettled_header}
 use Rattle.vcd_merge.specs.MergeStep.{EndsAtReadOf as EndsAtStops}
 use Rattle.vcd_merge.specs.Seat.{Lane}
 use Rattle.vcd_merge.proofs.MergeCounts.{set_last}
@@ -79,7 +80,7 @@ list_stops h (Ok done) m = tt
 list_stops h (Err stop) m = rw m tt
 
 -- nothing is read
-list_keeps_up : (limit chunk : ℕ) (i : Input) (front : List Token) (h : Header) (before : Supply) (out out' : Device) (r : Result Done Stop) → Takes out out' (list_text h) r → KeepsUp Request.Listing limit chunk i front h before before out out'
+list_keeps_up : (limit chunk : ℕ) (i : Input) (front : List Token) (h : Header) (before : Supply) (out out' : Device) (r : Result Done Stop) → Takes out out' (list_text h) r → KeepsUp (due_after Request.Listing h) limit chunk i front before before out out'
 list_keeps_up limit chunk i front h before out out' (Ok done) t = (list_text h, t, Nothing refl)
 list_keeps_up limit chunk i front h before out out' (Err stop) t = (take t.0 (list_text h), t.1, Nothing refl)
 
@@ -175,7 +176,7 @@ settled_placed (Err (Unmatched place)) run header = refl
 abbrev pub EndsAfter : Want → (limit chunk : ℕ) → Input → List Token → Header → List ℕ → (old new : Supply) → (out out' : Device) → Result Done Failure → Type 0
 EndsAfter wanted limit chunk i front h name old new out out' r =
     Ends (names_asked wanted) (IsAfter (model_want wanted) limit front h name) limit chunk i name front
-    (settled_for r (is_settled_by (request_of h.scale (model_want wanted)) h) (λ _. true)) old new out out' r
+    (settled_for r (is_settled_by (request_of h.scale (model_want wanted)) h) (λ _. true)) (due_of_request (request_of h.scale (model_want wanted)) h) old new out out' r
 
 -- a task, or a list, was done
 pub followed : (wanted : Want) (task : Request) (limit chunk : ℕ) (i : Input) (front : List Token) (h : Header) (name : List ℕ) (before after : Supply) (out out' : Device) (r : Result Done Stop) → is_merge wanted ≡ false → request_of h.scale (model_want wanted) ≡ Ok task → Follows task limit chunk i front h name before after out out' r
@@ -188,6 +189,7 @@ followed wanted task limit chunk i front h name before after out out' r one e f 
       left = f.left;
       is_left = f.is_left;
       read = subst (ReadsAsNeeded limit chunk before after f.left front) (sym settled) f.read;
+      keeps_up = subst (λ (q : Result Request ModelRefusal). KeepsUp (due_of_request q h) limit chunk f.left front before after out out') (sym e) f.keeps_up;
       due = over_opened (model_want wanted) (name ∷ []) (opened ∷ []);
       is_due = (f.rest, f.tokens, refl);
       leaves = leaves-placed task (names_asked wanted) _ name out out' r (names_due wanted h.scale task one e)
@@ -202,6 +204,7 @@ module _ {X : Type 0} {x : Ghosts X} (wanted : Want) (limit chunk : ℕ) (i : In
     left = i;
     is_left = inl (refl, refl);
     read = Nothing refl;
+    keeps_up = ([], appends-none out.held, Nothing refl);
     due = over_opened (model_want wanted) (name ∷ []) (record { header = h; stream = stream_of limit i; rest = st.given_first.0 } ∷ []);
     is_due = (st.given_first.0, ap (λ n. (stream_of n i).tokens) (sym l) ∙ st.given_first.1, refl);
     leaves = writes-none out;
@@ -213,6 +216,7 @@ module _ {X : Type 0} {x : Ghosts X} (wanted : Want) (limit chunk : ℕ) (i : In
     left = i;
     is_left = inl (refl, refl);
     read = Nothing refl;
+    keeps_up = ([], appends-none out.held, Nothing refl);
     due = over_opened (model_want wanted) (name ∷ []) (record { header = h; stream = stream_of limit i; rest = st.given_first.0 } ∷ []);
     is_due = (st.given_first.0, ap (λ n. (stream_of n i).tokens) (sym l) ∙ st.given_first.1, refl);
     leaves = (over_none wanted (name ∷ []) (record { header = h; stream = stream_of limit i; rest = st.given_first.0 }) (model_refusal why) e, writes-none out);
@@ -226,7 +230,7 @@ settles wanted r = settled_for r (is_settled (model_want wanted) declarations_al
 
 -- how a run of one input ends
 abbrev pub InputEnds : Want → (limit chunk : ℕ) → Input → List ℕ → (old new : Supply) → (out out' : Device) → Result Done Failure → Type 0
-InputEnds wanted limit chunk i name old new out out' r = Ends (names_asked wanted) (IsOfJob (model_want wanted) limit name) limit chunk i name [] (settles wanted r) old new out out' r
+InputEnds wanted limit chunk i name old new out out' r = Ends (names_asked wanted) (IsOfJob (model_want wanted) limit name) limit chunk i name [] (settles wanted r) (due (model_want wanted) declarations_allowed) old new out out' r
 
 -- a run that memory ends before anything was read
 pub no_memory : (wanted : Want) (limit chunk : ℕ) (i : Input) (name : List ℕ) (before : Supply) (out : Device) → InputEnds wanted limit chunk i name before before out out (Err failure.OutOfMemory)
@@ -234,6 +238,7 @@ no_memory wanted limit chunk i name before out = record {
   left = i;
   is_left = inl (refl, refl);
   read = Nothing refl;
+  keeps_up = ([], appends-none out.held, Nothing refl);
   due = outcome (model_want wanted) limit (name ∷ []) (i ∷ []);
   is_due = refl;
   leaves = writes-none out;
@@ -249,11 +254,18 @@ dump_leaves asked name input n line out first k =
 read_leaves : (asked : List (List ℕ)) (name : List ℕ) (input line : ℕ) (out : Device) → input ≡ 0 → Leaves asked (fault_outcome [] name (record { number = 31; line = line })) name out out (Err (failure.Stopped (Read input)))
 read_leaves asked name input line out first = (Request.Pick asked, refl, (first, (line, refl), writes-none out))
 
+-- with which nothing is due
+header_keeps_up : (wanted : Want) (limit chunk : ℕ) (left : Input) (before after : Supply) (out : Device) → ReadsAsNeeded limit chunk before after left [] (is_header_over declarations_allowed) → KeepsUp (due (model_want wanted) declarations_allowed) limit chunk left [] before after out out
+header_keeps_up wanted limit chunk left before after out read =
+    let text_due = due (model_want wanted) declarations_allowed in
+    ([], appends-none out.held, reads_for limit chunk before after left [] (is_header_over declarations_allowed) (is_more_due text_due 0) (undue_header (model_want wanted) declarations_allowed 0) read)
+
 pub refused : (wanted : Want) (limit chunk : ℕ) (i : Input) (name : List ℕ) (before after : Supply) (out : Device) (why : Failure) → HasFailed declarations_allowed limit chunk 0 i before after why → InputEnds wanted limit chunk i name before after out out (Err why)
 refused wanted limit chunk i name before after out (failure.Stopped (Dump input line n)) h = record {
   left = h.left;
   is_left = h.is_left;
   read = reads_for limit chunk before after h.left [] (is_header_over declarations_allowed) (is_settled (model_want wanted) declarations_allowed) (unsettled_header (model_want wanted) declarations_allowed) h.read;
+  keeps_up = header_keeps_up wanted limit chunk h.left before after out h.read;
   due = _;
   is_due = sym (at_header (model_want wanted) limit (name ∷ []) h.left (record { number = n; line = line }) h.is_why.2);
   leaves = dump_leaves (names_asked wanted) name input n line out h.is_why.0 h.is_why.1;
@@ -262,6 +274,7 @@ refused wanted limit chunk i name before after out (failure.Stopped (Read input)
   left = h.left;
   is_left = h.is_left;
   read = reads_for limit chunk before after h.left [] (is_header_over declarations_allowed) (is_settled (model_want wanted) declarations_allowed) (unsettled_header (model_want wanted) declarations_allowed) h.read;
+  keeps_up = header_keeps_up wanted limit chunk h.left before after out h.read;
   due = _;
   is_due = sym (at_header (model_want wanted) limit (name ∷ []) h.left (record { number = 31; line = h.is_why.1 }) h.is_why.2);
   leaves = read_leaves (names_asked wanted) name input h.is_why.1 out h.is_why.0;
@@ -273,6 +286,7 @@ refused wanted limit chunk i name before after out failure.OutOfMemory h = recor
   left = h.left;
   is_left = h.is_left;
   read = h.read;
+  keeps_up = header_keeps_up wanted limit chunk h.left before after out h.read;
   due = outcome (model_want wanted) limit (name ∷ []) (h.left ∷ []);
   is_due = refl;
   leaves = writes-none out;
@@ -308,11 +322,20 @@ read_on wanted limit chunk limit' chunk' i l name before mid after out out' end 
     subst (λ (n : ℕ). EndsAfter wanted limit n i l.front l.header name mid after out out' end) size'
     (subst (λ (n : ℕ). EndsAfter wanted n chunk' i l.front l.header name mid after out out' end) l' f) in
     let behind = settled_for end (is_settled_in wanted l.header) (λ _. true) in
+    let due_in : Header → List Token → List ℕ = λ h. due_of_request (request_of h.scale (model_want wanted)) h in
+    let written = e.keeps_up.0 in
+    let n = length written in
     record {
       left = e.left;
       is_left = left_since declarations_allowed limit chunk i l before mid b after e.left e.is_left;
       read = all_read declarations_allowed limit chunk i l before mid b (settles wanted end) behind (going wanted end)
           (λ ts u. settled_both wanted end l.front ts b.placed b.whole ∙ ap (λ (h : Header). settled_for end (is_settled_in wanted h) (λ _. true) ts) (sym b.header_is) ∙ u) after e.left e.is_left e.read;
+      keeps_up = (
+        written,
+        e.keeps_up.1,
+        all_read declarations_allowed limit chunk i l before mid b (is_more_due (due (model_want wanted) declarations_allowed) n) (is_more_due (due_in l.header) n) (undue_header (model_want wanted) declarations_allowed n)
+            (λ ts u. ap (λ text. nat_lt n (length text)) (due_run (model_want wanted) declarations_allowed l.front ts b.placed b.whole ∙ ap (λ (h : Header). due_in h ts) (sym b.header_is)) ∙ u) after e.left e.is_left e.keeps_up.2,
+      );
       due = e.due;
       is_due = e.is_due.2
           ∙ ap (λ (h : Header). over_opened (model_want wanted) (name ∷ []) (record { header = h; stream = stream_of limit e.left; rest = e.is_due.0 } ∷ [])) b.header_is
@@ -364,7 +387,7 @@ module _ {X : Type 0} (rest : X → Option (List ℕ)) (failures : X → ℕ) (r
         lefts = g.left ∷ [];
         read = (g.is_left, g.read, refl);
         needed = none_others wanted limit chunk _ _ _ one;
-        in_turn = none_in_turn wanted limit chunk (t ∷ []) _ _ _ out out' one;
+        in_turn = one_in_turn wanted limit chunk (t ∷ []) _ _ _ out out' one (one_keeps_up (model_want wanted) limit chunk _ _ g.left out out' g.keeps_up);
         leaves = subst (λ (o : Outcome). LeavesAll (name ∷ []) (names_asked wanted) o out out' end) same (leaves_one (names_asked wanted) g.due name out out' end g.leaves);
       }
   one_ends name (t ∷ u ∷ texts) c h = cc

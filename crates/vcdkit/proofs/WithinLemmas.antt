@@ -6,13 +6,14 @@ use Rattle.std.proofs.lemmas.Bool.Decides.{nat_tests}
 use Rattle.std.proofs.lemmas.List.{length-drop, length-take}
 use Rattle.vcd_model.specs.Bytes.{is_white_space}
 use Rattle.vcd_model.specs.BodyReading.{body_fault_of, read_body}
+use Rattle.vcd_model.specs.Due.{due}
 use Rattle.vcd_model.specs.Header.{Header, header_of}
 use Rattle.vcd_model.specs.HeaderReading.{header_fault_of, read_header}
 use Rattle.vcd_model.specs.Input.{Input}
 use Rattle.vcd_model.specs.Items.{BodyItem}
 use Rattle.vcd_model.specs.Job.{Want, outcome, over_opened}
 use Rattle.vcd_model.specs.Merge.{Dump, dump_of, factor}
-use Rattle.vcd_model.specs.Outcome.{Opened, Outcome, allowed_after, fault_outcome, name_at, open_from, with_opened}
+use Rattle.vcd_model.specs.Outcome.{Opened, Outcome, allowed_after, declarations_allowed, fault_outcome, name_at, open_from, with_opened}
 use Rattle.vcd_model.specs.Reading.{Fault, phrases_of}
 use Rattle.vcd_model.specs.SettledMerge.{Seen, is_settled_merge}
 use Rattle.vcd_model.specs.Tokens.{HaltPlace, Stream, Token, comes_before, earlier_halt, end_at, failed_read, first_halt, given_places, halt_place, run_at, stream_of, stream_until, token_places, too_long_tokens, too_much_input}
@@ -25,6 +26,7 @@ use Rattle.vcd_text.specs.ReadAhead.ReadsAsNeeded.{Nothing, ToToken, ToEnd}
 use Rattle.vcd_view.proofs.ListLemmas.{from_all, all_weaker}
 use Rattle.vcd_head.specs.Reads.{HasFault}
 use Rattle.vcd_body.specs.Answer.{IsLeft}
+use Rattle.vcd_engine.specs.TaskRun.{is_more_due}
 use Rattle.vcd_body.specs.declared.answer.Stop.TheVariants.{Dump as Faulty, Read, Write, Unmatched}
 use Rattle.vcd_merge.specs.MergeRun.{AreReadOnTurn, HasEnded, ReadOnTurn}
 use Rattle.vcd_merge.specs.MergeRun.AreReadOnTurn.{OnTurn, Unread}
@@ -32,7 +34,7 @@ use Rattle.vcd_merge.specs.Seat.{HasDump, Lane}
 use Rattle.vcd_words.specs.declared.job.Job.{Job}
 use Rattle.vcdkit.specs.Calls.{AreWithin, IsLimitFor, Narrows}
 use Rattle.vcdkit.specs.Inputs.{AreBegun, IsBegun, IsWhy, Stops, headers_in}
-use Rattle.vcdkit.specs.Run.{AreInTurn, AreMergedInTurn, AreNeeded, AreRead, HasRun, IsOutcome, header_behind, known, settles_among}
+use Rattle.vcdkit.specs.Run.{AreInTurn, AreMergedInTurn, AreNeeded, AreRead, HasRun, IsOutcome, OneKeepsUp, header_behind, known, settles_among}
 use Rattle.vcdkit.specs.Run.AreMergedInTurn.{InBodies, InHeaders}
 use Rattle.vcdkit.specs.declared.failure.Failure.{Failure}
 use Rattle.vcdkit.specs.declared.failure.Failure.TheVariants.{Stopped, Refused, OutOfMemory}
@@ -268,14 +270,20 @@ module _ (a b c d : ℕ) (le : c ≤ d) where
         let n = begun_within [] texts old mid lanes short begun in
         InBodies lanes mid n.0 (bodies_within (headers_in lanes) lanes (λ k l at. at_index (λ (l : Lane). IsShort a b l.input.bytes) lanes k l n.1 at) mid new inputs out out' all bodies)
 
+    keeps_within : (want : Want) → OneKeepsUp want a c old new inputs out out' → OneKeepsUp want b d old new inputs out out'
+    keeps_within want keeps = λ s t i is_s is_t is_i.
+        let k = keeps s t i is_s is_t is_i in
+        let one = (subst (AllByRecursion (λ (j : Input). IsShort a b j.bytes)) is_i all).0 in
+        (k.0, k.1, needed_within a b c d le s t i [] (is_more_due (due want declarations_allowed) (length k.0)) one k.2)
+
     turns_within : (want : Want) → AreInTurn want a c texts old new inputs out out' → AreInTurn want b d texts old new inputs out out'
     turns_within Want.Merge turns = merged_within turns
-    turns_within Want.Check turns = turns
-    turns_within Want.Listing turns = turns
-    turns_within (Want.Pick names) turns = turns
-    turns_within (Want.Cut from to) turns = turns
-    turns_within (Want.Sample times names) turns = turns
-    turns_within (Want.Edges names) turns = turns
+    turns_within Want.Check turns = keeps_within Want.Check turns
+    turns_within Want.Listing turns = keeps_within Want.Listing turns
+    turns_within (Want.Pick names) turns = keeps_within (Want.Pick names) turns
+    turns_within (Want.Cut from to) turns = keeps_within (Want.Cut from to) turns
+    turns_within (Want.Sample times names) turns = keeps_within (Want.Sample times names) turns
+    turns_within (Want.Edges names) turns = keeps_within (Want.Edges names) turns
 
 -- ---- a run
 

@@ -1,5 +1,6 @@
 -- What the calls of a run promise, as far as readers and writers describe themselves.
 use Rattle.std.specs.Prelude.{◌≡◌, ℕ, ◌+◌, ◌-◌, ◌^◌, ◌<◌, ◌≤◌, ◌⊎◌, true, All, IfSome, List, [], length, map, Option, Some, Result}
+use Rattle.vcd_model.specs.Due.{due, due_of_request}
 use Rattle.vcd_model.specs.Header.{Header}
 use Rattle.vcd_model.specs.Input.{Input}
 use Rattle.vcd_model.specs.Job.{Want as ModelWant, request_of}
@@ -28,13 +29,13 @@ use Rattle.vcdkit.specs.declared.failure.Failure.{Failure}
 abbrev pub WantEnds : {X W : Type 0} {g : Ghosts X} → Sinks W → HeadView → Want → (old new : Feed X g) → (out out' : W) → Result Done Failure → Type 0
 WantEnds w view want old new out out' result = (h : Header) (i : Input) (front : List Token) (name : List ℕ) → IsViewOf view h → HasGiven i front old
     → Ends (names_asked want) (IsAfter (model_want want) (limit_of old) front h name) (limit_of old) (chunk_len_of old) i name front
-    (settled_for result (is_settled_by (request_of h.scale (model_want want)) h) (λ _. true)) (supply_of old) (supply_of new) (w.device out) (w.device out') result
+    (settled_for result (is_settled_by (request_of h.scale (model_want want)) h) (λ _. true)) (due_of_request (request_of h.scale (model_want want)) h) (supply_of old) (supply_of new) (w.device out) (w.device out') result
 
 -- a job with one input was run over its reader
 abbrev pub InputEnds : {X W : Type 0} → Ghosts X → Sinks W → Job → (old new : X) → (out out' : W) → Result Done Failure → Type 0
 InputEnds g w job old new out out' result = (text name : List ℕ) → g.rest old ≡ Some text
     → Ends (names_asked job.task) (IsOfJob (model_want job.task) job.limit name) job.limit job.chunk (whole text) name []
-    (settled_for result (is_settled (model_want job.task) declarations_allowed) (is_header_over declarations_allowed)) (supply g.rest g.failures old) (supply g.rest g.failures new) (w.device out) (w.device out') result
+    (settled_for result (is_settled (model_want job.task) declarations_allowed) (is_header_over declarations_allowed)) (due (model_want job.task) declarations_allowed) (supply g.rest g.failures old) (supply g.rest g.failures new) (w.device out) (w.device out') result
 
 -- what readers are
 abbrev pub supplies : {X : Type 0} → Ghosts X → List X → List Supply

@@ -4,7 +4,8 @@ use Rattle.vcd_model.specs.Input.{Input}
 use Rattle.vcd_model.specs.Job as model
 use Rattle.vcd_model.specs.Header.{Header, header_of}
 use Rattle.vcd_model.specs.HeaderReading.{read_header}
-use Rattle.vcd_model.specs.Outcome.{Outcome, Request, allowed_after, clean_outcome, fault_outcome, name_at, names_of, program_line, unmatched_outcome}
+use Rattle.vcd_model.specs.Due.{due}
+use Rattle.vcd_model.specs.Outcome.{Outcome, Request, allowed_after, clean_outcome, declarations_allowed, fault_outcome, name_at, names_of, program_line, unmatched_outcome}
 use Rattle.vcd_model.specs.Reading.{phrases_of}
 use Rattle.vcd_model.specs.Settled.{is_header_over, is_settled}
 use Rattle.vcd_model.specs.Tokens.{Token, stream_of}
@@ -12,7 +13,7 @@ use Rattle.vcd_model.specs.SettledMerge.{Seen, is_settled_merge}
 use Rattle.vcd_text.specs.Answer.{whole}
 use Rattle.vcd_text.specs.Device.{Device, Supply, Writes, WritesSome}
 use Rattle.vcd_text.specs.ReadAhead.{ReadsAsNeeded}
-use Rattle.vcd_engine.specs.TaskRun.{Belongs}
+use Rattle.vcd_engine.specs.TaskRun.{Belongs, KeepsUp}
 use Rattle.vcd_body.specs.Answer.{IsLeft}
 use Rattle.vcd_body.specs.declared.answer.Done.{Done}
 use Rattle.vcd_body.specs.declared.answer.Stop.TheVariants.{Dump, Read, Write, Unmatched}
@@ -41,13 +42,14 @@ settled_for (Err (Stopped stop)) run header = run
 settled_for (Err (Refused why)) run header = run
 settled_for (Err OutOfMemory) run header = header
 
--- how a run that was asked for these names ends over an input with this name, of which these tokens
--- were given: with an outcome that is due for what is left of the input, and no more was read than
--- what settles it
-pub record Ends (asked : List (List ℕ)) (IsDue : Input → Outcome → Type 0) (limit chunk : ℕ) (i : Input) (name : List ℕ) (front : List Token) (settled : List Token → Bool) (old new : Supply) (out out' : Device) (result : Result Done Failure) : Type 0 where
+-- How a run that was asked for these names ends over an input with this name, of which these tokens
+-- were given: with an outcome that is due for what is left of the input. No more was read than what
+-- settles it, and the output keeps up with the text that is due with the tokens after those.
+pub record Ends (asked : List (List ℕ)) (IsDue : Input → Outcome → Type 0) (limit chunk : ℕ) (i : Input) (name : List ℕ) (front : List Token) (settled : List Token → Bool) (text_due : List Token → List ℕ) (old new : Supply) (out out' : Device) (result : Result Done Failure) : Type 0 where
   pub left : Input
   pub is_left : IsLeft i old new left
   pub read : ReadsAsNeeded limit chunk old new left front settled
+  pub keeps_up : KeepsUp text_due limit chunk left front old new out out'
   pub due : Outcome
   pub is_due : IsDue left due
   pub leaves : Leaves asked due name out out' result
@@ -113,13 +115,17 @@ pub data AreMergedInTurn (limit chunk : ℕ) (texts : List (List ℕ)) (old new 
   InHeaders : (why : Failure) (stops : Stops limit chunk 0 [] texts old new why) → AreMergedInTurn limit chunk texts old new inputs out out'
   InBodies : (lanes : List Lane) (mid : List Supply) (begun : AreBegun limit chunk [] texts old mid lanes) (bodies : AreReadOnTurn limit chunk (headers_in lanes) lanes mid new inputs out out') → AreMergedInTurn limit chunk texts old new inputs out out'
 
--- other jobs have one input
+-- the output of any other job keeps up with the reads of its one input
+abbrev pub OneKeepsUp : model.Want → (limit chunk : ℕ) → (old new : List Supply) → List Input → (out out' : Device) → Type 0
+OneKeepsUp want limit chunk old new inputs out out' = (s t : Supply) (i : Input) → old ≡ s ∷ [] → new ≡ t ∷ [] → inputs ≡ i ∷ [] → KeepsUp (due want declarations_allowed) limit chunk i [] s t out out'
+
+-- no read of a job runs ahead of its output
 abbrev pub AreInTurn : model.Want → (limit chunk : ℕ) → List (List ℕ) → (old new : List Supply) → List Input → (out out' : Device) → Type 0
 AreInTurn model.Want.Merge limit chunk texts old new inputs out out' = AreMergedInTurn limit chunk texts old new inputs out out'
-AreInTurn want limit chunk texts old new inputs out out' = Unit {0}
+AreInTurn want limit chunk texts old new inputs out out' = OneKeepsUp want limit chunk old new inputs out out'
 
 -- how a run over readers with these texts ends: with the outcome of what is left of them; no more
--- was read of each than what settles it, and of a merge none before its turn
+-- was read of each than what settles it, and no read ran ahead of the output
 pub record EndsAll (want : model.Want) (asked : List (List ℕ)) (limit chunk : ℕ) (names texts : List (List ℕ)) (old new : List Supply) (out out' : Device) (result : Result Done Failure) : Type 0 where
   pub lefts : List Input
   pub read : AreRead (λ most. settled_for result (is_settled want most) (is_header_over most)) limit chunk [] texts old new lefts

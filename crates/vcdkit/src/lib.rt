@@ -2,10 +2,10 @@
 //!
 //! `run` does a job, and its contract says what is left on readers and sinks: output, message and
 //! status are those of the definitions' outcome (`HasRun`). If a write failed, the output is a
-//! prefix of that; if memory ran out, there is no output. The words that are accepted
-//! (`command_of`) and the `Job` that they ask for (`job_of`) are in `vcd_words`; callers find them
-//! here too. If words ask for no job, `use_fault` says so. The words of a process, its files and
-//! its devices belong to `vcdkit_main`, the program.
+//! prefix of that, and no read ran ahead of it; if memory ran out, there is no output. The words
+//! that are accepted (`command_of`) and the `Job` that they ask for (`job_of`) are in `vcd_words`;
+//! callers find them here too. If words ask for no job, `use_fault` says so. The words of a
+//! process, its files and its devices belong to `vcdkit_main`, the program.
 //!
 //! # The modules
 //!
