@@ -10,13 +10,23 @@ use Rattle.vcd_head.specs.Shown.{shown}
 use Rattle.vcd_view.specs.Views.{Views}
 use Rattle.vcd_merge.specs.MergeParts.{part_len}
 use Rattle.vcd_merge.specs.Seat.{AtSeat, spot_with}
-use Rattle.vcd_merge.proofs.PartLemmas.{len_put, lent_len, part_other, spot_lent, spot_put, spot_other, seated_put}
+use Rattle.vcd_merge.proofs.PartLemmas.{len_put, lent_len, part_ends, part_other, spot_lent, spot_put, spot_other, seated_put}
 use Rattle.vcd_body.specs.Answer.{NamesInput, reads_failed}
 use Rattle.vcd_merge.proofs.MergeCounts.{get_map_or, left_moved, map_set, set_last}
 use Rattle.vcd_merge.proofs.SeatTrails.{run_from}
 use Rattle.vcd_body.proofs.Results.{if_ok_more}
 use Rattle.vcd_merge.proofs.merge_steps.run_turn.Goals as goal
 use Rattle.vcd_body.proofs.StoreLemmas.{get_other}
+
+pub overflow_mul-chunk_at : goal.overflow_mul-chunk_at
+overflow_mul-chunk_at g c =
+    let ends = part_ends (part_len (length c.args.seats.now) c.args.windows.now.chunks.now) (length c.args.seats.now) c.args.turn.input c.requires.input in
+    omega (arith, ends, c.requires.ready.parts.chunks_are)
+
+pub overflow_mul-token_at : goal.overflow_mul-token_at
+overflow_mul-token_at g c =
+    let ends = part_ends (part_len (length c.args.seats.now) c.args.windows.now.tokens.now) (length c.args.seats.now) c.args.turn.input c.requires.input in
+    omega (arith, ends, c.requires.ready.parts.tokens_are)
 
 pub returns-clause-turns : goal.returns-clause-turns
 returns-clause-turns g c = λ scale first l items h s there views at is.
