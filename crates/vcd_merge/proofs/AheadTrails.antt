@@ -47,21 +47,24 @@ none_due written scale first h items text Finish x is at = absurd is
 
 -- ---- one item
 
-module _ (v : HeadView) (s t : MergeStage) (p : ScannedItem) (item : TakesItem v s.ahead t.ahead s.regs p) (same : SameMerging s.visit t.visit) where
-  pub change_taken : (place : ℕ) (f : Form) (result : Result (Unit {0}) WriteFailed) → p.item ≡ Change place f → t.regs ≡ s.regs → t.visit.time ≡ s.visit.time
+same_merging : (m m' : Merging) → m' ≡ m → SameMerging m m'
+same_merging m m' e = rw e (record { factor = refl; first = refl; before = refl })
+
+module _ (v : HeadView) (s t : MergeStage) (p : ScannedItem) (item : TakesItem v s.ahead t.ahead s.regs p) where
+  pub change_taken : (place : ℕ) (f : Form) (result : Result (Unit {0}) WriteFailed) → p.item ≡ Change place f → t.regs ≡ s.regs → t.visit ≡ s.visit
       → PutsDue v.codes.now p.text.now p.item s.regs s.visit.time s.visit.first s.command t.command s.out t.out result → TakesNext v s t result
-  change_taken place f result e regs time_is puts = record {
+  change_taken place f result e regs visit puts = record {
     scanned = p;
     item = item;
     regs = subst (λ (i : Item). t.regs ≡ regs_after s.regs i) (sym e) regs;
-    same = same;
-    time = λ scale factor time. rw (time_is, regs) time;
+    same = same_merging s.visit t.visit visit;
+    time = λ scale factor time. rw (visit, regs) time;
     small = λ codes text x at. let read = subst (λ (i : Item). IsItem codes text i x) e at in rw read.2 refl;
     puts = puts;
   }
 
-  pub mark_taken : (time : ℕ) → p.item ≡ Time time → time * s.visit.factor < 2 ^ 64 → t.regs ≡ regs_after s.regs p.item → t.visit.time ≡ time * s.visit.factor → t.command ≡ s.command → t.out ≡ s.out → TakesNext v s t (Ok tt)
-  mark_taken time e fits regs is written out = record {
+  pub mark_taken : (time : ℕ) → p.item ≡ Time time → time * s.visit.factor < 2 ^ 64 → SameMerging s.visit t.visit → t.regs ≡ regs_after s.regs p.item → t.visit.time ≡ time * s.visit.factor → t.command ≡ s.command → t.out ≡ s.out → TakesNext v s t (Ok tt)
+  mark_taken time e fits same regs is written out = record {
     scanned = p;
     item = item;
     regs = regs;
@@ -71,13 +74,13 @@ module _ (v : HeadView) (s t : MergeStage) (p : ScannedItem) (item : TakesItem v
     puts = λ w scale first h items x same views known now number few at. let y : x ≡ BodyItem.Time time = subst (λ (i : Item). IsItem h.codes p.text.now i x) e at in rw (y, written, out) (appends-none s.out.held, refl);
   }
 
-  pub section_taken : IsSection p.item → t.regs ≡ regs_after s.regs p.item → t.visit.time ≡ s.visit.time → t.command ≡ s.command → t.out ≡ s.out → TakesNext v s t (Ok tt)
-  section_taken is regs time_is written out = record {
+  pub section_taken : IsSection p.item → t.regs ≡ regs_after s.regs p.item → t.visit ≡ s.visit → t.command ≡ s.command → t.out ≡ s.out → TakesNext v s t (Ok tt)
+  section_taken is regs visit written out = record {
     scanned = p;
     item = item;
     regs = regs;
-    same = same;
-    time = λ scale factor time. time_is ∙ time ∙ ap (λ n. scale * n) (sym (ap (λ (r : Regs). r.time) regs ∙ section_time s.regs p.item is));
+    same = same_merging s.visit t.visit visit;
+    time = λ scale factor time. ap (λ (m : Merging). m.time) visit ∙ time ∙ ap (λ n. scale * n) (sym (ap (λ (r : Regs). r.time) regs ∙ section_time s.regs p.item is));
     small = λ codes text x at. small_section s.visit.factor codes text p.item x is at;
     puts = λ w scale first h items x same views known now number few at. let none = none_due s.command scale first h items p.text.now p.item x is at in rw (none.0, none.1, written, out) (appends-none s.out.held, refl);
   }
@@ -183,7 +186,7 @@ module _ (v : HeadView) (stands : Merging → Option ℕ → List ℕ → Regs �
   early z e on = let less = leb-false z.visit.before z.visit.time on in omega (arith, e, less)
 
   along : (z : MergeStage) → Trail TakesNext stands is_out v s z → Comes z
-  along z Begins = record { over = (refl, refl); same = record { factor = refl; first = refl; before = refl }; runs = λ scale first lines h behind start views factor first_is few r. r }
+  along z Begins = record { over = (refl, refl); same = same_merging s.visit s.visit refl; runs = λ scale first lines h behind start views factor first_is few r. r }
   along _ (Goes_further b c so_far one on) =
       let so = along b so_far in
       let n = one.did in

@@ -1,13 +1,13 @@
 -- Inputs in the order of their turns.
-use Rattle.std.proofs.Common.{◌≡◌, ◌≢◌, ℕ, ◌+◌, ◌-◌, ◌<◌, ◌≤◌, ◌⊎◌, Bool, true, false, List, length, slice_get, Some, take, drop, length-append, length-drop, refl, sym, ap, ◌∙◌, subst, arith, inl, inr}
+use Rattle.std.proofs.Common.{◌≡◌, ◌≢◌, ℕ, ◌+◌, ◌-◌, ◌<◌, ◌≤◌, ◌⊎◌, Bool, true, false, List, length, slice_get, Some, refl, sym, ap, ◌∙◌, subst, arith, inl, inr}
+use Rattle.std.specs.List.{CopiedTo, SameBelow}
 use Rattle.std.specs.Prelude.{All, get_or, slice_set}
 use Rattle.std.proofs.lemmas.Bool.{cases_lt}
-use Rattle.std.proofs.lemmas.List.{get_or-append-add, get_or-drop, get_or-map, get_or-take, get_or_append_left, length-take-le, get_or-set_other, get_or-set_same}
+use Rattle.std.proofs.lemmas.List.{get_or-map, get_or-set_other, get_or-set_same}
 use Rattle.std.proofs.lemmas.Option.{get_or_from_slice_get, slice_get-get_or, slice_get_within}
 use Rattle.vcd_merge.specs.MergeOrder.{IsNext}
 use Rattle.vcd_merge.specs.Order.{AreInOrder, ComesBefore, IsFirstBefore, IsOrder, Waits, time_of}
 use Rattle.vcd_merge.specs.declared.seat.Seat.{Seat}
-use borrow.Rule.Slice.PartMut.{put_mid}
 
 pub before_both : (a i b j c k : ℕ) → ComesBefore a i b j → ComesBefore b j c k → ComesBefore a i c k
 before_both a i b j c k (inl l) (inl m) = inl (omega arith)
@@ -172,48 +172,12 @@ pub record MovesUp (xs ys : List ℕ) (at len k : ℕ) : Type 0 where
   pub here : get_or ys at 0 ≡ k
   pub above : (p : ℕ) → at ≤ p → p < len → get_or ys (p + 1) 0 ≡ get_or xs p 0
 
-module _ (xs zs : List ℕ) (at len : ℕ) (most : at ≤ len) (few : len < 64) (room : at + 64 < length xs) (is : zs ≡ take (at + 64 - at) (drop at xs)) where
-  moved : List ℕ
-  moved = put_mid (at + 1) (at + 65 - (at + 1)) xs zs
-
-  whole : zs ≡ take 64 (drop at xs)
-  whole = is ∙ (let all : at + 64 - at ≡ 64 = omega arith in ap (λ n. take n (drop at xs)) all)
-
-  front : length (take (at + 1) xs) ≡ at + 1
-  front = length-take-le (at + 1) xs (omega arith)
-
-  many : length zs ≡ 64
-  many = ap (λ (l : List ℕ). length l) whole ∙ length-take-le 64 (drop at xs) (let e = length-drop at xs in omega (arith, e, room))
-
-  moved_below : (p : ℕ) → p < at + 1 → get_or moved p 0 ≡ get_or xs p 0
-  unfolding moved
-  moved_below p l = get_or_append_left (take (at + 1) xs) _ 0 p (omega (arith, l, front)) ∙ get_or-take (at + 1) xs p 0 l
-
-  moved_above : (p : ℕ) → at ≤ p → p < len → get_or moved (p + 1) 0 ≡ get_or xs p 0
-  unfolding moved
-  moved_above p l w =
-      let place : p + 1 ≡ length (take (at + 1) xs) + (p - at) = omega (arith, front, l) in
-      let old : at + (p - at) ≡ p = omega (arith, l) in
-      let less : p - at < 64 = omega (arith, l, w, few) in
-      ap (λ (n : ℕ). get_or moved n 0) place
-      ∙ get_or-append-add (take (at + 1) xs) _ (p - at) 0
-      ∙ get_or_append_left zs _ 0 (p - at) (omega (arith, less, many))
-      ∙ ap (λ (l : List ℕ). get_or l (p - at) 0) whole
-      ∙ get_or-take 64 (drop at xs) (p - at) 0 less
-      ∙ get_or-drop at xs (p - at) 0
-      ∙ ap (λ (n : ℕ). get_or xs n 0) old
-
-  moved_long : length moved ≡ length xs
-  unfolding moved
-  moved_long = let rest = length-drop (at + 65 - (at + 1)) (drop (at + 1) xs) in let first = length-drop (at + 1) xs in length-append (take (at + 1) xs) _ ∙ ap (λ (n : ℕ). length (take (at + 1) xs) + n) (length-append zs _) ∙ omega (arith, front, many, rest, first, room)
-
-  pub moved_behind : (k : ℕ) → MovesUp xs (slice_set (put_mid (at + 1) (at + 65 - (at + 1)) xs zs) at k) at len k
-  unfolding moved
-  moved_behind k = record {
-    below = λ p l. get_or-set_other moved at p k 0 (λ e. omega (arith, l, e)) ∙ moved_below p (omega (arith, l));
-    here = get_or-set_same moved at k 0 (omega (arith, moved_long, room));
-    above = λ p l w. get_or-set_other moved at (p + 1) k 0 (λ e. omega (arith, l, e)) ∙ moved_above p l w;
-  }
+pub moved_behind : (xs ys : List ℕ) (at len k : ℕ) → at ≤ len → len < length xs → length ys ≡ length xs → SameBelow xs ys (at + 1) → CopiedTo xs ys at (at + 1) (len - at) → MovesUp xs (slice_set ys at k) at len k
+moved_behind xs ys at len k most room long low high = record {
+  below = λ p l. get_or-set_other ys at p k 0 (λ e. omega (arith, l, e)) ∙ low p 0 (omega (arith, l));
+  here = get_or-set_same ys at k 0 (omega (arith, most, room, long));
+  above = λ p l w. let old : at + (p + 1 - (at + 1)) ≡ p = omega (arith, l) in get_or-set_other ys at (p + 1) k 0 (λ e. omega (arith, l, e)) ∙ high (p + 1) 0 (omega (arith, l)) (omega (arith, l, w, most)) ∙ ap (λ (n : ℕ). get_or xs n 0) old;
+}
 
 -- the time of a seat
 pub time_is : (seats : List Seat) (j : ℕ) (s : Seat) → slice_get seats j ≡ Some s → time_of seats j ≡ s.time

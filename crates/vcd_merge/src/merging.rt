@@ -97,49 +97,16 @@ struct Merging {
     factor: u64,
     // The number that the first code of the input has in the merged dump.
     first: u64,
-    // Whether it is known that the line of this time was written last.
-    is_written: bool,
     // Items are taken while the time is below this one.
     before: u64,
 }
 
-impl Merging {
-    ghost use Rattle.vcd_merge.specs.MergeAhead.{SameMerging};
-
-    /// Writes the line of the time, unless it was written last, and notes it in `written`. Fails if
-    /// a write does.
-    // Nearly each change comes after another one at its time, and asks only for one byte. If each
-    // of them compared two times, `merge` would take up to 3 % less.
-    #[inline(always)]
-    fn put_due_line<W: Sink>(
-        &mut self,
-        written: &mut Option<u64>,
-        out: &mut W,
-    ) -> Result<(), WriteFailed>
-        requires failures { (W.device out.old).failures < 2 ^ 64 - 1 }
-        requires known { self.old.is_written ≡ true → written.old ≡ Some self.old.time }
-        ensures puts { Puts (W.device out.old) (W.device out.new)
-            (time_due written.old self.old.time) result }
-        ensures written { IfOk result (λ _. written.new ≡ Some self.new.time) }
-        ensures same { SameMerging self.old self.new × (self.new.time ≡ self.old.time) }
-    {
-        if self.is_written {
-            return Ok(());
-        }
-        put_due_time(self.time, written, out)?;
-        self.is_written = true;
-        Ok(())
-    }
-}
-
-// The command is the time whose line was written last: nearly no change needs it, so no register is
-// kept for it.
+// The command is the time whose line was written last.
 impl Visit<Option<u64>> for Merging {
     ghost use Rattle.std.specs.Prelude.{◌*◌, ◌^◌, nat_le};
     ghost use Rattle.vcd_merge.specs.MergeAhead.{TakesNext};
 
-    ghost stands = { λ merging written _ _. merging.is_written ≡ true
-        → written ≡ Some merging.time };
+    ghost stands = { λ _ _ _ _. Unit {0} };
 
     ghost takes = { λ view s t result. TakesNext view s t result };
 
@@ -171,7 +138,6 @@ impl Visit<Option<u64>> for Merging {
         _timestamp: ScannedItem<'_>,
     ) {
         self.time = time * self.factor;
-        self.is_written = false;
     }
 
     /// Writes a change under its code in the merged dump. The line of the input's time, in ticks of
@@ -190,7 +156,7 @@ impl Visit<Option<u64>> for Merging {
             unreachable!()
         };
         if let Some(digit) = only_digit(change, form) {
-            self.put_due_line(written, out)?;
+            put_due_time(self.time, written, out)?;
             let number = self.first.wrapping_add(code as u64);
             return put_code_line(digit, number, out);
         }
@@ -202,10 +168,9 @@ impl Visit<Option<u64>> for Merging {
                 first,
                 inside,
             };
-            self.is_written = false;
             return put_unsized(code, form, change.text, view.codes, reached, written, out);
         }
-        self.put_due_line(written, out)?;
+        put_due_time(self.time, written, out)?;
         let number = self.first.wrapping_add(code as u64);
         put_renamed_ahead(change, form, number, out)
     }
@@ -259,7 +224,6 @@ fn take_turn_ahead<S: Source, W: Sink>(
         time: seat.time,
         factor: seat.factor,
         first: seat.first,
-        is_written: false,
         before,
     };
     let view = head.view();

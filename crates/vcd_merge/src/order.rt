@@ -49,8 +49,7 @@ fn end_before(seats: &[Seat], input: usize, other: usize) -> u64
 /// times by index, so that a turn needs no look at all seats.
 #[derive(Clone, Copy)]
 pub(crate) struct TurnOrder {
-    // Those that wait, and room for a copy of 64 bytes from any of them on.
-    inputs: [u8; 128],
+    inputs: [u8; 64],
     len: usize,
     /// Each turn ends at this time at the latest.
     until: u64,
@@ -105,11 +104,7 @@ impl TurnOrder {
         ensures until { self.new.until ≡ self.old.until }
     {
         let index = self.index_for(input, seats);
-        // Always 64 bytes, since a copy of an unknown length is a call: with that, `merge` takes 1
-        // to 3 % more, and of 32 inputs 4 %.
-        let mut moved = [0; 64];
-        moved.copy_from_slice(&self.inputs[index..index + 64]);
-        self.inputs[index + 1..index + 65].copy_from_slice(&moved);
+        self.inputs.copy_within(index..self.len, index + 1);
         self.inputs[index] = input as u8;
         self.len += 1;
     }
@@ -142,7 +137,7 @@ impl TurnOrder {
         ensures until { result.until ≡ until }
     {
         let mut order = TurnOrder {
-            inputs: [0; 128],
+            inputs: [0; 64],
             len: 0,
             until,
         };
